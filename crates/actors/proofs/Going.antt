@@ -15,27 +15,27 @@ use Rattle.chain_search.specs.Recalled.{Recalled, blank}
 use Rattle.op_machine.specs.Hands.{Hand}
 use Rattle.op_machine.specs.Bounded.{IsSpentLast}
 use Rattle.op_machine.specs.Spending.{Spends, steps_left}
-use Rattle.op_machine.specs.InPlace.{IsShown, Takes, Wants}
-use Rattle.op_machine.specs.Ops.{Goes, HoldsLimbo, IsAtRestWith, IsOver, IsTold, Obeys, Op, Shows, asked_by, wanted_of}
+use Rattle.op_machine.specs.InPlace.{IsOpShown, Takes, Wants}
+use Rattle.op_machine.specs.Ops.{Goes, HoldsLimbo, IsAtRestWith, IsOver, IsToldOp, Obeys, Op, Shows, asked_by, wanted_of}
 use Rattle.op_machine.specs.Outcomes.{HasLeft, is_leaving}
 use Rattle.op_machine.specs.Shows.{FitsLast, learn_last, recall_last, wanted_at}
 use Rattle.op_machine.specs.Tasks.{IsSameTask, Task}
 use Rattle.op_machine.specs.Wants.{Step, Done}
 use Rattle.op_machine.specs.States.{State, Begun, Epoch, Enter, Read, Write, Change, Leave}
-use Rattle.actors.specs.Running.{AsksIf, Running, asking, running_at}
+use Rattle.actors.specs.Running.{AsksIf, UnderWay, asking, running_at}
 use Rattle.epochs.specs.Limbo.{Limbo}
 use Rattle.installs.specs.Spares.{Spares}
 use Rattle.sweep.specs.Kept.{AreKept}
 use Rattle.sweep.specs.Sweeps.{Sweep}
-use Rattle.actors.specs.Actors.{GoesOn, IsActorWith, IsGoing, IsRunning, at_work, command_at, wanted_by}
+use Rattle.actors.specs.Actors.{ActsOn, IsActorWith, IsGoing, IsRunning, at_work, command_at, wanted_by}
 use Rattle.actors.proofs.Spending.{spends_last, spent_last}
 
 -- an actor without an operation, and one with an operation
-idle_of : (limits : Limits) (actor : ℕ) (k : Knowledge) (r : Recalled) (hand : Hand) (running : Option Running) → command_at running ≡ None → IsActorWith limits actor k r hand running → IsAtRestWith limits actor hand k
+idle_of : (limits : Limits) (actor : ℕ) (k : Knowledge) (r : Recalled) (hand : Hand) (running : Option UnderWay) → command_at running ≡ None → IsActorWith limits actor k r hand running → IsAtRestWith limits actor hand k
 idle_of limits actor k r hand None e h = h
 idle_of limits actor k r hand (Some running) e h = cc
 
-pub idle_at : (limits : Limits) (actor : ℕ) (k : Knowledge) (r : Recalled) (hand : Hand) (running : Option Running) → command_at running ≡ None → IsActorWith limits actor k r hand running → IsAtRestWith limits actor hand k
+pub idle_at : (limits : Limits) (actor : ℕ) (k : Knowledge) (r : Recalled) (hand : Hand) (running : Option UnderWay) → command_at running ≡ None → IsActorWith limits actor k r hand running → IsAtRestWith limits actor hand k
 idle_at limits actor k r hand running e h = idle_of limits actor k r hand running e h
 
 less : (m n o : ℕ) → m < n → n < o → m < o
@@ -49,11 +49,11 @@ module _ (k : Knowledge) (had : Hand) (old : Op) (unswept : old.sweep ≡ None) 
   fits_start : FitsLast old.task.limits k (wanted_of old had) answer.Start
   fits_start = subst (λ w. FitsLast old.task.limits k w answer.Start) (sym none) refl
 
-  pub told_start : IsTold old had answer.Start
+  pub told_start : IsToldOp old had answer.Start
   told_start = record { k = k; r = blank; shows = shows; fits = fits_start }
 
   -- what is known then
-  pub shown_begun : (new : Op) (has : Hand) → Takes old had answer.Start new has → IsShown new has
+  pub shown_begun : (new : Op) (has : Hand) → Takes old had answer.Start new has → IsOpShown new has
   shown_begun new has takes = (learn_last k (wanted_of old had) answer.Start, recall_last blank (wanted_of old had) answer.Start, takes.shows k blank shows fits_start)
 
   pub begun_left : (limits : Limits) (actor : ℕ) (new : Op) (has : Hand) → old.task.limits ≡ limits → old.task.actor ≡ actor → (asked : StepOf Record) → Obeys old had answer.Start new has (Step asked) → IsSameTask old.task new.task
@@ -79,11 +79,11 @@ stays_in task spares limbo k sweep (Write round) holds stays = refl
 stays_in task spares limbo k sweep (Change now then) holds stays = refl
 
 -- a step with its answer
-module _ (limits : Limits) (actor : ℕ) (k : Knowledge) (r : Recalled) (had has : Hand) (old : Running) (new : Op) (a : Answer Record) (running : IsRunning limits actor k r had old) (fits : Fits limits k old.wanted a) where
+module _ (limits : Limits) (actor : ℕ) (k : Knowledge) (r : Recalled) (had has : Hand) (old : UnderWay) (new : Op) (a : Answer Record) (running : IsRunning limits actor k r had old) (fits : Fits limits k old.wanted a) where
   fits_last : FitsLast old.op.task.limits k (wanted_of old.op had) a
   fits_last = rw (running.own_limits, running.goes.wanted) fits
 
-  pub told_with : IsTold old.op had a
+  pub told_with : IsToldOp old.op had a
   told_with = record { k = k; r = r; shows = running.goes.shows; fits = fits_last }
 
   -- what wants another step has another one wanted
@@ -94,7 +94,7 @@ module _ (limits : Limits) (actor : ℕ) (k : Knowledge) (r : Recalled) (had has
   stays_at stays = stays_in old.op.task had.spares had.limbo k old.op.sweep old.op.state running.goes.shows.limbo (λ e. stays (same_Some old.wanted step.Leave (sym running.goes.wanted ∙ e)))
 
   pub goes_on : (asked : StepOf Record) → old.wanted ≢ step.Leave → Obeys old.op had a new has (Step asked) → Spends old.op had a new has (Step asked) → IsSameTask old.op.task new.task
-      → GoesOn limits actor k r (at_work had old) old.wanted a None (at_work has (record { op = new; wanted = asked }))
+      → ActsOn limits actor k r (at_work had old) old.wanted a None (at_work has (record { op = new; wanted = asked }))
   goes_on asked other o spends same = record {
     allowed = record { may = rw (← running.own_actor) running.goes.may.may; frees = rw (← running.own_limits, ← running.own_actor) running.goes.may.frees; replied = tt; ends = λ e. absurd (other e) };
     useful = running.goes.may.useful;
@@ -106,7 +106,7 @@ module _ (limits : Limits) (actor : ℕ) (k : Knowledge) (r : Recalled) (had has
     spends = spent_last r (wanted_of old.op had) old.wanted a (steps_left r old.op had) (λ q. steps_left q new has) running.goes.wanted (spends k r running.goes.shows fits_last);
   }
 
-  pub is_done : (reply : Reply) → Obeys old.op had a new has (Done reply) → GoesOn limits actor k r (at_work had old) old.wanted a (Some reply) (record { hand = has; running = None })
+  pub is_done : (reply : Reply) → Obeys old.op had a new has (Done reply) → ActsOn limits actor k r (at_work had old) old.wanted a (Some reply) (record { hand = has; running = None })
   is_done reply o = record {
     allowed = record { may = rw (← running.own_actor) running.goes.may.may; frees = rw (← running.own_limits, ← running.own_actor) running.goes.may.frees; replied = (last, rw (← running.own_limits, ← running.own_actor) ends.may); ends = λ e. refl };
     useful = running.goes.may.useful;
@@ -127,13 +127,13 @@ module _ (limits : Limits) (actor : ℕ) (k : Knowledge) (r : Recalled) (had has
       last = same_Some old.wanted step.Leave (sym running.goes.wanted ∙ ends.is_last)
 
 -- what is under way in the place of an operation
-asking_is : (op : Op) (hand : Hand) (running : Running) (wanted : Option (StepOf Record)) → wanted_of op hand ≡ wanted → asking op wanted ≡ Some running → (running.op ≡ op) × (wanted_of op hand ≡ Some running.wanted)
+asking_is : (op : Op) (hand : Hand) (running : UnderWay) (wanted : Option (StepOf Record)) → wanted_of op hand ≡ wanted → asking op wanted ≡ Some running → (running.op ≡ op) × (wanted_of op hand ≡ Some running.wanted)
 asking_is op hand running None is e = cc
 asking_is op hand running (Some asked) is e =
     let same : running ≡ record { op = op; wanted = asked } = same_Some running (record { op = op; wanted = asked }) (sym e) in
-    (ap (λ (q : Running). q.op) same, is ∙ ap Some (sym (ap (λ (q : Running). q.wanted) same)))
+    (ap (λ (q : UnderWay). q.op) same, is ∙ ap Some (sym (ap (λ (q : UnderWay). q.wanted) same)))
 
-running_is : (on : Bool) (op : Op) (hand : Hand) (running : Running) → running_at on op hand ≡ Some running → (on ≡ true) × (running.op ≡ op) × (wanted_of op hand ≡ Some running.wanted)
+running_is : (on : Bool) (op : Op) (hand : Hand) (running : UnderWay) → running_at on op hand ≡ Some running → (on ≡ true) × (running.op ≡ op) × (wanted_of op hand ≡ Some running.wanted)
 running_is false op hand running e = cc
 running_is true op hand running e = let is = asking_is op hand running (wanted_of op hand) refl e in (refl, is.0, is.1)
 
@@ -177,29 +177,29 @@ module _ (limits : Limits) (actor : ℕ) (k : Knowledge) (r : Recalled) (on : Bo
   found : (on ≡ true) × (going.running.op ≡ op) × (wanted_of op had ≡ Some going.running.wanted)
   found = running_is on op had going.running going.is
 
-  pub told_here : IsTold op had a
-  told_here = subst (λ o. IsTold o had a) found.1 (told_with limits actor k r had had going.running going.running.op a going.shows going.fits)
+  pub told_here : IsToldOp op had a
+  told_here = subst (λ o. IsToldOp o had a) found.1 (told_with limits actor k r had had going.running going.running.op a going.shows going.fits)
 
   pub stays_here : wanted_by (running_at on op had) ≢ Some step.Leave → is_leaving op.state ≡ false
   stays_here stays = subst (λ (o : Op). is_leaving o.state ≡ false) found.1 (stays_at limits actor k r had had going.running going.running.op a going.shows going.fits (λ e. stays (ap wanted_by going.is ∙ ap Some e)))
 
   module _ (new : Op) (has : Hand) (takes : Takes op had a new has) where
-    pub shown_then : IsShown new has
+    pub shown_then : IsOpShown new has
     shown_then = (learn_last told_here.k (wanted_of op had) a, recall_last told_here.r (wanted_of op had) a, takes.shows told_here.k told_here.r told_here.shows told_here.fits)
 
     pub goes_here : (asked : StepOf Record) → wanted_by (running_at on op had) ≢ Some step.Leave → Wants new has asked
-        → GoesOn limits actor k r (record { hand = had; running = running_at on op had }) going.running.wanted a None (record { hand = has; running = running_at on new has })
+        → ActsOn limits actor k r (record { hand = had; running = running_at on op had }) going.running.wanted a None (record { hand = has; running = running_at on new has })
     goes_here asked stays wants =
         let from : Takes going.running.op had a new has = subst (λ o. Takes o had a new has) (sym found.1) takes in
-        let went : GoesOn limits actor k r (at_work had going.running) going.running.wanted a None (at_work has (record { op = new; wanted = asked })) =
+        let went : ActsOn limits actor k r (at_work had going.running) going.running.wanted a None (at_work has (record { op = new; wanted = asked })) =
         goes_on limits actor k r had has going.running new a going.shows going.fits asked (λ e. stays (ap wanted_by going.is ∙ ap Some e)) (from.obeys asked wants) (from.spends asked) from.same in
         let is : running_at on new has ≡ Some (record { op = new; wanted = asked }) = rw found.0 (is_asking new has asked (wants shown_then.0 shown_then.1 shown_then.2).wanted) in
-        subst (λ (o : Option Running). GoesOn limits actor k r (record { hand = had; running = o }) going.running.wanted a None (record { hand = has; running = running_at on new has })) (sym going.is)
-        (subst (λ (o : Option Running). GoesOn limits actor k r (at_work had going.running) going.running.wanted a None (record { hand = has; running = o })) (sym is) went)
+        subst (λ (o : Option UnderWay). ActsOn limits actor k r (record { hand = had; running = o }) going.running.wanted a None (record { hand = has; running = running_at on new has })) (sym going.is)
+        (subst (λ (o : Option UnderWay). ActsOn limits actor k r (at_work had going.running) going.running.wanted a None (record { hand = has; running = o })) (sym is) went)
 
   -- it leaves
-  pub done_here : (reply : Reply) → ((hand : Hand) (told : Answer Record) → Obeys op hand told op hand (Done reply)) → GoesOn limits actor k r (record { hand = had; running = running_at on op had }) going.running.wanted a (Some reply) (record { hand = had; running = None })
+  pub done_here : (reply : Reply) → ((hand : Hand) (told : Answer Record) → Obeys op hand told op hand (Done reply)) → ActsOn limits actor k r (record { hand = had; running = running_at on op had }) going.running.wanted a (Some reply) (record { hand = had; running = None })
   done_here reply obeys =
       let from : Obeys going.running.op had a op had (Done reply) = subst (λ o. Obeys o had a op had (Done reply)) (sym found.1) (obeys had a) in
-      subst (λ (o : Option Running). GoesOn limits actor k r (record { hand = had; running = o }) going.running.wanted a (Some reply) (record { hand = had; running = None })) (sym going.is)
+      subst (λ (o : Option UnderWay). ActsOn limits actor k r (record { hand = had; running = o }) going.running.wanted a (Some reply) (record { hand = had; running = None })) (sym going.is)
       (is_done limits actor k r had had going.running op a going.shows going.fits reply from)

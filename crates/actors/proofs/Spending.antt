@@ -17,8 +17,8 @@ use Rattle.op_machine.specs.States.{State, Begun, Epoch, Enter, Read, Write, Cha
 use Rattle.sweep.specs.Sweeps.{Sweep, step_of, wanted_at as wanted_at_sweep}
 use Rattle.sweep.specs.declared.sweep.State as sweeping
 use Rattle.sweep.specs.declared.sweep.State.TheVariants as at_sweep
-use Rattle.actors.specs.Running.{Running}
-use Rattle.actors.specs.Spending.{IsSpentOn}
+use Rattle.actors.specs.Running.{UnderWay}
+use Rattle.actors.specs.Spending.{IsSpentBy}
 
 -- what an answer leaves, where the step that was wanted is known
 pub spent_last : (r : Recalled) (last : Option (StepOf Record)) (asked : StepOf Record) (a : Answer Record) (left : ℕ) (rest : Recalled → ℕ) → last ≡ Some asked → IsSpentLast r last a left (rest (recall_last r last a)) → IsStepSpent r asked a left (rest (recall r asked a))
@@ -53,5 +53,5 @@ more : (n m : ℕ) → 0 < n → 0 < n + m
 more n m some = omega arith
 
 -- it is done
-pub spends_last : (r : Recalled) (had has : Hand) (old : Running) (a : Answer Record) → wanted_of old.op had ≡ Some step.Leave → IsSpentOn r had (Some old) old.wanted a has None
+pub spends_last : (r : Recalled) (had has : Hand) (old : UnderWay) (a : Answer Record) → wanted_of old.op had ≡ Some step.Leave → IsSpentBy r had (Some old) old.wanted a has None
 spends_last r had has old a e = inl (more (sweep_left old.op.sweep old.op.state + left_at r had.spares old.op.state) (one_round * length old.op.task.errands) (stays r had.spares old.op.sweep old.op.state e))

@@ -13,29 +13,29 @@ use Rattle.chain_search.specs.Recalled.{Recalled, recall}
 use Rattle.chain_search.specs.Useful.{IsUseful}
 use Rattle.op_machine.specs.Hands.{Hand, empty_hand}
 use Rattle.op_machine.specs.Ops.{Goes, IsAtRestWith}
-use Rattle.actors.specs.Running.{Running}
-use Rattle.actors.specs.Spending.{IsSpentOn}
+use Rattle.actors.specs.Running.{UnderWay}
+use Rattle.actors.specs.Spending.{IsSpentBy}
 
 -- what an actor keeps between operations, and the operation that it is at
 pub record Actor : Type 0 where
   pub hand : Hand
-  pub running : Option Running
+  pub running : Option UnderWay
 
 abbrev pub idle_actor : Limits → Actor
 idle_actor limits = record { hand = empty_hand limits; running = None }
 
 -- it is at an operation
-abbrev pub at_work : Hand → Running → Actor
+abbrev pub at_work : Hand → UnderWay → Actor
 at_work hand running = record { hand = hand; running = Some running }
 
 -- An operation that is under way, with the step that it wants, which its actor may take by what it knows.
-pub record IsRunning (limits : Limits) (actor : ℕ) (k : Knowledge) (r : Recalled) (hand : Hand) (running : Running) : Type 0 where
+pub record IsRunning (limits : Limits) (actor : ℕ) (k : Knowledge) (r : Recalled) (hand : Hand) (running : UnderWay) : Type 0 where
   pub own_limits : running.op.task.limits ≡ limits
   pub own_actor : running.op.task.actor ≡ actor
   pub goes : Goes k r running.op hand running.wanted
 
 -- An actor without an operation rests.
-abbrev pub IsActorWith : Limits → ℕ → Knowledge → Recalled → Hand → Option Running → Type 0
+abbrev pub IsActorWith : Limits → ℕ → Knowledge → Recalled → Hand → Option UnderWay → Type 0
 IsActorWith limits actor k r hand None = IsAtRestWith limits actor hand k
 IsActorWith limits actor k r hand (Some running) = IsRunning limits actor k r hand running
 
@@ -48,7 +48,7 @@ IsActor limits actor k r at = IsActorWith limits actor k r at.hand at.running
 abbrev pub knows_then : Knowledge → StepOf Record → Answer Record → Option Reply → Knowledge
 knows_then k step answer reply = finished (learn k step answer) reply
 
-abbrev pub command_at : Option Running → Option Command
+abbrev pub command_at : Option UnderWay → Option Command
 command_at None = None
 command_at (Some running) = Some running.op.task.command
 
@@ -56,7 +56,7 @@ command_at (Some running) = Some running.op.task.command
 abbrev pub running_command : Actor → Option Command
 running_command at = command_at at.running
 
-abbrev pub errands_at : Option Running → List (List ℕ)
+abbrev pub errands_at : Option UnderWay → List (List ℕ)
 errands_at None = []
 errands_at (Some running) = running.op.task.errands
 
@@ -65,7 +65,7 @@ abbrev pub errands_of : Actor → List (List ℕ)
 errands_of at = errands_at at.running
 
 -- the step that its operation wants, if it has one
-abbrev pub wanted_by : Option Running → Option (StepOf Record)
+abbrev pub wanted_by : Option UnderWay → Option (StepOf Record)
 wanted_by None = None
 wanted_by (Some running) = Some running.wanted
 
@@ -76,17 +76,17 @@ command_left (Some reply) command = None
 
 -- An operation is under way that shows what is known, and the answer to the step that it wants fits that.
 pub record IsGoing (limits : Limits) (actor : ℕ) (k : Knowledge) (r : Recalled) (at : Actor) (answer : Answer Record) : Type 0 where
-  pub running : Running
+  pub running : UnderWay
   pub is : at.running ≡ Some running
   pub shows : IsRunning limits actor k r at.hand running
   pub fits : Fits limits k running.wanted answer
 
 -- Something is known that the actor shows.
-abbrev pub IsShown : Actor → Type 0
-IsShown at = (limits : Limits) × (actor : ℕ) × (k : Knowledge) × (r : Recalled) × IsActor limits actor k r at
+abbrev pub IsActorShown : Actor → Type 0
+IsActorShown at = (limits : Limits) × (actor : ℕ) × (k : Knowledge) × (r : Recalled) × IsActor limits actor k r at
 
 -- Something is known that it shows, and that the answer fits.
-pub record IsTold (at : Actor) (answer : Answer Record) : Type 0 where
+pub record IsToldActor (at : Actor) (answer : Answer Record) : Type 0 where
   pub limits : Limits
   pub actor : ℕ
   pub k : Knowledge
@@ -95,8 +95,8 @@ pub record IsTold (at : Actor) (answer : Answer Record) : Type 0 where
 
 -- The actor might take the step, with the reply; what it keeps then shows what it knows and recalls, and of the steps that were
 -- left it has spent one, or a cause paid for more.
-pub record GoesOn (limits : Limits) (actor : ℕ) (k : Knowledge) (r : Recalled) (old : Actor) (step : StepOf Record) (answer : Answer Record) (reply : Option Reply) (new : Actor) : Type 0 where
+pub record ActsOn (limits : Limits) (actor : ℕ) (k : Knowledge) (r : Recalled) (old : Actor) (step : StepOf Record) (answer : Answer Record) (reply : Option Reply) (new : Actor) : Type 0 where
   pub allowed : IsAllowed limits actor k step reply
   pub useful : IsUseful k step
   pub shows : IsActor limits actor (knows_then k step answer reply) (recall r step answer) new
-  pub spends : IsSpentOn r old.hand old.running step answer new.hand new.running
+  pub spends : IsSpentBy r old.hand old.running step answer new.hand new.running

@@ -5,17 +5,17 @@ use Rattle.deltas.specs.declared.record.Record.{Record}
 use Rattle.op_machine.specs.Hands.{Hand}
 use Rattle.op_machine.specs.Ops.{Op, wanted_of}
 
-pub record Running : Type 0 where
+pub record UnderWay : Type 0 where
   pub op : Op
   pub wanted : StepOf Record
 
 -- an operation by the step that it wants, if it wants one
-abbrev pub asking : Op → Option (StepOf Record) → Option Running
+abbrev pub asking : Op → Option (StepOf Record) → Option UnderWay
 asking op None = None
 asking op (Some wanted) = Some (record { op = op; wanted = wanted })
 
 -- what is under way in the place of an operation
-abbrev pub running_at : Bool → Op → Hand → Option Running
+abbrev pub running_at : Bool → Op → Hand → Option UnderWay
 running_at false op hand = None
 running_at true op hand = asking op (wanted_of op hand)
 

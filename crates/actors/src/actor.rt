@@ -1,6 +1,6 @@
 //! One actor.
 ghost use Rattle.std.specs.Prelude.{◌≡◌, ◌≢◌, ◌<◌, ◌^◌, ℕ, IfErr, IfOk, IsSome, MatchBool, None, Some, is_some, option_copied};
-ghost use Rattle.actors.specs.Actors.{GoesOn, IsActor, IsGoing, IsShown, IsTold, errands_of, idle_actor, running_command, wanted_by};
+ghost use Rattle.actors.specs.Actors.{ActsOn, IsActor, IsGoing, IsActorShown, IsToldActor, errands_of, idle_actor, running_command, wanted_by};
 ghost use Rattle.actors.specs.Spending.{steps_due};
 ghost use Rattle.bw_model.specs.Answers.{answer_of};
 ghost use Rattle.bw_model.specs.Lent.{lent};
@@ -98,7 +98,7 @@ impl<A: Allocator> Actor<A> {
 
     /// The step that its operation wants, with the record that is to be placed lent from where it lies.
     pub fn wanted(&self) -> Step<&Record>
-        requires shown { IsShown self.now }
+        requires shown { IsActorShown self.now }
         requires running { IsSome (running_command self.now) }
         ensures { wanted_by self.now.running ≡ Some (lent result) }
     {
@@ -107,7 +107,7 @@ impl<A: Allocator> Actor<A> {
 
     /// Whether the step that its operation wants is the leave, which alone ends it.
     pub fn is_leaving(&self) -> bool
-        requires shown { IsShown self.now }
+        requires shown { IsActorShown self.now }
         requires running { IsSome (running_command self.now) }
         ensures { MatchBool result (wanted_by self.now.running ≡ Some Step.Leave) (wanted_by self.now.running ≢ Some Step.Leave) }
     {
@@ -131,9 +131,9 @@ impl<A: Allocator> Actor<A> {
 
     /// Takes the answer to the step that its operation wants, which isn't the leave and reads no row, so that the operation goes on.
     pub fn go_on(&mut self, told: Told)
-        requires told { IsTold self.old (answer_of told) }
+        requires told { IsToldActor self.old (answer_of told) }
         requires stays { wanted_by self.old.running ≢ Some Step.Leave }
-        ensures goes { (limits : LimitsSeen) (number : ℕ) (k : Knowledge) (r : Recalled) (going : IsGoing limits number k r self.old (answer_of told)) → GoesOn limits number k r self.old going.running.wanted (answer_of told) None self.new }
+        ensures goes { (limits : LimitsSeen) (number : ℕ) (k : Knowledge) (r : Recalled) (going : IsGoing limits number k r self.old (answer_of told)) → ActsOn limits number k r self.old going.running.wanted (answer_of told) None self.new }
         ensures command { running_command self.new ≡ running_command self.old }
     {
         self.operation.go_on(&mut self.hand, told);
@@ -142,9 +142,9 @@ impl<A: Allocator> Actor<A> {
 
     /// Takes the row that its operation wanted to read, and gives another one in its place.
     pub fn take_row(&mut self, row: &mut HeldRow<A>)
-        requires told { IsTold self.old (Content row.old) }
+        requires told { IsToldActor self.old (Content row.old) }
         requires stays { wanted_by self.old.running ≢ Some Step.Leave }
-        ensures goes { (limits : LimitsSeen) (number : ℕ) (k : Knowledge) (r : Recalled) (going : IsGoing limits number k r self.old (Content row.old)) → GoesOn limits number k r self.old going.running.wanted (Content row.old) None self.new }
+        ensures goes { (limits : LimitsSeen) (number : ℕ) (k : Knowledge) (r : Recalled) (going : IsGoing limits number k r self.old (Content row.old)) → ActsOn limits number k r self.old going.running.wanted (Content row.old) None self.new }
         ensures command { running_command self.new ≡ running_command self.old }
     {
         self.operation.take_row(&mut self.hand, row);
@@ -154,9 +154,9 @@ impl<A: Allocator> Actor<A> {
     /// Takes the leave that its operation wants, and answers the reply: the operation is done.
     #[inline(never)]
     pub fn leave(&mut self) -> Reply
-        requires told { IsTold self.old Done }
+        requires told { IsToldActor self.old Done }
         requires leaves { wanted_by self.old.running ≡ Some Step.Leave }
-        ensures goes { (limits : LimitsSeen) (number : ℕ) (k : Knowledge) (r : Recalled) (going : IsGoing limits number k r self.old Done) → GoesOn limits number k r self.old going.running.wanted Done (Some result) self.new }
+        ensures goes { (limits : LimitsSeen) (number : ℕ) (k : Knowledge) (r : Recalled) (going : IsGoing limits number k r self.old Done) → ActsOn limits number k r self.old going.running.wanted Done (Some result) self.new }
         ensures command { running_command self.new ≡ None }
     {
         self.is_running = false;

@@ -2,7 +2,7 @@
 use Rattle.std.proofs.Common.{◌≡◌, ℕ, List, Option, sym, subst}
 use Rattle.std.specs.Prelude.{IsSome, Some, None}
 use Rattle.atomic_table.specs.Seated.{TableId}
-use Rattle.actors.specs.Actors.{Actor, GoesOn, IsGoing, IsTold, command_left, running_command, wanted_by}
+use Rattle.actors.specs.Actors.{Actor, ActsOn, IsGoing, IsToldActor, command_left, running_command, wanted_by}
 use Rattle.bw_model.specs.declared.command.Reply.{Reply}
 use Rattle.bw_model.specs.declared.limits.Limits.{Limits}
 use Rattle.bw_model.specs.declared.step.Answer.{Answer}
@@ -26,7 +26,7 @@ use Rattle.bw_tree.proofs.Seats.{Wants, wants, may, allowed, useful, due, going,
 
 -- what an actor promises of an answer that it takes
 abbrev pub Takes : Actor → Answer Record → Option Reply → Actor → Type 0
-Takes now told reply new = (limits : Limits) (number : ℕ) (k : Knowledge) (r : Recalled) (going : IsGoing limits number k r now told) → GoesOn limits number k r now going.running.wanted told reply new
+Takes now told reply new = (limits : Limits) (number : ℕ) (k : Knowledge) (r : Recalled) (going : IsGoing limits number k r now told) → ActsOn limits number k r now going.running.wanted told reply new
 
 abbrev pub seat_of : TableId → Limits → ℕ → List Entry → Seat
 seat_of table limits a seen = record { table = table; limits = limits; actor = a; seen = seen }
@@ -57,11 +57,11 @@ module _ (laws : HaveLaws) (limits : Limits) (a : ℕ) (seen : List Entry) (now 
   pub within : IsWithin limits asked
   within = subst (IsWithin limits) w.wanted (subst (λ l. IsWithin l w.running.wanted) w.shows.own_limits w.shows.goes.may.within)
 
-  pub goes : (told : Answer Record) (reply : Option Reply) (new : Actor) → Fits limits k asked told → Takes now told reply new → GoesOn limits a k r now asked told reply new
+  pub goes : (told : Answer Record) (reply : Option Reply) (new : Actor) → Fits limits k asked told → Takes now told reply new → ActsOn limits a k r now asked told reply new
   goes told reply new f takes = goes_so limits a k r now asked w told f reply new (takes limits a k r (going limits a k r now asked w told f))
 
   -- a step with its reply, for which the actor was asked, before or after it was taken
-  module _ (told : Answer Record) (reply : Option Reply) (later : List Entry) (new : Actor) (took : Took IsLawfulRun limits a seen None asked told reply later) (g : GoesOn limits a k r now asked told reply new) where
+  module _ (told : Answer Record) (reply : Option Reply) (later : List Entry) (new : Actor) (took : Took IsLawfulRun limits a seen None asked told reply later) (g : ActsOn limits a k r now asked told reply new) where
     pub seated_so : running_command new ≡ command_left reply (running_command now) → IsSeated limits a later new
     seated_so runs = seated_then laws limits a seen now h asked reply g.allowed g.useful told later took new g runs
 
@@ -84,7 +84,7 @@ module _ (laws : HaveLaws) (limits : Limits) (a : ℕ) (seen : List Entry) (now 
     fit = let lasts = laws.own limits a seen took.run took.extends in
         subst (λ q. Fits limits q asked told) lasts.known (laws.fit limits took.run a asked told took.legal.state (subst (λ q. May a q asked) (sym lasts.known) known_may) took.answered)
 
-    pub told_on : IsTold now told
+    pub told_on : IsToldActor now told
     told_on = is_told limits a k r now asked w told fit
 
     module _ (reply : Option Reply) (new : Actor) (other : asked ≡ Leave → ⊥) (takes : Takes now told reply new) where
@@ -105,19 +105,19 @@ module _ (laws : HaveLaws) (limits : Limits) (a : ℕ) (seen : List Entry) (now 
   wl : Wants limits a (knows seen a) (recalls seen a) now Leave
   wl = wants limits a (knows seen a) (recalls seen a) now Leave h.shows e
 
-  pub leave_told : IsTold now Done
+  pub leave_told : IsToldActor now Done
   leave_told = is_told limits a (knows seen a) (recalls seen a) now Leave wl Done tt
 
   module _ (reply : Option Reply) (new : Actor) (takes : Takes now Done reply new) where
-    g : GoesOn limits a (knows seen a) (recalls seen a) now Leave Done reply new
+    g : ActsOn limits a (knows seen a) (recalls seen a) now Leave Done reply new
     g = goes laws limits a seen now h busy Leave e Done reply new tt takes
 
     pub leave_may : IsLawfulStep IsLawfulRun limits a seen None Leave reply
     leave_may = may_take laws limits a seen now h Leave reply g.allowed g.useful busy (due limits a (knows seen a) (recalls seen a) now Leave wl)
 
     module _ (told : Answer Record) (later : List Entry) (took : Took IsLawfulRun limits a seen None Leave told reply later) where
-      gt : GoesOn limits a (knows seen a) (recalls seen a) now Leave told reply new
-      gt = let is : told ≡ Done = took.answered in subst (λ t. GoesOn limits a (knows seen a) (recalls seen a) now Leave t reply new) (sym is) g
+      gt : ActsOn limits a (knows seen a) (recalls seen a) now Leave told reply new
+      gt = let is : told ≡ Done = took.answered in subst (λ t. ActsOn limits a (knows seen a) (recalls seen a) now Leave t reply new) (sym is) g
 
       pub leave_seated : running_command new ≡ command_left reply (running_command now) → IsSeated limits a later new
       leave_seated runs = seated_so laws limits a seen now h busy Leave e told reply later new took gt runs

@@ -2,8 +2,8 @@
 use Rattle.std.proofs.Common.{◌≡◌, ◌≢◌, ◌<◌, ◌^◌, ℕ, List, [], ◌∷◌, ◌++◌, Option, Bool, true, false, refl, sym, ap, ◌∙◌, subst, arith, append-nil}
 use Rattle.std.proofs.lemmas.Option.{same_Some}
 use Rattle.std.specs.Prelude.{IsSome, Some, None, IsTrue}
-use Rattle.actors.specs.Actors.{Actor, IsActor, IsActorWith, IsTold, command_at, command_left, running_command, wanted_by}
-use Rattle.actors.specs.Running.{Running}
+use Rattle.actors.specs.Actors.{Actor, IsActor, IsActorWith, IsToldActor, command_at, command_left, running_command, wanted_by}
+use Rattle.actors.specs.Running.{UnderWay}
 use Rattle.actors.specs.Spending.{steps_due}
 use Rattle.bw_model.specs.declared.command.Command.{Command}
 use Rattle.bw_model.specs.declared.command.Reply.{Reply}
@@ -35,7 +35,7 @@ pub extends_self : (a : ℕ) (seen : List Entry) → Extends a seen seen
 extends_self a seen = ([], sym (append-nil seen), refl)
 
 -- an actor without a command is outside
-idle_outside : (limits : Limits) (a : ℕ) (k : Knowledge) (r : Recalled) (hand : Hand) (running : Option Running) → command_at running ≡ None → IsActorWith limits a k r hand running → k.inside ≡ false
+idle_outside : (limits : Limits) (a : ℕ) (k : Knowledge) (r : Recalled) (hand : Hand) (running : Option UnderWay) → command_at running ≡ None → IsActorWith limits a k r hand running → k.inside ≡ false
 idle_outside limits a k r hand None e h = h.spares.outside
 idle_outside limits a k r hand (Some running) e h = cc
 
@@ -145,7 +145,7 @@ module _ (laws : HaveLaws) (limits : Limits) (a : ℕ) (seen : List Entry) (now 
       busy' : IsSome (command_of seen' a)
       busy' = busy_then took.run took.legal took.extends
 
-      pub told_first : IsTold new told
+      pub told_first : IsToldActor new told
       told_first = told_on laws limits a seen' new at' busy' asked e told later took'
 
       module _ (reply : Option Reply) (then : Actor) (takes : Takes new told reply then) where

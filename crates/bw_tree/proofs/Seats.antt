@@ -2,8 +2,8 @@
 use Rattle.std.proofs.Common.{◌≡◌, ◌<◌, ◌+◌, ◌-◌, inl, ℕ, List, [], ◌∷◌, ◌++◌, Option, refl, sym, ap, ◌∙◌, subst, arith, append-nil, eq-eqb}
 use Rattle.std.specs.Prelude.{IsSome, IfSome, Some, None}
 use Rattle.std.proofs.lemmas.Option.{same_Some}
-use Rattle.actors.specs.Running.{Running}
-use Rattle.actors.specs.Actors.{Actor, GoesOn, IsActorWith, IsGoing, IsRunning, IsTold, command_at, command_left, knows_then, running_command, wanted_by}
+use Rattle.actors.specs.Running.{UnderWay}
+use Rattle.actors.specs.Actors.{Actor, ActsOn, IsActorWith, IsGoing, IsRunning, IsToldActor, command_at, command_left, knows_then, running_command, wanted_by}
 use Rattle.actors.specs.Spending.{steps_due}
 use Rattle.bw_model.specs.declared.command.Command.{Command}
 use Rattle.bw_model.specs.declared.command.Reply.{Reply}
@@ -57,13 +57,13 @@ state_left task hand k r (state.Leave reply) h = omega arith
 some_more : (m n o : ℕ) → 0 < n → 0 < (m + n) + o
 some_more m n o some = omega arith
 
-pub some_left : (limits : Limits) (a : ℕ) (k : Knowledge) (r : Recalled) (hand : Hand) (running : Running) → IsRunning limits a k r hand running → 0 < steps_due r hand (Some running)
+pub some_left : (limits : Limits) (a : ℕ) (k : Knowledge) (r : Recalled) (hand : Hand) (running : UnderWay) → IsRunning limits a k r hand running → 0 < steps_due r hand (Some running)
 some_left limits a k r hand running h =
     some_more (sweep_left running.op.sweep running.op.state) (left_at r hand.spares running.op.state) _ (state_left running.op.task hand k r running.op.state h.goes.shows.stands)
 
 -- The actor has an operation, which wants the step.
 pub record Wants (limits : Limits) (a : ℕ) (k : Knowledge) (r : Recalled) (now : Actor) (asked : StepOf Record) : Type 0 where
-  pub running : Running
+  pub running : UnderWay
   pub is : now.running ≡ Some running
   pub shows : IsRunning limits a k r now.hand running
   pub wanted : running.wanted ≡ asked
@@ -71,7 +71,7 @@ pub record Wants (limits : Limits) (a : ℕ) (k : Knowledge) (r : Recalled) (now
 pub wants : (limits : Limits) (a : ℕ) (k : Knowledge) (r : Recalled) (now : Actor) (asked : StepOf Record) → IsActorWith limits a k r now.hand now.running → wanted_by now.running ≡ Some asked → Wants limits a k r now asked
 wants limits a k r now asked h e = let found = go now.running h e in record { running = found.0; is = found.1; shows = found.2; wanted = found.3 }
   where
-    go : (o : Option Running) → IsActorWith limits a k r now.hand o → wanted_by o ≡ Some asked → (running : Running) × (o ≡ Some running) × IsRunning limits a k r now.hand running × (running.wanted ≡ asked)
+    go : (o : Option UnderWay) → IsActorWith limits a k r now.hand o → wanted_by o ≡ Some asked → (running : UnderWay) × (o ≡ Some running) × IsRunning limits a k r now.hand running × (running.wanted ≡ asked)
     go None h e = cc
     go (Some running) h e = (running, refl, h, same_Some running.wanted asked e)
 
@@ -79,7 +79,7 @@ wants limits a k r now asked h e = let found = go now.running h e in record { ru
 pub wants_some : (limits : Limits) (a : ℕ) (k : Knowledge) (r : Recalled) (now : Actor) → IsActorWith limits a k r now.hand now.running → IsSome (running_command now) → (asked : StepOf Record) × (wanted_by now.running ≡ Some asked)
 wants_some limits a k r now h some = go now.running some
   where
-    go : (o : Option Running) → IsSome (command_at o) → (asked : StepOf Record) × (wanted_by o ≡ Some asked)
+    go : (o : Option UnderWay) → IsSome (command_at o) → (asked : StepOf Record) × (wanted_by o ≡ Some asked)
     go None s = cc
     go (Some running) s = (running.wanted, refl)
 
@@ -103,12 +103,12 @@ module _ (limits : Limits) (a : ℕ) (k : Knowledge) (r : Recalled) (now : Actor
     abbrev pub going : IsGoing limits a k r now told
     going = record { running = w.running; is = w.is; shows = w.shows; fits = subst (λ s. Fits limits k s told) (sym w.wanted) fits }
 
-    pub is_told : IsTold now told
+    pub is_told : IsToldActor now told
     is_told = record { limits = limits; actor = a; k = k; r = r; going = going }
 
     -- what was taken is what was asked
-    pub goes_so : (reply : Option Reply) (new : Actor) → GoesOn limits a k r now w.running.wanted told reply new → GoesOn limits a k r now asked told reply new
-    goes_so reply new g = subst (λ s. GoesOn limits a k r now s told reply new) w.wanted g
+    pub goes_so : (reply : Option Reply) (new : Actor) → ActsOn limits a k r now w.running.wanted told reply new → ActsOn limits a k r now asked told reply new
+    goes_so reply new g = subst (λ s. ActsOn limits a k r now s told reply new) w.wanted g
 
 -- only a Leave has a reply
 pub no_reply : (limits : Limits) (a : ℕ) (k : Knowledge) (step : StepOf Record) (reply : Option Reply) → (step ≡ Leave → ⊥) → IsAllowed limits a k step reply → reply ≡ None
@@ -167,7 +167,7 @@ module _ (laws : HaveLaws) (limits : Limits) (a : ℕ) (seen : List Entry) (now 
         left commands (Some given) = replaced_same a None commands
 
     -- what the seat keeps after it
-    pub seated_then : (new : Actor) → GoesOn limits a k (recalls seen a) now asked told reply new → running_command new ≡ command_left reply (running_command now) → IsSeated limits a later new
+    pub seated_then : (new : Actor) → ActsOn limits a k (recalls seen a) now asked told reply new → running_command new ≡ command_left reply (running_command now) → IsSeated limits a later new
     seated_then new goes runs = record {
       lawful = took.kept;
       shows = subst (λ q. IsActorWith limits a q (recalls later a) new.hand new.running) (sym known_then)

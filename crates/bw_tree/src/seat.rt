@@ -1,6 +1,6 @@
 //! A seat of a running tree.
 ghost use Rattle.std.specs.Prelude.{◌≡◌, ℕ, None, Some, IsSome, is_none};
-ghost use Rattle.actors.specs.Actors.{GoesOn, IsGoing, IsTold, running_command, wanted_by};
+ghost use Rattle.actors.specs.Actors.{ActsOn, IsGoing, IsToldActor, running_command, wanted_by};
 ghost use Rattle.bw_model.specs.declared.limits.Limits.{Limits as LimitsSeen};
 ghost use Rattle.bw_model.specs.declared.step.Answer.TheVariants.{Done};
 ghost use Rattle.bw_tree.specs.Calls.{Advances, HasBegun, IsResumed};
@@ -137,9 +137,9 @@ impl<A: Allocator> BwSeat<A> {
 /// Ends an actor's operation with its reply, which comes into its place. Not inlined: no other step needs room for one.
 #[inline(never)]
 fn leave<A: Allocator>(actor: &mut Actor<A>, reply: &mut Reply)
-    requires told { IsTold actor.old Done }
+    requires told { IsToldActor actor.old Done }
     requires leaves { wanted_by actor.old.running ≡ Some Step.Leave }
-    ensures goes { (limits : LimitsSeen) (number : ℕ) (k : Knowledge) (r : Recalled) (going : IsGoing limits number k r actor.old Done) → GoesOn limits number k r actor.old going.running.wanted Done (Some reply.new) actor.new }
+    ensures goes { (limits : LimitsSeen) (number : ℕ) (k : Knowledge) (r : Recalled) (going : IsGoing limits number k r actor.old Done) → ActsOn limits number k r actor.old going.running.wanted Done (Some reply.new) actor.new }
     ensures command { running_command actor.new ≡ None }
 {
     *reply = actor.leave();

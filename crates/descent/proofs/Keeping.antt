@@ -15,12 +15,10 @@ use Rattle.chain_search.specs.Knowledge.{Knowledge, learn, learn_slot}
 use Rattle.chain_search.specs.Recalled.{IsUnread, Recalled, recall}
 use Rattle.smo.specs.Readings.{IsAfter}
 use Rattle.smo.specs.declared.version.Version.{Version}
-use Rattle.descent.specs.declared.visit.State.{State}
-use Rattle.descent.specs.declared.visit.State.TheVariants.{Slot, Row}
-use Rattle.descent.specs.Visits.{Starts, Completes, Continues, Visit, at, wanted}
+use Rattle.descent.specs.Visits.{VisitState, Slot, Row, FindsHead, Completes, Continues, Visit, at, wanted}
 use Rattle.descent.specs.Walks.{HasArrived, IsAmong}
-use Rattle.descent.specs.Courses.{Goal, Seek, Left, Merge, Unterm}
-use Rattle.descent.specs.WriteRounds.{IsLosingTerm, IsMissing, Keeps, is_beyond, way_of, IsBased, IsLed, IsLeftOf, IsKept, IsVisiting, SeeksLeaf}
+use Rattle.descent.specs.Courses.{WriteGoal, Seek, Left, Merge, Unterm}
+use Rattle.descent.specs.WriteRounds.{IsLosingTerm, IsMissing, KeepsToWrite, is_cutting, write_way, IsBased, IsLed, IsLeftOf, IsKept, VisitsToWrite, SeeksLeaf}
 use Rattle.descent.proofs.Holding.{before_slot, in_hand_row, in_hand_slot, slot_before}
 use Rattle.descent.proofs.Seeking.{arrived, seeks_row, seeks_slot}
 use Rattle.descent.proofs.Visiting.{back, row_below, there}
@@ -45,29 +43,29 @@ pub record LiesAbove (limits : Limits) (now : Knowledge) (version : Version) (ea
   pub after : IsAfter now parent version
 
 -- by the goal, once the page was read whole
-abbrev pub Passed : Limits → List ℕ → ℕ → Knowledge → Knowledge → ℕ → List ℕ → Goal → Type 0
+abbrev pub Passed : Limits → List ℕ → ℕ → Knowledge → Knowledge → ℕ → List ℕ → WriteGoal → Type 0
 Passed limits key floor k now pid earlier Seek = ⊤
 Passed limits key floor k now pid earlier (Left removed) = IsMissing limits k key floor removed (pid ∷ earlier) × IsMissing limits now key floor removed (pid ∷ earlier)
 Passed limits key floor k now pid earlier (Merge left) = IsKept limits now left earlier
 Passed limits key floor k now pid earlier (Unterm parent left) = IsLosingTerm limits now earlier parent left
 
 -- A page was read whole, on the way of the goal.
-pub record HasReached (limits : Limits) (key : List ℕ) (floor : ℕ) (goal : Goal) (parent left : Option Version) (k now : Knowledge) (r : Recalled) (version : Version) : Type 0 where
+pub record HasReached (limits : Limits) (key : List ℕ) (floor : ℕ) (goal : WriteGoal) (parent left : Option Version) (k now : Knowledge) (r : Recalled) (version : Version) : Type 0 where
   pub level : ℕ
   pub low : List ℕ
   pub earlier : List ℕ
   pub arrives : HasArrived limits k now r version level low earlier
-  pub passing : IsTrue (way_of goal key low)
-  pub fresh : IsFalse (is_beyond goal) → r.walk.passed ≡ false
+  pub passing : IsTrue (write_way goal key low)
+  pub fresh : IsFalse (is_cutting goal) → r.walk.passed ≡ false
   pub above : IfSome parent (LiesAbove limits now version earlier)
   pub aside : IfSome left (IsLeftOf limits now low earlier)
   pub based : IsBased r parent left version.pid low
-  pub led : SeeksLeaf goal → IsLed (way_of goal key) parent left version.pid level low
+  pub led : SeeksLeaf goal → IsLed (write_way goal key) parent left version.pid level low
   pub passed : Passed limits key floor k now version.pid earlier goal
 
-module _ (limits : Limits) (key : List ℕ) (floor : ℕ) (goal : Goal) (parent left : Option Version) (k : Knowledge) (r : Recalled) (visit : Visit) where
-  abbrev Visits : State → Type 0
-  Visits state = IsVisiting limits key floor goal parent left k r (at visit state)
+module _ (limits : Limits) (key : List ℕ) (floor : ℕ) (goal : WriteGoal) (parent left : Option Version) (k : Knowledge) (r : Recalled) (visit : Visit) where
+  abbrev Visits : VisitState → Type 0
+  Visits state = VisitsToWrite limits key floor goal parent left k r (at visit state)
 
   recall_root : (pid n : ℕ) → 0 < pid → (recall r (step.Slot pid) (answer.Number n)).heads 0 ≡ r.heads 0
   recall_root zero n some = absurd (omega (arith, some))
@@ -81,7 +79,7 @@ module _ (limits : Limits) (key : List ℕ) (floor : ℕ) (goal : Goal) (parent 
   kept_slot : (row : ℕ) (earlier : List ℕ) → IsUnread visit.pid earlier → (other : Version) → IsKept limits k other earlier → IsKept limits (learn_slot visit.pid row k) other earlier
   kept_slot row earlier new other i = record { in_hand = in_hand_slot limits k visit.pid row other (differs visit.pid other.pid earlier new i.among) i.in_hand; alive = i.alive; among = i.among }
 
-  keeps_slot : (row : ℕ) → 0 < visit.pid → 0 < row → (earlier : List ℕ) → IsUnread visit.pid earlier → (other : Goal) → Keeps limits key floor k visit.pid earlier other → Keeps limits key floor (learn_slot visit.pid row k) visit.pid earlier other
+  keeps_slot : (row : ℕ) → 0 < visit.pid → 0 < row → (earlier : List ℕ) → IsUnread visit.pid earlier → (other : WriteGoal) → KeepsToWrite limits key floor k visit.pid earlier other → KeepsToWrite limits key floor (learn_slot visit.pid row k) visit.pid earlier other
   keeps_slot row some linked earlier new Seek h = tt
   keeps_slot row some linked earlier new (Left pid) h = record {
     removed = h.removed;
@@ -100,7 +98,7 @@ module _ (limits : Limits) (key : List ℕ) (floor : ℕ) (goal : Goal) (parent 
   }
 
   visits_slot : (row : ℕ) → 0 < row → row < visit.limits.rows → Visits Slot
-      → IsVisiting limits key floor goal parent left (learn k (step.Slot visit.pid) (answer.Number row)) (recall r (step.Slot visit.pid) (answer.Number row)) (record visit { part = []; state = Row row row })
+      → VisitsToWrite limits key floor goal parent left (learn k (step.Slot visit.pid) (answer.Number row)) (recall r (step.Slot visit.pid) (answer.Number row)) (record visit { part = []; state = Row row row })
   visits_slot row linked few h =
       let some = h.seeks.on_way.shows.page in
       let new = h.seeks.on_way.distinct.2 in
@@ -110,7 +108,7 @@ module _ (limits : Limits) (key : List ℕ) (floor : ℕ) (goal : Goal) (parent 
         level = h.level;
         low = h.low;
         earlier = h.earlier;
-        seeks = seeks_slot limits (way_of goal key) (is_beyond goal) k r visit h.level h.low h.earlier row linked few h.seeks;
+        seeks = seeks_slot limits (write_way goal key) (is_cutting goal) k r visit h.level h.low h.earlier row linked few h.seeks;
         above = IfSome_then parent h.above (λ other i. record { kept = kept other i.kept; up = i.up; after = before_slot k visit.pid row other.pid other.head some linked i.kept.in_hand.seen.head });
         aside = IfSome_then left h.aside (λ other i. record { kept = kept other i.kept; inner = i.inner });
         based = based_as (recall r (step.Slot visit.pid) (answer.Number row)) (recall_root visit.pid row some) parent left visit.pid h.low h.based;
@@ -134,24 +132,24 @@ module _ (limits : Limits) (key : List ℕ) (floor : ℕ) (goal : Goal) (parent 
     cut_row : (above at_left : Version) (earlier : List ℕ) → IsLosingTerm limits k earlier above at_left → IsLosingTerm limits now earlier above at_left
     cut_row above at_left earlier h = record { above = kept_row above earlier h.above; aside = kept_row at_left earlier h.aside; up = h.up; after = h.after }
 
-    keeps_row : (pid : ℕ) (earlier : List ℕ) (other : Goal) → Keeps limits key floor k pid earlier other → Keeps limits key floor now pid earlier other
+    keeps_row : (pid : ℕ) (earlier : List ℕ) (other : WriteGoal) → KeepsToWrite limits key floor k pid earlier other → KeepsToWrite limits key floor now pid earlier other
     keeps_row pid earlier Seek h = tt
     keeps_row pid earlier (Left removed) h = missing_row removed (pid ∷ earlier) h
     keeps_row pid earlier (Merge at_left) h = kept_row at_left earlier h
     keeps_row pid earlier (Unterm above at_left) h = cut_row above at_left earlier h
 
-    passed_row : (pid : ℕ) (earlier : List ℕ) (other : Goal) → Keeps limits key floor k pid earlier other → Passed limits key floor k now pid earlier other
+    passed_row : (pid : ℕ) (earlier : List ℕ) (other : WriteGoal) → KeepsToWrite limits key floor k pid earlier other → Passed limits key floor k now pid earlier other
     passed_row pid earlier Seek h = tt
     passed_row pid earlier (Left removed) h = (h, missing_row removed (pid ∷ earlier) h)
     passed_row pid earlier (Merge at_left) h = kept_row at_left earlier h
     passed_row pid earlier (Unterm above at_left) h = cut_row above at_left earlier h
 
-    visits_row : (head under : ℕ) → next_row content ≡ Some under → Visits (Row head row) → IsVisiting limits key floor goal parent left now walked (record visit { part = visit.part ++ content ∷ []; state = Row head under })
+    visits_row : (head under : ℕ) → next_row content ≡ Some under → Visits (Row head row) → VisitsToWrite limits key floor goal parent left now walked (record visit { part = visit.part ++ content ∷ []; state = Row head under })
     visits_row head under more h = record {
       level = h.level;
       low = h.low;
       earlier = h.earlier;
-      seeks = seeks_row limits (way_of goal key) (is_beyond goal) k r visit h.level h.low h.earlier row content fits head under more h.seeks;
+      seeks = seeks_row limits (write_way goal key) (is_cutting goal) k r visit h.level h.low h.earlier row content fits head under more h.seeks;
       above = IfSome_then parent h.above (λ other i. record { kept = kept_row other h.earlier i.kept; up = i.up; after = i.after });
       aside = IfSome_then left h.aside (λ other i. record { kept = kept_row other h.earlier i.kept; inner = i.inner });
       based = based_as walked refl parent left visit.pid h.low h.based;
@@ -161,7 +159,7 @@ module _ (limits : Limits) (key : List ℕ) (floor : ℕ) (goal : Goal) (parent 
 
     reaches_whole : (version : Version) → version.pid ≡ visit.pid → version.chain ≡ visit.part ++ content ∷ [] → next_row content ≡ None → Visits (Row version.head row) → HasReached limits key floor goal parent left k now walked version
     reaches_whole version pid made last h =
-        let here = arrived limits (way_of goal key) (is_beyond goal) k r visit h.level h.low h.earlier row content fits version pid made last h.seeks in
+        let here = arrived limits (write_way goal key) (is_cutting goal) k r visit h.level h.low h.earlier row content fits version pid made last h.seeks in
         record {
           level = h.level;
           low = h.low;
@@ -181,16 +179,16 @@ module _ (limits : Limits) (key : List ℕ) (floor : ℕ) (goal : Goal) (parent 
         }
 
 -- the same by what a visit makes of an answer
-module _ (limits : Limits) (key : List ℕ) (floor : ℕ) (goal : Goal) (parent left : Option Version) (k : Knowledge) (r : Recalled) (visit : Visit) (told : Answer Record) (h : IsVisiting limits key floor goal parent left k r visit) (f : Fits limits k (wanted visit) told) where
+module _ (limits : Limits) (key : List ℕ) (floor : ℕ) (goal : WriteGoal) (parent left : Option Version) (k : Knowledge) (r : Recalled) (visit : Visit) (told : Answer Record) (h : VisitsToWrite limits key floor goal parent left k r visit) (f : Fits limits k (wanted visit) told) where
   abbrev VisitsAt : Visit → Answer Record → Type 0
-  VisitsAt v x = IsVisiting limits key floor goal parent left k r v
+  VisitsAt v x = VisitsToWrite limits key floor goal parent left k r v
 
   abbrev FitsAt : Visit → Answer Record → Type 0
   FitsAt v x = Fits limits k (wanted v) x
 
-  pub visits_next : (new : Visit) → Starts visit told new ⊎ Continues visit told new → IsVisiting limits key floor goal parent left (learn k (wanted visit) told) (recall r (wanted visit) told) new
+  pub visits_next : (new : Visit) → FindsHead visit told new ⊎ Continues visit told new → VisitsToWrite limits key floor goal parent left (learn k (wanted visit) told) (recall r (wanted visit) told) new
   visits_next new moves =
-      let P : Visit → Answer Record → Type 0 = λ v x. IsVisiting limits key floor goal parent left (learn k (wanted v) x) (recall r (wanted v) x) new in
+      let P : Visit → Answer Record → Type 0 = λ v x. VisitsToWrite limits key floor goal parent left (learn k (wanted v) x) (recall r (wanted v) x) new in
       elim moves [
         | inl b ↦ back visit P Slot (answer.Number b.row) told b.asked b.is (rw b.goes (visits_slot limits key floor goal parent left k r visit b.row b.some (rw h.seeks.on_way.same (row_below limits k visit.pid b.row h.seeks.on_way.shows.page (there visit FitsAt Slot (answer.Number b.row) told b.asked b.is f))) (there visit VisitsAt Slot (answer.Number b.row) told b.asked b.is h)))
         | inr b ↦

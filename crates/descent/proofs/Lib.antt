@@ -10,6 +10,7 @@ pub mod Spending
 pub mod Beside
 pub mod Passing
 pub mod Rounding
+pub mod Responding
 pub mod Reading
 pub mod Keeping
 pub mod Leading

@@ -14,14 +14,13 @@ use Rattle.chain_search.specs.Knowledge.{Knowledge, learn}
 use Rattle.chain_search.specs.Recalled.{Recalled, recall}
 use Rattle.smo.specs.Readings.{IsAfter}
 use Rattle.smo.specs.declared.version.Version.{Version}
-use Rattle.descent.specs.ReadGoals.{Goal, Seek, Left, Beyond}
+use Rattle.descent.specs.ReadGoals.{ReadGoal, Seek, Left, Beyond}
 use Rattle.descent.specs.ReadLegs.{Leg, Down, Round, Past, below, has_met}
-use Rattle.descent.specs.declared.visit.State.TheVariants.{Slot, Row}
+use Rattle.descent.specs.Visits.{Slot, Row, FindsHead, Completes, Continues, Visit, at, to_page, wanted}
 use Rattle.descent.specs.Versions.{IsInHand}
-use Rattle.descent.specs.Visits.{Starts, Completes, Continues, Visit, at, to_page, wanted}
-use Rattle.descent.specs.Walks.{HasArrived, HasMet, IsAmong}
+use Rattle.descent.specs.Walks.{HasArrived}
 use Rattle.descent.specs.Ways.{LeadsDown, LeadsRight, NamesAt, reaches, precedes}
-use Rattle.descent.specs.ReadRounds.{Begins, IsAbove, IsGoneAt, IsOn, IsVisiting, Keeps, SaysAside, is_beyond, way_of}
+use Rattle.descent.specs.ReadRounds.{BeginsToRead, IsAbove, IsGoneAt, IsOn, VisitsToRead, KeepsToRead, SaysAside, goes_beyond, read_way}
 use Rattle.descent.proofs.Holding.{before_slot, in_hand_row, in_hand_slot}
 use Rattle.descent.proofs.PageLaws.{above_empty}
 use Rattle.descent.proofs.Seeking.{arrived_next, hand, seeks_next, seeks_on, seeks_root}
@@ -45,33 +44,33 @@ pub record IsBy (limits : Limits) (key : List ℕ) (k now : Knowledge) (version 
   pub before : IsAfter k removed version
   pub after : IsAfter now removed version
 
-abbrev pub Passed : Limits → List ℕ → Knowledge → Knowledge → Version → Goal → Type 0
+abbrev pub Passed : Limits → List ℕ → Knowledge → Knowledge → Version → ReadGoal → Type 0
 Passed limits key k now version Seek = ⊤
 Passed limits key k now version (Left removed) = IsBy limits key k now version removed
 Passed limits key k now version Beyond = ⊤
 
 -- the page above, once the page was read whole
-pub record IsOver (limits : Limits) (k now : Knowledge) (goal : Goal) (pid level : ℕ) (earlier : List ℕ) (above : Version) : Type 0 where
+pub record IsOver (limits : Limits) (k now : Knowledge) (goal : ReadGoal) (pid level : ℕ) (earlier : List ℕ) (above : Version) : Type 0 where
   pub was : IsInHand limits k above
   pub above_is : IsAbove limits now goal pid level earlier above
 
-abbrev pub WasOn : Limits → Knowledge → Knowledge → Recalled → Goal → ℕ → ℕ → List ℕ → Leg → Type 0
+abbrev pub WasOn : Limits → Knowledge → Knowledge → Recalled → ReadGoal → ℕ → ℕ → List ℕ → Leg → Type 0
 WasOn limits k now r goal pid level earlier (Down above) = (r.walk.passed ≡ false) × IfSome above (IsOver limits k now goal pid level earlier)
 WasOn limits k now r goal pid level earlier (Round removed) = ⊥
 WasOn limits k now r goal pid level earlier Past = r.walk.passed ≡ true
 
 -- A page was read whole, on the way of the goal.
-pub record HasReached (limits : Limits) (key : List ℕ) (goal : Goal) (leg : Leg) (k now : Knowledge) (r : Recalled) (version : Version) : Type 0 where
+pub record HasReached (limits : Limits) (key : List ℕ) (goal : ReadGoal) (leg : Leg) (k now : Knowledge) (r : Recalled) (version : Version) : Type 0 where
   pub level : ℕ
   pub low : List ℕ
   pub earlier : List ℕ
   pub arrives : HasArrived limits k now r version level low earlier
-  pub passing : IsTrue (way_of goal key low)
+  pub passing : IsTrue (read_way goal key low)
   pub passed : Passed limits key k now version goal
   pub leg_was : WasOn limits k now r goal version.pid level earlier leg
 
 -- the one of two keys that is below the other on a way is on the way
-pub before_on : (goal : Goal) (key low high : List ℕ) → IsTrue (is_below low high) → IsTrue (way_of goal key high) → IsTrue (way_of goal key low)
+pub before_on : (goal : ReadGoal) (key low high : List ℕ) → IsTrue (is_below low high) → IsTrue (read_way goal key high) → IsTrue (read_way goal key low)
 before_on Seek key low high below on = reached_before key low high below on
 before_on (Left removed) key low high below on = trans low high (low_in removed.chain) below on
 before_on Beyond key low high below on = reached_before key low high below on
@@ -95,7 +94,7 @@ module _ (limits : Limits) (key : List ℕ) (k : Knowledge) (r : Recalled) where
         let first : low_in removed.chain ≡ [] = fits.2 removed.head removed.chain (rw (← e) hand.seen.head) hand.seen.read in
         not_itself [] (rw first at (above_empty removed.chain hand.sound.is_chain.fitted h.page.gone))
 
-    pub begins : (goal : Goal) → Begins limits key k goal → IsVisiting limits key goal (Down None) started (recall r (step.Slot 0) (answer.Number pid)) (to_page limits pid)
+    pub begins : (goal : ReadGoal) → BeginsToRead limits key k goal → VisitsToRead limits key goal (Down None) started (recall r (step.Slot 0) (answer.Number pid)) (to_page limits pid)
     begins Seek inside = record { level = 0; low = []; earlier = []; seeks = seeks_root limits (reaches key) false k r pid (lowest key) fits inside; keeps = tt; leg_is = (refl, tt) }
     begins (Left removed) h = record {
       level = 0;
@@ -110,7 +109,7 @@ module _ (limits : Limits) (key : List ℕ) (k : Knowledge) (r : Recalled) where
   -- a visit goes on
 
   module _ (visit : Visit) where
-    keeps_slot : (row : ℕ) → 0 < visit.pid → 0 < row → (goal : Goal) → Keeps limits key k (at visit Slot) goal → Keeps limits key (learn k (step.Slot visit.pid) (answer.Number row)) (record visit { part = []; state = Row row row }) goal
+    keeps_slot : (row : ℕ) → 0 < visit.pid → 0 < row → (goal : ReadGoal) → KeepsToRead limits key k (at visit Slot) goal → KeepsToRead limits key (learn k (step.Slot visit.pid) (answer.Number row)) (record visit { part = []; state = Row row row }) goal
     keeps_slot row some linked Seek h = tt
     keeps_slot row some linked (Left removed) h = record {
       gone = record { page = record { in_hand = in_hand_slot limits k visit.pid row removed h.apart h.gone.page.in_hand; gone = h.gone.page.gone }; reached = h.gone.reached };
@@ -123,11 +122,11 @@ module _ (limits : Limits) (key : List ℕ) (k : Knowledge) (r : Recalled) where
     met_slot zero row met some is = absurd (omega (arith, some))
     met_slot (suc pid) row met some is = is
 
-    above_slot : (row level : ℕ) (earlier : List ℕ) (goal : Goal) (above : Option Version) → IfSome above (IsAbove limits k goal visit.pid level earlier) → IfSome above (IsAbove limits (learn k (step.Slot visit.pid) (answer.Number row)) goal visit.pid level earlier)
+    above_slot : (row level : ℕ) (earlier : List ℕ) (goal : ReadGoal) (above : Option Version) → IfSome above (IsAbove limits k goal visit.pid level earlier) → IfSome above (IsAbove limits (learn k (step.Slot visit.pid) (answer.Number row)) goal visit.pid level earlier)
     above_slot row level earlier goal None h = tt
     above_slot row level earlier goal (Some above) h = record { in_hand = in_hand_slot limits k visit.pid row above h.apart h.in_hand; alive = h.alive; among = h.among; up = h.up; apart = h.apart; says = h.says }
 
-    on_slot : (row level : ℕ) (earlier : List ℕ) → 0 < visit.pid → (goal : Goal) (leg : Leg) → IsOn limits k r goal (at visit Slot) level earlier leg
+    on_slot : (row level : ℕ) (earlier : List ℕ) → 0 < visit.pid → (goal : ReadGoal) (leg : Leg) → IsOn limits k r goal (at visit Slot) level earlier leg
         → IsOn limits (learn k (step.Slot visit.pid) (answer.Number row)) (recall r (step.Slot visit.pid) (answer.Number row)) goal (record visit { part = []; state = Row row row }) level earlier leg
     on_slot row level earlier some goal (Down above) h = (met_slot visit.pid row false some h.0, above_slot row level earlier goal above h.1)
     on_slot row level earlier some goal (Round removed) h = absurd h
@@ -140,27 +139,27 @@ module _ (limits : Limits) (key : List ℕ) (k : Knowledge) (r : Recalled) where
       gone_row : (removed : Version) → IsGoneAt limits k key removed → IsGoneAt limits now key removed
       gone_row removed h = record { page = record { in_hand = in_hand_row k row content fits.same limits removed h.page.in_hand; gone = h.page.gone }; reached = h.reached }
 
-      keeps_row : (head under : ℕ) (goal : Goal) → Keeps limits key k (at visit (Row head row)) goal → Keeps limits key now (record visit { part = visit.part ++ content ∷ []; state = Row head under }) goal
+      keeps_row : (head under : ℕ) (goal : ReadGoal) → KeepsToRead limits key k (at visit (Row head row)) goal → KeepsToRead limits key now (record visit { part = visit.part ++ content ∷ []; state = Row head under }) goal
       keeps_row head under Seek h = tt
       keeps_row head under (Left removed) h = record { gone = gone_row removed h.gone; apart = h.apart; after = h.after }
       keeps_row head under Beyond h = tt
 
-      passed_row : (version : Version) → version.pid ≡ visit.pid → (head : ℕ) (goal : Goal) → Keeps limits key k (at visit (Row head row)) goal → Passed limits key k now version goal
+      passed_row : (version : Version) → version.pid ≡ visit.pid → (head : ℕ) (goal : ReadGoal) → KeepsToRead limits key k (at visit (Row head row)) goal → Passed limits key k now version goal
       passed_row version pid head Seek h = tt
       passed_row version pid head (Left removed) h = record { was = h.gone.page.in_hand; gone = gone_row removed h.gone; apart = rw pid h.apart; before = rw pid h.after; after = rw pid h.after }
       passed_row version pid head Beyond h = tt
 
-      above_row : (level : ℕ) (earlier : List ℕ) (goal : Goal) (above : Version) → IsAbove limits k goal visit.pid level earlier above → IsAbove limits now goal visit.pid level earlier above
+      above_row : (level : ℕ) (earlier : List ℕ) (goal : ReadGoal) (above : Version) → IsAbove limits k goal visit.pid level earlier above → IsAbove limits now goal visit.pid level earlier above
       above_row level earlier goal above h = record { in_hand = in_hand_row k row content fits.same limits above h.in_hand; alive = h.alive; among = h.among; up = h.up; apart = h.apart; says = h.says }
 
-      on_row : (head under level : ℕ) (earlier : List ℕ) (goal : Goal) (leg : Leg) → IsOn limits k r goal (at visit (Row head row)) level earlier leg
+      on_row : (head under level : ℕ) (earlier : List ℕ) (goal : ReadGoal) (leg : Leg) → IsOn limits k r goal (at visit (Row head row)) level earlier leg
           → IsOn limits now (recall r (step.Row row) (answer.Content content)) goal (record visit { part = visit.part ++ content ∷ []; state = Row head under }) level earlier leg
       on_row head under level earlier goal (Down None) h = h
       on_row head under level earlier goal (Down (Some above)) h = (h.0, above_row level earlier goal above h.1)
       on_row head under level earlier goal (Round removed) h = absurd h
       on_row head under level earlier goal Past h = h
 
-      was_row : (version : Version) → version.pid ≡ visit.pid → (head level : ℕ) (earlier : List ℕ) (goal : Goal) (leg : Leg) → IsOn limits k r goal (at visit (Row head row)) level earlier leg
+      was_row : (version : Version) → version.pid ≡ visit.pid → (head level : ℕ) (earlier : List ℕ) (goal : ReadGoal) (leg : Leg) → IsOn limits k r goal (at visit (Row head row)) level earlier leg
           → WasOn limits k now (recall r (step.Row row) (answer.Content content)) goal version.pid level earlier leg
       was_row version pid head level earlier goal (Down None) h = h
       was_row version pid head level earlier goal (Down (Some above)) h = (h.0, record { was = h.1.in_hand; above_is = rw pid (above_row level earlier goal above h.1) })
@@ -168,9 +167,9 @@ module _ (limits : Limits) (key : List ℕ) (k : Knowledge) (r : Recalled) where
       was_row version pid head level earlier goal Past h = h
 
 -- the same by what a visit makes of an answer
-module _ (limits : Limits) (key : List ℕ) (goal : Goal) (leg : Leg) (k : Knowledge) (r : Recalled) (visit : Visit) (told : Answer Record) (h : IsVisiting limits key goal leg k r visit) (f : Fits limits k (wanted visit) told) where
-  abbrev KeepsAt : Goal → Visit → Answer Record → Type 0
-  KeepsAt other v x = Keeps limits key k v other
+module _ (limits : Limits) (key : List ℕ) (goal : ReadGoal) (leg : Leg) (k : Knowledge) (r : Recalled) (visit : Visit) (told : Answer Record) (h : VisitsToRead limits key goal leg k r visit) (f : Fits limits k (wanted visit) told) where
+  abbrev KeepsAt : ReadGoal → Visit → Answer Record → Type 0
+  KeepsAt other v x = KeepsToRead limits key k v other
 
   abbrev OnAt : Visit → Answer Record → Type 0
   OnAt v x = IsOn limits k r goal v h.level h.earlier leg
@@ -179,9 +178,9 @@ module _ (limits : Limits) (key : List ℕ) (goal : Goal) (leg : Leg) (k : Knowl
   FitsAt v x = Fits limits k (wanted v) x
 
   -- a page that is kept aside
-  pub keeps_next : (other : Goal) → Keeps limits key k visit other → (new : Visit) → Starts visit told new ⊎ Continues visit told new → Keeps limits key (learn k (wanted visit) told) new other
+  pub keeps_next : (other : ReadGoal) → KeepsToRead limits key k visit other → (new : Visit) → FindsHead visit told new ⊎ Continues visit told new → KeepsToRead limits key (learn k (wanted visit) told) new other
   keeps_next other keeps new moves =
-      let P : Visit → Answer Record → Type 0 = λ v x. Keeps limits key (learn k (wanted v) x) new other in
+      let P : Visit → Answer Record → Type 0 = λ v x. KeepsToRead limits key (learn k (wanted v) x) new other in
       elim moves [
         | inl b ↦ back visit P Slot (answer.Number b.row) told b.asked b.is (rw b.goes (keeps_slot limits key k r visit b.row h.seeks.on_way.shows.page b.some other (there visit (KeepsAt other) Slot (answer.Number b.row) told b.asked b.is keeps)))
         | inr b ↦
@@ -190,7 +189,7 @@ module _ (limits : Limits) (key : List ℕ) (goal : Goal) (leg : Leg) (k : Knowl
             (rw b.goes (keeps_row limits key k r visit b.row b.content fits b.head b.under other (there visit (KeepsAt other) (Row b.head b.row) (answer.Content b.content) told b.asked b.is keeps)))
       ]
 
-  on_next : (new : Visit) → Starts visit told new ⊎ Continues visit told new → IsOn limits (learn k (wanted visit) told) (recall r (wanted visit) told) goal new h.level h.earlier leg
+  on_next : (new : Visit) → FindsHead visit told new ⊎ Continues visit told new → IsOn limits (learn k (wanted visit) told) (recall r (wanted visit) told) goal new h.level h.earlier leg
   on_next new moves =
       let P : Visit → Answer Record → Type 0 = λ v x. IsOn limits (learn k (wanted v) x) (recall r (wanted v) x) goal new h.level h.earlier leg in
       elim moves [
@@ -201,12 +200,12 @@ module _ (limits : Limits) (key : List ℕ) (goal : Goal) (leg : Leg) (k : Knowl
             (rw b.goes (on_row limits key k r visit b.row b.content fits b.head b.under h.level h.earlier goal leg (there visit OnAt (Row b.head b.row) (answer.Content b.content) told b.asked b.is h.leg_is)))
       ]
 
-  pub visits_next : (new : Visit) → Starts visit told new ⊎ Continues visit told new → IsVisiting limits key goal leg (learn k (wanted visit) told) (recall r (wanted visit) told) new
+  pub visits_next : (new : Visit) → FindsHead visit told new ⊎ Continues visit told new → VisitsToRead limits key goal leg (learn k (wanted visit) told) (recall r (wanted visit) told) new
   visits_next new moves = record {
     level = h.level;
     low = h.low;
     earlier = h.earlier;
-    seeks = seeks_next limits (way_of goal key) (has_met leg || is_beyond goal) k r visit h.level h.low h.earlier told h.seeks f new moves;
+    seeks = seeks_next limits (read_way goal key) (has_met leg || goes_beyond goal) k r visit h.level h.low h.earlier told h.seeks f new moves;
     keeps = keeps_next goal h.keeps new moves;
     leg_is = on_next new moves;
   }
@@ -216,7 +215,7 @@ module _ (limits : Limits) (key : List ℕ) (goal : Goal) (leg : Leg) (k : Knowl
     fits : FitsRow limits k b.row b.content
     fits = there visit FitsAt (Row version.head b.row) (answer.Content b.content) told b.asked b.is f
 
-    pub passed_next : (other : Goal) → Keeps limits key k visit other → Passed limits key k (learn k (wanted visit) told) version other
+    pub passed_next : (other : ReadGoal) → KeepsToRead limits key k visit other → Passed limits key k (learn k (wanted visit) told) version other
     passed_next other keeps =
         back visit (λ v x. Passed limits key k (learn k (wanted v) x) version other) (Row version.head b.row) (answer.Content b.content) told b.asked b.is
         (passed_row limits key k r visit b.row b.content fits version b.pid version.head other (there visit (KeepsAt other) (Row version.head b.row) (answer.Content b.content) told b.asked b.is keeps))
@@ -231,14 +230,14 @@ module _ (limits : Limits) (key : List ℕ) (goal : Goal) (leg : Leg) (k : Knowl
       level = h.level;
       low = h.low;
       earlier = h.earlier;
-      arrives = arrived_next limits (way_of goal key) (has_met leg || is_beyond goal) k r visit h.level h.low h.earlier told h.seeks f version b;
+      arrives = arrived_next limits (read_way goal key) (has_met leg || goes_beyond goal) k r visit h.level h.low h.earlier told h.seeks f version b;
       passing = h.seeks.passing;
       passed = passed_next goal h.keeps;
       leg_was = was_next;
     }
 
 -- a page was read whole
-module _ (limits : Limits) (key : List ℕ) (goal : Goal) (leg : Leg) (k now : Knowledge) (r : Recalled) (version : Version) (h : HasReached limits key goal leg k now r version) where
+module _ (limits : Limits) (key : List ℕ) (goal : ReadGoal) (leg : Leg) (k now : Knowledge) (r : Recalled) (version : Version) (h : HasReached limits key goal leg k now r version) where
   abbrev chain : List Record
   chain = version.chain
 
@@ -246,17 +245,17 @@ module _ (limits : Limits) (key : List ℕ) (goal : Goal) (leg : Leg) (k now : K
   pub at_or_below : IsTrue (reaches key (low_in chain))
   at_or_below = rw h.arrives.is_low (by_goal goal h.passing h.passed)
     where
-      by_goal : (other : Goal) → IsTrue (way_of other key h.low) → Passed limits key k now version other → IsTrue (reaches key h.low)
+      by_goal : (other : ReadGoal) → IsTrue (read_way other key h.low) → Passed limits key k now version other → IsTrue (reaches key h.low)
       by_goal Seek passing by = passing
       by_goal (Left removed) passing by = reached_before key h.low (low_in removed.chain) passing by.gone.reached
       by_goal Beyond passing by = passing
 
-  pub is_on_way : IsTrue (way_of goal key (low_in chain))
+  pub is_on_way : IsTrue (read_way goal key (low_in chain))
   is_on_way = rw h.arrives.is_low h.passing
 
   -- whether a removed index page was met
 
-  fresh_on : (other : Leg) → WasOn limits k now r goal version.pid h.level h.earlier other → IsFalse (has_met other || is_beyond goal) → r.walk.passed ≡ false
+  fresh_on : (other : Leg) → WasOn limits k now r goal version.pid h.level h.earlier other → IsFalse (has_met other || goes_beyond goal) → r.walk.passed ≡ false
   fresh_on (Down above) on here = on.0
   fresh_on (Round removed) on here = absurd on
   fresh_on Past on here = cc
@@ -271,7 +270,7 @@ module _ (limits : Limits) (key : List ℕ) (goal : Goal) (leg : Leg) (k now : K
   -- where the page isn't removed
   module _ (alive : is_removed chain ≡ false) where
     -- the removed page begins where the way ends, so that the next page isn't that one
-    pub keeps_on : (pid level : ℕ) (low : List ℕ) → NamesAt chain pid level low → (other : Goal) → IsTrue (way_of other key low) → Passed limits key k now version other → Keeps limits key now (to_page limits pid) other
+    pub keeps_on : (pid level : ℕ) (low : List ℕ) → NamesAt chain pid level low → (other : ReadGoal) → IsTrue (read_way other key low) → Passed limits key k now version other → KeepsToRead limits key now (to_page limits pid) other
     keeps_on pid level low names Seek passing by = tt
     keeps_on pid level low names (Left removed) passing by = record {
       gone = by.gone;
@@ -304,19 +303,19 @@ module _ (limits : Limits) (key : List ℕ) (goal : Goal) (leg : Leg) (k now : K
     leg_right pid low names (Round removed) on = absurd on
     leg_right pid low names Past on = met_on true alive on
 
-    pub goes_right : (pid : ℕ) → LeadsRight (way_of goal key) chain pid → IsVisiting limits key goal leg now r (to_page limits pid)
+    pub goes_right : (pid : ℕ) → LeadsRight (read_way goal key) chain pid → VisitsToRead limits key goal leg now r (to_page limits pid)
     goes_right pid leads =
-        let names = right_names (way_of goal key) chain pid leads in
+        let names = right_names (read_way goal key) chain pid leads in
         record {
           level = level_in chain;
           low = leads.low;
           earlier = version.pid ∷ h.earlier;
-          seeks = seeks_on limits k now r version h.level h.low h.earlier h.arrives (way_of goal key) (has_met leg || is_beyond goal) pid (level_in chain) leads.low names alive leads.on_way (fresh_on leg h.leg_was);
+          seeks = seeks_on limits k now r version h.level h.low h.earlier h.arrives (read_way goal key) (has_met leg || goes_beyond goal) pid (level_in chain) leads.low names alive leads.on_way (fresh_on leg h.leg_was);
           keeps = keeps_on pid (level_in chain) leads.low names goal leads.on_way h.passed;
           leg_is = leg_right pid leads.low names leg h.leg_was;
         }
 
-    says_aside : (other : Goal) → Passed limits key k now version other → SaysAside other chain
+    says_aside : (other : ReadGoal) → Passed limits key k now version other → SaysAside other chain
     says_aside Seek by = tt
     says_aside (Left removed) by = h.arrives.arrives.whole.names alive removed.pid removed.head removed.chain by.was.seen.head by.was.seen.read
     says_aside Beyond by = tt
@@ -342,14 +341,14 @@ module _ (limits : Limits) (key : List ℕ) (goal : Goal) (leg : Leg) (k now : K
     met_below (Round removed) on = absurd on
     met_below Past on = refl
 
-    pub goes_down : (pid : ℕ) → 0 < level_in chain → LeadsDown (way_of goal key) chain pid → IsVisiting limits key goal (below version leg) now r (to_page limits pid)
+    pub goes_down : (pid : ℕ) → 0 < level_in chain → LeadsDown (read_way goal key) chain pid → VisitsToRead limits key goal (below version leg) now r (to_page limits pid)
     goes_down pid index leads =
-        let names = down_names (way_of goal key) chain pid index leads in
+        let names = down_names (read_way goal key) chain pid index leads in
         record {
           level = level_in chain - 1;
           low = leads.low;
           earlier = version.pid ∷ h.earlier;
-          seeks = rw (met_below leg h.leg_was) (seeks_on limits k now r version h.level h.low h.earlier h.arrives (way_of goal key) (has_met leg || is_beyond goal) pid (level_in chain - 1) leads.low names alive leads.greatest.passing (fresh_on leg h.leg_was));
+          seeks = rw (met_below leg h.leg_was) (seeks_on limits k now r version h.level h.low h.earlier h.arrives (read_way goal key) (has_met leg || goes_beyond goal) pid (level_in chain - 1) leads.low names alive leads.greatest.passing (fresh_on leg h.leg_was));
           keeps = keeps_on pid (level_in chain - 1) leads.low names goal leads.greatest.passing h.passed;
           leg_is = leg_down pid (level_in chain - 1) leads.low (omega (arith, index)) names leg h.leg_was;
         }

@@ -1,36 +1,35 @@
 -- What an answer leaves a reader's round.
-use Rattle.std.proofs.Common.{ap, ◌∙◌, ◌≡◌, ◌<◌, ◌+◌, ◌||◌, ◌⊎◌, inl, inr, ℕ, List, [], Bool, true, false, Option, Some, None, refl, sym, subst, arith}
-use Rattle.std.specs.Prelude.{IfSome}
+use Rattle.std.proofs.Common.{ap, ◌≡◌, ◌<◌, ◌+◌, ◌||◌, ◌⊎◌, inl, inr, ℕ, List, [], Bool, true, false, Option, Some, None, refl, subst, arith}
 use Rattle.bw_model.specs.declared.limits.Limits.{Limits}
 use Rattle.bw_model.specs.declared.step.Answer.{Answer}
 use Rattle.bw_model.specs.declared.step.Answer.TheVariants as answer
-use Rattle.bw_model.specs.declared.step.Step.{Step}
 use Rattle.deltas.specs.declared.record.Record.{Record}
-use Rattle.chain_search.specs.Chains.{is_removed, level_in, low_in}
+use Rattle.chain_search.specs.Chains.{is_removed, low_in}
 use Rattle.chain_search.specs.Fitting.{Fits}
 use Rattle.chain_search.specs.Knowledge.{Knowledge, learn}
-use Rattle.chain_search.specs.Recalled.{IsSpentWith, Recalled, recall}
+use Rattle.chain_search.specs.Recalled.{Recalled, recall}
 use Rattle.smo.specs.declared.version.Version.{Version}
-use Rattle.descent.specs.ReadGoals.{Goal, Seek, Left, Beyond}
+use Rattle.descent.specs.ReadGoals.{ReadGoal, Seek, Left, Beyond}
 use Rattle.descent.specs.ReadLegs.{Leg, Down, Round, Past, IsPlain, below, has_met, level_on}
 use Rattle.descent.specs.ReadEnds.{ReadEnd, Again, Removed, Leaf, Beside}
-use Rattle.descent.specs.Descents.{State, Root, Page, Descent, Finds, Shows as WayShows, Starts, Visits}
-use Rattle.descent.specs.declared.visit.Sight.{Sight}
-use Rattle.descent.specs.declared.visit.State.TheVariants.{Slot, Row}
-use Rattle.descent.specs.declared.visit.Sight.TheVariants.{Empty, Whole}
-use Rattle.descent.specs.ReadRounds.{Begins, CanMeet, CanPass, CanSee, Ends, Follows, GoesFrom, GoesOnWay, HasChildren, IsAtLevel, IsLeftLeaf, IsOn, IsTold, IsVisiting, Misses, ReadRound, Responds, Sees, SeeksKey, Shows, ShowsVisit, Spends, Treats, at, descent_of, going_to, is_beyond, kept_for, reads_left, wanted, way_of, way_on}
+use Rattle.descent.specs.Descents.{WayState, Root, Page, Finds, Shows as WayShows}
+use Rattle.descent.specs.Visits.{Sight, Slot, Row, Empty, Whole}
+use Rattle.descent.specs.ReadRounds.{BeginsToRead, CanMeetLeg, CanPass, EndsRead, IsAtLevel, IsLeftLeaf, VisitsToRead, MissesRead, ReadRound, SeeksKey, Shows, ShowsVisit, Spends, TreatsRead, at, goes_beyond, read_round_kept, wanted, read_way, way_on, reading}
+use Rattle.descent.specs.Machines.{IsTold}
+use Rattle.descent.specs.Rounds.{CanSee, Follows, Responds, Sees, machine}
 use Rattle.descent.specs.Visits as page
 use Rattle.descent.specs.Walks.{HasMet, IsReached, IsSeeking, left_at, left_in, with_walk}
 use Rattle.descent.specs.Ways.{EndsHere, StaysLeft, precedes, reaches}
-use Rattle.descent.proofs.Passing.{HasReached, IsOver, Passed, at_or_below, begins, goes_down, goes_right, keeps_next, passed_next, reached_next, visits_next}
+use Rattle.descent.proofs.Passing.{HasReached, IsOver, at_or_below, begins, goes_down, goes_right, keeps_next, passed_next, reached_next, visits_next}
 use Rattle.descent.proofs.Rounding.{HasNeared, goes_nearer, goes_on, goes_round, goes_through, is_beside, is_merged, past_leaf, past_merged, within_beside}
 use Rattle.descent.proofs.Seeking.{is_gone, living, reached}
-use Rattle.descent.proofs.Spending.{left_empty, left_gone, left_kept, left_on, left_removed, left_round, left_some, spent_empty, spent_on}
+use Rattle.descent.proofs.Responding.{by_step}
+use Rattle.descent.proofs.Spending.{left_empty, left_gone, left_kept, left_on, left_removed, left_round, left_some, spent_empty, spent_on, still}
 use Rattle.descent.proofs.Visiting.{there}
 use Rattle.descent.proofs.WayLaws.{covers_here}
 
 -- by the leg of a round: a page was read whole
-abbrev HasRead : Limits → List ℕ → Goal → Leg → Knowledge → Knowledge → Recalled → Version → Type 0
+abbrev HasRead : Limits → List ℕ → ReadGoal → Leg → Knowledge → Knowledge → Recalled → Version → Type 0
 HasRead limits key goal (Down above) k now r version = HasReached limits key goal (Down above) k now r version
 HasRead limits key goal (Round removed) k now r version = HasNeared limits key goal removed k now r version
 HasRead limits key goal Past k now r version = HasReached limits key goal Past k now r version
@@ -47,12 +46,12 @@ plain_level (Down above) plain = tt
 plain_level (Round removed) plain = absurd plain
 plain_level Past plain = tt
 
-shows_plain : (limits : Limits) (key : List ℕ) (goal : Goal) (k : Knowledge) (r : Recalled) (visit : page.Visit) (leg : Leg) → IsPlain leg → IsVisiting limits key goal leg k r visit → ShowsVisit limits key goal leg k r visit
+shows_plain : (limits : Limits) (key : List ℕ) (goal : ReadGoal) (k : Knowledge) (r : Recalled) (visit : page.Visit) (leg : Leg) → IsPlain leg → VisitsToRead limits key goal leg k r visit → ShowsVisit limits key goal leg k r visit
 shows_plain limits key goal k r visit (Down above) plain h = h
 shows_plain limits key goal k r visit (Round removed) plain h = absurd plain
 shows_plain limits key goal k r visit Past plain h = h
 
-read_plain : (limits : Limits) (key : List ℕ) (goal : Goal) (k now : Knowledge) (r : Recalled) (version : Version) (leg : Leg) → IsPlain leg → HasRead limits key goal leg k now r version → HasReached limits key goal leg k now r version
+read_plain : (limits : Limits) (key : List ℕ) (goal : ReadGoal) (k now : Knowledge) (r : Recalled) (version : Version) (leg : Leg) → IsPlain leg → HasRead limits key goal leg k now r version → HasReached limits key goal leg k now r version
 read_plain limits key goal k now r version (Down above) plain h = h
 read_plain limits key goal k now r version (Round removed) plain h = absurd plain
 read_plain limits key goal k now r version Past plain h = h
@@ -60,23 +59,23 @@ read_plain limits key goal k now r version Past plain h = h
 -- what follows once a page was read whole
 abbrev After : ReadRound → Knowledge → Recalled → ReadRound → Option ReadEnd → Type 0
 After old now r new None = Shows new now r
-After old now r new (Some end) = Ends old now r end
+After old now r new (Some end) = EndsRead old now r end
 
 module _ (old : ReadRound) (k now : Knowledge) (r : Recalled) (version : Version) (h : HasRead old.limits old.key old.goal old.leg k now r version) where
   at_leg : (leg : Leg) → old.leg ≡ leg → HasRead old.limits old.key old.goal leg k now r version
   at_leg leg e = subst (λ (l : Leg). HasRead old.limits old.key old.goal l k now r version) e h
 
-  at_goal : (goal : Goal) → old.goal ≡ goal → IsPlain old.leg → HasReached old.limits old.key goal old.leg k now r version
-  at_goal goal e plain = subst (λ (g : Goal). HasReached old.limits old.key g old.leg k now r version) e (read_plain old.limits old.key old.goal k now r version old.leg plain h)
+  at_goal : (goal : ReadGoal) → old.goal ≡ goal → IsPlain old.leg → HasReached old.limits old.key goal old.leg k now r version
+  at_goal goal e plain = subst (λ (g : ReadGoal). HasReached old.limits old.key g old.leg k now r version) e (read_plain old.limits old.key old.goal k now r version old.leg plain h)
 
   -- the round goes on
-  shows : (goal : Goal) (leg : Leg) (next : ℕ) → IsPlain leg → IsVisiting old.limits old.key goal leg now r (page.to_page old.limits next) → ShowsVisit old.limits old.key goal leg now r (page.to_page old.limits next)
+  shows : (goal : ReadGoal) (leg : Leg) (next : ℕ) → IsPlain leg → VisitsToRead old.limits old.key goal leg now r (page.to_page old.limits next) → ShowsVisit old.limits old.key goal leg now r (page.to_page old.limits next)
   shows goal leg next plain is = shows_plain old.limits old.key goal now r (page.to_page old.limits next) leg plain is
 
   neared : (removed : Version) → IsAtLevel old version removed → HasNeared old.limits old.key old.goal removed k now r version
   neared removed left = at_leg (Round removed) left.leg
 
-  treated : (new : ReadRound) (result : Option ReadEnd) → Treats old version new result → After old now r new result
+  treated : (new : ReadRound) (result : Option ReadEnd) → TreatsRead old version new result → After old now r new result
   treated new None t = elim t [
     | inl right ↦ rw right.goes (shows old.goal old.leg right.next right.plain (goes_right old.limits old.key old.goal old.leg k now r version (at_goal old.goal refl right.plain) right.alive right.next right.leads))
     | inr (inl down) ↦ rw down.goes (shows old.goal (below version old.leg) down.next (plain_below version old.leg down.plain) (goes_down old.limits old.key old.goal old.leg k now r version (at_goal old.goal refl down.plain) down.alive down.next down.index down.leads))
@@ -101,18 +100,14 @@ module _ (old : ReadRound) (k now : Knowledge) (r : Recalled) (version : Version
     | inr merged ↦ rw merged.is (is_merged old.limits old.key merged.removed old.leg k now r version (at_goal (Left merged.removed) merged.left.goal merged.left.plain) merged.left.alive merged.stays merged.left.ends.leaf)
   ]
     where
-      stays : (goal : Goal) → SeeksKey goal → EndsHere (way_of goal old.key) version.chain → StaysLeft (reaches old.key) version.chain
+      stays : (goal : ReadGoal) → SeeksKey goal → EndsHere (read_way goal old.key) version.chain → StaysLeft (reaches old.key) version.chain
       stays Seek seeks ends = ends.stays
       stays (Left removed) seeks ends = absurd seeks
       stays Beyond seeks ends = ends.stays
   treated new (Some (Beside left removed)) t = rw t.is (is_beside old.limits old.key removed old.leg k now r version (at_goal (Left removed) t.at_left.goal t.at_left.plain) t.at_left.alive t.beside t.stays t.at_left.ends.leaf)
 
--- the answer to the step wanted last is the one that the state was waiting for
-back : (old : ReadRound) (P : ReadRound → Answer Record → Type 0) (state : State) (told real : Answer Record) → old.state ≡ state → real ≡ told → P (at old state) told → P old real
-back old P state told real e i h = subst (λ (x : Answer Record). P old x) (sym i) (subst (λ (s : State). P (at old s) told) (sym e) h)
-
 abbrev Then : ReadRound → Option ReadEnd → ReadRound → Answer Record → Type 0
-Then new result old told = (k : Knowledge) (r : Recalled) → Shows old k r → Fits old.limits k (wanted old) told → Follows k r old told new result
+Then new result old told = (k : Knowledge) (r : Recalled) → Shows old k r → Fits old.limits k (wanted old) told → Follows reading k r old told new result
 
 abbrev Pays : ReadRound → Option ReadEnd → ReadRound → Answer Record → Type 0
 Pays new result old told = (reserve kept : ℕ) (k : Knowledge) (r : Recalled) → Shows old k r → Fits old.limits k (wanted old) told → Spends reserve kept r old told new result
@@ -126,20 +121,20 @@ record IsSought (limits : Limits) (k : Knowledge) (r : Recalled) (visit : page.V
   earlier : List ℕ
   seeks : IsSeeking limits way beyond k r visit level low earlier
 
-sought : (limits : Limits) (key : List ℕ) (goal : Goal) (k : Knowledge) (r : Recalled) (visit : page.Visit) (leg : Leg) → ShowsVisit limits key goal leg k r visit → IsSought limits k r visit
-sought limits key goal k r visit (Down above) h = record { way = way_of goal key; beyond = has_met (Down above) || is_beyond goal; level = h.level; low = h.low; earlier = h.earlier; seeks = h.seeks }
-sought limits key goal k r visit (Round removed) h = record { way = way_of (Left removed) key; beyond = true; level = h.nears.level; low = h.nears.low; earlier = h.nears.earlier; seeks = h.nears.seeks }
-sought limits key goal k r visit Past h = record { way = way_of goal key; beyond = true; level = h.level; low = h.low; earlier = h.earlier; seeks = h.seeks }
+sought : (limits : Limits) (key : List ℕ) (goal : ReadGoal) (k : Knowledge) (r : Recalled) (visit : page.Visit) (leg : Leg) → ShowsVisit limits key goal leg k r visit → IsSought limits k r visit
+sought limits key goal k r visit (Down above) h = record { way = read_way goal key; beyond = has_met (Down above) || goes_beyond goal; level = h.level; low = h.low; earlier = h.earlier; seeks = h.seeks }
+sought limits key goal k r visit (Round removed) h = record { way = read_way (Left removed) key; beyond = true; level = h.nears.level; low = h.nears.low; earlier = h.nears.earlier; seeks = h.nears.seeks }
+sought limits key goal k r visit Past h = record { way = read_way goal key; beyond = true; level = h.level; low = h.low; earlier = h.earlier; seeks = h.seeks }
 
 -- whether a removed index page was met before it
-met_before : (limits : Limits) (key : List ℕ) (goal : Goal) (k : Knowledge) (r : Recalled) (visit : page.Visit) (leg : Leg) → ShowsVisit limits key goal leg k r visit → HasMet (has_met leg) r.walk visit.state
+met_before : (limits : Limits) (key : List ℕ) (goal : ReadGoal) (k : Knowledge) (r : Recalled) (visit : page.Visit) (leg : Leg) → ShowsVisit limits key goal leg k r visit → HasMet (has_met leg) r.walk visit.state
 met_before limits key goal k r visit (Down above) h = h.leg_is.0
 met_before limits key goal k r visit (Round removed) h = h.nears.leg_is
 met_before limits key goal k r visit Past h = h.leg_is
 
 -- by what a visit makes of an answer
-module _ (limits : Limits) (key : List ℕ) (goal : Goal) (k : Knowledge) (r : Recalled) (visit : page.Visit) (told : Answer Record) (f : Fits limits k (page.wanted visit) told) where
-  on_visit : (leg : Leg) → ShowsVisit limits key goal leg k r visit → (new : page.Visit) → page.Starts visit told new ⊎ page.Continues visit told new → ShowsVisit limits key goal leg (learn k (page.wanted visit) told) (recall r (page.wanted visit) told) new
+module _ (limits : Limits) (key : List ℕ) (goal : ReadGoal) (k : Knowledge) (r : Recalled) (visit : page.Visit) (told : Answer Record) (f : Fits limits k (page.wanted visit) told) where
+  on_visit : (leg : Leg) → ShowsVisit limits key goal leg k r visit → (new : page.Visit) → page.FindsHead visit told new ⊎ page.Continues visit told new → ShowsVisit limits key goal leg (learn k (page.wanted visit) told) (recall r (page.wanted visit) told) new
   on_visit (Down above) h new moves = visits_next limits key goal (Down above) k r visit told h f new moves
   on_visit (Round removed) h new moves = record {
     nears = visits_next limits key (Left removed) Past k r visit told h.nears f new moves;
@@ -163,27 +158,27 @@ module _ (old new : ReadRound) (told : Answer Record) (visit : page.Visit) where
   abbrev here : ReadRound
   here = at old (Page visit)
 
-  seen : (next : page.Visit) (sight : Sight) (result : Option ReadEnd) → page.Responds visit told next (Some sight) → Sees here sight new result → Then new result here told
+  seen : (next : page.Visit) (sight : Sight) (result : Option ReadEnd) → page.Responds visit told next (Some sight) → Sees reading here sight new result → Then new result here told
   seen next Empty result b sees = rw sees (λ k r h f. tt)
   seen next (Whole version) result b sees = λ k r h f.
       by_result k r result (treated here k (learn k (page.wanted visit) told) (recall r (page.wanted visit) told) version (whole old.limits old.key old.goal k r visit told f old.leg h version b) new result sees)
     where
-      by_result : (k : Knowledge) (r : Recalled) (o : Option ReadEnd) → After here (learn k (page.wanted visit) told) (recall r (page.wanted visit) told) new o → Follows k r here told new o
+      by_result : (k : Knowledge) (r : Recalled) (o : Option ReadEnd) → After here (learn k (page.wanted visit) told) (recall r (page.wanted visit) told) new o → Follows reading k r here told new o
       by_result k r None a = a
       by_result k r (Some end) a = a
 
   module _ (reserve kept : ℕ) (k : Knowledge) (r : Recalled) (h : ShowsVisit old.limits old.key old.goal old.leg k r visit) (f : Fits old.limits k (page.wanted visit) told) where
-    abbrev Lost : Goal → Type 0
-    Lost goal = Misses reserve kept r (record here { goal = goal }) told goal
+    abbrev Lost : ReadGoal → Type 0
+    Lost goal = MissesRead reserve kept r (record here { goal = goal }) told goal
 
     -- what is reserved is left
-    missed_with : reserve < left_in reserve r visit → (goal : Goal) → Lost goal
+    missed_with : reserve < left_in reserve r visit → (goal : ReadGoal) → Lost goal
     missed_with more Seek = inr (omega (arith, more))
     missed_with more (Left removed) = inr (omega (arith, more))
     missed_with more Beyond = omega (arith, more)
 
     -- a page wasn't there
-    missed : page.FindsEmpty visit told → (goal : Goal) (leg : Leg) → ShowsVisit old.limits old.key goal leg k r visit → Lost goal
+    missed : page.FindsEmpty visit told → (goal : ReadGoal) (leg : Leg) → ShowsVisit old.limits old.key goal leg k r visit → Lost goal
     missed b Seek (Down above) at = inl (spent_empty reserve old.limits (reaches old.key) false k r visit at.level at.low at.earlier told at.seeks f refl b)
     missed b (Left removed) (Down above) at = inl (spent_empty reserve old.limits (precedes (low_in removed.chain)) false k r visit at.level at.low at.earlier told at.seeks f refl b)
     missed b Beyond (Down above) at = let some = left_empty reserve old.limits (reaches old.key) true k r visit at.level at.low at.earlier told at.seeks f b in omega (arith, some)
@@ -191,7 +186,7 @@ module _ (old new : ReadRound) (told : Answer Record) (visit : page.Visit) where
         let s = at.nears in
         missed_with (left_gone reserve old.limits (precedes (low_in removed.chain)) true k r visit s.level s.low s.earlier told s.seeks f b (there visit (λ v x. HasMet true r.walk v.state) Slot (answer.Number 0) told b.asked b.is s.leg_is)) goal
     missed b goal Past at =
-        missed_with (left_gone reserve old.limits (way_of goal old.key) true k r visit at.level at.low at.earlier told at.seeks f b (there visit (λ v x. HasMet true r.walk v.state) Slot (answer.Number 0) told b.asked b.is at.leg_is)) goal
+        missed_with (left_gone reserve old.limits (read_way goal old.key) true k r visit at.level at.low at.earlier told at.seeks f b (there visit (λ v x. HasMet true r.walk v.state) Slot (answer.Number 0) told b.asked b.is at.leg_is)) goal
 
     -- a page was read whole
     module _ (version : Version) (b : page.Completes visit told version) where
@@ -204,16 +199,16 @@ module _ (old new : ReadRound) (told : Answer Record) (visit : page.Visit) where
       less : is_removed version.chain ≡ false → left_at reserve (recall r (page.wanted visit) told).walk [] Slot < left_in reserve r visit
       less = left_on reserve old.limits s.way s.beyond k r visit s.level s.low s.earlier told s.seeks f version b
 
-      more : is_removed version.chain ≡ false → (goal : Goal) → old.goal ≡ goal → left_at reserve (recall r (page.wanted visit) told).walk [] Slot + kept_for kept goal < left_in reserve r visit + kept_for kept old.goal
+      more : is_removed version.chain ≡ false → (goal : ReadGoal) → old.goal ≡ goal → left_at reserve (recall r (page.wanted visit) told).walk [] Slot + read_round_kept kept goal < left_in reserve r visit + read_round_kept kept old.goal
       more alive goal e = let l = less alive in rw e (omega (arith, l))
 
-      gone_on : is_removed version.chain ≡ true → has_met old.leg ≡ false → left_at reserve (recall r (page.wanted visit) told).walk [] Slot + kept_for kept old.goal < left_in reserve r visit + kept_for kept old.goal
+      gone_on : is_removed version.chain ≡ true → has_met old.leg ≡ false → left_at reserve (recall r (page.wanted visit) told).walk [] Slot + read_round_kept kept old.goal < left_in reserve r visit + read_round_kept kept old.goal
       gone_on gone e = let l = left_round reserve old.limits s.way s.beyond k r visit s.level s.low s.earlier told s.seeks f version b gone (met_is false e) in omega (arith, l)
 
       reserved : is_removed version.chain ≡ true → reserve < left_in reserve r visit
       reserved = left_removed reserve old.limits s.way s.beyond k r visit s.level s.low s.earlier told s.seeks f version b
 
-      by_result : (o : Option ReadEnd) → Treats here version new o → Spends reserve kept r here told new o
+      by_result : (o : Option ReadEnd) → TreatsRead here version new o → Spends reserve kept r here told new o
       by_result None t = elim t [
         | inl right ↦ rw right.goes (inl (more right.alive old.goal refl))
         | inr (inl down) ↦ rw down.goes (inl (more down.alive old.goal refl))
@@ -232,97 +227,79 @@ module _ (old new : ReadRound) (told : Answer Record) (visit : page.Visit) where
       by_result (Some (Leaf leaf)) t = let some = left_some reserve old.limits s.way s.beyond k r visit s.level s.low s.earlier told s.seeks f version b in omega (arith, some)
       by_result (Some (Beside left removed)) t = let some = left_some reserve old.limits s.way s.beyond k r visit s.level s.low s.earlier told s.seeks f version b in rw t.at_left.goal (omega (arith, some))
 
-  paid : (next : page.Visit) (sight : Sight) (result : Option ReadEnd) → page.Responds visit told next (Some sight) → Sees here sight new result → Pays new result here told
+  paid : (next : page.Visit) (sight : Sight) (result : Option ReadEnd) → page.Responds visit told next (Some sight) → Sees reading here sight new result → Pays new result here told
   paid next Empty result b sees = rw sees (λ reserve kept k r h f. missed reserve kept k r h f b old.goal old.leg h)
   paid next (Whole version) result b sees = λ reserve kept k r h f. by_result reserve kept k r h f version b result sees
 
--- the same with more that is kept
-still : (reserve : ℕ) (r : Recalled) (asked : Step Record) (told : Answer Record) (had has kept : ℕ) → IsSpentWith (1 + reserve) r asked told had has → IsSpentWith (1 + reserve) r asked told (had + kept) (has + kept)
-still reserve r asked told had has kept h = elim h [ inl less ↦ inl (omega (arith, less)) | inr paid ↦ inr (paid.0, (let few = paid.1 in omega (arith, few))) ]
-
--- the round that is on its way
-
-started : (old new : ReadRound) (told : Answer Record) (result : Option ReadEnd) → GoesOnWay old told new result → (b : Starts (descent_of old) told (descent_of new)) → new ≡ going_to b.root old
-started old new told result way b = way.same ∙ ap (λ (d : Descent). at old d.state) b.goes
-
-visiting : (old new : ReadRound) (told : Answer Record) (result : Option ReadEnd) → GoesOnWay old told new result → (b : Visits (descent_of old) told (descent_of new)) → new ≡ at old (Page b.next)
-visiting old new told result way b = way.same ∙ ap (λ (d : Descent). at old d.state) b.goes
-
-seen_at : (old new : ReadRound) (told : Answer Record) (result : Option ReadEnd) → (from : GoesFrom old told new result) → Sees (at old (Page from.finds.visit)) from.sight new result
-seen_at old new told result from = subst (λ (s : State). Sees (at old s) from.sight new result) from.finds.asked from.sees
-
 -- what follows from what a round makes of an answer
-pub follows_from : (old new : ReadRound) (told : Answer Record) (result : Option ReadEnd) → Responds old told new result → (k : Knowledge) (r : Recalled) → Shows old k r → Fits old.limits k (wanted old) told → Follows k r old told new result
-follows_from old new told result responds = elim responds [
-  | inl way ↦ elim way.on [
-    | inl b ↦ back old (Then new result) Root (answer.Number b.root) told b.asked b.is (rw (way.none, started old new told result way b) (λ k r h f. rw h.0 (begins old.limits old.key k r b.root f old.goal h.1)))
-    | inr b ↦ back old (Then new result) (Page b.visit) told told b.asked refl (rw (way.none, visiting old new told result way b) (λ k r h f. on_visit old.limits old.key old.goal k r b.visit told f old.leg h b.next b.responds))
-  ]
-  | inr from ↦ back old (Then new result) (Page from.finds.visit) told told from.finds.asked refl (seen old new told from.finds.visit from.finds.next from.sight result from.finds.responds (seen_at old new told result from))
-]
 
-pub spends_from : (old new : ReadRound) (told : Answer Record) (result : Option ReadEnd) → Responds old told new result → (reserve kept : ℕ) (k : Knowledge) (r : Recalled) → Shows old k r → Fits old.limits k (wanted old) told → Spends reserve kept r old told new result
-spends_from old new told result responds = elim responds [
-  | inl way ↦ elim way.on [
-    | inl b ↦ back old (Pays new result) Root (answer.Number b.root) told b.asked b.is (rw (way.none, started old new told result way b) (λ reserve kept k r h f. inl (omega arith)))
-    | inr b ↦ back old (Pays new result) (Page b.visit) told told b.asked refl (rw (way.none, visiting old new told result way b) (λ reserve kept k r h f. let s = sought old.limits old.key old.goal k r b.visit old.leg h in still (with_walk reserve) r (page.wanted b.visit) told _ _ (kept_for kept old.goal) (spent_on reserve old.limits s.way s.beyond k r b.visit s.level s.low s.earlier told s.seeks f b.next b.responds)))
-  ]
-  | inr from ↦ back old (Pays new result) (Page from.finds.visit) told told from.finds.asked refl (paid old new told from.finds.visit from.finds.next from.sight result from.finds.responds (seen_at old new told result from))
-]
+pub follows_from : (old new : ReadRound) (told : Answer Record) (result : Option ReadEnd) → Responds reading old told new result → (k : Knowledge) (r : Recalled) → Shows old k r → Fits old.limits k (wanted old) told → Follows reading k r old told new result
+follows_from old new told result responds = by_step reading (λ round. refl) (λ o x n e. Then n e o x) old new told result responds
+    (λ root k r h f. rw h.0 (begins old.limits old.key k r root f old.goal h.1))
+    (λ visit next b k r h f. on_visit old.limits old.key old.goal k r visit told f old.leg h next b)
+    (λ visit next sight b sees. seen old new told visit next sight result b sees)
+
+pub spends_from : (old new : ReadRound) (told : Answer Record) (result : Option ReadEnd) → Responds reading old told new result → (reserve kept : ℕ) (k : Knowledge) (r : Recalled) → Shows old k r → Fits old.limits k (wanted old) told → Spends reserve kept r old told new result
+spends_from old new told result responds = by_step reading (λ round. refl) (λ o x n e. Pays n e o x) old new told result responds
+    (λ root reserve kept k r h f. inl (omega arith))
+    (λ visit next b reserve kept k r h f.
+      let s = sought old.limits old.key old.goal k r visit old.leg h in
+      still (with_walk reserve) r (page.wanted visit) told _ _ (read_round_kept kept old.goal) (spent_on reserve old.limits s.way s.beyond k r visit s.level s.low s.earlier told s.seeks f next b))
+    (λ visit next sight b sees. paid old new told visit next sight result b sees)
 
 -- what the round shows, its descent does
-pub way_shows : (round : ReadRound) (k : Knowledge) (r : Recalled) → Shows round k r → WayShows (descent_of round) k
+pub way_shows : (round : ReadRound) (k : Knowledge) (r : Recalled) → Shows round k r → WayShows (reading.way round) k
 way_shows round k r h = by_state round.state refl
   where
-    inside_at : (goal : Goal) → Begins round.limits round.key k goal → k.inside ≡ true
+    inside_at : (goal : ReadGoal) → BeginsToRead round.limits round.key k goal → k.inside ≡ true
     inside_at Seek inside = inside
     inside_at (Left removed) begins = begins.0
     inside_at Beyond inside = inside
 
-    by_state : (state : State) → round.state ≡ state → WayShows (descent_of round) k
-    by_state Root e = let begun : (round.leg ≡ Down None) × Begins round.limits round.key k round.goal = rw e at h in rw e (inside_at round.goal begun.1)
+    by_state : (state : WayState) → round.state ≡ state → WayShows (reading.way round) k
+    by_state Root e = let begun : (round.leg ≡ Down None) × BeginsToRead round.limits round.key k round.goal = rw e at h in rw e (inside_at round.goal begun.1)
     by_state (Page visit) e = let here : ShowsVisit round.limits round.key round.goal round.leg k r visit = rw e at h in rw e (sought round.limits round.key round.goal k r visit round.leg here).seeks.on_way.shows
 
 -- the page that was found is one that the round has reached
 
-can_pass : (limits : Limits) (key : List ℕ) (leg : Leg) (k now : Knowledge) (r : Recalled) (version : Version) (goal : Goal) → HasReached limits key goal leg k now r version → CanPass limits version goal
+can_pass : (limits : Limits) (key : List ℕ) (leg : Leg) (k now : Knowledge) (r : Recalled) (version : Version) (goal : ReadGoal) → HasReached limits key goal leg k now r version → CanPass limits version goal
 can_pass limits key leg k now r version Seek d = tt
 can_pass limits key leg k now r version (Left removed) d = λ alive beside next is. within_beside limits key removed leg k now r version d alive beside next (inl is)
 can_pass limits key leg k now r version Beyond d = tt
 
-can_meet : (limits : Limits) (key : List ℕ) (goal : Goal) (k now : Knowledge) (r : Recalled) (version : Version) (leg : Leg) → HasRead limits key goal leg k now r version → IsReached limits (way_on leg goal key) version × CanMeet limits (way_of goal key) goal version leg
-can_meet limits key goal k now r version (Down None) d = (reached limits k now r version d.level d.low d.earlier d.arrives (way_of goal key) d.passing, (can_pass limits key (Down None) k now r version goal d, tt))
+can_meet : (limits : Limits) (key : List ℕ) (goal : ReadGoal) (k now : Knowledge) (r : Recalled) (version : Version) (leg : Leg) → HasRead limits key goal leg k now r version → IsReached limits (way_on leg goal key) version × CanMeetLeg limits (read_way goal key) goal version leg
+can_meet limits key goal k now r version (Down None) d = (reached limits k now r version d.level d.low d.earlier d.arrives (read_way goal key) d.passing, (can_pass limits key (Down None) k now r version goal d, tt))
 can_meet limits key goal k now r version (Down (Some above)) d =
     let over : IsOver limits k now goal version.pid d.level d.earlier above = d.leg_was.1 in
     let up = over.above_is.up in (
-      reached limits k now r version d.level d.low d.earlier d.arrives (way_of goal key) d.passing,
+      reached limits k now r version d.level d.low d.earlier d.arrives (read_way goal key) d.passing,
       (can_pass limits key (Down (Some above)) k now r version goal d, record { index = omega (arith, up); names = over.above_is.in_hand.sound.names over.above_is.alive }),
     )
 can_meet limits key goal k now r version (Round removed) d =
     let n = d.nears in (
-      reached limits k now r version n.level n.low n.earlier n.arrives (way_of (Left removed) key) n.passing,
+      reached limits k now r version n.level n.low n.earlier n.arrives (read_way (Left removed) key) n.passing,
       record { index = d.index; reached = d.reached; names = λ alive beside next named. within_beside limits key removed Past k now r version n alive beside next (inr named) },
     )
-can_meet limits key goal k now r version Past d = (reached limits k now r version d.level d.low d.earlier d.arrives (way_of goal key) d.passing, can_pass limits key Past k now r version goal d)
+can_meet limits key goal k now r version Past d = (reached limits k now r version d.level d.low d.earlier d.arrives (read_way goal key) d.passing, can_pass limits key Past k now r version goal d)
 
-pub can_see : (old : ReadRound) (other : State) (told : Answer Record) (sight : Sight) → Finds (descent_of old) told sight → IsTold old told → CanSee (at old other) sight
+pub can_see : (old : ReadRound) (other : WayState) (told : Answer Record) (sight : Sight) → Finds (reading.way old) told sight → IsTold (machine reading) old told → CanSee reading (at old other) sight
 can_see old other told Empty b t = tt
 can_see old other told (Whole version) b t =
     let visit = b.visit in
-    let h : ShowsVisit old.limits old.key old.goal old.leg t.k t.r visit = subst (λ (s : State). Shows (at old s) t.k t.r) b.asked t.shows in
-    let f : Fits old.limits t.k (page.wanted visit) told = subst (λ (s : State). Fits old.limits t.k (wanted (at old s)) told) b.asked t.fits in
+    let h : ShowsVisit old.limits old.key old.goal old.leg t.k t.r visit = subst (λ (s : WayState). Shows (at old s) t.k t.r) b.asked t.shows in
+    let f : Fits old.limits t.k (page.wanted visit) told = subst (λ (s : WayState). Fits old.limits t.k (wanted (at old s)) told) b.asked t.fits in
     let meets = can_meet old.limits old.key old.goal t.k (learn t.k (page.wanted visit) told) (recall t.r (page.wanted visit) told) version old.leg (whole old.limits old.key old.goal t.k t.r visit told f old.leg h version b.responds) in
     record { reached = meets.0; meets = meets.1 }
 
 -- what a round does with a page doesn't depend on the state that it had
 
-left_as : (old : ReadRound) (state other : State) (version removed : Version) → IsLeftLeaf (at old other) version removed → IsLeftLeaf (at old state) version removed
+left_as : (old : ReadRound) (state other : WayState) (version removed : Version) → IsLeftLeaf (at old other) version removed → IsLeftLeaf (at old state) version removed
 left_as old state other version removed t = record { plain = t.plain; goal = t.goal; alive = t.alive; ends = t.ends }
 
-level_as : (old : ReadRound) (state other : State) (version removed : Version) → IsAtLevel (at old other) version removed → IsAtLevel (at old state) version removed
+level_as : (old : ReadRound) (state other : WayState) (version removed : Version) → IsAtLevel (at old other) version removed → IsAtLevel (at old state) version removed
 level_as old state other version removed t = record { leg = t.leg; alive = t.alive; same = t.same }
 
-treats_as : (old new : ReadRound) (state other : State) (version : Version) (result : Option ReadEnd) → Treats (at old other) version new result → Treats (at old state) version new result
+pub treats_as : (old new : ReadRound) (state other : WayState) (version : Version) (result : Option ReadEnd) → TreatsRead (at old other) version new result → TreatsRead (at old state) version new result
 treats_as old new state other version None t = elim t [
   | inl right ↦ inl (record { plain = right.plain; alive = right.alive; next = right.next; leads = right.leads; goes = right.goes })
   | inr (inl down) ↦ inr (inl (record { plain = down.plain; alive = down.alive; stays = down.stays; index = down.index; next = down.next; leads = down.leads; goes = down.goes }))
@@ -351,7 +328,3 @@ treats_as old new state other version (Some (Leaf leaf)) t = elim t [
   | inr merged ↦ inr (record { is = merged.is; removed = merged.removed; left = left_as old state other version merged.removed merged.left; merged = merged.merged; stays = merged.stays })
 ]
 treats_as old new state other version (Some (Beside left removed)) t = record { is = t.is; at_left = left_as old state other version removed t.at_left; beside = t.beside; stays = t.stays }
-
-pub sees_as : (old new : ReadRound) (state other : State) (sight : Sight) (result : Option ReadEnd) → Sees (at old other) sight new result → Sees (at old state) sight new result
-sees_as old new state other Empty result s = s
-sees_as old new state other (Whole version) result s = treats_as old new state other version result s

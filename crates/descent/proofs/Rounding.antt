@@ -1,6 +1,6 @@
 -- A reader's way by the left of a removed page: beside a removed leaf, and round a removed index page.
-use Rattle.std.proofs.Common.{◌≡◌, ◌<◌, ◌-◌, ◌||◌, ◌⊎◌, inl, inr, ℕ, suc, List, [], ◌∷◌, Bool, true, false, None, Some, refl, sym, ap, ◌∙◌, subst, arith}
-use Rattle.std.specs.Prelude.{IsFalse, IsTrue}
+use Rattle.std.proofs.Common.{◌≡◌, ◌<◌, ◌-◌, ◌||◌, ◌⊎◌, inl, inr, ℕ, List, [], ◌∷◌, true, false, Some, refl, sym, ◌∙◌, subst, arith}
+use Rattle.std.specs.Prelude.{IsTrue}
 use Rattle.bw_model.specs.declared.limits.Limits.{Limits}
 use Rattle.bw_model.specs.Bytes.{is_below}
 use Rattle.deltas.specs.declared.record.Record.{Record}
@@ -10,9 +10,9 @@ use Rattle.chain_search.specs.Fitting.{SaysOf}
 use Rattle.chain_search.specs.Knowledge.{Knowledge}
 use Rattle.chain_search.specs.Recalled.{Recalled, trail}
 use Rattle.smo.specs.declared.version.Version.{Version}
-use Rattle.descent.specs.ReadGoals.{Goal, Seek, Left, Beyond}
+use Rattle.descent.specs.ReadGoals.{ReadGoal, Seek, Left, Beyond}
 use Rattle.descent.specs.ReadLegs.{Leg, Down, Round, Past, has_met, level_on}
-use Rattle.descent.specs.ReadRounds.{IsAliveLeaf, IsBesideLeaf, IsGoingRound, IsOn, IsVisiting, Keeps, is_beyond, left_of, way_of}
+use Rattle.descent.specs.ReadRounds.{IsAliveLeaf, IsBesideLeaf, IsGoingRound, IsOn, VisitsToRead, KeepsToRead, goes_beyond, left_of, read_way}
 use Rattle.descent.specs.Visits.{to_page}
 use Rattle.descent.specs.Ways.{LeadsDown, LeadsOn, LeadsRight, NamesAt, StaysLeft, reaches}
 use Rattle.descent.proofs.Beside.{IsBesideGone, beside_on, says, says_before, within}
@@ -38,13 +38,13 @@ module _ (limits : Limits) (key : List ℕ) (removed : Version) (leg : Leg) (k n
   left : IsTrue (is_below (low_in here) (low_in removed.chain))
   left = is_on_way limits key (Left removed) leg k now r version h
 
-  level_leg : (target : Goal) (pid level : ℕ) (earlier : List ℕ) (other : Leg) → WasOn limits k now r (Left removed) version.pid h.level h.earlier other → IsOn limits now r target (to_page limits pid) level earlier (level_on other)
+  level_leg : (target : ReadGoal) (pid level : ℕ) (earlier : List ℕ) (other : Leg) → WasOn limits k now r (Left removed) version.pid h.level h.earlier other → IsOn limits now r target (to_page limits pid) level earlier (level_on other)
   level_leg target pid level earlier (Down above) on = (met_on limits key (Left removed) leg k now r version h false alive on.0, tt)
   level_leg target pid level earlier (Round removed) on = absurd on
   level_leg target pid level earlier Past on = met_on limits key (Left removed) leg k now r version h true alive on
 
   -- it has been merged, and the round goes on at its left page's right
-  pub past_merged : (pid : ℕ) → LeadsRight (reaches key) here pid → IsVisiting limits key Beyond (level_on leg) now r (to_page limits pid)
+  pub past_merged : (pid : ℕ) → LeadsRight (reaches key) here pid → VisitsToRead limits key Beyond (level_on leg) now r (to_page limits pid)
   past_merged pid on = record {
     level = level_in here;
     low = on.low;
@@ -66,8 +66,8 @@ module _ (limits : Limits) (key : List ℕ) (removed : Version) (leg : Leg) (k n
     within_beside pid named = within limits k now r removed version h.level h.low h.earlier h.arrives beside_gone pid named
 
     -- the round goes on at a page that the removed one names: its right, or a child
-    pub past_removed : (target : Goal) (to : Leg) (pid level : ℕ) (low : List ℕ) → NamesAt removed.chain pid level low → IsTrue (way_of target key low) → (has_met to || is_beyond target) ≡ true
-        → Keeps limits key now (to_page limits pid) target → IsOn limits now r target (to_page limits pid) level (version.pid ∷ h.earlier) to → IsVisiting limits key target to now r (to_page limits pid)
+    pub past_removed : (target : ReadGoal) (to : Leg) (pid level : ℕ) (low : List ℕ) → NamesAt removed.chain pid level low → IsTrue (read_way target key low) → (has_met to || goes_beyond target) ≡ true
+        → KeepsToRead limits key now (to_page limits pid) target → IsOn limits now r target (to_page limits pid) level (version.pid ∷ h.earlier) to → VisitsToRead limits key target to now r (to_page limits pid)
     past_removed target to pid level low names passing beyond keeps leg_is = record {
       level = level;
       low = low;
@@ -83,12 +83,12 @@ module _ (limits : Limits) (key : List ℕ) (removed : Version) (leg : Leg) (k n
     }
 
     -- at the right of a removed leaf
-    pub past_leaf : (pid : ℕ) → LeadsRight (reaches key) removed.chain pid → IsVisiting limits key Beyond (level_on leg) now r (to_page limits pid)
+    pub past_leaf : (pid : ℕ) → LeadsRight (reaches key) removed.chain pid → VisitsToRead limits key Beyond (level_on leg) now r (to_page limits pid)
     past_leaf pid on =
         past_removed Beyond (level_on leg) pid (level_in removed.chain) on.low (right_names (reaches key) removed.chain pid on) on.on_way (beyond_any (level_on leg)) tt (level_leg Beyond pid (level_in removed.chain) (version.pid ∷ h.earlier) leg h.leg_was)
 
     -- a page that is kept aside isn't one that the removed page names on the way to it
-    pub keeps_past : (target : Goal) → Passed limits key k now version target → (pid level : ℕ) (low : List ℕ) → NamesAt removed.chain pid level low → IsTrue (way_of target key low) → Keeps limits key now (to_page limits pid) target
+    pub keeps_past : (target : ReadGoal) → Passed limits key k now version target → (pid level : ℕ) (low : List ℕ) → NamesAt removed.chain pid level low → IsTrue (read_way target key low) → KeepsToRead limits key now (to_page limits pid) target
     keeps_past Seek passed pid level low names passing = tt
     keeps_past (Left aside) passed pid level low names passing = record {
       gone = passed.gone;
@@ -118,7 +118,7 @@ module _ (limits : Limits) (key : List ℕ) (removed : Version) (leg : Leg) (k n
   }
 
 -- at a removed index page, whose page above is kept
-module _ (limits : Limits) (key : List ℕ) (goal : Goal) (above : Version) (k now : Knowledge) (r : Recalled) (version : Version) (h : HasReached limits key goal (Down (Some above)) k now r version) (gone : is_removed version.chain ≡ true) where
+module _ (limits : Limits) (key : List ℕ) (goal : ReadGoal) (above : Version) (k now : Knowledge) (r : Recalled) (version : Version) (h : HasReached limits key goal (Down (Some above)) k now r version) (gone : is_removed version.chain ≡ true) where
   over : IsOver limits k now goal version.pid h.level h.earlier above
   over = h.leg_was.1
 
@@ -158,7 +158,7 @@ module _ (limits : Limits) (key : List ℕ) (goal : Goal) (above : Version) (k n
         let so = told_of above.chain version.pid version.chain level leads.low (h.arrives.arrives.whole.named above.pid above.head basis) (at_page version.pid e) in
         not_itself leads.low (rw so.1 at leads.greatest.passing)
 
-    keeps_aside : (other : Goal) → goal ≡ other → Keeps limits key now (to_page limits pid) other
+    keeps_aside : (other : ReadGoal) → goal ≡ other → KeepsToRead limits key now (to_page limits pid) other
     keeps_aside Seek is = tt
     keeps_aside (Left removed) is =
         let by : IsBy limits key k now version removed = rw is at h.passed in
@@ -174,7 +174,7 @@ module _ (limits : Limits) (key : List ℕ) (goal : Goal) (above : Version) (k n
         }
     keeps_aside Beyond is = tt
 
-    nears : IsVisiting limits key (Left version) Past now r (to_page limits pid)
+    nears : VisitsToRead limits key (Left version) Past now r (to_page limits pid)
     nears = record {
       level = level;
       low = leads.low;
@@ -220,13 +220,13 @@ module _ (limits : Limits) (key : List ℕ) (goal : Goal) (above : Version) (k n
     goes_round index = record { nears = nears; keeps = keeps_aside goal refl; index = index; reached = is_on_way limits key goal (Down (Some above)) k now r version h }
 
 -- A page was read whole on the way to the left of a removed index page.
-pub record HasNeared (limits : Limits) (key : List ℕ) (goal : Goal) (removed : Version) (k now : Knowledge) (r : Recalled) (version : Version) : Type 0 where
+pub record HasNeared (limits : Limits) (key : List ℕ) (goal : ReadGoal) (removed : Version) (k now : Knowledge) (r : Recalled) (version : Version) : Type 0 where
   pub nears : HasReached limits key (Left removed) Past k now r version
   pub passed : Passed limits key k now version goal
   pub index : 0 < level_in removed.chain
-  pub reached : IsTrue (way_of goal key (low_in removed.chain))
+  pub reached : IsTrue (read_way goal key (low_in removed.chain))
 
-module _ (limits : Limits) (key : List ℕ) (goal : Goal) (removed : Version) (k now : Knowledge) (r : Recalled) (version : Version) (d : HasNeared limits key goal removed k now r version) (alive : is_removed version.chain ≡ false) where
+module _ (limits : Limits) (key : List ℕ) (goal : ReadGoal) (removed : Version) (k now : Knowledge) (r : Recalled) (version : Version) (d : HasNeared limits key goal removed k now r version) (alive : is_removed version.chain ≡ false) where
   abbrev there : List Record
   there = version.chain
 
@@ -246,26 +246,26 @@ module _ (limits : Limits) (key : List ℕ) (goal : Goal) (removed : Version) (k
   }
 
   -- the round goes down from the removed page, which is the page's right
-  pub goes_through : right_in there ≡ Some removed.pid → (pid : ℕ) → LeadsDown (way_of goal key) removed.chain pid → IsVisiting limits key goal Past now r (to_page limits pid)
+  pub goes_through : right_in there ≡ Some removed.pid → (pid : ℕ) → LeadsDown (read_way goal key) removed.chain pid → VisitsToRead limits key goal Past now r (to_page limits pid)
   goes_through beside pid leads =
-      let names = down_names (way_of goal key) removed.chain pid d.index leads in
+      let names = down_names (read_way goal key) removed.chain pid d.index leads in
       past_removed limits key removed Past k now r version h alive beside goal Past pid (level_in removed.chain - 1) leads.low names leads.greatest.passing refl
       (keeps_past limits key removed Past k now r version h alive beside goal d.passed pid (level_in removed.chain - 1) leads.low names leads.greatest.passing) met_still
 
   -- the round goes on from the page, as the removed one was merged
-  module _ (pid level : ℕ) (low : List ℕ) (names : NamesAt there pid level low) (passing : IsTrue (way_of goal key low)) where
-    goes_named : IsVisiting limits key goal Past now r (to_page limits pid)
+  module _ (pid level : ℕ) (low : List ℕ) (names : NamesAt there pid level low) (passing : IsTrue (read_way goal key low)) where
+    goes_named : VisitsToRead limits key goal Past now r (to_page limits pid)
     goes_named = record {
       level = level;
       low = low;
       earlier = version.pid ∷ h.earlier;
-      seeks = seeks_on limits k now r version h.level h.low h.earlier h.arrives (way_of goal key) true pid level low names alive passing (λ here. absurd cc);
+      seeks = seeks_on limits k now r version h.level h.low h.earlier h.arrives (read_way goal key) true pid level low names alive passing (λ here. absurd cc);
       keeps = keeps_on limits key (Left removed) Past k now r version h alive pid level low names goal passing d.passed;
       leg_is = met_still;
     }
 
-  pub goes_on : (pid : ℕ) → LeadsOn (way_of goal key) there pid → IsVisiting limits key goal Past now r (to_page limits pid)
+  pub goes_on : (pid : ℕ) → LeadsOn (read_way goal key) there pid → VisitsToRead limits key goal Past now r (to_page limits pid)
   goes_on pid leads = elim leads [
-    | inl right ↦ goes_named pid (level_in there) right.low (right_names (way_of goal key) there pid right) right.on_way
-    | inr down ↦ goes_named pid (level_in there - 1) down.2.low (down_names (way_of goal key) there pid down.1 down.2) down.2.greatest.passing
+    | inl right ↦ goes_named pid (level_in there) right.low (right_names (read_way goal key) there pid right) right.on_way
+    | inr down ↦ goes_named pid (level_in there - 1) down.2.low (down_names (read_way goal key) there pid down.1 down.2) down.2.greatest.passing
   ]

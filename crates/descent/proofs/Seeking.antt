@@ -14,9 +14,8 @@ use Rattle.chain_search.specs.Fitting.{Fits, FitsRow}
 use Rattle.chain_search.specs.Knowledge.{Knowledge, learn, learn_slot}
 use Rattle.chain_search.specs.Recalled.{Recalled, recall}
 use Rattle.smo.specs.declared.version.Version.{Version}
-use Rattle.descent.specs.declared.visit.State.TheVariants.{Slot, Row}
+use Rattle.descent.specs.Visits.{Slot, Row, FindsHead, Completes, Continues, Visit, at, to_page, wanted}
 use Rattle.descent.specs.Versions.{IsAlive, IsGone, IsInHand}
-use Rattle.descent.specs.Visits.{Starts, Completes, Continues, Visit, at, to_page, wanted}
 use Rattle.descent.specs.Walks.{HasArrived, IsNamedNow, IsReached, IsSeeking}
 use Rattle.descent.specs.Ways.{NamesAt}
 use Rattle.descent.proofs.Meeting.{names_meets}
@@ -99,7 +98,7 @@ module _ (limits : Limits) (way : List ℕ → Bool) (beyond : Bool) (k : Knowle
   abbrev FitsAt : Visit → Answer Record → Type 0
   FitsAt v x = Fits limits k (wanted v) x
 
-  pub seeks_next : (new : Visit) → Starts visit told new ⊎ Continues visit told new → IsSeeking limits way beyond (learn k (wanted visit) told) (recall r (wanted visit) told) new level low earlier
+  pub seeks_next : (new : Visit) → FindsHead visit told new ⊎ Continues visit told new → IsSeeking limits way beyond (learn k (wanted visit) told) (recall r (wanted visit) told) new level low earlier
   seeks_next new moves =
       let P : Visit → Answer Record → Type 0 = λ v x. IsSeeking limits way beyond (learn k (wanted v) x) (recall r (wanted v) x) new level low earlier in
       elim moves [

@@ -13,9 +13,7 @@ use Rattle.chain_search.specs.Fitting.{Fits, FitsRow}
 use Rattle.chain_search.specs.Knowledge.{Knowledge}
 use Rattle.chain_search.specs.Recalled.{AnyNames, IsPaid, IsSpentWith, IsUnread, Recalled, Walk, is_removal, recall, trail}
 use Rattle.smo.specs.declared.version.Version.{Version}
-use Rattle.descent.specs.declared.visit.State.{State}
-use Rattle.descent.specs.declared.visit.State.TheVariants.{Slot, Row}
-use Rattle.descent.specs.Visits.{Starts, Completes, Continues, FindsEmpty, Visit, at, wanted}
+use Rattle.descent.specs.Visits.{VisitState, Slot, Row, FindsHead, Completes, Continues, FindsEmpty, Visit, at, wanted}
 use Rattle.descent.specs.Walks.{IsSeeking, few_reads, left_at, left_in, with_walk}
 use Rattle.descent.proofs.Meeting.{few_pages, removed_push}
 use Rattle.descent.proofs.Seeking.{arrived}
@@ -23,7 +21,7 @@ use Rattle.descent.proofs.Walking.{trail_on}
 use Rattle.descent.proofs.Visiting.{back, there}
 
 module _ (reserve : ℕ) (limits : Limits) (way : List ℕ → Bool) (beyond : Bool) (k : Knowledge) (r : Recalled) (visit : Visit) (level : ℕ) (low : List ℕ) (earlier : List ℕ) where
-  abbrev Seeks : State → Type 0
+  abbrev Seeks : VisitState → Type 0
   Seeks state = IsSeeking limits way beyond k r (at visit state) level low earlier
 
   recall_walk : (pid n : ℕ) → 0 < pid → (recall r (step.Slot pid) (answer.Number n)).walk ≡ record r.walk { visited = pid ∷ trail r.walk; passed = r.walk.removed }
@@ -112,13 +110,13 @@ module _ (reserve : ℕ) (limits : Limits) (way : List ℕ → Bool) (beyond : B
   -- the same by what a visit makes of an answer
 
   module _ (told : Answer Record) (h : IsSeeking limits way beyond k r visit level low earlier) (f : Fits limits k (wanted visit) told) where
-    seeks_at : (state : State) → visit.state ≡ state → Seeks state
-    seeks_at state e = subst (λ (s : State). Seeks s) e h
+    seeks_at : (state : VisitState) → visit.state ≡ state → Seeks state
+    seeks_at state e = subst (λ (s : VisitState). Seeks s) e h
 
     abbrev FitsAt : Visit → Answer Record → Type 0
     FitsAt v x = Fits limits k (wanted v) x
 
-    pub spent_on : (new : Visit) → Starts visit told new ⊎ Continues visit told new → IsSpentWith (1 + full) r (wanted visit) told (left_in reserve r visit) (left_in reserve (recall r (wanted visit) told) new)
+    pub spent_on : (new : Visit) → FindsHead visit told new ⊎ Continues visit told new → IsSpentWith (1 + full) r (wanted visit) told (left_in reserve r visit) (left_in reserve (recall r (wanted visit) told) new)
     spent_on new moves =
         let P : Visit → Answer Record → Type 0 = λ v x. IsSpentWith (1 + full) r (wanted v) x (left_in reserve r v) (left_in reserve (recall r (wanted v) x) new) in
         elim moves [
@@ -255,9 +253,13 @@ few_left reserve limits way beyond k r visit level low earlier h = by_state visi
     at_slot true = omega arith
     at_slot false = omega arith
 
-    by_state : (state : State) → visit.state ≡ state → left_at reserve r.walk visit.part visit.state ≤ few_reads + with_walk reserve
+    by_state : (state : VisitState) → visit.state ≡ state → left_at reserve r.walk visit.part visit.state ≤ few_reads + with_walk reserve
     by_state Slot e = rw e (let most = at_slot r.walk.removed in omega (arith, most))
     by_state (Row head row) e =
         let is : r.walk.visited ≡ visit.pid ∷ earlier = rw e at h.on_way.visited in
         let most = either r.walk.passed (is_removed visit.part) in
         rw (e, is) (omega (arith, most))
+
+-- the same with more that is kept
+pub still : (reserve : ℕ) (r : Recalled) (asked : Step Record) (told : Answer Record) (had has kept : ℕ) → IsSpentWith (1 + reserve) r asked told had has → IsSpentWith (1 + reserve) r asked told (had + kept) (has + kept)
+still reserve r asked told had has kept h = elim h [ inl less ↦ inl (omega (arith, less)) | inr paid ↦ inr (paid.0, (let few = paid.1 in omega (arith, few))) ]

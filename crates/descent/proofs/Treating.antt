@@ -19,14 +19,14 @@ use Rattle.smo.specs.Splits.{CanSplit}
 use Rattle.smo.specs.declared.upkeep.Upkeep.{Upkeep}
 use Rattle.smo.specs.declared.version.Version.{Version}
 use Rattle.smo.proofs.Places.{made}
-use Rattle.descent.specs.Courses.{Goal, Seek, Left, Merge, Unterm}
+use Rattle.descent.specs.Courses.{WriteGoal, Seek, Left, Merge, Unterm}
 use Rattle.descent.specs.WriteEnds.{WriteEnd}
 use Rattle.descent.specs.WriteEnds as end
 use Rattle.descent.specs.Versions.{IsAlive}
 use Rattle.descent.specs.Visits as page
 use Rattle.descent.specs.Ways.{LeadsDown, LeadsRight, NamesAt, StaysLeft, reaches}
-use Rattle.descent.specs.WriteRounds.{IsLosingTerm, IsMergeEnd, IsMissing, IsUntermEnd, Keeps, SeeksLeaf, is_beyond, way_of, Ends, IsBased, IsLeftOf, IsKept, IsLeafEnd, IsLong, IsRootEnd, IsTermEnd, IsVisiting, Shows, WriteRound, goes_left, IsTendEnd}
-use Rattle.descent.specs.WriteResponses.{EndsCut, EndsFine, EndsMerged, EndsSmall, EndsUnposted, EndsUnrooted, IsFine, IsHere, IsSplitFinished, Treats}
+use Rattle.descent.specs.WriteRounds.{IsLosingTerm, IsMergeEnd, IsMissing, IsUntermEnd, KeepsToWrite, SeeksLeaf, is_cutting, write_way, EndsWrite, IsBased, IsLeftOf, IsKept, IsLeafEnd, IsLong, IsRootEnd, IsTermEnd, VisitsToWrite, Shows, WriteRound, goes_left, IsTendEnd}
+use Rattle.descent.specs.WriteResponses.{EndsCut, EndsFine, EndsMerged, EndsSmall, EndsUnposted, EndsUnrooted, IsFine, IsHere, IsSplitFinished, TreatsWrite}
 use Rattle.descent.proofs.Keeping.{HasReached, LiesAbove, Passed, differs}
 use Rattle.descent.proofs.Leading.{led_aside, termed}
 use Rattle.descent.proofs.PageLaws.{covered, spans}
@@ -37,7 +37,7 @@ use Rattle.descent.proofs.WayLaws.{covers_here, down_names, lowest, right_names}
 -- what follows once a page was read whole
 abbrev pub After : WriteRound → Knowledge → Recalled → WriteRound → Option WriteEnd → Type 0
 After old now r new None = Shows new now r
-After old now r new (Some end) = Ends old now r end
+After old now r new (Some end) = EndsWrite old now r end
 
 -- a key is at itself
 reaches_itself : (key : List ℕ) → IsTrue (reaches key key)
@@ -54,7 +54,7 @@ inner low (x ∷ xs) h = refl
 
 module _ (old : WriteRound) (k now : Knowledge) (r : Recalled) (version : Version) (h : HasReached old.limits old.key old.floor old.goal old.parent old.left k now r version) where
   abbrev way : List ℕ → Bool
-  way = way_of old.goal old.key
+  way = write_way old.goal old.key
 
   abbrev chain : List Record
   chain = version.chain
@@ -76,7 +76,7 @@ module _ (old : WriteRound) (k now : Knowledge) (r : Recalled) (version : Versio
   kept_here alive = record { in_hand = hand old.limits k now r version h.level h.low h.earlier h.arrives; alive = alive; among = inl refl }
 
   -- the removed page begins where the way ends, so that the next page isn't that one
-  keeps_on : is_removed chain ≡ false → (pid level : ℕ) (low : List ℕ) → NamesAt chain pid level low → (goal : Goal) → SeeksLeaf goal → IsTrue (way_of goal old.key low) → Passed old.limits old.key old.floor k now version.pid h.earlier goal → Keeps old.limits old.key old.floor now pid (version.pid ∷ h.earlier) goal
+  keeps_on : is_removed chain ≡ false → (pid level : ℕ) (low : List ℕ) → NamesAt chain pid level low → (goal : WriteGoal) → SeeksLeaf goal → IsTrue (write_way goal old.key low) → Passed old.limits old.key old.floor k now version.pid h.earlier goal → KeepsToWrite old.limits old.key old.floor now pid (version.pid ∷ h.earlier) goal
   keeps_on alive pid level low names Seek seeks passing by = tt
   keeps_on alive pid level low names (Left removed) seeks passing by =
       let was = by.0 in
@@ -104,14 +104,14 @@ module _ (old : WriteRound) (k now : Knowledge) (r : Recalled) (version : Versio
   based_on None None pid low based aside = elim based [ inl is ↦ inl is | inr above ↦ inr (rw h.arrives.is_low above) ]
   based_on None (Some other) pid low based aside = inr (rw h.arrives.is_low aside.inner)
 
-  aside : (pid : ℕ) → is_removed version.chain ≡ false → SeeksLeaf old.goal → IsSplitFinished old.parent old.left version → LeadsRight way version.chain pid → IsVisiting old.limits old.key old.floor old.goal old.parent (Some version) now r (page.to_page old.limits pid)
+  aside : (pid : ℕ) → is_removed version.chain ≡ false → SeeksLeaf old.goal → IsSplitFinished old.parent old.left version → LeadsRight way version.chain pid → VisitsToWrite old.limits old.key old.floor old.goal old.parent (Some version) now r (page.to_page old.limits pid)
   aside pid alive seeks finished leads =
       let names = right_names way version.chain pid leads in
       record {
         level = level_in version.chain;
         low = leads.low;
         earlier = version.pid ∷ h.earlier;
-        seeks = seeks_on old.limits k now r version h.level h.low h.earlier h.arrives way (is_beyond old.goal) pid (level_in version.chain) leads.low names alive leads.on_way h.fresh;
+        seeks = seeks_on old.limits k now r version h.level h.low h.earlier h.arrives way (is_cutting old.goal) pid (level_in version.chain) leads.low names alive leads.on_way h.fresh;
         above = IfSome_then old.parent h.above (λ other i. record { kept = kept_on other i.kept; up = i.up; after = tt });
         aside = record { kept = kept_here alive; inner = inner (low_in version.chain) leads.low (spans version.chain leads.low (hand old.limits k now r version h.level h.low h.earlier h.arrives).sound.is_chain.fitted leads.is_high) };
         based = based_on old.parent old.left pid leads.low h.based h.aside;
@@ -119,7 +119,7 @@ module _ (old : WriteRound) (k now : Knowledge) (r : Recalled) (version : Versio
         keeps = keeps_on alive pid (level_in version.chain) leads.low names old.goal seeks leads.on_way h.passed;
       }
 
-  below : (pid : ℕ) → IsHere old version → IsFine old.due version → 0 < level_in version.chain → LeadsDown way version.chain pid → IsVisiting old.limits old.key old.floor old.goal (Some version) None now r (page.to_page old.limits pid)
+  below : (pid : ℕ) → IsHere old version → IsFine old.due version → 0 < level_in version.chain → LeadsDown way version.chain pid → VisitsToWrite old.limits old.key old.floor old.goal (Some version) None now r (page.to_page old.limits pid)
   below pid here fine index leads =
       let alive = here.alive in
       let names = down_names way version.chain pid index leads in
@@ -127,7 +127,7 @@ module _ (old : WriteRound) (k now : Knowledge) (r : Recalled) (version : Versio
         level = level_in version.chain - 1;
         low = leads.low;
         earlier = version.pid ∷ h.earlier;
-        seeks = seeks_on old.limits k now r version h.level h.low h.earlier h.arrives way (is_beyond old.goal) pid (level_in version.chain - 1) leads.low names alive leads.greatest.passing h.fresh;
+        seeks = seeks_on old.limits k now r version h.level h.low h.earlier h.arrives way (is_cutting old.goal) pid (level_in version.chain - 1) leads.low names alive leads.greatest.passing h.fresh;
         above = record { kept = kept_here alive; up = omega (arith, index); after = tt };
         aside = tt;
         based = tt;
@@ -138,15 +138,15 @@ module _ (old : WriteRound) (k now : Knowledge) (r : Recalled) (version : Versio
   -- reads the removed page again
   module _ (pid : ℕ) (goal : old.goal ≡ Left pid) (alive : is_removed version.chain ≡ false) where
     by : IsMissing old.limits k old.key old.floor pid (version.pid ∷ h.earlier) × IsMissing old.limits now old.key old.floor pid (version.pid ∷ h.earlier)
-    by = subst (λ (g : Goal). Passed old.limits old.key old.floor k now version.pid h.earlier g) goal h.passed
+    by = subst (λ (g : WriteGoal). Passed old.limits old.key old.floor k now version.pid h.earlier g) goal h.passed
 
     left_of : IsTrue (is_below h.low old.key)
-    left_of = subst (λ (g : Goal). IsTrue (way_of g old.key h.low)) goal h.passing
+    left_of = subst (λ (g : WriteGoal). IsTrue (write_way g old.key h.low)) goal h.passing
 
     above_low : IsTrue (is_below [] old.key)
     above_low = inner h.low old.key left_of
 
-    back_to_merge : right_in version.chain ≡ Some pid → IsVisiting old.limits old.key old.floor (Merge version) None None now r (page.to_page old.limits pid)
+    back_to_merge : right_in version.chain ≡ Some pid → VisitsToWrite old.limits old.key old.floor (Merge version) None None now r (page.to_page old.limits pid)
     back_to_merge beside =
         let was = by.0 in
         let says = (h.arrives.arrives.whole.names alive was.removed.pid was.removed.head was.removed.chain was.gone.in_hand.seen.head was.gone.in_hand.seen.read).right (beside ∙ ap Some (sym was.is)) in
@@ -155,7 +155,7 @@ module _ (old : WriteRound) (k now : Knowledge) (r : Recalled) (version : Versio
           level = level_in version.chain;
           low = old.key;
           earlier = version.pid ∷ h.earlier;
-          seeks = seeks_on old.limits k now r version h.level h.low h.earlier h.arrives (reaches old.key) false pid (level_in version.chain) old.key names alive (reaches_itself old.key) (λ here. h.fresh (ap is_beyond goal));
+          seeks = seeks_on old.limits k now r version h.level h.low h.earlier h.arrives (reaches old.key) false pid (level_in version.chain) old.key names alive (reaches_itself old.key) (λ here. h.fresh (ap is_cutting goal));
           above = tt;
           aside = tt;
           based = inr above_low;
@@ -176,7 +176,7 @@ module _ (old : WriteRound) (k now : Knowledge) (r : Recalled) (version : Versio
       below_limit : pid < old.limits.pids
       below_limit = subst (λ (p : ℕ). p < old.limits.pids) by.1.is by.1.gone.in_hand.page
 
-      back_to_unterm : IsVisiting old.limits old.key old.floor (Unterm parent version) None None now r (page.to_page old.limits pid)
+      back_to_unterm : VisitsToWrite old.limits old.key old.floor (Unterm parent version) None None now r (page.to_page old.limits pid)
       back_to_unterm = record {
         level = level_in version.chain;
         low = old.key;
@@ -258,7 +258,7 @@ module _ (old : WriteRound) (k now : Knowledge) (r : Recalled) (version : Versio
         seeks = t.seeks;
         page = alive_here alive;
         level = t.level;
-        covered = covers_here old.key version.chain (reached old.limits k now r version h.level h.low h.earlier h.arrives (reaches old.key) (subst (λ (g : Goal). IsTrue (way_of g old.key h.low)) t.seeks h.passing)).reached (subst (λ (g : Goal). StaysLeft (way_of g old.key) version.chain) t.seeks t.here.stays);
+        covered = covers_here old.key version.chain (reached old.limits k now r version h.level h.low h.earlier h.arrives (reaches old.key) (subst (λ (g : WriteGoal). IsTrue (write_way g old.key h.low)) t.seeks h.passing)).reached (subst (λ (g : WriteGoal). StaysLeft (write_way g old.key) version.chain) t.seeks t.here.stays);
         short = short;
         early = early;
         few = few_items alive short t.fine.narrow;
@@ -268,12 +268,12 @@ module _ (old : WriteRound) (k now : Knowledge) (r : Recalled) (version : Versio
 
   merge_end : (left removed : Version) (merge : MergeRecord) → EndsMerged old version left removed merge → IsMergeEnd old now r left removed merge
   merge_end left removed merge t =
-      let kept : IsKept old.limits now left h.earlier = subst (λ (g : Goal). Passed old.limits old.key old.floor k now version.pid h.earlier g) t.goal h.passed in
+      let kept : IsKept old.limits now left h.earlier = subst (λ (g : WriteGoal). Passed old.limits old.key old.floor k now version.pid h.earlier g) t.goal h.passed in
       rw t.is (record { page = alive_of left kept; gone = is_gone old.limits k now r version h.level h.low h.earlier h.arrives t.plan.can.gone; plan = t.plan })
 
   unterm_end : (parent left removed : Version) (unterm : UntermRecord) → EndsCut old version parent left removed unterm → IsUntermEnd old now r parent left removed unterm
   unterm_end parent left removed unterm t =
-      let cut : IsLosingTerm old.limits now h.earlier parent left = subst (λ (g : Goal). Passed old.limits old.key old.floor k now version.pid h.earlier g) t.goal h.passed in
+      let cut : IsLosingTerm old.limits now h.earlier parent left = subst (λ (g : WriteGoal). Passed old.limits old.key old.floor k now version.pid h.earlier g) t.goal h.passed in
       rw t.is (record {
         page = alive_of parent cut.above;
         aside = alive_of left cut.aside;
@@ -283,7 +283,7 @@ module _ (old : WriteRound) (k now : Knowledge) (r : Recalled) (version : Versio
         plan = t.plan;
       })
 
-  pub treated : (new : WriteRound) (result : Option WriteEnd) → Treats old version new result → After old now r new result
+  pub treated : (new : WriteRound) (result : Option WriteEnd) → TreatsWrite old version new result → After old now r new result
   treated new None t = elim t [
     | inl right ↦ subst (λ (x : WriteRound). Shows x now r) (sym right.goes) (aside right.right right.alive right.seeks right.finished right.leads)
     | inr (inl down) ↦ subst (λ (x : WriteRound). Shows x now r) (sym down.goes) (below down.child down.here down.fine (let index = down.index in omega (arith, index)) down.leads)

@@ -1,6 +1,5 @@
 -- What the steps of a visit leave it.
 use Rattle.std.proofs.Common.{◌≡◌, ◌<◌, ◌==◌, ◌++◌, inl, inr, ℕ, zero, suc, true, List, [], ◌∷◌, Option, Some, None, refl, sym, ap, ◌∙◌, subst, arith}
-use Rattle.std.specs.Prelude.{is_some}
 use Rattle.std.proofs.lemmas.Bool.{eq-eqb}
 use Rattle.bw_model.specs.declared.limits.Limits.{Limits}
 use Rattle.bw_model.specs.declared.step.Step.TheVariants as step
@@ -10,19 +9,12 @@ use Rattle.deltas.specs.declared.record.Record.{Record}
 use Rattle.deltas.specs.Memory.{replaced_at}
 use Rattle.deltas.specs.Records.{next_row}
 use Rattle.chain_search.specs.Chains.{IsChainFrom, IsFront}
-use Rattle.chain_search.specs.Deltas.{IsSmallDelta}
 use Rattle.chain_search.specs.Discipline.{May}
 use Rattle.chain_search.specs.Fitting.{Fits, FitsRow, IsReadWhole}
-use Rattle.chain_search.specs.Fitted.{IsPageChain}
 use Rattle.chain_search.specs.Knowledge.{Knowledge, learn, learn_slot}
-use Rattle.chain_search.proofs.DeltaLaws.{small}
 use Rattle.smo.specs.declared.version.Version.{Version}
-use Rattle.descent.specs.declared.visit.Sight.{Sight}
-use Rattle.descent.specs.declared.visit.Sight.TheVariants.{Empty, Whole}
-use Rattle.descent.specs.declared.visit.State.{State}
-use Rattle.descent.specs.declared.visit.State.TheVariants.{Slot, Row}
+use Rattle.descent.specs.Visits.{Sight, Empty, Whole, VisitState, Slot, Row, Arrives, FindsHead, Completes, Continues, Follows, MayVisit, Reads, Responds, Shows, Visit, at, wanted}
 use Rattle.descent.specs.Versions.{IsSound}
-use Rattle.descent.specs.Visits.{Arrives, Starts, Completes, Continues, Follows, IsTold, MayVisit, Reads, Responds, Shows, Visit, at, wanted}
 use Rattle.descent.proofs.FrontLaws.{front_more, front_next, front_end}
 
 -- what is so of a whole chain
@@ -37,7 +29,7 @@ may_slot actor k (suc pid) some inside may = (inside, may)
 pub may_step : (actor : ℕ) (k : Knowledge) (visit : Visit) → Shows visit k → May actor k (wanted visit)
 may_step actor k visit h = by_state visit.state refl
   where
-    by_state : (state : State) → visit.state ≡ state → May actor k (wanted visit)
+    by_state : (state : VisitState) → visit.state ≡ state → May actor k (wanted visit)
     by_state Slot e = rw e (may_slot actor k visit.pid h.page h.inside (rw e at h.stands))
     by_state (Row head row) e = let reads = rw e at h.stands in rw e (h.inside, reads.named)
 
@@ -110,27 +102,19 @@ arrives_at k visit row w version pid chain i h f =
       whole = whole;
     }
 
--- what is read whole is a page's chain
-pub is_chain : (visit : Visit) (head row : ℕ) (w : Record) → next_row w ≡ None → IsTold (at visit (Row head row)) (answer.Content w) → IsPageChain (visit.part ++ w ∷ [])
-is_chain visit head row w i told = (whole_chain told.k visit head row w i told.shows told.fits).is_chain
-
--- a delta that is read needs little room
-pub is_small : (visit : Visit) (head row : ℕ) (w : Record) (next : ℕ) → next_row w ≡ Some next → IsTold (at visit (Row head row)) (answer.Content w) → IsSmallDelta w
-is_small visit head row w next i told = small w (ap is_some i) told.fits.spellable
-
 -- the answer to the step wanted last is the one that the state was waiting for
 
-pub back : (visit : Visit) (P : Visit → Answer Record → Type 0) (state : State) (told real : Answer Record) → visit.state ≡ state → real ≡ told → P (at visit state) told → P visit real
-back visit P state told real e i h = subst (λ (x : Answer Record). P visit x) (sym i) (subst (λ (s : State). P (at visit s) told) (sym e) h)
+pub back : (visit : Visit) (P : Visit → Answer Record → Type 0) (state : VisitState) (told real : Answer Record) → visit.state ≡ state → real ≡ told → P (at visit state) told → P visit real
+back visit P state told real e i h = subst (λ (x : Answer Record). P visit x) (sym i) (subst (λ (s : VisitState). P (at visit s) told) (sym e) h)
 
-pub there : (visit : Visit) (P : Visit → Answer Record → Type 0) (state : State) (told real : Answer Record) → visit.state ≡ state → real ≡ told → P visit real → P (at visit state) told
-there visit P state told real e i h = subst (λ (s : State). P (at visit s) told) e (subst (λ (x : Answer Record). P visit x) i h)
+pub there : (visit : Visit) (P : Visit → Answer Record → Type 0) (state : VisitState) (told real : Answer Record) → visit.state ≡ state → real ≡ told → P visit real → P (at visit state) told
+there visit P state told real e i h = subst (λ (s : VisitState). P (at visit s) told) e (subst (λ (x : Answer Record). P visit x) i h)
 
 module _ (k : Knowledge) (old : Visit) where
   abbrev Then : Visit → Option Sight → Visit → Answer Record → Type 0
   Then new result v x = Shows v k → Fits v.limits k (wanted v) x → Follows k v x new result
 
-  begins : (told : Answer Record) (new : Visit) → Starts old told new → Shows old k → Fits old.limits k (wanted old) told → Follows k old told new None
+  begins : (told : Answer Record) (new : Visit) → FindsHead old told new → Shows old k → Fits old.limits k (wanted old) told → Follows k old told new None
   begins told new b = back old (Then new None) Slot (answer.Number b.row) told b.asked b.is (λ h f. rw b.goes (begins_chain k old b.row b.some (row_below old.limits k old.pid b.row h.page f) h))
 
   continues : (told : Answer Record) (new : Visit) → Continues old told new → Shows old k → Fits old.limits k (wanted old) told → Follows k old told new None
@@ -145,5 +129,5 @@ follows_from k old told new None b = elim b [ inl begun ↦ begins k old told ne
 follows_from k old told new (Some Empty) b = λ h f. tt
 follows_from k old told new (Some (Whole version)) b = completes k old told new version b
 
-pub responds_at : (old : Visit) (state : State) (a b : Answer Record) (new : Visit) (result : Option Sight) → old.state ≡ state → a ≡ b → Responds (at old state) b new result → Responds old a new result
+pub responds_at : (old : Visit) (state : VisitState) (a b : Answer Record) (new : Visit) (result : Option Sight) → old.state ≡ state → a ≡ b → Responds (at old state) b new result → Responds old a new result
 responds_at old state a b new result e i h = back old (λ v x. Responds v x new result) state b a e i h

@@ -22,9 +22,8 @@ use Rattle.chain_search.specs.Fitting.{FitsRow, IsReadWhole, SaysOf}
 use Rattle.chain_search.specs.Knowledge.{Knowledge, learn, learn_slot}
 use Rattle.chain_search.specs.Recalled.{IsUnread, Recalled, Walk, is_removal, recall, trail}
 use Rattle.smo.specs.declared.version.Version.{Version}
-use Rattle.descent.specs.declared.visit.State.TheVariants.{Slot, Row}
+use Rattle.descent.specs.Visits.{Slot, Row, Arrives, MayVisit, Visit, at, to_page}
 use Rattle.descent.specs.Versions.{NamesPages}
-use Rattle.descent.specs.Visits.{Arrives, MayVisit, Visit, at, to_page}
 use Rattle.descent.specs.Walks.{AreRecalled, HasArrived, IsAmong, IsExpected, IsNamedAt, IsOnWay, IsPast, IsPastAt}
 use Rattle.descent.specs.Ways.{NamesAt}
 use Rattle.descent.proofs.Holding.{named_row, named_slot, next_read, next_slot, past_row, past_slot, read_more}

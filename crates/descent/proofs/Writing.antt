@@ -1,9 +1,8 @@
 -- What an answer leaves a writer's round.
-use Rattle.std.proofs.Common.{ap, ◌∙◌, ◌≡◌, ◌≢◌, ◌<◌, ◌+◌, inl, inr, ℕ, List, [], Bool, true, false, Option, Some, None, refl, sym, subst, arith}
+use Rattle.std.proofs.Common.{◌∙◌, ◌≡◌, ◌≢◌, ◌<◌, ◌+◌, inl, inr, ℕ, List, [], Bool, true, false, Option, Some, None, refl, sym, subst, arith}
 use Rattle.std.specs.Prelude.{IsTrue}
 use Rattle.std.proofs.lemmas.Option.{IfSome_then}
 use Rattle.bw_model.specs.declared.limits.Limits.{Limits}
-use Rattle.bw_model.specs.declared.step.Step.{Step}
 use Rattle.bw_model.specs.declared.step.Step.TheVariants as step
 use Rattle.bw_model.specs.declared.step.Answer.{Answer}
 use Rattle.bw_model.specs.declared.step.Answer.TheVariants as answer
@@ -12,34 +11,31 @@ use Rattle.deltas.specs.declared.record.Record.{Record}
 use Rattle.chain_search.specs.Chains.{is_removed, low_in}
 use Rattle.chain_search.specs.Fitting.{Fits}
 use Rattle.chain_search.specs.Knowledge.{Knowledge, learn}
-use Rattle.chain_search.specs.Recalled.{IsSpentWith, Recalled, recall}
+use Rattle.chain_search.specs.Recalled.{Recalled, recall}
 use Rattle.smo.specs.declared.version.Version.{Version}
-use Rattle.descent.specs.Courses.{Goal, Seek, Left, Merge, Unterm}
+use Rattle.descent.specs.Courses.{WriteGoal, Seek, Left, Merge, Unterm}
 use Rattle.descent.specs.WriteEnds.{WriteEnd}
 use Rattle.descent.specs.WriteEnds as end
-use Rattle.descent.specs.Descents.{State, Root, Page, Descent, Finds, Shows as WayShows, Starts, Visits}
-use Rattle.descent.specs.declared.visit.Sight.{Sight}
-use Rattle.descent.specs.declared.visit.State.TheVariants.{Slot}
-use Rattle.descent.specs.declared.visit.Sight.TheVariants.{Empty, Whole}
+use Rattle.descent.specs.Descents.{WayState, Root, Page, Finds, Shows as WayShows}
+use Rattle.descent.specs.Visits.{Sight, Slot, Empty, Whole}
 use Rattle.descent.specs.Visits as page
 use Rattle.descent.specs.Walks.{IsSeeking, left_at, left_in, with_walk}
 use Rattle.descent.specs.Ways.{precedes, reaches}
-use Rattle.descent.specs.WriteRounds.{Begins, IsMissing, Keeps, Misses, is_beyond, kept_for, way_of, Follows, IsTold, IsVisiting, Shows, Spends, WriteRound, at, wanted, descent_of, going_to}
-use Rattle.descent.specs.WriteResponses.{CanMeet, CanSee, GoesFrom, GoesOnWay, IsHere, IsLeftLeaf, IsTended, Responds, Sees, Treats}
+use Rattle.descent.specs.WriteRounds.{BeginsToWrite, IsMissing, KeepsToWrite, MissesWrite, is_cutting, write_round_kept, write_way, VisitsToWrite, Shows, Spends, WriteRound, at, wanted}
+use Rattle.descent.specs.Machines.{IsTold}
+use Rattle.descent.specs.Rounds.{CanSee, Follows, Responds, Sees, machine}
+use Rattle.descent.specs.WriteResponses.{CanMeetGoal, IsHere, IsAtLeft, IsTended, TreatsWrite, writing}
 use Rattle.descent.proofs.Keeping.{Passed, reached_next, visits_next}
 use Rattle.descent.proofs.PageLaws.{above_empty}
 use Rattle.descent.proofs.Seeking.{reached, seeks_root}
-use Rattle.descent.proofs.Spending.{left_empty, left_on, left_removed, left_some, spent_empty, spent_on}
+use Rattle.descent.proofs.Responding.{by_step}
+use Rattle.descent.proofs.Spending.{left_empty, left_on, left_removed, left_some, spent_empty, spent_on, still}
 use Rattle.descent.proofs.Walking.{not_itself}
 use Rattle.descent.proofs.WayLaws.{lowest}
 use Rattle.descent.proofs.Treating.{After, treated}
 
--- the answer to the step wanted last is the one that the state was waiting for
-back : (old : WriteRound) (P : WriteRound → Answer Record → Type 0) (state : State) (told real : Answer Record) → old.state ≡ state → real ≡ told → P (at old state) told → P old real
-back old P state told real e i h = subst (λ (x : Answer Record). P old x) (sym i) (subst (λ (s : State). P (at old s) told) (sym e) h)
-
 abbrev Then : WriteRound → Option WriteEnd → WriteRound → Answer Record → Type 0
-Then new result old told = (k : Knowledge) (r : Recalled) → Shows old k r → Fits old.limits k (wanted old) told → Follows k r old told new result
+Then new result old told = (k : Knowledge) (r : Recalled) → Shows old k r → Fits old.limits k (wanted old) told → Follows writing k r old told new result
 
 abbrev Pays : WriteRound → Option WriteEnd → WriteRound → Answer Record → Type 0
 Pays new result old told = (reserve kept : ℕ) (k : Knowledge) (r : Recalled) → Shows old k r → Fits old.limits k (wanted old) told → Spends reserve kept r old told new result
@@ -48,18 +44,18 @@ module _ (old new : WriteRound) (told : Answer Record) (visit : page.Visit) wher
   abbrev here : WriteRound
   here = at old (Page visit)
 
-  seen : (next : page.Visit) (sight : Sight) (result : Option WriteEnd) → page.Responds visit told next (Some sight) → Sees here sight new result → Then new result here told
+  seen : (next : page.Visit) (sight : Sight) (result : Option WriteEnd) → page.Responds visit told next (Some sight) → Sees writing here sight new result → Then new result here told
   seen next Empty result b sees = rw sees (λ k r h f. tt)
   seen next (Whole version) result b sees = λ k r h f.
       by_result k r result (treated here k (learn k (page.wanted visit) told) (recall r (page.wanted visit) told) version (reached_next old.limits old.key old.floor old.goal old.parent old.left k r visit told h f version b) new result sees)
     where
-      by_result : (k : Knowledge) (r : Recalled) (o : Option WriteEnd) → After here (learn k (page.wanted visit) told) (recall r (page.wanted visit) told) new o → Follows k r here told new o
+      by_result : (k : Knowledge) (r : Recalled) (o : Option WriteEnd) → After here (learn k (page.wanted visit) told) (recall r (page.wanted visit) told) new o → Follows writing k r here told new o
       by_result k r None a = a
       by_result k r (Some end) a = a
 
-  module _ (reserve kept : ℕ) (k : Knowledge) (r : Recalled) (h : IsVisiting old.limits old.key old.floor old.goal old.parent old.left k r visit) (f : Fits old.limits k (page.wanted visit) told) where
+  module _ (reserve kept : ℕ) (k : Knowledge) (r : Recalled) (h : VisitsToWrite old.limits old.key old.floor old.goal old.parent old.left k r visit) (f : Fits old.limits k (page.wanted visit) told) where
     -- a page wasn't there
-    missed : page.FindsEmpty visit told → (goal : Goal) → IsSeeking old.limits (way_of goal old.key) (is_beyond goal) k r visit h.level h.low h.earlier → Misses reserve kept r (record here { goal = goal }) told goal
+    missed : page.FindsEmpty visit told → (goal : WriteGoal) → IsSeeking old.limits (write_way goal old.key) (is_cutting goal) k r visit h.level h.low h.earlier → MissesWrite reserve kept r (record here { goal = goal }) told goal
     missed b Seek seeks = spent_empty reserve old.limits (reaches old.key) false k r visit h.level h.low h.earlier told seeks f refl b
     missed b (Left removed) seeks = inl (spent_empty reserve old.limits (precedes old.key) false k r visit h.level h.low h.earlier told seeks f refl b)
     missed b (Merge left) seeks = spent_empty reserve old.limits (reaches old.key) false k r visit h.level h.low h.earlier told seeks f refl b
@@ -68,21 +64,21 @@ module _ (old new : WriteRound) (told : Answer Record) (visit : page.Visit) wher
     -- a page was read whole
     module _ (version : Version) (b : page.Completes visit told version) where
       abbrev way_here : List ℕ → Bool
-      way_here = way_of old.goal old.key
+      way_here = write_way old.goal old.key
 
       less : is_removed version.chain ≡ false → left_at reserve (recall r (page.wanted visit) told).walk [] Slot < left_in reserve r visit
-      less = left_on reserve old.limits way_here (is_beyond old.goal) k r visit h.level h.low h.earlier told h.seeks f version b
+      less = left_on reserve old.limits way_here (is_cutting old.goal) k r visit h.level h.low h.earlier told h.seeks f version b
 
-      more : is_removed version.chain ≡ false → (goal : Goal) → old.goal ≡ goal → left_at reserve (recall r (page.wanted visit) told).walk [] Slot + kept_for kept goal < left_in reserve r visit + kept_for kept old.goal
+      more : is_removed version.chain ≡ false → (goal : WriteGoal) → old.goal ≡ goal → left_at reserve (recall r (page.wanted visit) told).walk [] Slot + write_round_kept kept goal < left_in reserve r visit + write_round_kept kept old.goal
       more alive goal e = let l = less alive in rw e (omega (arith, l))
 
-      some_left : kept_for kept old.goal < left_in reserve r visit + kept_for kept old.goal
-      some_left = let some = left_some reserve old.limits way_here (is_beyond old.goal) k r visit h.level h.low h.earlier told h.seeks f version b in omega (arith, some)
+      some_left : write_round_kept kept old.goal < left_in reserve r visit + write_round_kept kept old.goal
+      some_left = let some = left_some reserve old.limits way_here (is_cutting old.goal) k r visit h.level h.low h.earlier told h.seeks f version b in omega (arith, some)
 
-      keeps : (goal : Goal) → old.goal ≡ goal → kept_for kept goal ≡ kept → kept < left_in reserve r visit + kept_for kept old.goal
-      keeps goal e is = let some = left_some reserve old.limits way_here (is_beyond old.goal) k r visit h.level h.low h.earlier told h.seeks f version b in rw e (rw is (omega (arith, some)))
+      keeps : (goal : WriteGoal) → old.goal ≡ goal → write_round_kept kept goal ≡ kept → kept < left_in reserve r visit + write_round_kept kept old.goal
+      keeps goal e is = let some = left_some reserve old.limits way_here (is_cutting old.goal) k r visit h.level h.low h.earlier told h.seeks f version b in rw e (rw is (omega (arith, some)))
 
-      by_result : (o : Option WriteEnd) → Treats here version new o → Spends reserve kept r here told new o
+      by_result : (o : Option WriteEnd) → TreatsWrite here version new o → Spends reserve kept r here told new o
       by_result None t = elim t [
         | inl right ↦ rw right.goes (inl (more right.alive old.goal refl))
         | inr (inl down) ↦ rw down.goes (inl (more down.here.alive old.goal refl))
@@ -91,7 +87,7 @@ module _ (old new : WriteRound) (told : Answer Record) (visit : page.Visit) wher
       ]
       by_result (Some end.Again) t = missed_below old.goal t.goal
         where
-          missed_below : (goal : Goal) → goal ≡ Left t.pid → Misses reserve kept r here told goal
+          missed_below : (goal : WriteGoal) → goal ≡ Left t.pid → MissesWrite reserve kept r here told goal
           missed_below Seek e = cc
           missed_below (Left pid) e = inr ((λ empty. (let clash : answer.Content b.content ≡ answer.Number 0 = sym b.is ∙ empty in cc)), keeps (Left t.pid) t.goal refl)
           missed_below (Merge left) e = cc
@@ -101,7 +97,7 @@ module _ (old new : WriteRound) (told : Answer Record) (visit : page.Visit) wher
         | inr (inl unmerged) ↦ keeps (Merge unmerged.left) unmerged.goal refl
         | inr (inr uncut) ↦ keeps (Unterm uncut.parent uncut.left) uncut.goal refl
       ]
-      by_result (Some (end.Removed removed)) t = let some = left_removed reserve old.limits way_here (is_beyond old.goal) k r visit h.level h.low h.earlier told h.seeks f version b t.gone in omega (arith, some)
+      by_result (Some (end.Removed removed)) t = let some = left_removed reserve old.limits way_here (is_cutting old.goal) k r visit h.level h.low h.earlier told h.seeks f version b t.gone in omega (arith, some)
       by_result (Some (end.Consolidate page)) t = some_left
       by_result (Some (end.Split page plan)) t = some_left
       by_result (Some (end.Term parent term)) t = some_left
@@ -111,7 +107,7 @@ module _ (old new : WriteRound) (told : Answer Record) (visit : page.Visit) wher
       by_result (Some (end.Merge left removed merge)) t = keeps (Merge left) t.goal refl
       by_result (Some (end.Unterm parent left removed unterm)) t = keeps (Unterm parent left) t.goal refl
 
-  paid : (next : page.Visit) (sight : Sight) (result : Option WriteEnd) → page.Responds visit told next (Some sight) → Sees here sight new result → Pays new result here told
+  paid : (next : page.Visit) (sight : Sight) (result : Option WriteEnd) → page.Responds visit told next (Some sight) → Sees writing here sight new result → Pays new result here told
   paid next Empty result b sees = rw sees (λ reserve kept k r h f. missed reserve kept k r h f b old.goal h.seeks)
   paid next (Whole version) result b sees = λ reserve kept k r h f. by_result reserve kept k r h f version b result sees
 
@@ -119,7 +115,7 @@ module _ (limits : Limits) (key : List ℕ) (floor : ℕ) (k : Knowledge) (r : R
   abbrev begun : Knowledge
   begun = learn k (step.Slot 0) (answer.Number pid)
 
-  first_on_way : (goal : Goal) → Begins limits key floor k goal → IsTrue (way_of goal key [])
+  first_on_way : (goal : WriteGoal) → BeginsToWrite limits key floor k goal → IsTrue (write_way goal key [])
   first_on_way Seek b = lowest key
   first_on_way (Left removed) b = subst (λ (q : List ℕ). IsTrue (is_below [] q)) b.low (above_empty b.removed.chain b.gone.in_hand.sound.is_chain.fitted b.gone.gone)
   first_on_way (Merge left) b = absurd b
@@ -132,7 +128,7 @@ module _ (limits : Limits) (key : List ℕ) (floor : ℕ) (k : Knowledge) (r : R
       let first : low_in b.removed.chain ≡ [] = fits.2 b.removed.head b.removed.chain (rw (sym (b.is ∙ e)) hand.seen.head) hand.seen.read in
       not_itself [] (rw first at (above_empty b.removed.chain hand.sound.is_chain.fitted b.gone.gone))
 
-  keeps_first : (goal : Goal) → Begins limits key floor k goal → Keeps limits key floor begun pid [] goal
+  keeps_first : (goal : WriteGoal) → BeginsToWrite limits key floor k goal → KeepsToWrite limits key floor begun pid [] goal
   keeps_first Seek b = tt
   keeps_first (Left removed) b =
       let hand = b.gone.in_hand in
@@ -140,12 +136,12 @@ module _ (limits : Limits) (key : List ℕ) (floor : ℕ) (k : Knowledge) (r : R
   keeps_first (Merge left) b = absurd b
   keeps_first (Unterm parent left) b = absurd b
 
-  root : (goal : Goal) (parent left : Option Version) → parent ≡ None → left ≡ None → k.inside ≡ true → Begins limits key floor k goal → IsVisiting limits key floor goal parent left begun (recall r (step.Slot 0) (answer.Number pid)) (page.to_page limits pid)
+  root : (goal : WriteGoal) (parent left : Option Version) → parent ≡ None → left ≡ None → k.inside ≡ true → BeginsToWrite limits key floor k goal → VisitsToWrite limits key floor goal parent left begun (recall r (step.Slot 0) (answer.Number pid)) (page.to_page limits pid)
   root goal parent left orphan alone inside b = rw (orphan, alone) (record {
     level = 0;
     low = [];
     earlier = [];
-    seeks = seeks_root limits (way_of goal key) (is_beyond goal) k r pid (first_on_way goal b) fits inside;
+    seeks = seeks_root limits (write_way goal key) (is_cutting goal) k r pid (first_on_way goal b) fits inside;
     above = tt;
     aside = tt;
     based = inl refl;
@@ -153,63 +149,44 @@ module _ (limits : Limits) (key : List ℕ) (floor : ℕ) (k : Knowledge) (r : R
     keeps = keeps_first goal b;
   })
 
--- the same with more that is kept
-still : (reserve : ℕ) (r : Recalled) (asked : Step Record) (told : Answer Record) (had has kept : ℕ) → IsSpentWith (1 + reserve) r asked told had has → IsSpentWith (1 + reserve) r asked told (had + kept) (has + kept)
-still reserve r asked told had has kept h = elim h [ inl less ↦ inl (omega (arith, less)) | inr paid ↦ inr (paid.0, (let few = paid.1 in omega (arith, few))) ]
-
--- the round that is on its way
-
-started : (old new : WriteRound) (told : Answer Record) (result : Option WriteEnd) → GoesOnWay old told new result → (b : Starts (descent_of old) told (descent_of new)) → new ≡ going_to b.root old
-started old new told result way b = way.same ∙ ap (λ (d : Descent). at old d.state) b.goes
-
-visiting : (old new : WriteRound) (told : Answer Record) (result : Option WriteEnd) → GoesOnWay old told new result → (b : Visits (descent_of old) told (descent_of new)) → new ≡ at old (Page b.next)
-visiting old new told result way b = way.same ∙ ap (λ (d : Descent). at old d.state) b.goes
-
-seen_at : (old new : WriteRound) (told : Answer Record) (result : Option WriteEnd) → (from : GoesFrom old told new result) → Sees (at old (Page from.finds.visit)) from.sight new result
-seen_at old new told result from = subst (λ (s : State). Sees (at old s) from.sight new result) from.finds.asked from.sees
-
 -- what follows from what a round makes of an answer
-pub follows_from : (old new : WriteRound) (told : Answer Record) (result : Option WriteEnd) → Responds old told new result → (k : Knowledge) (r : Recalled) → Shows old k r → Fits old.limits k (wanted old) told → Follows k r old told new result
-follows_from old new told result responds = elim responds [
-  | inl way ↦ elim way.on [
-    | inl b ↦ back old (Then new result) Root (answer.Number b.root) told b.asked b.is (rw (way.none, started old new told result way b) (λ k r h f. root old.limits old.key old.floor k r b.root f old.goal old.parent old.left h.1 h.2 h.0 h.3))
-    | inr b ↦ back old (Then new result) (Page b.visit) told told b.asked refl (rw (way.none, visiting old new told result way b) (λ k r h f. visits_next old.limits old.key old.floor old.goal old.parent old.left k r b.visit told h f b.next b.responds))
-  ]
-  | inr from ↦ back old (Then new result) (Page from.finds.visit) told told from.finds.asked refl (seen old new told from.finds.visit from.finds.next from.sight result from.finds.responds (seen_at old new told result from))
-]
 
-pub spends_from : (old new : WriteRound) (told : Answer Record) (result : Option WriteEnd) → Responds old told new result → (reserve kept : ℕ) (k : Knowledge) (r : Recalled) → Shows old k r → Fits old.limits k (wanted old) told → Spends reserve kept r old told new result
-spends_from old new told result responds = elim responds [
-  | inl way ↦ elim way.on [
-    | inl b ↦ back old (Pays new result) Root (answer.Number b.root) told b.asked b.is (rw (way.none, started old new told result way b) (λ reserve kept k r h f. inl (omega arith)))
-    | inr b ↦ back old (Pays new result) (Page b.visit) told told b.asked refl (rw (way.none, visiting old new told result way b) (λ reserve kept k r h f. still (with_walk reserve) r (page.wanted b.visit) told _ _ (kept_for kept old.goal) (spent_on reserve old.limits (way_of old.goal old.key) (is_beyond old.goal) k r b.visit h.level h.low h.earlier told h.seeks f b.next b.responds)))
-  ]
-  | inr from ↦ back old (Pays new result) (Page from.finds.visit) told told from.finds.asked refl (paid old new told from.finds.visit from.finds.next from.sight result from.finds.responds (seen_at old new told result from))
-]
+pub follows_from : (old new : WriteRound) (told : Answer Record) (result : Option WriteEnd) → Responds writing old told new result → (k : Knowledge) (r : Recalled) → Shows old k r → Fits old.limits k (wanted old) told → Follows writing k r old told new result
+follows_from old new told result responds = by_step writing (λ round. refl) (λ o x n e. Then n e o x) old new told result responds
+    (λ pid k r h f. root old.limits old.key old.floor k r pid f old.goal old.parent old.left h.1 h.2 h.0 h.3)
+    (λ visit next b k r h f. visits_next old.limits old.key old.floor old.goal old.parent old.left k r visit told h f next b)
+    (λ visit next sight b sees. seen old new told visit next sight result b sees)
+
+pub spends_from : (old new : WriteRound) (told : Answer Record) (result : Option WriteEnd) → Responds writing old told new result → (reserve kept : ℕ) (k : Knowledge) (r : Recalled) → Shows old k r → Fits old.limits k (wanted old) told → Spends reserve kept r old told new result
+spends_from old new told result responds = by_step writing (λ round. refl) (λ o x n e. Pays n e o x) old new told result responds
+    (λ pid reserve kept k r h f. inl (omega arith))
+    (λ visit next b reserve kept k r h f.
+      still (with_walk reserve) r (page.wanted visit) told _ _ (write_round_kept kept old.goal) (spent_on reserve old.limits (write_way old.goal old.key) (is_cutting old.goal) k r visit h.level h.low h.earlier told h.seeks f next b))
+    (λ visit next sight b sees. paid old new told visit next sight result b sees)
 
 -- what the round shows, its descent does
-pub way_shows : (round : WriteRound) (k : Knowledge) (r : Recalled) → Shows round k r → WayShows (descent_of round) k
+pub way_shows : (round : WriteRound) (k : Knowledge) (r : Recalled) → Shows round k r → WayShows (writing.way round) k
 way_shows round k r h = by_state round.state refl
   where
-    by_state : (state : State) → round.state ≡ state → WayShows (descent_of round) k
+    by_state : (state : WayState) → round.state ≡ state → WayShows (writing.way round) k
     by_state Root e = rw e ((rw e at h).0)
-    by_state (Page visit) e = let here : IsVisiting round.limits round.key round.floor round.goal round.parent round.left k r visit = rw e at h in rw e here.seeks.on_way.shows
+    by_state (Page visit) e = let here : VisitsToWrite round.limits round.key round.floor round.goal round.parent round.left k r visit = rw e at h in rw e here.seeks.on_way.shows
 
 -- the page that was found is one that the round has reached
-pub can_see : (old : WriteRound) (other : State) (told : Answer Record) (sight : Sight) → Finds (descent_of old) told sight → IsTold old told → CanSee (at old other) sight
+pub can_see : (old : WriteRound) (other : WayState) (told : Answer Record) (sight : Sight) → Finds (writing.way old) told sight → IsTold (machine writing) old told → CanSee writing (at old other) sight
 can_see old other told Empty b t = tt
 can_see old other told (Whole version) b t =
     let visit = b.visit in
-    let h : IsVisiting old.limits old.key old.floor old.goal old.parent old.left t.k t.r visit = subst (λ (s : State). Shows (at old s) t.k t.r) b.asked t.shows in
-    let f : Fits old.limits t.k (page.wanted visit) told = subst (λ (s : State). Fits old.limits t.k (wanted (at old s)) told) b.asked t.fits in
+    let h : VisitsToWrite old.limits old.key old.floor old.goal old.parent old.left t.k t.r visit = subst (λ (s : WayState). Shows (at old s) t.k t.r) b.asked t.shows in
+    let f : Fits old.limits t.k (page.wanted visit) told = subst (λ (s : WayState). Fits old.limits t.k (wanted (at old s)) told) b.asked t.fits in
     let d = reached_next old.limits old.key old.floor old.goal old.parent old.left t.k t.r visit told h f version b.responds in
     record {
-      reached = reached old.limits t.k (learn t.k (page.wanted visit) told) (recall t.r (page.wanted visit) told) version d.level d.low d.earlier d.arrives (way_of old.goal old.key) d.passing;
+      reached = reached old.limits t.k (learn t.k (page.wanted visit) told) (recall t.r (page.wanted visit) told) version d.level d.low d.earlier d.arrives (write_way old.goal old.key) d.passing;
       above = IfSome_then old.parent d.above (λ other i. i.kept.alive);
       meets = meets_at t.k (learn t.k (page.wanted visit) told) d.earlier old.goal d.passed;
     }
   where
-    meets_at : (k now : Knowledge) (earlier : List ℕ) (goal : Goal) → Passed old.limits old.key old.floor k now version.pid earlier goal → CanMeet old.limits goal
+    meets_at : (k now : Knowledge) (earlier : List ℕ) (goal : WriteGoal) → Passed old.limits old.key old.floor k now version.pid earlier goal → CanMeetGoal old.limits goal
     meets_at k now earlier Seek p = tt
     meets_at k now earlier (Left pid) p = (subst (λ (q : ℕ). 0 < q) p.1.is p.1.removed.is_pid.0, subst (λ (q : ℕ). q < old.limits.pids) p.1.is p.1.gone.in_hand.page)
     meets_at k now earlier (Merge left) p = tt
@@ -217,17 +194,17 @@ can_see old other told (Whole version) b t =
 
 -- what a round does with a page doesn't depend on the state that it had
 
-module _ (old : WriteRound) (state other : State) (version : Version) where
+module _ (old : WriteRound) (state other : WayState) (version : Version) where
   here_as : IsHere (at old other) version → IsHere (at old state) version
   here_as h = record { seeks = h.seeks; alive = h.alive; finished = h.finished; stays = h.stays }
 
-  left_as : (pid : ℕ) → IsLeftLeaf (at old other) version pid → IsLeftLeaf (at old state) version pid
+  left_as : (pid : ℕ) → IsAtLeft (at old other) version pid → IsAtLeft (at old state) version pid
   left_as pid h = record { goal = h.goal; here = here_as h.here; fine = h.fine; level = h.level }
 
   tended_as : (parent : Version) → IsTended (at old other) parent version → IsTended (at old state) parent version
   tended_as parent h = record { tends = h.tends; seeks = h.seeks; above = h.above; level = h.level }
 
-treats_as : (old new : WriteRound) (state other : State) (version : Version) (result : Option WriteEnd) → Treats (at old other) version new result → Treats (at old state) version new result
+pub treats_as : (old new : WriteRound) (state other : WayState) (version : Version) (result : Option WriteEnd) → TreatsWrite (at old other) version new result → TreatsWrite (at old state) version new result
 treats_as old new state other version None t = elim t [
   | inl right ↦ inl (record { seeks = right.seeks; alive = right.alive; finished = right.finished; right = right.right; leads = right.leads; goes = right.goes })
   | inr (inl down) ↦ inr (inl (record { here = here_as old state other version down.here; fine = down.fine; idle = λ parent tended. down.idle parent (tended_as old other state version parent tended); index = down.index; child = down.child; leads = down.leads; goes = down.goes }))
@@ -249,7 +226,3 @@ treats_as old new state other version (Some (end.Tend parent page upkeep)) t = r
 treats_as old new state other version (Some (end.Leaf parent leaf)) t = record { is = t.is; seeks = t.seeks; above = t.above; here = here_as old state other version t.here; fine = t.fine; level = t.level }
 treats_as old new state other version (Some (end.Merge left removed merge)) t = record { is = t.is; goal = t.goal; plan = t.plan }
 treats_as old new state other version (Some (end.Unterm parent left removed unterm)) t = record { is = t.is; goal = t.goal; plan = t.plan }
-
-pub sees_as : (old new : WriteRound) (state other : State) (sight : Sight) (result : Option WriteEnd) → Sees (at old other) sight new result → Sees (at old state) sight new result
-sees_as old new state other Empty result s = s
-sees_as old new state other (Whole version) result s = treats_as old new state other version result s

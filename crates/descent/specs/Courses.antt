@@ -4,25 +4,25 @@ use Rattle.smo.specs.declared.version.Version.{Version}
 
 -- To the leaf of the key; to the leaf to the left of this removed page, which begins at the key; to the removed page, which is to
 -- come into this leaf; to the removed page, whose term the parent is to lose, as the leaf shows that would have it to its right.
-pub data Goal : Type 0 where
-  Seek : Goal
-  Left : (pid : ℕ) → Goal
-  Merge : (left : Version) → Goal
-  Unterm : (parent left : Version) → Goal
+pub data WriteGoal : Type 0 where
+  Seek : WriteGoal
+  Left : (pid : ℕ) → WriteGoal
+  Merge : (left : Version) → WriteGoal
+  Unterm : (parent left : Version) → WriteGoal
 
 -- Where a round goes; the parent of the pages that are read; the page to whose right the round has gone, until that one was read.
 pub record Course : Type 0 where
-  pub goal : Goal
+  pub goal : WriteGoal
   pub parent : Option Version
   pub left : Option Version
 
 -- the leaf to the left of this removed page, or the leaf of the key
-abbrev pub down_to : Option ℕ → Goal
+abbrev pub down_to : Option ℕ → WriteGoal
 down_to None = Seek
 down_to (Some pid) = Left pid
 
 -- the removed page to whose left a goal is
-abbrev pub removed_of : Goal → Option ℕ
+abbrev pub removed_of : WriteGoal → Option ℕ
 removed_of Seek = None
 removed_of (Left pid) = Some pid
 removed_of (Merge left) = None

@@ -6,28 +6,28 @@ use Rattle.bw_model.specs.declared.step.Step.TheVariants as step
 use Rattle.bw_model.specs.declared.step.Answer.{Answer}
 use Rattle.bw_model.specs.declared.step.Answer.TheVariants.{Number}
 use Rattle.deltas.specs.declared.record.Record.{Record}
-use Rattle.chain_search.specs.Fitting.{Fits}
 use Rattle.chain_search.specs.Knowledge.{Knowledge}
 use Rattle.chain_search.specs.Recalled.{Recalled}
+use Rattle.descent.specs.Machines.{Machine}
 use Rattle.descent.specs.Visits as page
 use Rattle.descent.specs.Walks.{few_reads, left_in}
-use Rattle.descent.specs.declared.visit.Sight.{Sight}
+use Rattle.descent.specs.Visits.{Sight}
 
 -- where a descent stands: each state is named by what it reads
-pub data State : Type 0 where
-  Root : State
-  Page : (visit : page.Visit) → State
+pub data WayState : Type 0 where
+  Root : WayState
+  Page : (visit : page.Visit) → WayState
 
 pub record Descent : Type 0 where
   pub limits : Limits
-  pub state : State
+  pub state : WayState
 
-abbrev pub IsSoundState : Limits → State → Type 0
+abbrev pub IsSoundState : Limits → WayState → Type 0
 IsSoundState limits Root = ⊤
 IsSoundState limits (Page visit) = visit.limits ≡ limits
 
 -- the step that a state has asked for
-abbrev pub wanted_at : State → StepOf Record
+abbrev pub wanted_at : WayState → StepOf Record
 wanted_at Root = step.Slot 0
 wanted_at (Page visit) = page.wanted visit
 
@@ -35,30 +35,22 @@ abbrev pub wanted : Descent → StepOf Record
 wanted descent = wanted_at descent.state
 
 -- the descent, gone to a state, and to a page
-abbrev pub at : Descent → State → Descent
+abbrev pub at : Descent → WayState → Descent
 at descent state = record descent { state = state }
 
 abbrev pub going_to : ℕ → Descent → Descent
 going_to pid descent = at descent (Page (page.to_page descent.limits pid))
 
 -- by the state of a descent
-abbrev pub ShowsState : Knowledge → State → Type 0
+abbrev pub ShowsState : Knowledge → WayState → Type 0
 ShowsState k Root = k.inside ≡ true
 ShowsState k (Page visit) = page.Shows visit k
 
 abbrev pub Shows : Descent → Knowledge → Type 0
 Shows descent k = ShowsState k descent.state
 
--- Something is known that the descent shows.
-pub record HasCome (descent : Descent) : Type 0 where
-  pub k : Knowledge
-  pub shows : Shows descent k
-
--- Something is known that the descent shows, and the answer fits it.
-pub record IsTold (descent : Descent) (told : Answer Record) : Type 0 where
-  pub k : Knowledge
-  pub shows : Shows descent k
-  pub fits : Fits descent.limits k (wanted descent) told
+abbrev pub descending : Machine Descent
+descending = record { limits = λ descent. descent.limits; wanted = wanted; Shows = λ descent k r. Shows descent k }
 
 -- Slot 0 was read, and the root is visited.
 pub record Starts (old : Descent) (told : Answer Record) (new : Descent) : Type 0 where
@@ -88,6 +80,6 @@ Responds old told new None = Starts old told new ⊎ Visits old told new
 Responds old told new (Some sight) = Finds old told sight
 
 -- how many reads a round takes at most from a state on, with those that are reserved once a removal was read
-abbrev pub left_from : ℕ → Recalled → State → ℕ
+abbrev pub left_from : ℕ → Recalled → WayState → ℕ
 left_from reserve r Root = few_reads
 left_from reserve r (Page visit) = left_in reserve r visit

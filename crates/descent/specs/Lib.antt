@@ -1,8 +1,10 @@
 pub mod Versions
+pub mod Machines
 pub mod Visits
 pub mod Ways
 pub mod Walks
 pub mod Descents
+pub mod Rounds
 pub mod Courses
 pub mod ReadGoals
 pub mod ReadLegs

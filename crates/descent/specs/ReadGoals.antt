@@ -2,7 +2,7 @@
 use Rattle.smo.specs.declared.version.Version.{Version}
 
 -- To the leaf of the key; to the leaf to the left of a removed page; to the leaf of the key, after it was to the left of a removed page.
-pub data Goal : Type 0 where
-  Seek : Goal
-  Left : (removed : Version) → Goal
-  Beyond : Goal
+pub data ReadGoal : Type 0 where
+  Seek : ReadGoal
+  Left : (removed : Version) → ReadGoal
+  Beyond : ReadGoal

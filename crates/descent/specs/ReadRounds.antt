@@ -7,19 +7,18 @@ use Rattle.base_page.specs.Places.{HasNoChild}
 use Rattle.deltas.specs.declared.record.Record.{Record}
 use Rattle.chain_search.specs.Chains.{content_in, covers, is_removed, level_in, low_in, right_in}
 use Rattle.chain_search.specs.Discipline.{NamesChild}
-use Rattle.chain_search.specs.Fitting.{Fits, SaysOf}
-use Rattle.chain_search.specs.Knowledge.{Knowledge, learn}
+use Rattle.chain_search.specs.Fitting.{SaysOf}
+use Rattle.chain_search.specs.Knowledge.{Knowledge}
 use Rattle.chain_search.specs.Recalled.{IsPaid, IsSpentWith, Recalled, recall}
 use Rattle.smo.specs.Readings.{IsAfter}
 use Rattle.smo.specs.declared.version.Version.{Version}
 use Rattle.descent.specs.Versions.{IsAlive, IsGone, IsInHand, NamesPages}
-use Rattle.descent.specs.Descents.{Descent, Finds, Responds as Moves, left_from, wanted_at, State, Root, Page}
+use Rattle.descent.specs.Descents.{left_from, wanted_at, WayState, Root, Page}
+use Rattle.descent.specs.Rounds.{Rounds}
 use Rattle.descent.specs.Visits as page
 use Rattle.descent.specs.Walks.{HasMet, IsAhead, IsAmong, IsReached, IsSeeking, with_walk}
 use Rattle.descent.specs.Ways.{EndsHere, LeadsDown, LeadsOn, LeadsRight, StaysLeft, precedes, reaches}
-use Rattle.descent.specs.declared.visit.Sight as page_sight
-use Rattle.descent.specs.declared.visit.Sight.TheVariants as page_is
-use Rattle.descent.specs.ReadGoals.{Goal, Seek, Left, Beyond}
+use Rattle.descent.specs.ReadGoals.{ReadGoal, Seek, Left, Beyond}
 use Rattle.descent.specs.ReadLegs.{Leg, Down, Round, Past, IsPlain, below, has_met, level_on}
 use Rattle.descent.specs.ReadEnds.{ReadEnd, Again, Removed, Leaf, Beside}
 
@@ -27,19 +26,15 @@ use Rattle.descent.specs.ReadEnds.{ReadEnd, Again, Removed, Leaf, Beside}
 pub record ReadRound : Type 0 where
   pub limits : Limits
   pub key : List ℕ
-  pub goal : Goal
+  pub goal : ReadGoal
   pub leg : Leg
-  pub state : State
-
--- the way that the round goes
-abbrev pub descent_of : ReadRound → Descent
-descent_of round = record { limits = round.limits; state = round.state }
+  pub state : WayState
 
 -- the step that the round has asked for
 abbrev pub wanted : ReadRound → StepOf Record
 wanted round = wanted_at round.state
 
-abbrev pub at : ReadRound → State → ReadRound
+abbrev pub at : ReadRound → WayState → ReadRound
 at round state = record round { state = state }
 
 -- the round, gone to a page
@@ -51,24 +46,24 @@ abbrev pub left_of : Version → List ℕ → Bool
 left_of removed = precedes (low_in removed.chain)
 
 -- which low keys are on the way of a goal
-abbrev pub way_of : Goal → List ℕ → List ℕ → Bool
-way_of Seek key = reaches key
-way_of (Left removed) key = left_of removed
-way_of Beyond key = reaches key
+abbrev pub read_way : ReadGoal → List ℕ → List ℕ → Bool
+read_way Seek key = reaches key
+read_way (Left removed) key = left_of removed
+read_way Beyond key = reaches key
 
 -- which low keys are on the way of a goal and a leg
-abbrev pub way_on : Leg → Goal → List ℕ → List ℕ → Bool
-way_on (Down above) goal key = way_of goal key
+abbrev pub way_on : Leg → ReadGoal → List ℕ → List ℕ → Bool
+way_on (Down above) goal key = read_way goal key
 way_on (Round removed) goal key = left_of removed
-way_on Past goal key = way_of goal key
+way_on Past goal key = read_way goal key
 
-abbrev pub is_beyond : Goal → Bool
-is_beyond Seek = false
-is_beyond (Left removed) = false
-is_beyond Beyond = true
+abbrev pub goes_beyond : ReadGoal → Bool
+goes_beyond Seek = false
+goes_beyond (Left removed) = false
+goes_beyond Beyond = true
 
 -- the round, gone on to a goal
-abbrev pub toward : Goal → ReadRound → ReadRound
+abbrev pub toward : ReadGoal → ReadRound → ReadRound
 toward goal round = record round { goal = goal }
 
 -- the round, on another leg
@@ -87,25 +82,25 @@ pub record IsAside (limits : Limits) (k : Knowledge) (key : List ℕ) (visit : p
   pub after : IsAhead k removed visit.pid visit.state
 
 -- by the goal of a round that has read slot 0
-abbrev pub Keeps : Limits → List ℕ → Knowledge → page.Visit → Goal → Type 0
-Keeps limits key k visit Seek = ⊤
-Keeps limits key k visit (Left removed) = IsAside limits k key visit removed
-Keeps limits key k visit Beyond = ⊤
+abbrev pub KeepsToRead : Limits → List ℕ → Knowledge → page.Visit → ReadGoal → Type 0
+KeepsToRead limits key k visit Seek = ⊤
+KeepsToRead limits key k visit (Left removed) = IsAside limits k key visit removed
+KeepsToRead limits key k visit Beyond = ⊤
 
 -- by the goal of a round that hasn't
-abbrev pub Begins : Limits → List ℕ → Knowledge → Goal → Type 0
-Begins limits key k Seek = k.inside ≡ true
-Begins limits key k (Left removed) = (k.inside ≡ true) × IsGoneAt limits k key removed
-Begins limits key k Beyond = k.inside ≡ true
+abbrev pub BeginsToRead : Limits → List ℕ → Knowledge → ReadGoal → Type 0
+BeginsToRead limits key k Seek = k.inside ≡ true
+BeginsToRead limits key k (Left removed) = (k.inside ≡ true) × IsGoneAt limits k key removed
+BeginsToRead limits key k Beyond = k.inside ≡ true
 
 -- what a page says of the one that is kept aside is so
-abbrev pub SaysAside : Goal → List Record → Type 0
+abbrev pub SaysAside : ReadGoal → List Record → Type 0
 SaysAside Seek chain = ⊤
 SaysAside (Left removed) chain = SaysOf chain removed.pid removed.chain
 SaysAside Beyond chain = ⊤
 
 -- The page above is in hand, isn't removed, was read in this round, is one level up, and so isn't the page.
-pub record IsAbove (limits : Limits) (k : Knowledge) (goal : Goal) (pid level : ℕ) (earlier : List ℕ) (above : Version) : Type 0 where
+pub record IsAbove (limits : Limits) (k : Knowledge) (goal : ReadGoal) (pid level : ℕ) (earlier : List ℕ) (above : Version) : Type 0 where
   pub in_hand : IsInHand limits k above
   pub alive : is_removed above.chain ≡ false
   pub among : IsAmong above.pid earlier
@@ -114,53 +109,40 @@ pub record IsAbove (limits : Limits) (k : Knowledge) (goal : Goal) (pid level : 
   pub says : SaysAside goal above.chain
 
 -- by the leg of a round that isn't on its way round a page
-abbrev pub IsOn : Limits → Knowledge → Recalled → Goal → page.Visit → ℕ → List ℕ → Leg → Type 0
+abbrev pub IsOn : Limits → Knowledge → Recalled → ReadGoal → page.Visit → ℕ → List ℕ → Leg → Type 0
 IsOn limits k r goal visit level earlier (Down above) = HasMet false r.walk visit.state × IfSome above (IsAbove limits k goal visit.pid level earlier)
 IsOn limits k r goal visit level earlier (Round removed) = ⊥
 IsOn limits k r goal visit level earlier Past = HasMet true r.walk visit.state
 
 -- A page is visited on the way of the goal.
-pub record IsVisiting (limits : Limits) (key : List ℕ) (goal : Goal) (leg : Leg) (k : Knowledge) (r : Recalled) (visit : page.Visit) : Type 0 where
+pub record VisitsToRead (limits : Limits) (key : List ℕ) (goal : ReadGoal) (leg : Leg) (k : Knowledge) (r : Recalled) (visit : page.Visit) : Type 0 where
   pub level : ℕ
   pub low : List ℕ
   pub earlier : List ℕ
-  pub seeks : IsSeeking limits (way_of goal key) (has_met leg || is_beyond goal) k r visit level low earlier
-  pub keeps : Keeps limits key k visit goal
+  pub seeks : IsSeeking limits (read_way goal key) (has_met leg || goes_beyond goal) k r visit level low earlier
+  pub keeps : KeepsToRead limits key k visit goal
   pub leg_is : IsOn limits k r goal visit level earlier leg
 
 -- A page is visited on the way to the left of a removed index page, which was read in this round on the way of the goal.
-pub record IsGoingRound (limits : Limits) (key : List ℕ) (goal : Goal) (removed : Version) (k : Knowledge) (r : Recalled) (visit : page.Visit) : Type 0 where
-  pub nears : IsVisiting limits key (Left removed) Past k r visit
-  pub keeps : Keeps limits key k visit goal
+pub record IsGoingRound (limits : Limits) (key : List ℕ) (goal : ReadGoal) (removed : Version) (k : Knowledge) (r : Recalled) (visit : page.Visit) : Type 0 where
+  pub nears : VisitsToRead limits key (Left removed) Past k r visit
+  pub keeps : KeepsToRead limits key k visit goal
   pub index : 0 < level_in removed.chain
-  pub reached : IsTrue (way_of goal key (low_in removed.chain))
+  pub reached : IsTrue (read_way goal key (low_in removed.chain))
 
 -- by the leg of a round that has read slot 0
-abbrev pub ShowsVisit : Limits → List ℕ → Goal → Leg → Knowledge → Recalled → page.Visit → Type 0
-ShowsVisit limits key goal (Down above) k r visit = IsVisiting limits key goal (Down above) k r visit
+abbrev pub ShowsVisit : Limits → List ℕ → ReadGoal → Leg → Knowledge → Recalled → page.Visit → Type 0
+ShowsVisit limits key goal (Down above) k r visit = VisitsToRead limits key goal (Down above) k r visit
 ShowsVisit limits key goal (Round removed) k r visit = IsGoingRound limits key goal removed k r visit
-ShowsVisit limits key goal Past k r visit = IsVisiting limits key goal Past k r visit
+ShowsVisit limits key goal Past k r visit = VisitsToRead limits key goal Past k r visit
 
 -- by the state of a round
-abbrev pub ShowsState : Limits → List ℕ → Goal → Leg → Knowledge → Recalled → State → Type 0
-ShowsState limits key goal leg k r Root = (leg ≡ Down None) × Begins limits key k goal
+abbrev pub ShowsState : Limits → List ℕ → ReadGoal → Leg → Knowledge → Recalled → WayState → Type 0
+ShowsState limits key goal leg k r Root = (leg ≡ Down None) × BeginsToRead limits key k goal
 ShowsState limits key goal leg k r (Page visit) = ShowsVisit limits key goal leg k r visit
 
 abbrev pub Shows : ReadRound → Knowledge → Recalled → Type 0
 Shows round k r = ShowsState round.limits round.key round.goal round.leg k r round.state
-
--- Something is known that the round shows.
-pub record HasCome (round : ReadRound) : Type 0 where
-  pub k : Knowledge
-  pub r : Recalled
-  pub shows : Shows round k r
-
--- Something is known that the round shows, and the answer fits it.
-pub record IsTold (round : ReadRound) (told : Answer Record) : Type 0 where
-  pub k : Knowledge
-  pub r : Recalled
-  pub shows : Shows round k r
-  pub fits : Fits round.limits k (wanted round) told
 
 -- The leaf has the key in its range, and isn't removed.
 pub record IsAliveLeaf (limits : Limits) (k : Knowledge) (r : Recalled) (key : List ℕ) (leaf : Version) : Type 0 where
@@ -178,33 +160,28 @@ pub record IsBesideLeaf (limits : Limits) (k : Knowledge) (r : Recalled) (key : 
   pub covered : IsTrue (covers removed.chain key)
 
 -- what an end says
-abbrev pub Ends : ReadRound → Knowledge → Recalled → ReadEnd → Type 0
-Ends round k r Again = ⊤
-Ends round k r (Removed removed) = IsGoneAt round.limits k round.key removed
-Ends round k r (Leaf leaf) = IsAliveLeaf round.limits k r round.key leaf
-Ends round k r (Beside left removed) = IsBesideLeaf round.limits k r round.key left removed
-
--- what follows from an answer
-abbrev pub Follows : Knowledge → Recalled → ReadRound → Answer Record → ReadRound → Option ReadEnd → Type 0
-Follows k r old told new None = Shows new (learn k (wanted old) told) (recall r (wanted old) told)
-Follows k r old told new (Some end) = Ends old (learn k (wanted old) told) (recall r (wanted old) told) end
+abbrev pub EndsRead : ReadRound → Knowledge → Recalled → ReadEnd → Type 0
+EndsRead round k r Again = ⊤
+EndsRead round k r (Removed removed) = IsGoneAt round.limits k round.key removed
+EndsRead round k r (Leaf leaf) = IsAliveLeaf round.limits k r round.key leaf
+EndsRead round k r (Beside left removed) = IsBesideLeaf round.limits k r round.key left removed
 
 -- The page isn't removed, and the round goes on to its right, where the page ends on the way.
 pub record GoesRight (old : ReadRound) (version : Version) (new : ReadRound) : Type 0 where
   pub plain : IsPlain old.leg
   pub alive : is_removed version.chain ≡ false
   pub next : ℕ
-  pub leads : LeadsRight (way_of old.goal old.key) version.chain next
+  pub leads : LeadsRight (read_way old.goal old.key) version.chain next
   pub goes : new ≡ going_to next old
 
 -- The page isn't removed, and the round goes down to the child of its greatest term on the way.
 pub record GoesDown (old : ReadRound) (version : Version) (new : ReadRound) : Type 0 where
   pub plain : IsPlain old.leg
   pub alive : is_removed version.chain ≡ false
-  pub stays : StaysLeft (way_of old.goal old.key) version.chain
+  pub stays : StaysLeft (read_way old.goal old.key) version.chain
   pub index : 0 < level_in version.chain
   pub next : ℕ
-  pub leads : LeadsDown (way_of old.goal old.key) version.chain next
+  pub leads : LeadsDown (read_way old.goal old.key) version.chain next
   pub goes : new ≡ going_to next (on (below version old.leg) old)
 
 -- The page isn't removed, and is the leaf where the way to the left of the removed page ends.
@@ -234,7 +211,7 @@ pub record GoesPast (old : ReadRound) (version : Version) (new : ReadRound) : Ty
   pub goes : new ≡ going_to next (on (level_on old.leg) (toward Beyond old))
 
 -- the round isn't on its way to the left of a page
-abbrev pub SeeksKey : Goal → Type 0
+abbrev pub SeeksKey : ReadGoal → Type 0
 SeeksKey Seek = ⊤
 SeeksKey (Left removed) = ⊥
 SeeksKey Beyond = ⊤
@@ -252,7 +229,7 @@ pub record IsAtEnd (old : ReadRound) (version leaf : Version) : Type 0 where
   pub plain : IsPlain old.leg
   pub seeks : SeeksKey old.goal
   pub alive : is_removed version.chain ≡ false
-  pub ends : EndsHere (way_of old.goal old.key) version.chain
+  pub ends : EndsHere (read_way old.goal old.key) version.chain
 
 -- The page is to the left of a removed one that has been merged, and the round ends there.
 pub record IsAtMerged (old : ReadRound) (version leaf : Version) : Type 0 where
@@ -314,7 +291,7 @@ pub record GoesThrough (old : ReadRound) (version : Version) (new : ReadRound) :
   pub stays : StaysLeft (left_of removed) version.chain
   pub beside : right_in version.chain ≡ Some removed.pid
   pub next : ℕ
-  pub leads : LeadsDown (way_of old.goal old.key) removed.chain next
+  pub leads : LeadsDown (read_way old.goal old.key) removed.chain next
   pub goes : new ≡ going_to next (on Past old)
 
 -- The removed page has been merged, and the round goes on from the page.
@@ -324,26 +301,26 @@ pub record GoesOnMerged (old : ReadRound) (version : Version) (new : ReadRound) 
   pub stays : StaysLeft (left_of removed) version.chain
   pub merged : right_in version.chain ≢ Some removed.pid
   pub next : ℕ
-  pub leads : LeadsOn (way_of old.goal old.key) version.chain next
+  pub leads : LeadsOn (read_way old.goal old.key) version.chain next
   pub goes : new ≡ going_to next (on Past old)
 
 -- On the way round a removed page, the page is removed, or of another level.
-pub record IsOff (old : ReadRound) (version : Version) : Type 0 where
+pub record IsOffLevel (old : ReadRound) (version : Version) : Type 0 where
   pub removed : Version
   pub leg : old.leg ≡ Round removed
   pub off : (is_removed version.chain ≡ true) ⊎ (level_in version.chain ≢ level_in removed.chain)
 
 -- what a round does with a page that was read whole
-abbrev pub Treats : ReadRound → Version → ReadRound → Option ReadEnd → Type 0
-Treats old version new None = GoesRight old version new ⊎ GoesDown old version new ⊎ GoesBeyond old version new ⊎ GoesPast old version new
+abbrev pub TreatsRead : ReadRound → Version → ReadRound → Option ReadEnd → Type 0
+TreatsRead old version new None = GoesRight old version new ⊎ GoesDown old version new ⊎ GoesBeyond old version new ⊎ GoesPast old version new
     ⊎ GoesRound old version new ⊎ GoesNearer old version new ⊎ GoesThrough old version new ⊎ GoesOnMerged old version new
-Treats old version new (Some Again) = IsLost old version ⊎ IsOff old version
-Treats old version new (Some (Removed removed)) = IsAtGone old version removed
-Treats old version new (Some (Leaf leaf)) = IsAtEnd old version leaf ⊎ IsAtMerged old version leaf
-Treats old version new (Some (Beside left removed)) = IsAtBeside old version left removed
+TreatsRead old version new (Some Again) = IsLost old version ⊎ IsOffLevel old version
+TreatsRead old version new (Some (Removed removed)) = IsAtGone old version removed
+TreatsRead old version new (Some (Leaf leaf)) = IsAtEnd old version leaf ⊎ IsAtMerged old version leaf
+TreatsRead old version new (Some (Beside left removed)) = IsAtBeside old version left removed
 
 -- The right of the removed page is one that there may be, where the page is its left one.
-abbrev pub CanPass : Limits → Version → Goal → Type 0
+abbrev pub CanPass : Limits → Version → ReadGoal → Type 0
 CanPass limits version Seek = ⊤
 CanPass limits version (Left removed) = is_removed version.chain ≡ false → right_in version.chain ≡ Some removed.pid → (next : ℕ) → right_in removed.chain ≡ Some next → (0 < next) × (next < limits.pids)
 CanPass limits version Beyond = ⊤
@@ -360,66 +337,52 @@ pub record CanGoRound (limits : Limits) (way : List ℕ → Bool) (version remov
   pub names : is_removed version.chain ≡ false → right_in version.chain ≡ Some removed.pid → (next : ℕ) → NamesChild removed.chain next → (0 < next) × (next < limits.pids)
 
 -- by the leg of a round
-abbrev pub CanMeet : Limits → (List ℕ → Bool) → Goal → Version → Leg → Type 0
-CanMeet limits way goal version (Down above) = CanPass limits version goal × IfSome above (HasChildren limits)
-CanMeet limits way goal version (Round removed) = CanGoRound limits way version removed
-CanMeet limits way goal version Past = CanPass limits version goal
+abbrev pub CanMeetLeg : Limits → (List ℕ → Bool) → ReadGoal → Version → Leg → Type 0
+CanMeetLeg limits way goal version (Down above) = CanPass limits version goal × IfSome above (HasChildren limits)
+CanMeetLeg limits way goal version (Round removed) = CanGoRound limits way version removed
+CanMeetLeg limits way goal version Past = CanPass limits version goal
 
 -- The round has reached the page.
-pub record CanTreat (round : ReadRound) (version : Version) : Type 0 where
+pub record CanTreatRead (round : ReadRound) (version : Version) : Type 0 where
   pub reached : IsReached round.limits (way_on round.leg round.goal round.key) version
-  pub meets : CanMeet round.limits (way_of round.goal round.key) round.goal version round.leg
+  pub meets : CanMeetLeg round.limits (read_way round.goal round.key) round.goal version round.leg
 
--- a page was found that the round has reached, or none
-abbrev pub CanSee : ReadRound → page_sight.Sight → Type 0
-CanSee round page_is.Empty = ⊤
-CanSee round (page_is.Whole version) = CanTreat round version
-
--- what a round does with what a visit found
-abbrev pub Sees : ReadRound → page_sight.Sight → ReadRound → Option ReadEnd → Type 0
-Sees old page_is.Empty new result = result ≡ Some Again
-Sees old (page_is.Whole version) new result = Treats old version new result
-
--- The round is on its way to a page, or its visit goes on.
-pub record GoesOnWay (old : ReadRound) (told : Answer Record) (new : ReadRound) (result : Option ReadEnd) : Type 0 where
-  pub on : Moves (descent_of old) told (descent_of new) None
-  pub same : new ≡ at old new.state
-  pub none : result ≡ None
-
--- The visit of a page ended.
-pub record GoesFrom (old : ReadRound) (told : Answer Record) (new : ReadRound) (result : Option ReadEnd) : Type 0 where
-  pub sight : page_sight.Sight
-  pub finds : Finds (descent_of old) told sight
-  pub sees : Sees old sight new result
-
--- what a round makes of an answer
-abbrev pub Responds : ReadRound → Answer Record → ReadRound → Option ReadEnd → Type 0
-Responds old told new result = GoesOnWay old told new result ⊎ GoesFrom old told new result
+-- the reader's rounds
+abbrev pub reading : Rounds ReadRound ReadEnd
+reading = record {
+  way = λ round. record { limits = round.limits; state = round.state };
+  at = at;
+  Shows = Shows;
+  Ends = EndsRead;
+  CanTreat = CanTreatRead;
+  Treats = TreatsRead;
+  again = Again;
+}
 
 -- how many reads are kept for a round after this one: those of one that was begun for a removed page
-abbrev pub kept_for : ℕ → Goal → ℕ
-kept_for kept Seek = 0
-kept_for kept (Left removed) = kept
-kept_for kept Beyond = kept
+abbrev pub read_round_kept : ℕ → ReadGoal → ℕ
+read_round_kept kept Seek = 0
+read_round_kept kept (Left removed) = kept
+read_round_kept kept Beyond = kept
 
-abbrev pub reads_left : ℕ → ℕ → Recalled → ReadRound → ℕ
-reads_left reserve kept r round = left_from reserve r round.state + kept_for kept round.goal
+abbrev pub read_round_left : ℕ → ℕ → Recalled → ReadRound → ℕ
+read_round_left reserve kept r round = left_from reserve r round.state + read_round_kept kept round.goal
 
 -- Where a page wasn't there, a cause pays, but where a removed index page was met, and what is reserved is left; beyond a removed leaf
 -- the reads that were kept are.
-abbrev pub Misses : ℕ → ℕ → Recalled → ReadRound → Answer Record → Goal → Type 0
-Misses reserve kept r old told Seek = IsPaid r (wanted old) told ⊎ (reserve < reads_left reserve kept r old)
-Misses reserve kept r old told (Left removed) = IsPaid r (wanted old) told ⊎ (reserve + kept < reads_left reserve kept r old)
-Misses reserve kept r old told Beyond = kept < reads_left reserve kept r old
+abbrev pub MissesRead : ℕ → ℕ → Recalled → ReadRound → Answer Record → ReadGoal → Type 0
+MissesRead reserve kept r old told Seek = IsPaid r (wanted old) told ⊎ (reserve < read_round_left reserve kept r old)
+MissesRead reserve kept r old told (Left removed) = IsPaid r (wanted old) told ⊎ (reserve + kept < read_round_left reserve kept r old)
+MissesRead reserve kept r old told Beyond = kept < read_round_left reserve kept r old
 
 -- A round that goes on has fewer reads left, or a cause paid for the reserve. Where the round ends at a removed page, the reserve
 -- is left; where it was begun for a removed page, so are those that were kept.
 abbrev pub Spends : ℕ → ℕ → Recalled → ReadRound → Answer Record → ReadRound → Option ReadEnd → Type 0
-Spends reserve kept r old told new None = IsSpentWith (1 + with_walk reserve) r (wanted old) told (reads_left reserve kept r old) (reads_left reserve kept (recall r (wanted old) told) new)
-Spends reserve kept r old told new (Some Again) = Misses reserve kept r old told old.goal
-Spends reserve kept r old told new (Some (Removed removed)) = reserve + kept_for kept old.goal < reads_left reserve kept r old
-Spends reserve kept r old told new (Some (Leaf leaf)) = kept_for kept old.goal < reads_left reserve kept r old
-Spends reserve kept r old told new (Some (Beside left removed)) = kept < reads_left reserve kept r old
+Spends reserve kept r old told new None = IsSpentWith (1 + with_walk reserve) r (wanted old) told (read_round_left reserve kept r old) (read_round_left reserve kept (recall r (wanted old) told) new)
+Spends reserve kept r old told new (Some Again) = MissesRead reserve kept r old told old.goal
+Spends reserve kept r old told new (Some (Removed removed)) = reserve + read_round_kept kept old.goal < read_round_left reserve kept r old
+Spends reserve kept r old told new (Some (Leaf leaf)) = read_round_kept kept old.goal < read_round_left reserve kept r old
+Spends reserve kept r old told new (Some (Beside left removed)) = kept < read_round_left reserve kept r old
 
 -- The limits and the key stay.
 pub record IsSame (old new : ReadRound) : Type 0 where

@@ -9,28 +9,34 @@ use Rattle.deltas.specs.declared.record.Record.{Record}
 use Rattle.deltas.specs.Records.{next_row}
 use Rattle.chain_search.specs.Chains.{IsFront}
 use Rattle.chain_search.specs.Discipline.{IsMet}
-use Rattle.chain_search.specs.Fitting.{Fits, IsReadWhole}
+use Rattle.chain_search.specs.Fitting.{IsReadWhole}
 use Rattle.chain_search.specs.Knowledge.{Knowledge, learn}
 use Rattle.descent.specs.Versions.{IsInHand}
 use Rattle.smo.specs.declared.version.Version.{Version}
-use Rattle.descent.specs.declared.visit.Sight.{Sight}
-use Rattle.descent.specs.declared.visit.Sight.TheVariants.{Empty, Whole}
-use Rattle.descent.specs.declared.visit.State.{State}
-use Rattle.descent.specs.declared.visit.State.TheVariants.{Slot, Row}
+
+-- where a visit stands: each state is named by the step that it has asked for
+pub data VisitState : Type 0 where
+  Slot : VisitState
+  Row : (head row : ℕ) → VisitState
+
+-- what a visit finds: the page's slot holds 0, or the whole page
+pub data Sight : Type 0 where
+  Empty : Sight
+  Whole : (version : Version) → Sight
 
 -- the page that is read, the deltas that were read of its chain, and where the visit stands
 pub record Visit : Type 0 where
   pub limits : Limits
   pub pid : ℕ
   pub part : List Record
-  pub state : State
+  pub state : VisitState
 
-abbrev pub IsSoundState : Limits → ℕ → State → Type 0
+abbrev pub IsSoundState : Limits → ℕ → VisitState → Type 0
 IsSoundState limits pid Slot = (0 < pid) × (pid < limits.pids)
 IsSoundState limits pid (Row head row) = (0 < pid) × (pid < limits.pids) × (0 < head) × (head < limits.rows) × (row < limits.rows)
 
 -- the step that a state has asked for
-abbrev pub wanted_at : ℕ → State → StepOf Record
+abbrev pub wanted_at : ℕ → VisitState → StepOf Record
 wanted_at pid Slot = step.Slot pid
 wanted_at pid (Row head row) = step.Row row
 
@@ -44,7 +50,7 @@ ReadsWithin limits (step.Row row) = row < limits.rows
 ReadsWithin limits other = ⊥
 
 -- the visit, gone to a state
-abbrev pub at : Visit → State → Visit
+abbrev pub at : Visit → VisitState → Visit
 at visit state = record visit { state = state }
 
 -- a page's visit, before its first step
@@ -63,12 +69,12 @@ pub record Reads (k : Knowledge) (pid head : ℕ) (part : List Record) (row : �
   pub named : k.read.learnt row ≡ true
 
 -- by the state of a visit
-abbrev pub ShowsState : Knowledge → ℕ → List Record → State → Type 0
+abbrev pub ShowsState : Knowledge → ℕ → List Record → VisitState → Type 0
 ShowsState k pid part Slot = MayVisit k pid
 ShowsState k pid part (Row head row) = Reads k pid head part row
 
 -- the row that the slot had is one that there is
-abbrev pub IsHeadBelow : Limits → State → Type 0
+abbrev pub IsHeadBelow : Limits → VisitState → Type 0
 IsHeadBelow limits Slot = ⊤
 IsHeadBelow limits (Row head row) = head < limits.rows
 
@@ -78,12 +84,6 @@ pub record Shows (visit : Visit) (k : Knowledge) : Type 0 where
   pub below : visit.pid < visit.limits.pids
   pub head : IsHeadBelow visit.limits visit.state
   pub stands : ShowsState k visit.pid visit.part visit.state
-
--- Something is known that the visit shows, and the answer fits it.
-pub record IsTold (visit : Visit) (told : Answer Record) : Type 0 where
-  pub k : Knowledge
-  pub shows : Shows visit k
-  pub fits : Fits visit.limits k (wanted visit) told
 
 -- The page that was visited is in hand, and what was known before its last record says of its chain what an answer shows.
 pub record Arrives (k now : Knowledge) (visit : Visit) (version : Version) : Type 0 where
@@ -99,7 +99,7 @@ Follows k old told new (Some Empty) = ⊤
 Follows k old told new (Some (Whole version)) = Arrives k (learn k (wanted old) told) old version
 
 -- The slot was read as a row, and the visit goes on with the record there.
-pub record Starts (old : Visit) (told : Answer Record) (new : Visit) : Type 0 where
+pub record FindsHead (old : Visit) (told : Answer Record) (new : Visit) : Type 0 where
   pub row : ℕ
   pub asked : old.state ≡ Slot
   pub is : told ≡ Number row
@@ -140,11 +140,6 @@ reads_on other = false
 
 -- what a visit makes of an answer
 abbrev pub Responds : Visit → Answer Record → Visit → Option Sight → Type 0
-Responds old told new None = Starts old told new ⊎ Continues old told new
+Responds old told new None = FindsHead old told new ⊎ Continues old told new
 Responds old told new (Some Empty) = FindsEmpty old told
 Responds old told new (Some (Whole version)) = Completes old told version
-
--- The page that is visited stays.
-pub record IsSame (old new : Visit) : Type 0 where
-  pub limits : new.limits ≡ old.limits
-  pub pid : new.pid ≡ old.pid

@@ -9,10 +9,8 @@ use Rattle.chain_search.specs.Discipline.{IsBeyond}
 use Rattle.chain_search.specs.Knowledge.{Knowledge}
 use Rattle.chain_search.specs.Recalled.{AnyNames, IsUnread, Recalled, Walk, trail}
 use Rattle.smo.specs.declared.version.Version.{Version}
-use Rattle.descent.specs.declared.visit.State.{State}
-use Rattle.descent.specs.declared.visit.State.TheVariants.{Slot, Row}
+use Rattle.descent.specs.Visits.{VisitState, Slot, Row, Arrives, Shows, Visit}
 use Rattle.descent.specs.Versions.{IsInHand, NamesPages}
-use Rattle.descent.specs.Visits.{Arrives, Shows, Visit}
 use Rattle.descent.specs.Ways.{NamesAt}
 
 -- One place is past another: on a higher level, or on the same level to the left.
@@ -51,32 +49,32 @@ abbrev pub IsExpected : Limits → Knowledge → ℕ → ℕ → List ℕ → Li
 IsExpected limits k page level low earlier = (IsTrue (k.read.roots page) × (low ≡ []) × (earlier ≡ [])) ⊎ IsNamedAt limits k page level low ⊎ IsNextAt limits k page level low
 
 -- the pages whose slots were read since slot 0 was, by the state of the visit
-abbrev pub been : State → ℕ → List ℕ → List ℕ
+abbrev pub been : VisitState → ℕ → List ℕ → List ℕ
 been Slot page earlier = earlier
 been (Row head row) page earlier = page ∷ earlier
 
 -- once the page's slot was read, the other page was read before it
-abbrev pub IsAhead : Knowledge → Version → ℕ → State → Type 0
+abbrev pub IsAhead : Knowledge → Version → ℕ → VisitState → Type 0
 IsAhead k other page Slot = ⊤
 IsAhead k other page (Row head row) = k.read.before page other.pid ≡ Some other.head
 
 -- the pages that count, by the state of the visit
-abbrev pub counted : Walk → State → List ℕ
+abbrev pub counted : Walk → VisitState → List ℕ
 counted walk Slot = trail walk
 counted walk (Row head row) = walk.visited
 
 -- Once the page's slot was read, a removal was read since slot 0 was, where the round has gone on from one, or it is among the deltas.
-abbrev pub TellsRemoved : Walk → List Record → State → Type 0
+abbrev pub TellsRemoved : Walk → List Record → VisitState → Type 0
 TellsRemoved walk part Slot = ⊤
 TellsRemoved walk part (Row head row) = walk.removed ≡ (walk.passed || is_removed part)
 
 -- whether a removed page was met before the visited one
-abbrev pub HasMet : Bool → Walk → State → Type 0
+abbrev pub HasMet : Bool → Walk → VisitState → Type 0
 HasMet met walk Slot = walk.removed ≡ met
 HasMet met walk (Row head row) = walk.passed ≡ met
 
 -- no record is read before the slot
-abbrev pub HasNoneRead : State → List Record → Type 0
+abbrev pub HasNoneRead : VisitState → List Record → Type 0
 HasNoneRead Slot part = part ≡ []
 HasNoneRead (Row head row) part = ⊤
 
@@ -151,7 +149,7 @@ with_walk reserve = 14 * 4095 + reserve
 
 -- how many reads a round takes at most from a visit on, with the one that it has asked for, and with those that are reserved
 -- once a removal was read
-abbrev pub left_at : ℕ → Walk → List Record → State → ℕ
+abbrev pub left_at : ℕ → Walk → List Record → VisitState → ℕ
 left_at reserve walk part Slot = 14 * (4095 - length (trail walk)) + (if walk.removed then reserve else 0)
 left_at reserve walk part (Row head row) = 14 * (4095 - length walk.visited) + (13 - length part) + (if walk.passed then reserve else (if is_removed part then with_walk reserve else 0))
 

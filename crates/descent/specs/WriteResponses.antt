@@ -1,10 +1,8 @@
 -- What a writer's round does with a page that was read whole, and what it makes of an answer.
 use Rattle.std.specs.Prelude.{◌≡◌, ◌≢◌, ◌<◌, ◌⊎◌, ℕ, Option, Some, None, true, false, IfSome, ⊤}
 use Rattle.bw_model.specs.declared.limits.Limits.{Limits}
-use Rattle.bw_model.specs.declared.step.Answer.{Answer}
 use Rattle.base_page.specs.declared.item.Content.TheVariants.{Child}
 use Rattle.base_page.specs.Pages.{Page as PageOf}
-use Rattle.deltas.specs.declared.record.Record.{Record}
 use Rattle.deltas.specs.declared.record.Merge.{Merge as MergeRecord}
 use Rattle.deltas.specs.declared.record.Term.{Term}
 use Rattle.deltas.specs.declared.record.Unterm.{Unterm as UntermRecord}
@@ -18,15 +16,13 @@ use Rattle.smo.specs.declared.split.SplitPlan.{SplitPlan}
 use Rattle.smo.specs.Upkeep.{IsIdle, IsUpkeep}
 use Rattle.smo.specs.declared.upkeep.Upkeep.{Upkeep}
 use Rattle.smo.specs.declared.version.Version.{Version}
-use Rattle.descent.specs.Courses.{Goal, Seek, Left, Merge, Unterm}
-use Rattle.descent.specs.Descents.{Finds, Responds as Moves}
+use Rattle.descent.specs.Courses.{WriteGoal, Seek, Left, Merge, Unterm}
 use Rattle.descent.specs.Walks.{IsReached}
 use Rattle.descent.specs.Ways.{LeadsDown, LeadsRight, StaysLeft}
-use Rattle.descent.specs.declared.visit.Sight as page_sight
-use Rattle.descent.specs.declared.visit.Sight.TheVariants as page_is
+use Rattle.descent.specs.Rounds.{Rounds}
 use Rattle.descent.specs.WriteEnds.{WriteEnd}
 use Rattle.descent.specs.WriteEnds as end
-use Rattle.descent.specs.WriteRounds.{IsLong, SeeksLeaf, WriteRound, at, beside, descent_of, ends_at, going_to, way_of}
+use Rattle.descent.specs.WriteRounds.{EndsWrite, IsLong, SeeksLeaf, Shows, WriteRound, at, beside, ends_at, going_to, write_way}
 
 -- No change is due that finishes the split of the page's left page: the parent can't get the page's term, nor, where there is no
 -- parent, the two pages a root.
@@ -40,7 +36,7 @@ pub record IsHere (old : WriteRound) (version : Version) : Type 0 where
   pub seeks : SeeksLeaf old.goal
   pub alive : is_removed version.chain ≡ false
   pub finished : IsSplitFinished old.parent old.left version
-  pub stays : StaysLeft (way_of old.goal old.key) version.chain
+  pub stays : StaysLeft (write_way old.goal old.key) version.chain
 
 -- The page is neither to be consolidated nor to be split.
 pub record IsFine (due : ℕ) (version : Version) : Type 0 where
@@ -64,7 +60,7 @@ pub record GoesAside (old : WriteRound) (version : Version) (new : WriteRound) :
   pub alive : is_removed version.chain ≡ false
   pub finished : IsSplitFinished old.parent old.left version
   pub right : ℕ
-  pub leads : LeadsRight (way_of old.goal old.key) version.chain right
+  pub leads : LeadsRight (write_way old.goal old.key) version.chain right
   pub goes : new ≡ going_to right (beside (Some version) old)
 
 -- Nothing is due at the page, nor of a small page's removal, and the round goes down to a child of it.
@@ -74,7 +70,7 @@ pub record GoesBelow (old : WriteRound) (version : Version) (new : WriteRound) :
   pub idle : IsIdleOnWay old version
   pub index : ends_at old.goal old.floor < level_in version.chain
   pub child : ℕ
-  pub leads : LeadsDown (way_of old.goal old.key) version.chain child
+  pub leads : LeadsDown (write_way old.goal old.key) version.chain child
   pub goes : new ≡ going_to child (record old { parent = Some version; left = None })
 
 -- The page has too many deltas.
@@ -129,7 +125,7 @@ pub record EndsRemoved (old : WriteRound) (version removed : Version) : Type 0 w
   pub gone : is_removed version.chain ≡ true
 
 -- The page is the one of the removed page's level where the way to its left ends, and nothing is due there.
-pub record IsLeftLeaf (old : WriteRound) (version : Version) (pid : ℕ) : Type 0 where
+pub record IsAtLeft (old : WriteRound) (version : Version) (pid : ℕ) : Type 0 where
   pub goal : old.goal ≡ Left pid
   pub here : IsHere old version
   pub fine : IsFine old.due version
@@ -144,20 +140,20 @@ pub record EndsBelow (old : WriteRound) (version : Version) : Type 0 where
   pub below : level_in version.chain < old.floor
 
 -- the round, gone to read the removed page again
-abbrev pub going_back : Goal → ℕ → WriteRound → WriteRound
+abbrev pub going_back : WriteGoal → ℕ → WriteRound → WriteRound
 going_back goal pid round = going_to pid (record round { goal = goal; parent = None; left = None })
 
 -- The removed page is the leaf's right.
 pub record GoesToMerge (old : WriteRound) (version : Version) (new : WriteRound) : Type 0 where
   pub pid : ℕ
-  pub left : IsLeftLeaf old version pid
+  pub left : IsAtLeft old version pid
   pub beside : right_in version.chain ≡ Some pid
   pub goes : new ≡ going_back (Merge version) pid old
 
 -- The removed page isn't the leaf's right, and the parent has its term.
 pub record GoesToUnterm (old : WriteRound) (version : Version) (new : WriteRound) : Type 0 where
   pub pid : ℕ
-  pub left : IsLeftLeaf old version pid
+  pub left : IsAtLeft old version pid
   pub apart : right_in version.chain ≢ Some pid
   pub parent : Version
   pub above : old.parent ≡ Some parent
@@ -167,7 +163,7 @@ pub record GoesToUnterm (old : WriteRound) (version : Version) (new : WriteRound
 -- The removed page isn't the leaf's right, and no parent has its term held.
 pub record EndsClean (old : WriteRound) (version : Version) : Type 0 where
   pub pid : ℕ
-  pub left : IsLeftLeaf old version pid
+  pub left : IsAtLeft old version pid
   pub apart : right_in version.chain ≢ Some pid
   pub lacks : IfSome old.parent (λ parent. content_in parent.chain old.key ≢ Some (Child pid true))
 
@@ -197,55 +193,41 @@ pub record EndsCut (old : WriteRound) (version parent left removed : Version) (u
   pub plan : IsUntermPlan parent left version unterm
 
 -- what a round does with a page that was read whole
-abbrev pub Treats : WriteRound → Version → WriteRound → Option WriteEnd → Type 0
-Treats old version new None = GoesAside old version new ⊎ GoesBelow old version new ⊎ GoesToMerge old version new ⊎ GoesToUnterm old version new
-Treats old version new (Some end.Again) = EndsBelow old version
-Treats old version new (Some end.Done) = EndsClean old version ⊎ EndsUnmerged old version ⊎ EndsUncut old version
-Treats old version new (Some (end.Removed removed)) = EndsRemoved old version removed
-Treats old version new (Some (end.Consolidate page)) = EndsLong old version page
-Treats old version new (Some (end.Split page plan)) = EndsWide old version page plan
-Treats old version new (Some (end.Term parent term)) = EndsUnposted old version parent term
-Treats old version new (Some (end.Root left root)) = EndsUnrooted old version left root
-Treats old version new (Some (end.Tend parent page upkeep)) = EndsSmall old version parent page upkeep
-Treats old version new (Some (end.Leaf parent leaf)) = EndsFine old version parent leaf
-Treats old version new (Some (end.Merge left removed merge)) = EndsMerged old version left removed merge
-Treats old version new (Some (end.Unterm parent left removed unterm)) = EndsCut old version parent left removed unterm
+abbrev pub TreatsWrite : WriteRound → Version → WriteRound → Option WriteEnd → Type 0
+TreatsWrite old version new None = GoesAside old version new ⊎ GoesBelow old version new ⊎ GoesToMerge old version new ⊎ GoesToUnterm old version new
+TreatsWrite old version new (Some end.Again) = EndsBelow old version
+TreatsWrite old version new (Some end.Done) = EndsClean old version ⊎ EndsUnmerged old version ⊎ EndsUncut old version
+TreatsWrite old version new (Some (end.Removed removed)) = EndsRemoved old version removed
+TreatsWrite old version new (Some (end.Consolidate page)) = EndsLong old version page
+TreatsWrite old version new (Some (end.Split page plan)) = EndsWide old version page plan
+TreatsWrite old version new (Some (end.Term parent term)) = EndsUnposted old version parent term
+TreatsWrite old version new (Some (end.Root left root)) = EndsUnrooted old version left root
+TreatsWrite old version new (Some (end.Tend parent page upkeep)) = EndsSmall old version parent page upkeep
+TreatsWrite old version new (Some (end.Leaf parent leaf)) = EndsFine old version parent leaf
+TreatsWrite old version new (Some (end.Merge left removed merge)) = EndsMerged old version left removed merge
+TreatsWrite old version new (Some (end.Unterm parent left removed unterm)) = EndsCut old version parent left removed unterm
 
 -- by the goal: the removed page is one that there may be; the parent isn't removed
-abbrev pub CanMeet : Limits → Goal → Type 0
-CanMeet limits Seek = ⊤
-CanMeet limits (Left pid) = (0 < pid) × (pid < limits.pids)
-CanMeet limits (Merge left) = ⊤
-CanMeet limits (Unterm parent left) = is_removed parent.chain ≡ false
+abbrev pub CanMeetGoal : Limits → WriteGoal → Type 0
+CanMeetGoal limits Seek = ⊤
+CanMeetGoal limits (Left pid) = (0 < pid) × (pid < limits.pids)
+CanMeetGoal limits (Merge left) = ⊤
+CanMeetGoal limits (Unterm parent left) = is_removed parent.chain ≡ false
 
 -- The round has reached the page, and the parent isn't removed.
-pub record CanTreat (round : WriteRound) (version : Version) : Type 0 where
-  pub reached : IsReached round.limits (way_of round.goal round.key) version
+pub record CanTreatWrite (round : WriteRound) (version : Version) : Type 0 where
+  pub reached : IsReached round.limits (write_way round.goal round.key) version
   pub above : IfSome round.parent (λ parent. is_removed parent.chain ≡ false)
-  pub meets : CanMeet round.limits round.goal
+  pub meets : CanMeetGoal round.limits round.goal
 
--- a page was found that the round has reached, or none
-abbrev pub CanSee : WriteRound → page_sight.Sight → Type 0
-CanSee round page_is.Empty = ⊤
-CanSee round (page_is.Whole version) = CanTreat round version
-
--- what a round does with what a visit found
-abbrev pub Sees : WriteRound → page_sight.Sight → WriteRound → Option WriteEnd → Type 0
-Sees old page_is.Empty new result = result ≡ Some end.Again
-Sees old (page_is.Whole version) new result = Treats old version new result
-
--- The round is on its way to a page, or its visit goes on.
-pub record GoesOnWay (old : WriteRound) (told : Answer Record) (new : WriteRound) (result : Option WriteEnd) : Type 0 where
-  pub on : Moves (descent_of old) told (descent_of new) None
-  pub same : new ≡ at old new.state
-  pub none : result ≡ None
-
--- The visit of a page ended.
-pub record GoesFrom (old : WriteRound) (told : Answer Record) (new : WriteRound) (result : Option WriteEnd) : Type 0 where
-  pub sight : page_sight.Sight
-  pub finds : Finds (descent_of old) told sight
-  pub sees : Sees old sight new result
-
--- what a round makes of an answer
-abbrev pub Responds : WriteRound → Answer Record → WriteRound → Option WriteEnd → Type 0
-Responds old told new result = GoesOnWay old told new result ⊎ GoesFrom old told new result
+-- the writer's rounds
+abbrev pub writing : Rounds WriteRound WriteEnd
+writing = record {
+  way = λ round. record { limits = round.limits; state = round.state };
+  at = at;
+  Shows = Shows;
+  Ends = EndsWrite;
+  CanTreat = CanTreatWrite;
+  Treats = TreatsWrite;
+  again = end.Again;
+}

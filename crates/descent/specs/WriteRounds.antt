@@ -13,8 +13,7 @@ use Rattle.deltas.specs.declared.record.Merge.{Merge as MergeRecord}
 use Rattle.deltas.specs.declared.record.Term.{Term}
 use Rattle.deltas.specs.declared.record.Unterm.{Unterm as UntermRecord}
 use Rattle.chain_search.specs.Chains.{content_in, covers, high_in, is_removed, level_in, low_in, right_in}
-use Rattle.chain_search.specs.Fitting.{Fits}
-use Rattle.chain_search.specs.Knowledge.{Knowledge, learn}
+use Rattle.chain_search.specs.Knowledge.{Knowledge}
 use Rattle.chain_search.specs.Recalled.{IsPaid, IsSpentWith, IsUnread, Recalled, WasHead, recall}
 use Rattle.smo.specs.Merges.{IsMergePlan}
 use Rattle.smo.specs.Readings.{IsAfter}
@@ -28,12 +27,11 @@ use Rattle.smo.specs.Upkeep.{IsUpkeep}
 use Rattle.smo.specs.declared.upkeep.Upkeep.{Upkeep}
 use Rattle.smo.specs.declared.version.Version.{Version}
 use Rattle.descent.specs.Versions.{IsAlive, IsGone, IsInHand}
-use Rattle.descent.specs.Courses.{Goal, Seek, Left, Merge, Unterm, removed_of}
-use Rattle.descent.specs.Descents.{Descent, left_from, wanted_at, State, Root, Page}
+use Rattle.descent.specs.Courses.{WriteGoal, Seek, Left, Merge, Unterm, removed_of}
+use Rattle.descent.specs.Descents.{left_from, wanted_at, WayState, Root, Page}
 use Rattle.descent.specs.Visits as page
 use Rattle.descent.specs.Walks.{IsAhead, IsAmong, IsSeeking, with_walk}
 use Rattle.descent.specs.Ways.{StaysLeft, passes}
-use Rattle.descent.specs.declared.visit.State as at_page
 use Rattle.descent.specs.WriteEnds.{WriteEnd}
 use Rattle.descent.specs.WriteEnds as end
 
@@ -46,20 +44,16 @@ pub record WriteRound : Type 0 where
   pub due : ℕ
   pub tends : Bool
   pub floor : ℕ
-  pub goal : Goal
+  pub goal : WriteGoal
   pub parent : Option Version
   pub left : Option Version
-  pub state : State
-
--- the way that the round goes
-abbrev pub descent_of : WriteRound → Descent
-descent_of round = record { limits = round.limits; state = round.state }
+  pub state : WayState
 
 -- the step that the round has asked for
 abbrev pub wanted : WriteRound → StepOf Record
 wanted round = wanted_at round.state
 
-abbrev pub at : WriteRound → State → WriteRound
+abbrev pub at : WriteRound → WayState → WriteRound
 at round state = record round { state = state }
 
 -- the round, gone to a page
@@ -75,29 +69,29 @@ abbrev pub level_for : Option ℕ → ℕ → ℕ
 level_for None floor = 0
 level_for (Some pid) floor = floor
 
-abbrev pub ends_at : Goal → ℕ → ℕ
+abbrev pub ends_at : WriteGoal → ℕ → ℕ
 ends_at goal floor = level_for (removed_of goal) floor
 
 -- whether a goal is the leaf to the left of the key
-abbrev pub goes_left : Goal → Bool
+abbrev pub goes_left : WriteGoal → Bool
 goes_left Seek = false
 goes_left (Left pid) = true
 goes_left (Merge left) = false
 goes_left (Unterm parent left) = false
 
 -- which low keys are on the way of a goal
-abbrev pub way_of : Goal → List ℕ → List ℕ → Bool
-way_of goal key = passes (goes_left goal) key
+abbrev pub write_way : WriteGoal → List ℕ → List ℕ → Bool
+write_way goal key = passes (goes_left goal) key
 
 -- whether a page is read that was named before the parent's children were: the one whose term the parent is to lose
-abbrev pub is_beyond : Goal → Bool
-is_beyond Seek = false
-is_beyond (Left pid) = false
-is_beyond (Merge left) = false
-is_beyond (Unterm parent left) = true
+abbrev pub is_cutting : WriteGoal → Bool
+is_cutting Seek = false
+is_cutting (Left pid) = false
+is_cutting (Merge left) = false
+is_cutting (Unterm parent left) = true
 
 -- the round is on its way to a leaf
-abbrev pub SeeksLeaf : Goal → Type 0
+abbrev pub SeeksLeaf : WriteGoal → Type 0
 SeeksLeaf Seek = ⊤
 SeeksLeaf (Left pid) = ⊤
 SeeksLeaf (Merge left) = ⊥
@@ -119,7 +113,7 @@ pub record IsKept (limits : Limits) (k : Knowledge) (other : Version) (earlier :
   pub among : IsAmong other.pid earlier
 
 -- The parent in hand is one level up, and the page's slot is read after it.
-pub record IsParent (limits : Limits) (k : Knowledge) (pid : ℕ) (state : at_page.State) (level : ℕ) (earlier : List ℕ) (parent : Version) : Type 0 where
+pub record IsParent (limits : Limits) (k : Knowledge) (pid : ℕ) (state : page.VisitState) (level : ℕ) (earlier : List ℕ) (parent : Version) : Type 0 where
   pub kept : IsKept limits k parent earlier
   pub up : level_in parent.chain ≡ suc level
   pub after : IsAhead k parent pid state
@@ -137,18 +131,18 @@ pub record IsLosingTerm (limits : Limits) (k : Knowledge) (earlier : List ℕ) (
   pub after : IsAfter k parent left
 
 -- by the goal of a round that has read slot 0
-abbrev pub Keeps : Limits → List ℕ → ℕ → Knowledge → ℕ → List ℕ → Goal → Type 0
-Keeps limits key floor k pid earlier Seek = ⊤
-Keeps limits key floor k pid earlier (Left removed) = IsMissing limits k key floor removed (pid ∷ earlier)
-Keeps limits key floor k pid earlier (Merge left) = IsKept limits k left earlier
-Keeps limits key floor k pid earlier (Unterm parent left) = IsLosingTerm limits k earlier parent left
+abbrev pub KeepsToWrite : Limits → List ℕ → ℕ → Knowledge → ℕ → List ℕ → WriteGoal → Type 0
+KeepsToWrite limits key floor k pid earlier Seek = ⊤
+KeepsToWrite limits key floor k pid earlier (Left removed) = IsMissing limits k key floor removed (pid ∷ earlier)
+KeepsToWrite limits key floor k pid earlier (Merge left) = IsKept limits k left earlier
+KeepsToWrite limits key floor k pid earlier (Unterm parent left) = IsLosingTerm limits k earlier parent left
 
 -- by the goal of a round that hasn't
-abbrev pub Begins : Limits → List ℕ → ℕ → Knowledge → Goal → Type 0
-Begins limits key floor k Seek = ⊤
-Begins limits key floor k (Left pid) = IsMissing limits k key floor pid []
-Begins limits key floor k (Merge left) = ⊥
-Begins limits key floor k (Unterm parent left) = ⊥
+abbrev pub BeginsToWrite : Limits → List ℕ → ℕ → Knowledge → WriteGoal → Type 0
+BeginsToWrite limits key floor k Seek = ⊤
+BeginsToWrite limits key floor k (Left pid) = IsMissing limits k key floor pid []
+BeginsToWrite limits key floor k (Merge left) = ⊥
+BeginsToWrite limits key floor k (Unterm parent left) = ⊥
 
 -- Without a parent the page is the one that slot 0 had, or its left page is, or it begins above the empty key.
 abbrev pub IsBased : Recalled → Option Version → Option Version → ℕ → List ℕ → Type 0
@@ -187,37 +181,24 @@ IsLed way None None pid level low = low ≡ []
 IsLed way None (Some left) pid level low = (0 < level) ⊎ IsNextToFirst left pid low
 
 -- A page is visited on the way to the key.
-pub record IsVisiting (limits : Limits) (key : List ℕ) (floor : ℕ) (goal : Goal) (parent left : Option Version) (k : Knowledge) (r : Recalled) (visit : page.Visit) : Type 0 where
+pub record VisitsToWrite (limits : Limits) (key : List ℕ) (floor : ℕ) (goal : WriteGoal) (parent left : Option Version) (k : Knowledge) (r : Recalled) (visit : page.Visit) : Type 0 where
   pub level : ℕ
   pub low : List ℕ
   pub earlier : List ℕ
-  pub seeks : IsSeeking limits (way_of goal key) (is_beyond goal) k r visit level low earlier
+  pub seeks : IsSeeking limits (write_way goal key) (is_cutting goal) k r visit level low earlier
   pub above : IfSome parent (IsParent limits k visit.pid visit.state level earlier)
   pub aside : IfSome left (IsLeftOf limits k low earlier)
   pub based : IsBased r parent left visit.pid low
-  pub led : SeeksLeaf goal → IsLed (way_of goal key) parent left visit.pid level low
-  pub keeps : Keeps limits key floor k visit.pid earlier goal
+  pub led : SeeksLeaf goal → IsLed (write_way goal key) parent left visit.pid level low
+  pub keeps : KeepsToWrite limits key floor k visit.pid earlier goal
 
 -- by the state of a round
-abbrev pub ShowsState : WriteRound → Knowledge → Recalled → State → Type 0
-ShowsState round k r Root = (k.inside ≡ true) × (round.parent ≡ None) × (round.left ≡ None) × Begins round.limits round.key round.floor k round.goal
-ShowsState round k r (Page visit) = IsVisiting round.limits round.key round.floor round.goal round.parent round.left k r visit
+abbrev pub ShowsState : WriteRound → Knowledge → Recalled → WayState → Type 0
+ShowsState round k r Root = (k.inside ≡ true) × (round.parent ≡ None) × (round.left ≡ None) × BeginsToWrite round.limits round.key round.floor k round.goal
+ShowsState round k r (Page visit) = VisitsToWrite round.limits round.key round.floor round.goal round.parent round.left k r visit
 
 abbrev pub Shows : WriteRound → Knowledge → Recalled → Type 0
 Shows round k r = ShowsState round k r round.state
-
--- Something is known that the round shows.
-pub record HasCome (round : WriteRound) : Type 0 where
-  pub k : Knowledge
-  pub r : Recalled
-  pub shows : Shows round k r
-
--- Something is known that the round shows, and the answer fits it.
-pub record IsTold (round : WriteRound) (told : Answer Record) : Type 0 where
-  pub k : Knowledge
-  pub r : Recalled
-  pub shows : Shows round k r
-  pub fits : Fits round.limits k (wanted round) told
 
 -- ends
 
@@ -299,52 +280,47 @@ pub record IsTendEnd (round : WriteRound) (k : Knowledge) (r : Recalled) (parent
   pub due : IsUpkeep parent version upkeep
 
 -- what an end says
-abbrev pub Ends : WriteRound → Knowledge → Recalled → WriteEnd → Type 0
-Ends round k r end.Again = ⊤
-Ends round k r end.Done = ⊤
-Ends round k r (end.Removed removed) = IsGone round.limits k removed
-Ends round k r (end.Consolidate version) = IsLongEnd round k r version
-Ends round k r (end.Split version plan) = IsSplitEnd round k r version plan
-Ends round k r (end.Term parent term) = IsTermEnd round k r parent term
-Ends round k r (end.Root left root) = IsRootEnd round k r left root
-Ends round k r (end.Tend parent page upkeep) = IsTendEnd round k r parent page upkeep
-Ends round k r (end.Leaf parent leaf) = IsLeafEnd round k r parent leaf
-Ends round k r (end.Merge left removed merge) = IsMergeEnd round k r left removed merge
-Ends round k r (end.Unterm parent left removed unterm) = IsUntermEnd round k r parent left removed unterm
-
--- what follows from an answer
-abbrev pub Follows : Knowledge → Recalled → WriteRound → Answer Record → WriteRound → Option WriteEnd → Type 0
-Follows k r old told new None = Shows new (learn k (wanted old) told) (recall r (wanted old) told)
-Follows k r old told new (Some end) = Ends old (learn k (wanted old) told) (recall r (wanted old) told) end
+abbrev pub EndsWrite : WriteRound → Knowledge → Recalled → WriteEnd → Type 0
+EndsWrite round k r end.Again = ⊤
+EndsWrite round k r end.Done = ⊤
+EndsWrite round k r (end.Removed removed) = IsGone round.limits k removed
+EndsWrite round k r (end.Consolidate version) = IsLongEnd round k r version
+EndsWrite round k r (end.Split version plan) = IsSplitEnd round k r version plan
+EndsWrite round k r (end.Term parent term) = IsTermEnd round k r parent term
+EndsWrite round k r (end.Root left root) = IsRootEnd round k r left root
+EndsWrite round k r (end.Tend parent page upkeep) = IsTendEnd round k r parent page upkeep
+EndsWrite round k r (end.Leaf parent leaf) = IsLeafEnd round k r parent leaf
+EndsWrite round k r (end.Merge left removed merge) = IsMergeEnd round k r left removed merge
+EndsWrite round k r (end.Unterm parent left removed unterm) = IsUntermEnd round k r parent left removed unterm
 
 -- how many reads are kept for a round after this one: those of one that was begun for a removed page
-abbrev pub kept_for : ℕ → Goal → ℕ
-kept_for kept Seek = 0
-kept_for kept (Left pid) = kept
-kept_for kept (Merge left) = kept
-kept_for kept (Unterm parent left) = kept
+abbrev pub write_round_kept : ℕ → WriteGoal → ℕ
+write_round_kept kept Seek = 0
+write_round_kept kept (Left pid) = kept
+write_round_kept kept (Merge left) = kept
+write_round_kept kept (Unterm parent left) = kept
 
-abbrev pub reads_left : ℕ → ℕ → Recalled → WriteRound → ℕ
-reads_left reserve kept r round = left_from reserve r round.state + kept_for kept round.goal
+abbrev pub write_round_left : ℕ → ℕ → Recalled → WriteRound → ℕ
+write_round_left reserve kept r round = left_from reserve r round.state + write_round_kept kept round.goal
 
 -- Where a page wasn't there, a cause pays, but where a removed page is read for its term, the reads that were kept are left; so they
 -- are where a page that was there is below the removed one's level.
-abbrev pub Misses : ℕ → ℕ → Recalled → WriteRound → Answer Record → Goal → Type 0
-Misses reserve kept r old told Seek = IsPaid r (wanted old) told
-Misses reserve kept r old told (Left pid) = IsPaid r (wanted old) told ⊎ ((told ≢ Number 0) × (kept < reads_left reserve kept r old))
-Misses reserve kept r old told (Merge left) = IsPaid r (wanted old) told
-Misses reserve kept r old told (Unterm parent left) = kept < reads_left reserve kept r old
+abbrev pub MissesWrite : ℕ → ℕ → Recalled → WriteRound → Answer Record → WriteGoal → Type 0
+MissesWrite reserve kept r old told Seek = IsPaid r (wanted old) told
+MissesWrite reserve kept r old told (Left pid) = IsPaid r (wanted old) told ⊎ ((told ≢ Number 0) × (kept < write_round_left reserve kept r old))
+MissesWrite reserve kept r old told (Merge left) = IsPaid r (wanted old) told
+MissesWrite reserve kept r old told (Unterm parent left) = kept < write_round_left reserve kept r old
 
 -- A round that goes on has fewer reads left, or a cause paid for the reserve. Where the round ends at a removed page, the reserve
 -- is left; where it was begun for a removed page, so are those that were kept.
 abbrev pub Spends : ℕ → ℕ → Recalled → WriteRound → Answer Record → WriteRound → Option WriteEnd → Type 0
-Spends reserve kept r old told new None = IsSpentWith (1 + with_walk reserve) r (wanted old) told (reads_left reserve kept r old) (reads_left reserve kept (recall r (wanted old) told) new)
-Spends reserve kept r old told new (Some end.Again) = Misses reserve kept r old told old.goal
-Spends reserve kept r old told new (Some (end.Removed removed)) = reserve + kept_for kept old.goal < reads_left reserve kept r old
-Spends reserve kept r old told new (Some end.Done) = kept < reads_left reserve kept r old
-Spends reserve kept r old told new (Some (end.Merge left removed merge)) = kept < reads_left reserve kept r old
-Spends reserve kept r old told new (Some (end.Unterm parent left removed unterm)) = kept < reads_left reserve kept r old
-Spends reserve kept r old told new (Some other) = kept_for kept old.goal < reads_left reserve kept r old
+Spends reserve kept r old told new None = IsSpentWith (1 + with_walk reserve) r (wanted old) told (write_round_left reserve kept r old) (write_round_left reserve kept (recall r (wanted old) told) new)
+Spends reserve kept r old told new (Some end.Again) = MissesWrite reserve kept r old told old.goal
+Spends reserve kept r old told new (Some (end.Removed removed)) = reserve + write_round_kept kept old.goal < write_round_left reserve kept r old
+Spends reserve kept r old told new (Some end.Done) = kept < write_round_left reserve kept r old
+Spends reserve kept r old told new (Some (end.Merge left removed merge)) = kept < write_round_left reserve kept r old
+Spends reserve kept r old told new (Some (end.Unterm parent left removed unterm)) = kept < write_round_left reserve kept r old
+Spends reserve kept r old told new (Some other) = write_round_kept kept old.goal < write_round_left reserve kept r old
 
 -- So does the goal where it is the leaf of the key.
 pub record IsSame (old new : WriteRound) : Type 0 where

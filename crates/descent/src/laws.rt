@@ -1,5 +1,5 @@
 //! Laws of rounds: each function does nothing, and its contract is proved of all of them.
-ghost use Rattle.std.specs.Prelude.{◌≡◌, ◌≤◌, ◌+◌, ℕ, List, Bool, Option, None, Some, IsTrue};
+ghost use Rattle.std.specs.Prelude.{◌≡◌, ◌≤◌, ◌+◌, ℕ, List, Option, None};
 ghost use Rattle.bw_model.specs.declared.limits.Limits.{Limits};
 ghost use Rattle.bw_model.specs.declared.step.Answer.{Answer};
 ghost use Rattle.chain_search.specs.Discipline.{MayHold, MayMerge, MayRemove, MayUnterm, WasStanding};
@@ -8,6 +8,7 @@ ghost use Rattle.chain_search.specs.Knowledge.{Knowledge};
 ghost use Rattle.chain_search.specs.Recalled.{Recalled};
 ghost use Rattle.descent.specs.ReadRounds as reader;
 ghost use Rattle.descent.specs.WriteResponses as response;
+ghost use Rattle.descent.specs.Rounds.{Follows, Responds};
 ghost use Rattle.descent.specs.WriteRounds as writer;
 ghost use Rattle.descent.specs.Walks.{few_reads, with_walk};
 ghost use Rattle.descent.specs.Courses.{Seek};
@@ -29,10 +30,10 @@ use smo::plans_are_due;
 pub fn rounds_are_short()
     ensures read { (reserve kept : ℕ) (k : Knowledge) (r : Recalled) (round : reader.ReadRound)
         → reader.Shows round k r
-        → reader.reads_left reserve kept r round ≤ few_reads + with_walk reserve + reader.kept_for kept round.goal }
+        → reader.read_round_left reserve kept r round ≤ few_reads + with_walk reserve + reader.read_round_kept kept round.goal }
     ensures write { (reserve kept : ℕ) (k : Knowledge) (r : Recalled) (round : writer.WriteRound)
         → writer.Shows round k r
-        → writer.reads_left reserve kept r round ≤ few_reads + with_walk reserve + writer.kept_for kept round.goal }
+        → writer.write_round_left reserve kept r round ≤ few_reads + with_walk reserve + writer.write_round_kept kept round.goal }
 {}
 
 /// What a reader's round makes of an answer that fits what is known leaves it what it shows, and spends as it may.
@@ -40,12 +41,12 @@ pub fn read_rounds_follow()
     ensures follows { (old new : reader.ReadRound) (told : Answer Record) (result : Option ReadEnd) (k : Knowledge) (r : Recalled)
         → reader.Shows old k r
         → Fits old.limits k (reader.wanted old) told
-        → reader.Responds old told new result
-        → reader.Follows k r old told new result }
+        → Responds reader.reading old told new result
+        → Follows reader.reading k r old told new result }
     ensures spends { (reserve kept : ℕ) (old new : reader.ReadRound) (told : Answer Record) (result : Option ReadEnd) (k : Knowledge) (r : Recalled)
         → reader.Shows old k r
         → Fits old.limits k (reader.wanted old) told
-        → reader.Responds old told new result
+        → Responds reader.reading old told new result
         → reader.Spends reserve kept r old told new result }
 {}
 
@@ -54,18 +55,18 @@ pub fn write_rounds_follow()
     ensures follows { (old new : writer.WriteRound) (told : Answer Record) (result : Option WriteEnd) (k : Knowledge) (r : Recalled)
         → writer.Shows old k r
         → Fits old.limits k (writer.wanted old) told
-        → response.Responds old told new result
-        → writer.Follows k r old told new result }
+        → Responds response.writing old told new result
+        → Follows response.writing k r old told new result }
     ensures spends { (reserve kept : ℕ) (old new : writer.WriteRound) (told : Answer Record) (result : Option WriteEnd) (k : Knowledge) (r : Recalled)
         → writer.Shows old k r
         → Fits old.limits k (writer.wanted old) told
-        → response.Responds old told new result
+        → Responds response.writing old told new result
         → writer.Spends reserve kept r old told new result }
 {}
 
 /// A round to the left of a removed page that goes on doesn't become one to the leaf of its key.
 pub fn left_rounds_stay()
-    ensures { (old new : writer.WriteRound) (told : Answer Record) → response.Responds old told new None → new.goal ≡ Seek → old.goal ≡ Seek }
+    ensures { (old new : writer.WriteRound) (told : Answer Record) → Responds response.writing old told new None → new.goal ≡ Seek → old.goal ≡ Seek }
 {}
 
 /// The leaf at which a reader's round ends was read while it stood, also the one that is removed.

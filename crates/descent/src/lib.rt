@@ -2,10 +2,8 @@
 #![tactic(auto)]
 
 mod laws;
-mod visit;
 
 pub use laws::{
     leaves_stand, left_rounds_stay, read_rounds_follow, removals_are_due, rounds_are_short,
     write_rounds_follow,
 };
-pub use visit::{Sight, Visit, reads_on};

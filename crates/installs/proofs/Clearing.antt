@@ -6,7 +6,7 @@ use Rattle.deltas.specs.declared.record.Record.{Record}
 use Rattle.chain_search.specs.Discipline.{MayExchange}
 use Rattle.chain_search.specs.Fitting.{Fits}
 use Rattle.chain_search.specs.Knowledge.{Knowledge, Other, Gone, learn}
-use Rattle.installs.specs.Changes.{Change, IsOver, IsSoundChange, IsTarget, Shows, cleared_page, cleared_row, clears, wanted_at}
+use Rattle.installs.specs.Changes.{Change, ChangeIsOver, IsSoundChange, IsTarget, Shows, cleared_page, cleared_row, clears, wanted_at}
 use Rattle.installs.specs.Spares.{AreUnset, Spares}
 use Rattle.installs.specs.declared.change.End.TheVariants as end
 use Rattle.installs.specs.declared.change.State.TheVariants as state
@@ -42,7 +42,7 @@ may_end actor change spares k is sound target shows =
 module _ (actor : ℕ) (limits : Limits) (k : Knowledge) (spares : Spares) where
   -- what is known then
   pub cleared_so : (plan : Plan) (told : Answer Record) → clears plan ≡ true → IsTarget limits plan → Shows actor (bare_at limits plan state.Clear) spares k → Fits limits k (wanted_at plan spares state.Clear) told
-      → IsOver k (learn k (wanted_at plan spares state.Clear) told) (bare_at limits plan state.Clear) told spares end.Won
+      → ChangeIsOver k (learn k (wanted_at plan spares state.Clear) told) (bare_at limits plan state.Clear) told spares end.Won
   cleared_so (Install pid head content) told is target h fits = cc
   cleared_so (Split pid plan) told is target h fits = cc
   cleared_so (Root left root) told is target h fits = cc

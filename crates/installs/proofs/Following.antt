@@ -13,7 +13,7 @@ use Rattle.chain_search.specs.Discipline.{IsOwn, IsUnset, MayExchange}
 use Rattle.chain_search.specs.Fitting.{Fits, ReadsRemoved}
 use Rattle.chain_search.specs.Knowledge.{Belongings, Knowledge, OwnPage, OwnRow, Written, Empty, Ready, learn, set_page}
 use Rattle.smo.specs.Splits.{split_to}
-use Rattle.installs.specs.Changes.{AreEnough, Change, GoesOn, IsLike, IsOver, IsPlaced, StandsReady, IsSoundChange, IsTarget, KeepsSpare, MayChange, MayInstall, MayLinkAs, Shows, ShowsState, base_row, head_of, linked_after, linked_number, needs_pid, new_base, new_record, rows_needed, slot_of, wanted_at}
+use Rattle.installs.specs.Changes.{AreEnough, Change, ChangesOn, IsLike, ChangeIsOver, IsPlaced, StandsReady, IsSoundChange, IsTarget, KeepsSpare, MayChange, MayInstall, MayLinkAs, Shows, ShowsState, base_row, head_of, linked_after, linked_number, needs_pid, new_base, new_record, rows_needed, slot_of, wanted_at}
 use Rattle.installs.specs.Moves.{after_ready}
 use Rattle.installs.specs.Spares.{AreSpare, AreTheSpares, AreUnset, HaveRoom, IsUnlinked, Spares, first_row, last_row, pid_of}
 use Rattle.installs.specs.declared.change.End.TheVariants as end
@@ -118,7 +118,7 @@ module _ (actor : ℕ) (limits : Limits) (k : Knowledge) (plan : Plan) (spares :
   change state = bare_at limits plan state
 
   -- a base is placed
-  pub base_placed : (told : Answer Record) → needs_pid plan ≡ true → AreUnset k.own → GoesOn actor k (learn k (wanted_at plan spares state.Base) told) (change state.Ready) spares
+  pub base_placed : (told : Answer Record) → needs_pid plan ≡ true → AreUnset k.own → ChangesOn actor k (learn k (wanted_at plan spares state.Base) told) (change state.Ready) spares
   base_placed told needs bare = record {
     shows = record {
       may = still_may actor k (learn k (wanted_at plan spares state.Base) told) plan (record { inside = refl; read = refl; command = refl; linked_now = refl }) may;
@@ -130,7 +130,7 @@ module _ (actor : ℕ) (limits : Limits) (k : Knowledge) (plan : Plan) (spares :
   }
 
   -- the record is placed that comes over a page's newest row
-  pub record_placed : (told : Answer Record) → 0 < slot_of plan → StandsReady plan spares k.own → GoesOn actor k (learn k (wanted_at plan spares state.Place) told) (change state.Link) spares
+  pub record_placed : (told : Answer Record) → 0 < slot_of plan → StandsReady plan spares k.own → ChangesOn actor k (learn k (wanted_at plan spares state.Place) told) (change state.Link) spares
   record_placed told page ready = record {
     shows = record {
       may = still_may actor k now plan like may;
@@ -170,7 +170,7 @@ module _ (actor : ℕ) (limits : Limits) (k : Knowledge) (plan : Plan) (spares :
 
   -- the new page's slot is set
   pub slot_set : (told : Answer Record) → needs_pid plan ≡ true → AreUnset k.own → k.own.rows (base_row plan spares) ≡ Written (new_base plan) → Fits limits k (wanted_at plan spares state.Ready) told
-      → GoesOn actor k (learn k (wanted_at plan spares state.Ready) told) (change (after_ready plan)) spares
+      → ChangesOn actor k (learn k (wanted_at plan spares state.Ready) told) (change (after_ready plan)) spares
   slot_set told needs bare base fits = rw (set_learnt told needs bare fits) (record {
     shows = record {
       may = still_may actor k now plan like may;
@@ -208,7 +208,7 @@ module _ (actor : ℕ) (limits : Limits) (k : Knowledge) (plan : Plan) (spares :
 
   -- it is emptied again
   pub undone : (told : Answer Record) → needs_pid plan ≡ true → StandsReady plan spares k.own → Fits limits k (wanted_at plan spares state.Undo) told
-      → IsOver k (learn k (wanted_at plan spares state.Undo) told) (change state.Undo) told spares end.Lost
+      → ChangeIsOver k (learn k (wanted_at plan spares state.Undo) told) (change state.Undo) told spares end.Lost
   undone told needs ready fits =
       let is = undo_learnt told needs ready fits in
       rw (is.0, is.1) (record {
@@ -221,7 +221,7 @@ module _ (actor : ℕ) (limits : Limits) (k : Knowledge) (plan : Plan) (spares :
       })
 
   -- the exchange that decides lost
-  pub lost_bare : needs_pid plan ≡ false → StandsReady plan spares k.own → IsOver k k (change state.Link) (answer.Whether false) spares end.Lost
+  pub lost_bare : needs_pid plan ≡ false → StandsReady plan spares k.own → ChangeIsOver k k (change state.Link) (answer.Whether false) spares end.Lost
   lost_bare bare ready = record {
     like = rw (unlinked plan k.asked.linked).0 (like_self k);
     rest = record { are = are; unset = unset plan bare ready };
@@ -234,7 +234,7 @@ module _ (actor : ℕ) (limits : Limits) (k : Knowledge) (plan : Plan) (spares :
       unset (Root left root) bare h = cc
       unset (Unlink pid head unterm removal) bare h = h
 
-  pub lost_ready : StandsReady plan spares k.own → GoesOn actor k k (change state.Undo) spares
+  pub lost_ready : StandsReady plan spares k.own → ChangesOn actor k k (change state.Undo) spares
   lost_ready ready = record { shows = record { may = may; keeps = keeps; are = are; stands = ready }; like = like_self k }
 
   -- the row to link stands in no slot

@@ -11,7 +11,7 @@ use Rattle.chain_search.specs.Discipline.{MayExchange}
 use Rattle.chain_search.specs.Fitting.{Fits}
 use Rattle.chain_search.specs.Knowledge.{Belongings, Knowledge, OwnPage, Foreign, Written, Other, Ready, Gone, handed_page, learn, linked_over}
 use Rattle.smo.specs.Splits.{split_to}
-use Rattle.installs.specs.Changes.{AreEnough, Follows, GoesOn, KeepsSparePage, IsOver, IsPlaced, StandsReady, IsTarget, KeepsSpare, MayChange, head_of, linked_number, slot_of, wanted_at}
+use Rattle.installs.specs.Changes.{AreEnough, Follows, ChangesOn, KeepsSparePage, ChangeIsOver, IsPlaced, StandsReady, IsTarget, KeepsSpare, MayChange, head_of, linked_number, slot_of, wanted_at}
 use Rattle.installs.specs.Moves.{Moved, decided_by, unused}
 use Rattle.installs.specs.Spares.{AreTheSpares, AreUnset, HaveRoom, Spares, first_row, last_row, pid_of}
 use Rattle.installs.specs.declared.change.End.TheVariants as end
@@ -51,7 +51,7 @@ unset_gone own page o unset bare = λ other row e. elim (cases_eq other page) [
 module _ (actor : ℕ) (limits : Limits) (k : Knowledge) (spares : Spares) (room : HaveRoom limits spares) (are : AreTheSpares k.own spares) where
   -- a record is linked over a page's newest row
   over_row : (pid head : ℕ) (content : Record) → 1 ≤ length spares.rows → IsTarget limits (Install pid head content) → KeepsSparePage content spares.pid → MayExchange actor k pid head (last_row spares) → AreUnset k.own → k.own.rows (last_row spares) ≡ Written content
-      → IsOver k (linked_over (Written content) head (last_row spares) k) (bare_at limits (Install pid head content) state.Link) (answer.Whether true) (unused (Install pid head content) spares) end.Won
+      → ChangeIsOver k (linked_over (Written content) head (last_row spares) k) (bare_at limits (Install pid head content) state.Link) (answer.Whether true) (unused (Install pid head content) spares) end.Won
   over_row pid head content some target kept may bare placed = by_content content kept placed
     where
       front : List ℕ
@@ -61,7 +61,7 @@ module _ (actor : ℕ) (limits : Limits) (k : Knowledge) (spares : Spares) (room
       linked = last_linked k.own spares are (last_row spares) front (rows_last spares.rows some room.few)
 
       by_content : (content : Record) → KeepsSparePage content spares.pid → k.own.rows (last_row spares) ≡ Written content
-          → IsOver k (linked_over (Written content) head (last_row spares) k) (bare_at limits (Install pid head content) state.Link) (answer.Whether true) (unused (Install pid head content) spares) end.Won
+          → ChangeIsOver k (linked_over (Written content) head (last_row spares) k) (bare_at limits (Install pid head content) state.Link) (answer.Whether true) (unused (Install pid head content) spares) end.Won
       by_content (kind.Base base) kept placed = record { like = record { inside = refl; read = refl; command = refl; linked_now = refl }; rest = record { are = linked; unset = bare }; decided = (refl, refl) }
       by_content (kind.Put put) kept placed = record { like = record { inside = refl; read = refl; command = refl; linked_now = refl }; rest = record { are = linked; unset = bare }; decided = (refl, refl) }
       by_content (kind.Delete delete) kept placed = record { like = record { inside = refl; read = refl; command = refl; linked_now = refl }; rest = record { are = linked; unset = bare }; decided = (refl, refl) }
@@ -81,7 +81,7 @@ module _ (actor : ℕ) (limits : Limits) (k : Knowledge) (spares : Spares) (room
 
   -- a term is out, and its page is to be cleared
   term_out : (pid head : ℕ) (unterm : Unterm) (removal : ℕ) → 1 ≤ length spares.rows → MayChange actor k (Unlink pid head unterm removal) → KeepsSparePage (kind.Unterm unterm) spares.pid → AreUnset k.own
-      → GoesOn actor k (handed_page unterm.child Gone (last_row spares) k) (bare_at limits (Unlink pid head unterm removal) state.Clear) (unused (Unlink pid head unterm removal) spares)
+      → ChangesOn actor k (handed_page unterm.child Gone (last_row spares) k) (bare_at limits (Unlink pid head unterm removal) state.Clear) (unused (Unlink pid head unterm removal) spares)
   term_out pid head unterm removal some may kept bare =
       let front = take (length spares.rows - 1) spares.rows in
       let linked = last_linked k.own spares are (last_row spares) front (rows_last spares.rows some room.few) in

@@ -264,12 +264,12 @@ pub record Shows (actor : ℕ) (change : Change) (spares : Spares) (k : Knowledg
   pub stands : ShowsState change.plan spares k change.state
 
 -- Something is known that the answer to the step wanted last fits.
-pub record IsTold (change : Change) (spares : Spares) (told : Answer Record) : Type 0 where
+pub record FitsChange (change : Change) (spares : Spares) (told : Answer Record) : Type 0 where
   pub k : Knowledge
   pub fits : Fits change.limits k (wanted change spares) told
 
 -- The change goes on: nothing else is known than before, but of own rows, own pages and words of free bits.
-pub record GoesOn (actor : ℕ) (k now : Knowledge) (change : Change) (spares : Spares) : Type 0 where
+pub record ChangesOn (actor : ℕ) (k now : Knowledge) (change : Change) (spares : Spares) : Type 0 where
   pub shows : Shows actor change spares now
   pub like : IsLike k.asked.linked k now
 
@@ -301,15 +301,15 @@ IsDecided old told now has Lost = ((old.state ≡ Link) × (told ≡ Whether fal
 IsDecided old told now has Full = LacksNumber old.limits old.plan has now
 
 -- The change has ended: what is known then, and that nothing is taken and not linked but the spares.
-pub record IsOver (k now : Knowledge) (old : Change) (told : Answer Record) (has : Spares) (end : End) : Type 0 where
+pub record ChangeIsOver (k now : Knowledge) (old : Change) (told : Answer Record) (has : Spares) (end : End) : Type 0 where
   pub like : IsLike (linked_after old.plan end k.asked.linked) k now
   pub rest : Rest now.own has
   pub decided : IsDecided old told now has end
 
 -- what follows from an answer
 abbrev pub Follows : ℕ → Knowledge → Knowledge → Change → Answer Record → Change → Spares → Option End → Type 0
-Follows actor k now old told new has None = GoesOn actor k now new has
-Follows actor k now old told new has (Some end) = IsOver k now old told has end
+Follows actor k now old told new has None = ChangesOn actor k now new has
+Follows actor k now old told new has (Some end) = ChangeIsOver k now old told has end
 
 -- Only the state has changed.
 pub record IsSame (old new : Change) : Type 0 where

@@ -9,7 +9,7 @@ ghost use Rattle.chain_search.specs.Fitting.{Fits};
 ghost use Rattle.chain_search.specs.Knowledge.{Knowledge, learn};
 ghost use Rattle.chain_search.specs.Recalled.{Recalled, WasHead};
 ghost use Rattle.installs.specs.Bounded.{IsApart, IsPidFrom, Recalls, Spends, pid_taken, steps_left};
-ghost use Rattle.installs.specs.Changes.{Follows, IsMade, IsMadeAt, IsOfChange, IsSame, IsSoundChange, IsSpellablePlan, IsTarget, IsTold, KeepsSpare, MayChange, Shows, at, base_row, head_of, linked_number, placed_in, slot_of, wanted};
+ghost use Rattle.installs.specs.Changes.{Follows, IsMade, IsMadeAt, IsOfChange, IsSame, IsSoundChange, IsSpellablePlan, IsTarget, FitsChange, KeepsSpare, MayChange, Shows, at, base_row, head_of, linked_number, placed_in, slot_of, wanted};
 ghost use Rattle.installs.specs.Moves.{after_ready, decided_by, first_state, moved, moved_by};
 ghost use Rattle.installs.specs.Outs.{TakesFresh, limbo_after};
 ghost use Rattle.installs.specs.Spares.{HaveRoom, Rest};
@@ -134,7 +134,7 @@ impl Change {
     /// Is told the answer to the step wanted last, and tells whether the change has ended.
     pub fn next(&mut self, spares: &mut Spares, told: Told) -> Option<End>
         requires sound { IsSoundChange self.old spares.old }
-        requires told { IsTold self.old spares.old (answer_of told) }
+        requires told { FitsChange self.old spares.old (answer_of told) }
         ensures follows { (actor : ℕ) (k : Knowledge) → Shows actor self.old spares.old k → Fits self.old.limits k (wanted self.old spares.old) (answer_of told) → Follows actor k (learn k (wanted self.old spares.old) (answer_of told)) self.old (answer_of told) self.new spares.new result }
         ensures limbo { (actor : ℕ) (k : Knowledge) → Shows actor self.old spares.old k → Fits self.old.limits k (wanted self.old spares.old) (answer_of told) → (learn k (wanted self.old spares.old) (answer_of told)).limbo ≡ limbo_after self.old.plan result k }
         ensures fresh { (actor : ℕ) (k : Knowledge) → Shows actor self.old spares.old k → Fits self.old.limits k (wanted self.old spares.old) (answer_of told) → TakesFresh self.old.limits k self.old.plan result }
@@ -154,7 +154,7 @@ impl Change {
     /// Goes to the state that follows, and makes what is to be placed there.
     fn move_on(&mut self, spares: &mut Spares, told: Told) -> Option<End>
         requires sound { IsSoundChange self.old spares.old }
-        requires told { IsTold self.old spares.old (answer_of told) }
+        requires told { FitsChange self.old spares.old (answer_of told) }
         ensures moved { moved self.old.limits self.old.plan spares.old self.old.state (answer_of told) ≡ record { state = self.new.state; spares = spares.new; end = result } }
         ensures same { IsSame self.old self.new }
         ensures made { IsMade self.new spares.new }
@@ -191,7 +191,7 @@ impl Change {
     /// Goes to the state that follows.
     fn follow(&mut self, spares: &mut Spares, told: Told) -> Option<End>
         requires sound { IsSoundChange self.old spares.old }
-        requires told { IsTold self.old spares.old (answer_of told) }
+        requires told { FitsChange self.old spares.old (answer_of told) }
         ensures moved { moved self.old.limits self.old.plan spares.old self.old.state (answer_of told) ≡ record { state = self.new.state; spares = spares.new; end = result } }
         ensures same { IsSame self.old self.new }
     {
@@ -213,7 +213,7 @@ impl Change {
     fn take(&mut self, spares: &mut Spares, taking: Taking, told: Told) -> Option<End>
         requires state { self.old.state ≡ State.Taking taking }
         requires sound { IsSoundChange self.old spares.old }
-        requires told { IsTold self.old spares.old (answer_of told) }
+        requires told { FitsChange self.old spares.old (answer_of told) }
         ensures moved { moved_by self.old.plan spares.old self.old.state (found_after self.old.limits taking (answer_of told)) ≡ record { state = self.new.state; spares = spares.new; end = result } }
         ensures same { IsSame self.old self.new }
     {

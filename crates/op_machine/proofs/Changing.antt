@@ -126,7 +126,7 @@ module _ (task : Task) (had has : Spares) (k : Knowledge) (r : Recalled) (old ne
   unread : now.read ≡ k.read → IsUnreadPid has now
   unread same = rw same (unread_from k.read.heads had.pid (bound.pid_taken (change.wanted old had) told) has.pid h.unread (taken_unread task.limits k (change.wanted old had) told fits) pid)
 
-  pub change_on : change.IsSame old new → change.IsSoundChange new has → change.IsMade new has → change.GoesOn task.actor k now new has → bound.Recalls new has then_recalled → IsInChange task has now then_recalled new then
+  pub change_on : change.IsSame old new → change.IsSoundChange new has → change.IsMade new has → change.ChangesOn task.actor k now new has → bound.Recalls new has then_recalled → IsInChange task has now then_recalled new then
   change_on same sound made goes recalls = record {
     asked = record { going = goes.like.command ∙ h.asked.going; unlinked = goes.like.linked_now ∙ h.asked.unlinked };
     writer = h.writer;
@@ -148,7 +148,7 @@ module _ (task : Task) (had has : Spares) (k : Knowledge) (r : Recalled) (old ne
   ]
 
   -- where it has ended
-  module _ (end : End) (room : HaveRoom old.limits has) (over : change.IsOver k now old told has end) where
+  module _ (end : End) (room : HaveRoom old.limits has) (over : change.ChangeIsOver k now old told has end) where
     seeks : change.linked_after old.plan end k.asked.linked ≡ None → Seeks task has now
     seeks none = record {
       inside = over.like.inside ∙ h.shows.may.inside;
@@ -164,7 +164,7 @@ module _ (task : Task) (had has : Spares) (k : Knowledge) (r : Recalled) (old ne
       going = over.like.command ∙ h.asked.going;
     }
 
-  answers : (room : HaveRoom old.limits has) (over : change.IsOver k now old told has Won) (answered : _) → then ≡ Reply answered → MayReply task.limits task.actor now answered
+  answers : (room : HaveRoom old.limits has) (over : change.ChangeIsOver k now old told has Won) (answered : _) → then ≡ Reply answered → MayReply task.limits task.actor now answered
   answers room over answered is =
       let b : IsUpdateOf k task.command old.plan answered = subst (λ t. Brings k task.command old.plan t) is h.brings in
       record {
@@ -181,7 +181,7 @@ module _ (task : Task) (had has : Spares) (k : Knowledge) (r : Recalled) (old ne
         });
       }
 
-  pub change_ended : (end : End) → HaveRoom old.limits has → change.IsOver k now old told has end → FacesChanged task has now end then
+  pub change_ended : (end : End) → HaveRoom old.limits has → change.ChangeIsOver k now old told has end → FacesChanged task has now end then
   change_ended Won room over = by then refl
     where
       by : (t : Then) → then ≡ t → FacesChanged task has now Won t

@@ -1,19 +1,21 @@
 -- What an answer makes of an operation's places.
-use Rattle.std.proofs.Common.{◌≡◌, ◌≤◌, ◌⊎◌, inl, inr, ℕ, zero, suc, List, [], Option, Some, None, true, false, refl, sym, ap, subst, ◌∙◌, arith}
+use Rattle.std.proofs.Common.{◌≡◌, ◌≤◌, inl, inr, ℕ, zero, suc, Option, true, refl, ap, ◌∙◌, arith}
 use Rattle.std.specs.Prelude.{IsSome}
 use Rattle.bw_model.specs.Answers.{TellsNumber, answer_of}
 use Rattle.bw_model.specs.Replies.{command_key}
 use Rattle.bw_model.specs.declared.command.Reply.{Reply}
 use Rattle.bw_model.specs.declared.limits.Limits.{Limits}
 use Rattle.bw_model.specs.declared.step.Answer.{Answer}
-use Rattle.bw_model.specs.declared.step.Answer.TheVariants.{Content}
 use Rattle.bw_model.specs.declared.step.Step.{Step}
 use Rattle.bw_model.specs.declared.step.Step.TheVariants as step
 use Rattle.deltas.specs.declared.record.Record.{Record}
 use Rattle.chain_search.specs.Fitting.{Fits}
 use Rattle.chain_search.specs.Knowledge.{Knowledge}
 use Rattle.chain_search.specs.Recalled.{Recalled}
+use Rattle.descent.specs.Machines.{IsTold}
 use Rattle.descent.specs.ReadRounds as read
+use Rattle.descent.specs.Rounds.{machine}
+use Rattle.descent.specs.WriteResponses as response
 use Rattle.descent.specs.WriteRounds as write
 use Rattle.descent.specs.ReadEnds.{ReadEnd}
 use Rattle.descent.specs.WriteEnds.{WriteEnd}
@@ -23,7 +25,7 @@ use Rattle.installs.specs.Changes.{Change as ChangeOf}
 use Rattle.installs.specs.Spares.{Spares}
 use Rattle.op_machine.specs.Bounded.{left_at, left_for, left_round, one_round}
 use Rattle.op_machine.specs.Outcomes.{Faces, Outcome, is_changing, is_leaving, is_reading, is_writing, read_out, written_out}
-use Rattle.op_machine.specs.Places.{HaveLimits, Places, Reads, Writes, state_at, state_of}
+use Rattle.op_machine.specs.Places.{HaveLimits, OpPlaces, ReadsOn, WritesOn, state_at, state_of}
 use Rattle.op_machine.specs.Shows.{FitsLast, ShowsState, wanted_at}
 use Rattle.op_machine.specs.Tasks.{Task}
 use Rattle.op_machine.specs.Works.{FollowsOutcome, TurnsInto}
@@ -32,7 +34,6 @@ use Rattle.op_machine.specs.declared.places.Stand.TheVariants.{Begun, Epoch, Ent
 use Rattle.bw_model.specs.declared.step.Told.{Told}
 use Rattle.bw_model.specs.declared.step.Told.TheVariants.{Start, Number, Whether, Done}
 use Rattle.op_machine.specs.States.{State}
-use Rattle.op_machine.specs.States as at
 use Rattle.op_machine.specs.declared.then.Then.{Then}
 use Rattle.op_machine.proofs.Reading.{IsReading, reader_reads, writer_reads}
 use Rattle.op_machine.proofs.Rounds.{read_comes, read_leaves, write_comes, write_leaves}
@@ -99,7 +100,7 @@ module _ (limits : Limits) (k : Knowledge) where
     | inr row ↦ of_row row.0 told (rw row.1 at fits)
   ]
 
-module _ (task : Task) (spares : Spares) (k : Knowledge) (r : Recalled) (places : Places) where
+module _ (task : Task) (spares : Spares) (k : Knowledge) (r : Recalled) (places : OpPlaces) where
   abbrev Stands : Type 0
   Stands = ShowsState task spares k r (state_of places)
 
@@ -112,7 +113,7 @@ module _ (task : Task) (spares : Spares) (k : Knowledge) (r : Recalled) (places 
       let shows = rw is at h in
       is_number task.limits k (read.wanted places.reader.round) told (reader_reads places.reader.round k r shows.shows) (rw is at f)
 
-  pub reader_told : (told : Answer Record) → places.stand ≡ Read → Stands → FitsThere told → read.IsTold places.reader.round told
+  pub reader_told : (told : Answer Record) → places.stand ≡ Read → Stands → FitsThere told → IsTold (machine read.reading) places.reader.round told
   reader_told told is h f =
       let shows = rw is at h in
       let fits : Fits task.limits k (read.wanted places.reader.round) told = rw is at f in
@@ -128,36 +129,36 @@ module _ (task : Task) (spares : Spares) (k : Knowledge) (r : Recalled) (places 
       let shows = rw is at h in
       is_number task.limits k (write.wanted places.writer.round) told (writer_reads places.writer.round k r shows.shows) (rw is at f)
 
-  pub writer_told : (told : Answer Record) → places.stand ≡ Write → Stands → FitsThere told → write.IsTold places.writer.round told
+  pub writer_told : (told : Answer Record) → places.stand ≡ Write → Stands → FitsThere told → IsTold (machine response.writing) places.writer.round told
   writer_told told is h f =
       let shows = rw is at h in
       let fits : Fits task.limits k (write.wanted places.writer.round) told = rw is at f in
       record { k = k; r = r; shows = shows.shows; fits = rw shows.round_of.limits fits }
 
 -- what the rounds make of an answer
-module _ (old new : Places) (spares : Spares) (told : Answer Record) where
-  pub reads_into : (result : Option ReadEnd) → old.stand ≡ Read → Reads old told new result → TurnsInto (state_of old) spares told (state_of new) spares (read_out result)
+module _ (old new : OpPlaces) (spares : Spares) (told : Answer Record) where
+  pub reads_into : (result : Option ReadEnd) → old.stand ≡ Read → ReadsOn old told new result → TurnsInto (state_of old) spares told (state_of new) spares (read_out result)
   reads_into result is reads =
-      let there : new.stand ≡ Read = ap (λ (p : Places). p.stand) reads.only ∙ is in
+      let there : new.stand ≡ Read = ap (λ (p : OpPlaces). p.stand) reads.only ∙ is in
       rw (is, there) (record {
         comes = λ task k r h fits. read_comes task spares k r old.reader.round new.reader.round told h fits reads.same result (reading.follows_from old.reader.round new.reader.round told result reads.responds k r h.shows (rw h.limits fits));
         leaves = λ task k r h fits. read_leaves task spares k r old.reader.round new.reader.round told h fits result (reading.spends_from old.reader.round new.reader.round told result reads.responds left_round one_round k r h.shows (rw h.limits fits));
       })
 
-  pub writes_into : (result : Option WriteEnd) → old.stand ≡ Write → Writes old told new result → TurnsInto (state_of old) spares told (state_of new) spares (written_out result)
+  pub writes_into : (result : Option WriteEnd) → old.stand ≡ Write → WritesOn old told new result → TurnsInto (state_of old) spares told (state_of new) spares (written_out result)
   writes_into result is writes =
-      let there : new.stand ≡ Write = ap (λ (p : Places). p.stand) writes.only ∙ is in
+      let there : new.stand ≡ Write = ap (λ (p : OpPlaces). p.stand) writes.only ∙ is in
       rw (is, there) (record {
         comes = λ task k r h fits. write_comes task spares k r old.writer.round new.writer.round told h fits writes.same result writes.responds (writing.follows_from old.writer.round new.writer.round told result writes.responds k r h.shows (rw h.round_of.limits fits));
         leaves = λ task k r h fits. write_leaves task spares k r old.writer.round new.writer.round told h fits result (writing.spends_from old.writer.round new.writer.round told result writes.responds left_round one_round k r h.shows (rw h.round_of.limits fits));
       })
 
   -- with the limits that they had
-  pub reads_have : (limits : Limits) (result : Option ReadEnd) → HaveLimits limits old → Reads old told new result → HaveLimits limits new
-  reads_have limits result have reads = record { reader = reads.same.limits ∙ have.reader; writer = ap (λ (p : Places). p.writer.round.limits) reads.only ∙ have.writer }
+  pub reads_have : (limits : Limits) (result : Option ReadEnd) → HaveLimits limits old → ReadsOn old told new result → HaveLimits limits new
+  reads_have limits result have reads = record { reader = reads.same.limits ∙ have.reader; writer = ap (λ (p : OpPlaces). p.writer.round.limits) reads.only ∙ have.writer }
 
-  pub writes_have : (limits : Limits) (result : Option WriteEnd) → HaveLimits limits old → Writes old told new result → HaveLimits limits new
-  writes_have limits result have writes = record { reader = ap (λ (p : Places). p.reader.round.limits) writes.only ∙ have.reader; writer = writes.same.limits ∙ have.writer }
+  pub writes_have : (limits : Limits) (result : Option WriteEnd) → HaveLimits limits old → WritesOn old told new result → HaveLimits limits new
+  writes_have limits result have writes = record { reader = ap (λ (p : OpPlaces). p.reader.round.limits) writes.only ∙ have.reader; writer = writes.same.limits ∙ have.writer }
 
 -- what an operation makes of what it has come to, where only its places change
 pub comes_to : (task : Task) (sweep : Option Sweep) (old new : State) (spares : Spares) (outcome : Outcome) → ((k : Knowledge) (r : Recalled) → Faces task spares k r outcome → ShowsState task spares k r new) → ((r : Recalled) → left_at r spares new ≤ left_for outcome) → IsSome (wanted_at spares new)

@@ -8,9 +8,8 @@ use Rattle.deltas.specs.declared.record.Record.{Record}
 use Rattle.chain_search.specs.Knowledge.{Knowledge}
 use Rattle.descent.specs.Descents as descent
 use Rattle.descent.specs.Visits as page
-use Rattle.descent.specs.Descents.{State as DescentState}
-use Rattle.descent.specs.declared.visit.State.{State as VisitState}
-use Rattle.descent.specs.declared.visit.State.TheVariants as visit_state
+use Rattle.descent.specs.Descents.{WayState as DescentState}
+use Rattle.descent.specs.Visits.{VisitState}
 use Rattle.epochs.specs.Limbo.{Limbo}
 use Rattle.epochs.specs.declared.item.Reuse.{Reuse}
 use Rattle.epochs.specs.declared.item.Reuse.TheVariants as reuse
@@ -24,7 +23,7 @@ use Rattle.installs.specs.declared.taking.Kind.TheVariants as kind
 use Rattle.installs.specs.declared.taking.Taking.{Taking}
 use Rattle.installs.specs.declared.taking.Taking.TheVariants as taking
 use Rattle.op_machine.specs.Hands.{Hand}
-use Rattle.op_machine.specs.Ops.{EndsAtLeave, HoldsLimbo, IsTold, Op, asked_by}
+use Rattle.op_machine.specs.Ops.{EndsAtLeave, HoldsLimbo, IsToldOp, Op, asked_by}
 use Rattle.op_machine.specs.Outcomes.{is_leaving}
 use Rattle.op_machine.specs.Shows.{wanted_at}
 use Rattle.op_machine.specs.Tasks.{Task}
@@ -37,8 +36,8 @@ use Rattle.sweep.specs.declared.sweep.State.{State as SweepState}
 use Rattle.sweep.specs.declared.sweep.State.TheVariants as sweep_state
 
 in_visit : (pid : ℕ) (state : VisitState) → page.wanted_at pid state ≢ step.Leave
-in_visit pid visit_state.Slot e = cc
-in_visit pid (visit_state.Row head row) e = cc
+in_visit pid page.Slot e = cc
+in_visit pid (page.Row head row) e = cc
 
 in_round : (state : DescentState) → descent.wanted_at state ≢ step.Leave
 in_round descent.Root e = cc
@@ -94,6 +93,6 @@ at_leave task spares limbo k swept (Change now then) holds on = cc
 pub goes_on : (old : Op) (had : Hand) (asked : StepOf Record) → is_leaving old.state ≡ false → EndsAtLeave old had (Step asked)
 goes_on old had asked on = elsewhere had.spares old.sweep old.state on
 
-pub ends : (old : Op) (had : Hand) (told : Answer Record) (want : Want) → IsTold old had told → is_leaving old.state ≡ true → LeavesWith old.state want → EndsAtLeave old had want
+pub ends : (old : Op) (had : Hand) (told : Answer Record) (want : Want) → IsToldOp old had told → is_leaving old.state ≡ true → LeavesWith old.state want → EndsAtLeave old had want
 ends old had told (Step asked) is on left = absurd left
 ends old had told (Done reply) is on left = at_leave old.task had.spares had.limbo is.k old.sweep old.state is.shows.limbo on

@@ -10,14 +10,13 @@ use Rattle.epochs.specs.Limbo.{Limbo}
 use Rattle.installs.specs.Spares.{Spares}
 use Rattle.op_machine.specs.Bounded.{IsSpentLast, left_at, one_round, with_errands}
 use Rattle.op_machine.specs.Hands.{Hand}
-use Rattle.op_machine.specs.Ops.{HoldsLimbo, IsTold, Op, Shows, asked_by, wanted_of}
+use Rattle.op_machine.specs.Ops.{HoldsLimbo, IsToldOp, Op, Shows, asked_by, wanted_of}
 use Rattle.op_machine.specs.Outcomes.{has_begun}
 use Rattle.op_machine.specs.Shows.{FitsLast, learn_last, recall_last, wanted_at}
 use Rattle.op_machine.specs.Spending.{steps_left, sweep_left}
 use Rattle.op_machine.specs.Sweeping.{IsSameWork, ObeysSweep, swept_by, with_limbo}
 use Rattle.op_machine.specs.Works.{IsToldWith, asked_of}
 use Rattle.op_machine.specs.States.{State, Begun, Epoch, Enter, Read, Write, Change, Leave}
-use Rattle.sweep.specs.Bounded as sweep
 use Rattle.sweep.specs.Kept.{AreKept}
 use Rattle.sweep.specs.Sweeps.{Sweep}
 
@@ -63,7 +62,7 @@ module _ (old : Op) (had : Hand) (told : Answer Record) (begun : has_begun old.s
     pub kept_begun : AreKept old.task.limits old.task.actor had.limbo k.limbo
     kept_begun = rw unswept at shows.limbo
 
-  pub told_begun : IsTold old had told → IsToldWith old had told
+  pub told_begun : IsToldOp old had told → IsToldWith old had told
   told_begun is = record {
     told_on = record { k = is.k; r = is.r; works = is.shows.stands; fits = fits_on is.k is.r is.shows is.fits };
     kept = kept_begun is.k is.r is.shows;
@@ -111,7 +110,7 @@ module _ (old mid : Op) (spares : Spares) (limbo now : Limbo) (told : Answer Rec
       pub kept_after : AreKept mid.task.limits mid.task.actor now then.limbo
       kept_after = rw rests.0 at rests.1.limbo
 
-    pub told_after : IsTold old had told → IsToldWith mid between Start
+    pub told_after : IsToldOp old had told → IsToldWith mid between Start
     told_after is = record {
       told_on = record { k = then is.k is.r is.shows is.fits; r = recalled is.k is.r is.shows is.fits; works = (rests is.k is.r is.shows is.fits).1.stands; fits = starts is.k is.r is.shows is.fits };
       kept = kept_after is.k is.r is.shows is.fits;

@@ -12,12 +12,10 @@ use Rattle.deltas.specs.Memory.{replaced_at}
 use Rattle.chain_search.specs.Fitting.{Fits}
 use Rattle.chain_search.specs.Knowledge.{OwnPage, Other, Empty, Ready, Gone, Knowledge, learn}
 use Rattle.chain_search.specs.Recalled.{Recalled}
-use Rattle.descent.specs.Descents.{wanted_at, State, Root, Page}
+use Rattle.descent.specs.Descents.{wanted_at, WayState, Root, Page}
 use Rattle.descent.specs.ReadRounds as read
 use Rattle.descent.specs.WriteRounds as write
 use Rattle.descent.specs.Visits as page
-use Rattle.descent.specs.declared.visit.State as at_page
-use Rattle.descent.specs.declared.visit.State.TheVariants as at_visit
 use Rattle.installs.specs.Spares.{IsUnlinked, Spares}
 use Rattle.op_machine.specs.Tasks.{Seeks, Task}
 
@@ -25,21 +23,21 @@ use Rattle.op_machine.specs.Tasks.{Seeks, Task}
 abbrev pub IsReading : Step Record → Type 0
 IsReading s = ((p : ℕ) × (s ≡ Slot p)) ⊎ ((q : ℕ) × (s ≡ Row q))
 
-of_visit : (pid : ℕ) (state : at_page.State) → IsReading (page.wanted_at pid state)
-of_visit pid at_visit.Slot = inl (pid, refl)
-of_visit pid (at_visit.Row head row) = inr (row, refl)
+of_visit : (pid : ℕ) (state : page.VisitState) → IsReading (page.wanted_at pid state)
+of_visit pid page.Slot = inl (pid, refl)
+of_visit pid (page.Row head row) = inr (row, refl)
 
 pub reader_reads : (round : read.ReadRound) (k : Knowledge) (r : Recalled) → read.Shows round k r → IsReading (read.wanted round)
 reader_reads round k r shows = go round.state shows
   where
-    go : (state : State) → read.ShowsState round.limits round.key round.goal round.leg k r state → IsReading (wanted_at state)
+    go : (state : WayState) → read.ShowsState round.limits round.key round.goal round.leg k r state → IsReading (wanted_at state)
     go Root h = inl (0, refl)
     go (Page visit) h = of_visit visit.pid visit.state
 
 pub writer_reads : (round : write.WriteRound) (k : Knowledge) (r : Recalled) → write.Shows round k r → IsReading (write.wanted round)
 writer_reads round k r shows = go round.state shows
   where
-    go : (state : State) → write.ShowsState round k r state → IsReading (wanted_at state)
+    go : (state : WayState) → write.ShowsState round k r state → IsReading (wanted_at state)
     go Root h = inl (0, refl)
     go (Page visit) h = of_visit visit.pid visit.state
 

@@ -6,12 +6,12 @@ use Rattle.chain_search.specs.Fitting.{Fits}
 use Rattle.chain_search.specs.Knowledge.{Knowledge, learn}
 use Rattle.chain_search.specs.Recalled.{IsStepSpent, Recalled, recall}
 use Rattle.descent.specs.ReadRounds as read
+use Rattle.descent.specs.Rounds.{Follows, Responds, Sees}
 use Rattle.descent.specs.WriteResponses as response
 use Rattle.descent.specs.WriteRounds as write
-use Rattle.descent.specs.ReadGoals.{Goal}
+use Rattle.descent.specs.ReadGoals.{ReadGoal}
 use Rattle.descent.specs.ReadGoals as read_to
-use Rattle.descent.specs.declared.visit.Sight.{Sight}
-use Rattle.descent.specs.declared.visit.Sight.TheVariants.{Empty, Whole}
+use Rattle.descent.specs.Visits.{Sight, Empty, Whole}
 use Rattle.descent.specs.Courses as write_to
 use Rattle.descent.specs.Courses.{Seek}
 use Rattle.descent.specs.ReadEnds.{ReadEnd}
@@ -28,7 +28,7 @@ use Rattle.op_machine.specs.States as at
 use Rattle.op_machine.proofs.Reading.{reader_reads, seeks_still, writer_reads}
 
 module _ (task : Task) (spares : Spares) (k : Knowledge) (r : Recalled) (round new : read.ReadRound) (told : Answer Record) (h : IsInReadRound task spares k r round) (fits : Fits task.limits k (read.wanted round) told) where
-  pub read_on : read.IsSame round new → read.Follows k r round told new None → IsInReadRound task spares (learn k (read.wanted round) told) (recall r (read.wanted round) told) new
+  pub read_on : read.IsSame round new → Follows read.reading k r round told new None → IsInReadRound task spares (learn k (read.wanted round) told) (recall r (read.wanted round) told) new
   read_on same follows = record {
     seeks = seeks_still task spares k h.seeks task.limits (read.wanted round) told (reader_reads round k r h.shows) fits;
     reader = h.reader;
@@ -37,7 +37,7 @@ module _ (task : Task) (spares : Spares) (k : Knowledge) (r : Recalled) (round n
     shows = follows;
   }
 
-  pub read_ended : (end : ReadEnd) → read.Ends round (learn k (read.wanted round) told) (recall r (read.wanted round) told) end → FacesRead task spares (learn k (read.wanted round) told) (recall r (read.wanted round) told) end
+  pub read_ended : (end : ReadEnd) → read.EndsRead round (learn k (read.wanted round) told) (recall r (read.wanted round) told) end → FacesRead task spares (learn k (read.wanted round) told) (recall r (read.wanted round) told) end
   read_ended end ends = record {
     seeks = seeks_still task spares k h.seeks task.limits (read.wanted round) told (reader_reads round k r h.shows) fits;
     reader = h.reader;
@@ -48,7 +48,7 @@ module _ (task : Task) (spares : Spares) (k : Knowledge) (r : Recalled) (round n
   }
 
   -- where a page wasn't there
-  missed : (goal : Goal) → round.goal ≡ goal → read.Misses left_round one_round r round told goal → IsStepSpent r (read.wanted round) told (left_at r spares (at.Read round)) one_round
+  missed : (goal : ReadGoal) → round.goal ≡ goal → read.MissesRead left_round one_round r round told goal → IsStepSpent r (read.wanted round) told (left_at r spares (at.Read round)) one_round
   missed read_to.Seek is either = elim either [ inl paid ↦ inr (paid, omega arith) | inr left ↦ inl (omega (arith, left)) ]
   missed (read_to.Left removed) is either = elim either [ inl paid ↦ inr (paid, omega arith) | inr left ↦ inl (omega (arith, left)) ]
   missed read_to.Beyond is kept = inl (omega (arith, kept))
@@ -66,7 +66,7 @@ module _ (task : Task) (spares : Spares) (k : Knowledge) (r : Recalled) (round n
   read_left (read_end.Beside left removed) some = inl (omega (arith, some))
 
   -- whatever the round makes of the answer
-  pub read_comes : read.IsSame round new → (result : Option ReadEnd) → read.Follows k r round told new result → Comes task k r (Some (read.wanted round)) told (at.Read new) spares (read_out result)
+  pub read_comes : read.IsSame round new → (result : Option ReadEnd) → Follows read.reading k r round told new result → Comes task k r (Some (read.wanted round)) told (at.Read new) spares (read_out result)
   read_comes same None follows = (read_on same follows, refl)
   read_comes same (Some end) ends = read_ended end ends
 
@@ -75,7 +75,7 @@ module _ (task : Task) (spares : Spares) (k : Knowledge) (r : Recalled) (round n
   read_leaves (Some end) spends = read_left end spends
 
 -- a round that has gone to a leaf from the first goes there, and one that hasn't doesn't
-still_goes_left : (old new : write.WriteRound) (told : Answer Record) → response.Responds old told new None → new.goal ≡ Seek → old.goal ≡ Seek
+still_goes_left : (old new : write.WriteRound) (told : Answer Record) → Responds response.writing old told new None → new.goal ≡ Seek → old.goal ≡ Seek
 still_goes_left old new told responds is = elim responds [
   | inl on ↦ sym (ap (λ (round : write.WriteRound). round.goal) on.same) ∙ is
   | inr from ↦ by_sight from.sight from.sees
@@ -84,7 +84,7 @@ still_goes_left old new told responds is = elim responds [
     back : (to : write.WriteRound) → new ≡ to → to.goal ≡ Seek
     back to same = subst (λ (round : write.WriteRound). round.goal ≡ Seek) same is
 
-    by_sight : (sight : Sight) → response.Sees old sight new None → old.goal ≡ Seek
+    by_sight : (sight : Sight) → Sees response.writing old sight new None → old.goal ≡ Seek
     by_sight Empty sees = cc
     by_sight (Whole version) sees = elim sees [
       | inl aside ↦ back _ aside.goes
@@ -98,13 +98,13 @@ still_goes_left old new told responds is = elim responds [
     ]
 
 -- a round that ends at the leaf of a key has gone there
-has_sought : (old new : write.WriteRound) (told : Answer Record) (end : WriteEnd) → response.Responds old told new (Some end) → HasSought old end
+has_sought : (old new : write.WriteRound) (told : Answer Record) (end : WriteEnd) → Responds response.writing old told new (Some end) → HasSought old end
 has_sought old new told (write_end.Leaf parent leaf) responds = elim responds [
   | inl on ↦ (let e = on.none in cc)
   | inr from ↦ by_sight from.sight from.sees
 ]
   where
-    by_sight : (sight : Sight) → response.Sees old sight new (Some (write_end.Leaf parent leaf)) → old.goal ≡ Seek
+    by_sight : (sight : Sight) → Sees response.writing old sight new (Some (write_end.Leaf parent leaf)) → old.goal ≡ Seek
     by_sight Empty sees = cc
     by_sight (Whole version) sees = sees.seeks
 has_sought old new told write_end.Again responds = tt
@@ -119,7 +119,7 @@ has_sought old new told (write_end.Merge left removed merge) responds = tt
 has_sought old new told (write_end.Unterm parent left removed unterm) responds = tt
 
 module _ (task : Task) (spares : Spares) (k : Knowledge) (r : Recalled) (round new : write.WriteRound) (told : Answer Record) (h : IsInWriteRound task spares k r round) (fits : Fits task.limits k (write.wanted round) told) where
-  pub write_on : response.Responds round told new None → write.IsSame round new → write.Follows k r round told new None → IsInWriteRound task spares (learn k (write.wanted round) told) (recall r (write.wanted round) told) new
+  pub write_on : Responds response.writing round told new None → write.IsSame round new → Follows response.writing k r round told new None → IsInWriteRound task spares (learn k (write.wanted round) told) (recall r (write.wanted round) told) new
   write_on responds same follows = record {
     seeks = seeks_still task spares k h.seeks task.limits (write.wanted round) told (writer_reads round k r h.shows) fits;
     writer = h.writer;
@@ -133,7 +133,7 @@ module _ (task : Task) (spares : Spares) (k : Knowledge) (r : Recalled) (round n
     shows = follows;
   }
 
-  pub write_ended : (end : WriteEnd) → response.Responds round told new (Some end) → write.Ends round (learn k (write.wanted round) told) (recall r (write.wanted round) told) end → FacesWritten task spares (learn k (write.wanted round) told) (recall r (write.wanted round) told) end
+  pub write_ended : (end : WriteEnd) → Responds response.writing round told new (Some end) → write.EndsWrite round (learn k (write.wanted round) told) (recall r (write.wanted round) told) end → FacesWritten task spares (learn k (write.wanted round) told) (recall r (write.wanted round) told) end
   write_ended end responds ends = record {
     seeks = seeks_still task spares k h.seeks task.limits (write.wanted round) told (writer_reads round k r h.shows) fits;
     writer = h.writer;
@@ -144,7 +144,7 @@ module _ (task : Task) (spares : Spares) (k : Knowledge) (r : Recalled) (round n
   }
 
   -- where a page wasn't there
-  write_missed : (goal : write_to.Goal) → write.Misses left_round one_round r round told goal → IsStepSpent r (write.wanted round) told (left_at r spares (at.Write round)) one_round
+  write_missed : (goal : write_to.WriteGoal) → write.MissesWrite left_round one_round r round told goal → IsStepSpent r (write.wanted round) told (left_at r spares (at.Write round)) one_round
   write_missed Seek paid = inr (paid, omega arith)
   write_missed (write_to.Left pid) misses = elim misses [ inl paid ↦ inr (paid, omega arith) | inr was ↦ let kept = was.1 in inl (omega (arith, kept)) ]
   write_missed (write_to.Merge left) paid = inr (paid, omega arith)
@@ -170,7 +170,7 @@ module _ (task : Task) (spares : Spares) (k : Knowledge) (r : Recalled) (round n
   write_left (write_end.Unterm parent left removed unterm) kept = inl (omega (arith, kept))
 
   -- whatever the round makes of the answer
-  pub write_comes : write.IsSame round new → (result : Option WriteEnd) → response.Responds round told new result → write.Follows k r round told new result → Comes task k r (Some (write.wanted round)) told (at.Write new) spares (written_out result)
+  pub write_comes : write.IsSame round new → (result : Option WriteEnd) → Responds response.writing round told new result → Follows response.writing k r round told new result → Comes task k r (Some (write.wanted round)) told (at.Write new) spares (written_out result)
   write_comes same None responds follows = (write_on responds same follows, refl)
   write_comes same (Some end) responds ends = write_ended end responds ends
 

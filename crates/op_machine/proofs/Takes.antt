@@ -1,21 +1,19 @@
 -- What an operation in its place is after an answer, from what its work or its sweep is.
-use Rattle.std.proofs.Common.{◌≡◌, ◌<◌, ◌+◌, Option, Some, None, is_some, true, false, refl, sym, ap, subst, ◌∙◌, arith}
+use Rattle.std.proofs.Common.{◌≡◌, ◌<◌, Option, Some, None, is_some, true, false, refl, sym, ap, subst, ◌∙◌, arith}
 use Rattle.std.specs.Prelude.{IsSome}
 use Rattle.bw_model.specs.declared.step.Answer.{Answer}
 use Rattle.bw_model.specs.declared.step.Answer.TheVariants.{Start}
 use Rattle.bw_model.specs.declared.step.Step.{Step as StepOf}
 use Rattle.deltas.specs.declared.record.Record.{Record}
-use Rattle.chain_search.specs.Knowledge.{Knowledge}
-use Rattle.chain_search.specs.Recalled.{Recalled}
 use Rattle.epochs.specs.Limbo.{Limbo}
 use Rattle.installs.specs.Spares.{Spares}
-use Rattle.op_machine.specs.Bounded.{IsSpentLast, left_at, with_errands}
+use Rattle.op_machine.specs.Bounded.{IsSpentLast}
 use Rattle.op_machine.specs.Hands.{Hand}
-use Rattle.op_machine.specs.InPlace.{GoesOn, Takes, Wants}
-use Rattle.op_machine.specs.Ops.{IsTold, Obeys, Op, Shows, asked_by, wanted_of}
+use Rattle.op_machine.specs.InPlace.{ShowsOn, Takes, Wants}
+use Rattle.op_machine.specs.Ops.{IsToldOp, Obeys, Op, Shows, asked_by, wanted_of}
 use Rattle.op_machine.specs.Outcomes.{has_begun}
 use Rattle.op_machine.specs.Shows.{learn_last, recall_last, wanted_at}
-use Rattle.op_machine.specs.Spending.{Spends, SpendsTo, steps_left, sweep_left}
+use Rattle.op_machine.specs.Spending.{Spends, SpendsSteps, steps_left, sweep_left}
 use Rattle.op_machine.specs.Sweeping.{HasFewer, IsSameWork, MovesSweep, ObeysSweep, with_limbo}
 use Rattle.op_machine.specs.Works.{AsksOn, IsToldWith, KeepsLimbo, asked_of}
 use Rattle.op_machine.specs.Wants.{Step}
@@ -25,7 +23,7 @@ use Rattle.sweep.specs.Bounded as sweep
 use Rattle.sweep.specs.Sweeps.{Sweep}
 
 -- whichever step is wanted, the operation obeys by it
-obeys_by : (old : Op) (had : Hand) (told : Answer Record) (new : Op) (has : Hand) → GoesOn old had told new has → (asked : StepOf Record) → Wants new has asked → Obeys old had told new has (Step asked)
+obeys_by : (old : Op) (had : Hand) (told : Answer Record) (new : Op) (has : Hand) → ShowsOn old had told new has → (asked : StepOf Record) → Wants new has asked → Obeys old had told new has (Step asked)
 obeys_by old had told new has goes asked wants = λ k r h f. wants (learn_last k (wanted_of old had) told) (recall_last r (wanted_of old had) told) (goes k r h f)
 
 begun_if : (spares : Spares) (state : State) → IsSome (wanted_at spares state) → has_begun state ≡ true
@@ -48,7 +46,7 @@ none_if (Some sweep) off = cc
 -- An operation that has begun has no sweep, and takes what its work takes.
 module _ (old : Op) (had : Hand) (told : Answer Record) (begun : has_begun old.state ≡ true) (new : Op) (has : Hand)
     (after : AsksOn old had.spares told new has.spares) (keeps : KeepsLimbo old had told has) where
-  shows : GoesOn old had told new has
+  shows : ShowsOn old had told new has
   shows k r h f =
       let fits = fits_on old had told begun k r h f in
       let none = unswept old had told begun k r h in
@@ -65,7 +63,7 @@ module _ (old : Op) (had : Hand) (told : Answer Record) (begun : has_begun old.s
       subst (λ w. IsSpentLast r w told (steps_left r old had) (steps_left (recall_last r w told) new has)) (sym (asks old had told begun k r h))
       (rw (left_is old had told begun old had r none begun, left_is old had told begun new has (recall_last r (asked_of old had.spares) told) (after.sweep ∙ none) then) (after.spends k r h.stands fits))
 
-  pub takes_begun : IsTold old had told → Takes old had told new has
+  pub takes_begun : IsToldOp old had told → Takes old had told new has
   takes_begun is = record {
     shows = shows;
     asks = rw (after.sweep ∙ unswept old had told begun is.k is.r is.shows) after.asks;
@@ -82,7 +80,7 @@ module _ (old mid : Op) (spares : Spares) (limbo now : Limbo) (told : Answer Rec
   abbrev between : Hand
   between = with_limbo spares now
 
-  shows_mid : GoesOn old had told mid between
+  shows_mid : ShowsOn old had told mid between
   shows_mid k r h f =
       subst (λ w. Shows mid between (learn_last k w told) (recall_last r w told)) (sym (sweep_asks old mid spares limbo now told first same))
       (moves k r spares h (fits_swept old mid spares limbo now told first same k f))
@@ -92,7 +90,7 @@ module _ (old mid : Op) (spares : Spares) (limbo now : Limbo) (told : Answer Rec
     spends_mid : (asked : StepOf Record) → Spends old had told mid between (Step asked)
     spends_mid asked k r h f = by mid.sweep refl
       where
-        by : (o : Option Sweep) → mid.sweep ≡ o → SpendsTo r old had told mid between (Step asked)
+        by : (o : Option Sweep) → mid.sweep ≡ o → SpendsSteps r old had told mid between (Step asked)
         by None over = let none = rw over at on in cc
         by (Some next) is =
             let less : sweep.steps_left next.state < sweep_left old.sweep old.state = rw is at few in
@@ -113,14 +111,14 @@ module _ (old mid : Op) (spares : Spares) (limbo now : Limbo) (told : Answer Rec
     over : ObeysSweep old limbo told mid now None
     over k r spares h f = (none, moves k r spares h f)
 
-    pub told_mid : IsTold old had told → IsToldWith mid between Start
+    pub told_mid : IsToldOp old had told → IsToldWith mid between Start
     told_mid = told_after old mid spares limbo now told first same over
 
     module _ (new : Op) (has : Hand) (after : AsksOn mid spares Start new has.spares) (keeps : KeepsLimbo mid between Start has) where
       nothing : asked_of mid spares ≡ None
       nothing = asks_none old mid spares limbo now told first same over
 
-      shows_after : GoesOn old had told new has
+      shows_after : ShowsOn old had told new has
       shows_after k r h f =
           let rest = rests old mid spares limbo now told first same over k r h f in
           let start = starts old mid spares limbo now told first same over k r h f in

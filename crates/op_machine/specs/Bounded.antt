@@ -35,8 +35,8 @@ abbrev pub left_at : Recalled → Spares → State → ℕ
 left_at r spares at.Begun = one_round + 3
 left_at r spares at.Epoch = one_round + 2
 left_at r spares (at.Enter epoch) = one_round + 1
-left_at r spares (at.Read round) = read.reads_left left_round one_round r round + 1
-left_at r spares (at.Write round) = write.reads_left left_round one_round r round + few_changes + 1
+left_at r spares (at.Read round) = read.read_round_left left_round one_round r round + 1
+left_at r spares (at.Write round) = write.write_round_left left_round one_round r round + few_changes + 1
 left_at r spares (at.Change now then) = change.steps_left one_round now spares + 1
 left_at r spares (at.Leave reply) = 1
 

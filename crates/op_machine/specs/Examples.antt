@@ -77,8 +77,8 @@ insert_and_lookup = Begin 0 (Insert (codes "a") (codes "1"))
 abbrev pub new_leaf : Record
 new_leaf = delta.Base (record { level = 0; low = codes "m"; high = None; right = None; removed = false; items = [] })
 
-abbrev pub split : Record
-split = delta.Split (record { level = 0; next = 1; separator = codes "m"; page = 2 })
+abbrev pub split_leaf : Record
+split_leaf = delta.Split (record { level = 0; next = 1; separator = codes "m"; page = 2 })
 
 abbrev pub root_page : Page
 root_page = record { level = 1; low = []; high = None; right = None; removed = false; items = record { key = []; content = Child 1 false } ∷ record { key = codes "m"; content = Child 2 false } ∷ [] }
@@ -86,17 +86,17 @@ root_page = record { level = 1; low = []; high = None; right = None; removed = f
 abbrev pub root : Record
 root = delta.Base root_page
 
-abbrev pub hold : Record
-hold = delta.Hold (record { level = 1; next = 4; separator = codes "m"; child = 2 })
+abbrev pub hold_leaf : Record
+hold_leaf = delta.Hold (record { level = 1; next = 4; separator = codes "m"; child = 2 })
 
-abbrev pub remove : Record
-remove = delta.Remove (record { level = 0; next = 2 })
+abbrev pub remove_leaf : Record
+remove_leaf = delta.Remove (record { level = 0; next = 2 })
 
-abbrev pub merge : Record
-merge = delta.Merge (record { level = 0; next = 3; low = codes "m"; high = None; right = None; items = [] })
+abbrev pub merge_leaf : Record
+merge_leaf = delta.Merge (record { level = 0; next = 3; low = codes "m"; high = None; right = None; items = [] })
 
-abbrev pub unterm : Record
-unterm = delta.Unterm (record { level = 1; next = 5; separator = codes "m"; child = 2 })
+abbrev pub unterm_leaf : Record
+unterm_leaf = delta.Unterm (record { level = 1; next = 5; separator = codes "m"; child = 2 })
 
 -- The life of page 2, up to the emptying of its slot.
 abbrev pub page_life : List Entry
@@ -112,25 +112,25 @@ page_life = Begin 0 (Insert (codes "a") (codes "1"))
     ∷ Step 0 (TakeRow 8) (Whether true) None
     ∷ Step 0 (Place 2 new_leaf) Done None
     ∷ Step 0 (Exchange 2 0 2) (Whether true) None
-    ∷ Step 0 (Place 3 split) Done None
+    ∷ Step 0 (Place 3 split_leaf) Done None
     ∷ Step 0 (Exchange 1 1 3) (Whether true) None
     ∷ Step 0 (Place 4 root) Done None
     ∷ Step 0 (Exchange 3 0 4) (Whether true) None
     ∷ Step 0 (Exchange 0 1 3) (Whether true) None
-    ∷ Step 0 (Place 5 hold) Done None
+    ∷ Step 0 (Place 5 hold_leaf) Done None
     ∷ Step 0 (Exchange 3 4 5) (Whether true) None
-    ∷ Step 0 (Place 6 remove) Done None
+    ∷ Step 0 (Place 6 remove_leaf) Done None
     ∷ Step 0 (Exchange 2 2 6) (Whether true) None
-    ∷ Step 0 (Place 7 merge) Done None
+    ∷ Step 0 (Place 7 merge_leaf) Done None
     ∷ Step 0 (Exchange 1 3 7) (Whether true) None
-    ∷ Step 0 (Place 8 unterm) Done None
+    ∷ Step 0 (Place 8 unterm_leaf) Done None
     ∷ Step 0 (Exchange 3 5 8) (Whether true) None
     ∷ Step 0 (Exchange 2 6 0) (Whether true) None
     ∷ []
 
 -- the index page over the leaves, once page 2 is held
-abbrev pub index_page : LivePage
-index_page = record { pid = 3; chain = hold ∷ root ∷ [] }
+abbrev pub index_above : LivePage
+index_above = record { pid = 3; chain = hold_leaf ∷ root ∷ [] }
 
 -- A page is put anew into row 2, and its old row 1 is freed once the other actor was seen outside.
 abbrev pub row_reuse : List Entry

@@ -5,29 +5,28 @@ use Rattle.bw_model.specs.declared.step.Step.{Step as StepOf}
 use Rattle.deltas.specs.declared.record.Record.{Record}
 use Rattle.chain_search.specs.Knowledge.{Knowledge}
 use Rattle.chain_search.specs.Recalled.{Recalled}
-use Rattle.epochs.specs.Limbo.{Limbo}
 use Rattle.op_machine.specs.Hands.{Hand}
-use Rattle.op_machine.specs.Ops.{Goes, IsTold, Obeys, Op, Shows, wanted_of}
+use Rattle.op_machine.specs.Ops.{Goes, Obeys, Op, Shows, wanted_of}
 use Rattle.op_machine.specs.Shows.{FitsLast, learn_last, recall_last}
 use Rattle.op_machine.specs.Spending.{Spends}
 use Rattle.op_machine.specs.Tasks.{IsSameTask}
 use Rattle.op_machine.specs.Wants.{Step}
 
 -- Something is known that the operation shows.
-abbrev pub IsShown : Op → Hand → Type 0
-IsShown op hand = (k : Knowledge) × (r : Recalled) × Shows op hand k r
+abbrev pub IsOpShown : Op → Hand → Type 0
+IsOpShown op hand = (k : Knowledge) × (r : Recalled) × Shows op hand k r
 
 -- Whatever is known that the operation shows: it wants this step, and its actor may take it.
 abbrev pub Wants : Op → Hand → StepOf Record → Type 0
 Wants op hand asked = (k : Knowledge) (r : Recalled) → Shows op hand k r → Goes k r op hand asked
 
 -- Whatever is known that the operation showed, and that the answer fits: it shows what is known then.
-abbrev pub GoesOn : Op → Hand → Answer Record → Op → Hand → Type 0
-GoesOn old had told new has = (k : Knowledge) (r : Recalled) → Shows old had k r → FitsLast old.task.limits k (wanted_of old had) told → Shows new has (learn_last k (wanted_of old had) told) (recall_last r (wanted_of old had) told)
+abbrev pub ShowsOn : Op → Hand → Answer Record → Op → Hand → Type 0
+ShowsOn old had told new has = (k : Knowledge) (r : Recalled) → Shows old had k r → FitsLast old.task.limits k (wanted_of old had) told → Shows new has (learn_last k (wanted_of old had) told) (recall_last r (wanted_of old had) told)
 
 -- The operation has taken the answer, and wants a step: whichever it wants, it obeys by it, with fewer steps left, at the same task.
 pub record Takes (old : Op) (had : Hand) (told : Answer Record) (new : Op) (has : Hand) : Type 0 where
-  pub shows : GoesOn old had told new has
+  pub shows : ShowsOn old had told new has
   pub asks : IsSome (wanted_of new has)
   pub obeys : (asked : StepOf Record) → Wants new has asked → Obeys old had told new has (Step asked)
   pub spends : (asked : StepOf Record) → Spends old had told new has (Step asked)

@@ -56,7 +56,7 @@ pub record IsAtRestWith (limits : Limits) (actor : ℕ) (hand : Hand) (k : Knowl
   pub limbo : AreKept limits actor hand.limbo k.limbo
 
 -- Something is known that the operation shows, and the answer fits it.
-pub record IsTold (op : Op) (hand : Hand) (told : Answer Record) : Type 0 where
+pub record IsToldOp (op : Op) (hand : Hand) (told : Answer Record) : Type 0 where
   pub k : Knowledge
   pub r : Recalled
   pub shows : Shows op hand k r

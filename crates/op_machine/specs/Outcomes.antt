@@ -12,7 +12,6 @@ use Rattle.bw_model.specs.declared.limits.Limits.{Limits}
 use Rattle.chain_search.specs.Recalled.{Recalled}
 use Rattle.descent.specs.ReadRounds as read
 use Rattle.descent.specs.Versions.{IsAlive}
-use Rattle.descent.specs.Visits.{reads_on}
 use Rattle.descent.specs.WriteRounds as write
 use Rattle.descent.specs.ReadEnds.{ReadEnd}
 use Rattle.descent.specs.Courses.{Seek}
@@ -50,7 +49,7 @@ pub record FacesRead (task : Task) (spares : Spares) (k : Knowledge) (r : Recall
   pub round : read.ReadRound
   pub limits : round.limits ≡ task.limits
   pub key : round.key ≡ way_key [] task.command
-  pub ends : read.Ends round k r end
+  pub ends : read.EndsRead round k r end
 
 -- A reader has read the chain of a leaf that has its key and stood.
 pub record StandsForReader (task : Task) (spares : Spares) (k : Knowledge) (head : ℕ) (leaf : List Record) : Type 0 where
@@ -73,7 +72,7 @@ pub record FacesWritten (task : Task) (spares : Spares) (k : Knowledge) (r : Rec
   pub round : write.WriteRound
   pub round_of : IsRoundOf task round
   pub sought : HasSought round end
-  pub ends : write.Ends round k r end
+  pub ends : write.EndsWrite round k r end
 
 -- A writer is at the leaf that its round looked for, where nothing else is due.
 pub record IsAtLeaf (task : Task) (spares : Spares) (k : Knowledge) (r : Recalled) (leaf : Version) : Type 0 where

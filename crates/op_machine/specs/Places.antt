@@ -7,6 +7,7 @@ use Rattle.deltas.specs.declared.record.Record.{Record}
 use Rattle.chain_search.specs.Chains.{level_in, low_in}
 use Rattle.descent.specs.Courses as course
 use Rattle.descent.specs.ReadRounds as read
+use Rattle.descent.specs.Rounds.{Responds}
 use Rattle.descent.specs.WriteResponses as response
 use Rattle.descent.specs.WriteRounds as write
 use Rattle.descent.specs.Descents.{Root}
@@ -14,8 +15,8 @@ use Rattle.descent.specs.ReadEnds.{ReadEnd}
 use Rattle.descent.specs.WriteEnds.{WriteEnd}
 use Rattle.installs.specs.Changes.{Change as ChangeOf}
 use Rattle.installs.specs.declared.change.End.{End}
-use Rattle.rounds.specs.ReadRounds.{ReadRound}
-use Rattle.rounds.specs.WriteRounds.{WriteRound}
+use Rattle.rounds.specs.ReadRounds.{PlacedRead}
+use Rattle.rounds.specs.WriteRounds.{PlacedWrite}
 use Rattle.op_machine.specs.declared.places.Stand.{Stand}
 use Rattle.op_machine.specs.declared.places.Stand.TheVariants.{Begun, Epoch, Enter, Read, Write, Change, Leave}
 use Rattle.op_machine.specs.States.{State}
@@ -23,10 +24,10 @@ use Rattle.op_machine.specs.States as at
 use Rattle.op_machine.specs.declared.then.Then.{Then}
 
 -- Where the operation stands, the rounds and the change, what comes after the change, and the reply, each in its place.
-pub record Places : Type 0 where
+pub record OpPlaces : Type 0 where
   pub stand : Stand
-  pub reader : ReadRound
-  pub writer : WriteRound
+  pub reader : PlacedRead
+  pub writer : PlacedWrite
   pub change : ChangeOf
   pub then : Then
   pub reply : ReplyOf
@@ -41,17 +42,17 @@ state_at Change reader writer change then reply = at.Change change then
 state_at Leave reader writer change then reply = at.Leave reply
 
 -- the state that the places are
-abbrev pub state_of : Places → State
+abbrev pub state_of : OpPlaces → State
 state_of places = state_at places.stand places.reader.round places.writer.round places.change places.then places.reply
 
 -- Both rounds have these limits.
-pub record HaveLimits (limits : Limits) (places : Places) : Type 0 where
+pub record HaveLimits (limits : Limits) (places : OpPlaces) : Type 0 where
   pub reader : places.reader.round.limits ≡ limits
   pub writer : places.writer.round.limits ≡ limits
 
 -- a writer's round to the left of the page in the hand of one
-abbrev pub left_of : WriteRound → write.WriteRound
-left_of writer = record {
+abbrev pub left_round_of : PlacedWrite → write.WriteRound
+left_round_of writer = record {
   limits = writer.round.limits;
   key = low_in writer.page.chain;
   due = 8;
@@ -64,14 +65,14 @@ left_of writer = record {
 }
 
 -- The reader's round has taken the answer, and nothing else has changed.
-pub record Reads (old : Places) (told : Answer Record) (new : Places) (result : Option ReadEnd) : Type 0 where
-  pub responds : read.Responds old.reader.round told new.reader.round result
+pub record ReadsOn (old : OpPlaces) (told : Answer Record) (new : OpPlaces) (result : Option ReadEnd) : Type 0 where
+  pub responds : Responds read.reading old.reader.round told new.reader.round result
   pub same : read.IsSame old.reader.round new.reader.round
   pub only : new ≡ record old { reader = new.reader }
 
 -- The same of the writer's round.
-pub record Writes (old : Places) (told : Answer Record) (new : Places) (result : Option WriteEnd) : Type 0 where
-  pub responds : response.Responds old.writer.round told new.writer.round result
+pub record WritesOn (old : OpPlaces) (told : Answer Record) (new : OpPlaces) (result : Option WriteEnd) : Type 0 where
+  pub responds : Responds response.writing old.writer.round told new.writer.round result
   pub same : write.IsSame old.writer.round new.writer.round
   pub only : new ≡ record old { writer = new.writer }
 

@@ -23,9 +23,9 @@ abbrev pub steps_left : Recalled → Op → Hand → ℕ
 steps_left r op hand = with_errands op.task.errands (sweep_left op.sweep op.state + left_at r hand.spares op.state)
 
 -- An operation that goes on has fewer steps left, or a cause paid for more.
-abbrev pub SpendsTo : Recalled → Op → Hand → Answer Record → Op → Hand → Want → Type 0
-SpendsTo r old had told new has (Step asked) = IsSpentLast r (wanted_of old had) told (steps_left r old had) (steps_left (recall_last r (wanted_of old had) told) new has)
-SpendsTo r old had told new has (Done reply) = ⊤
+abbrev pub SpendsSteps : Recalled → Op → Hand → Answer Record → Op → Hand → Want → Type 0
+SpendsSteps r old had told new has (Step asked) = IsSpentLast r (wanted_of old had) told (steps_left r old had) (steps_left (recall_last r (wanted_of old had) told) new has)
+SpendsSteps r old had told new has (Done reply) = ⊤
 
 abbrev pub Spends : Op → Hand → Answer Record → Op → Hand → Want → Type 0
-Spends old had told new has want = (k : Knowledge) (r : Recalled) → Shows old had k r → FitsLast old.task.limits k (wanted_of old had) told → SpendsTo r old had told new has want
+Spends old had told new has want = (k : Knowledge) (r : Recalled) → Shows old had k r → FitsLast old.task.limits k (wanted_of old had) told → SpendsSteps r old had told new has want

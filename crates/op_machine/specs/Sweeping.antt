@@ -8,7 +8,7 @@ use Rattle.chain_search.specs.Recalled.{Recalled}
 use Rattle.epochs.specs.Limbo.{Limbo}
 use Rattle.installs.specs.Spares.{Spares}
 use Rattle.op_machine.specs.Hands.{Hand}
-use Rattle.op_machine.specs.Ops.{Goes, IsTold, Op, Shows, asked_by}
+use Rattle.op_machine.specs.Ops.{Goes, IsToldOp, Op, Shows, asked_by}
 use Rattle.op_machine.specs.Shows.{FitsLast, learn_last, recall_last}
 use Rattle.op_machine.specs.Spending.{sweep_left}
 use Rattle.sweep.specs.Bounded.{steps_left}
@@ -24,7 +24,7 @@ swept_by op = asked_by op.sweep None
 
 -- Something is known that the operation shows, and the answer fits it.
 abbrev pub IsToldSweep : Op → Limbo → Answer Record → Type 0
-IsToldSweep op limbo told = (spares : Spares) × IsTold op (with_limbo spares limbo) told
+IsToldSweep op limbo told = (spares : Spares) × IsToldOp op (with_limbo spares limbo) told
 
 -- The sweep has moved on, if it isn't over.
 abbrev pub MovesSweep : Op → Limbo → Answer Record → Op → Limbo → Type 0

@@ -4,7 +4,7 @@ ghost use Rattle.bw_model.specs.declared.step.Link.TheVariants as link;
 ghost use Rattle.chain_search.specs.Run.{IsRun};
 ghost use Rattle.chain_search.specs.SideChain.{IsWhole};
 ghost use Rattle.chain_search.specs.Trace.{memory_at, turn_of};
-ghost use Rattle.op_machine.specs.Examples.{small, lookup, insert_and_lookup, page_life, index_page, row_reuse, hurried_reuse, unnamed_read, two_puts, needless_base, claimed_insert};
+ghost use Rattle.op_machine.specs.Examples.{small, lookup, insert_and_lookup, page_life, index_above, row_reuse, hurried_reuse, unnamed_read, two_puts, needless_base, claimed_insert};
 ghost use Rattle.op_machine.specs.Direct.{IsDirect};
 ghost use Rattle.op_machine.specs.Faithful.{IsFaithful};
 ghost use Rattle.op_machine.specs.Index.{IsLevel, HasTerm};
@@ -47,9 +47,9 @@ pub fn page_lives()
     ensures emptied { link_of (memory_at small page_life 25) 2 6 0 ≡ Some link.Clear }
 
     // Between its hold and its removal the index has the page's term, held.
-    ensures level { IsLevel small page_life 19 1 (index_page ∷ []) }
-    ensures whole { IsWhole (index_page ∷ []) }
-    ensures term { HasTerm small page_life (index_page ∷ []) (codes "m") 2 true }
+    ensures level { IsLevel small page_life 19 1 (index_above ∷ []) }
+    ensures whole { IsWhole (index_above ∷ []) }
+    ensures term { HasTerm small page_life (index_above ∷ []) (codes "m") 2 true }
 {}
 
 /// A row is used again by the rule.

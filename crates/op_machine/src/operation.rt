@@ -12,8 +12,8 @@ ghost use Rattle.chain_search.specs.Within.{IsWithin};
 ghost use Rattle.deltas.specs.declared.record.Record.{Record as RecordOf};
 ghost use Rattle.epochs.specs.Limbo.{Limbo as LimboSeen};
 ghost use Rattle.op_machine.specs.Hands.{Hand as HandSeen};
-ghost use Rattle.op_machine.specs.InPlace.{IsShown, Takes, Wants};
-ghost use Rattle.op_machine.specs.Ops.{EndsAtLeave, IsAtRestWith, IsTold, Obeys, Shows, wanted_of};
+ghost use Rattle.op_machine.specs.InPlace.{IsOpShown, Takes, Wants};
+ghost use Rattle.op_machine.specs.Ops.{EndsAtLeave, IsAtRestWith, IsToldOp, Obeys, Shows, wanted_of};
 ghost use Rattle.op_machine.specs.Outcomes.{changed, has_machine, is_changing, is_leaving, is_reading, is_writing};
 ghost use Rattle.op_machine.specs.Places.{ended_with, state_of};
 ghost use Rattle.op_machine.specs.Shows.{FitsLast, ShowsState, learn_last, wanted_at};
@@ -25,7 +25,7 @@ ghost use Rattle.op_machine.specs.Wants as Want;
 ghost use Rattle.op_machine.specs.States as State;
 ghost use Rattle.sweep.specs.Kept.{AreKept};
 ghost use Rattle.sweep.specs.Bounded.{steps_left as steps_of};
-ghost use Rattle.sweep.specs.Sweeps.{IsSoundSweep, IsTold as IsToldSweepAlone, Shows as ShowsSweep, wanted as sweep_wants};
+ghost use Rattle.sweep.specs.Sweeps.{IsSoundSweep, FitsSweep as IsToldSweepAlone, Shows as ShowsSweep, wanted as sweep_wants};
 ghost use Rattle.chain_search.specs.Fitting.{Fits};
 
 use crate::hand::Hand;
@@ -113,7 +113,7 @@ impl<A: Allocator> Operation<A> {
 
     /// The step that the operation wants, with the record that is to be placed lent from where it lies.
     pub fn wanted(&self, hand: &Hand<A>) -> Step<&Record>
-        requires shown { IsShown self.now hand.now }
+        requires shown { IsOpShown self.now hand.now }
         requires asks { IsSome (wanted_of self.now hand.now) }
         ensures { Wants self.now hand.now (lent result) }
     {
@@ -129,14 +129,14 @@ impl<A: Allocator> Operation<A> {
         requires leaving { is_leaving self.now.state ≡ true }
         ensures reply { self.now.state ≡ State.Leave result }
         ensures obeys { (hand : HandSeen) (told : AnswerOf RecordOf) → Obeys self.now hand told self.now hand (Want.Done result) }
-        ensures ends { (hand : HandSeen) (told : AnswerOf RecordOf) → IsTold self.now hand told → EndsAtLeave self.now hand (Want.Done result) }
+        ensures ends { (hand : HandSeen) (told : AnswerOf RecordOf) → IsToldOp self.now hand told → EndsAtLeave self.now hand (Want.Done result) }
     {
         self.places.reply()
     }
 
     /// Takes the answer to the step that it wanted, which isn't the leave, and reads no row, or `Start`.
     pub fn go_on(&mut self, hand: &mut Hand<A>, told: Told)
-        requires told { IsTold self.old hand.old (answer_of told) }
+        requires told { IsToldOp self.old hand.old (answer_of told) }
         requires stays { is_leaving self.old.state ≡ false }
         ensures { Takes self.old hand.old (answer_of told) self.new hand.new }
     {
@@ -148,7 +148,7 @@ impl<A: Allocator> Operation<A> {
 
     /// Takes the row that it wanted to read, and gives another one in its place.
     pub fn take_row(&mut self, hand: &mut Hand<A>, row: &mut HeldRow<A>)
-        requires told { IsTold self.old hand.old (Content row.old) }
+        requires told { IsToldOp self.old hand.old (Content row.old) }
         ensures { Takes self.old hand.old (Content row.old) self.new hand.new }
     {
         limbos_are_kept();
@@ -157,7 +157,7 @@ impl<A: Allocator> Operation<A> {
     /// Takes an answer before the first step of its work, which comes after a writer's sweep.
     #[inline(never)]
     fn sweep_first(&mut self, hand: &mut Hand<A>, told: Told)
-        requires told { IsTold self.old hand.old (answer_of told) }
+        requires told { IsToldOp self.old hand.old (answer_of told) }
         requires first { self.old.state ≡ State.Begun }
         ensures { Takes self.old hand.old (answer_of told) self.new hand.new }
     {

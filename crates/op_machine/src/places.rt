@@ -7,21 +7,23 @@ ghost use Rattle.bw_model.specs.declared.step.Answer.TheVariants.{Content, Numbe
 ghost use Rattle.chain_search.specs.Knowledge.{Knowledge};
 ghost use Rattle.chain_search.specs.Recalled.{Recalled};
 ghost use Rattle.descent.specs.Courses as course;
+ghost use Rattle.descent.specs.Machines.{IsTold};
 ghost use Rattle.descent.specs.ReadLegs.{Down};
 ghost use Rattle.descent.specs.ReadRounds as read;
+ghost use Rattle.descent.specs.Rounds.{machine};
 ghost use Rattle.descent.specs.Visits.{reads_on};
-ghost use Rattle.descent.specs.WriteRounds as write;
+ghost use Rattle.descent.specs.WriteResponses as response;
 ghost use Rattle.descent.specs.Descents.{Root};
 ghost use Rattle.descent.specs.ReadGoals as goal;
 ghost use Rattle.installs.specs.Changes.{IsSpellablePlan, IsTarget};
 ghost use Rattle.installs.specs.Spares.{HaveRoom};
 ghost use Rattle.op_machine.specs.Bounded.{few_changes, left_at};
 ghost use Rattle.op_machine.specs.Outcomes.{IsToldAt, UnlinksAfter, changed, has_begun, is_changing, is_leaving};
-ghost use Rattle.op_machine.specs.Places.{HaveLimits, Reads, Writes, ended_with, left_of, state_of};
+ghost use Rattle.op_machine.specs.Places.{HaveLimits, ReadsOn, WritesOn, ended_with, left_round_of, state_of};
 ghost use Rattle.op_machine.specs.Shows.{FitsLast, MayBegin, MayStep, ShowsState, learn_last, wanted_at};
 ghost use Rattle.op_machine.specs.Tasks.{Task as TaskSeen};
 ghost use Rattle.op_machine.specs.Works.{TurnsInto};
-ghost use Rattle.rounds.specs.Descents.{step_of};
+ghost use Rattle.rounds.specs.Descents.{asked_step};
 ghost use Rattle.rounds.specs.ReadRounds as reads;
 ghost use Rattle.rounds.specs.WriteRounds as writes;
 ghost use Rattle.rounds.specs.WriteRounds.{again_if};
@@ -60,9 +62,9 @@ pub(crate) struct Places<A: Allocator = Global> {
 }
 
 impl<A: Allocator> Model for Places<A> {
-    ghost use Rattle.op_machine.specs.Places.{Places};
+    ghost use Rattle.op_machine.specs.Places.{OpPlaces};
 
-    ghost Value = { Places };
+    ghost Value = { OpPlaces };
 
     ghost view = { λ p. record { stand = p.stand; reader = p.reader; writer = p.writer; change = p.change; then = p.then; reply = p.reply } };
 }
@@ -176,7 +178,7 @@ impl<A: Allocator> Places<A> {
     /// A writer's round to the left of the page in its hand begins, which is removed.
     #[inline(never)]
     pub(crate) fn write_left(&mut self)
-        ensures { self.new ≡ record self.old { stand = Stand.Write; writer = record self.old.writer { round = left_of self.old.writer } } }
+        ensures { self.new ≡ record self.old { stand = Stand.Write; writer = record self.old.writer { round = left_round_of self.old.writer } } }
     {
         let removed = self.writer.page();
         let (pid, low, level) = (
@@ -241,41 +243,41 @@ impl<A: Allocator> Places<A> {
 
     /// The reader's round takes a number, and tells how it ends, once it does.
     pub(crate) fn read_number(&mut self, number: u64) -> Option<ReadEnded>
-        requires told { read.IsTold self.old.reader.round (Number number) }
-        ensures { Reads self.old (Number number) self.new (option_map (reads.end_of self.new.reader) result) }
+        requires told { IsTold (machine read.reading) self.old.reader.round (Number number) }
+        ensures { ReadsOn self.old (Number number) self.new (option_map (reads.ended_read self.new.reader) result) }
     {
         self.reader.told(number)
     }
 
     /// The reader's round takes a row, gives another one in its place, and tells how it ends, once it does.
     pub(crate) fn read_row(&mut self, row: &mut HeldRow<A>) -> Option<ReadEnded>
-        requires told { read.IsTold self.old.reader.round (Content row.old) }
-        ensures { Reads self.old (Content row.old) self.new (option_map (reads.end_of self.new.reader) result) }
+        requires told { IsTold (machine read.reading) self.old.reader.round (Content row.old) }
+        ensures { ReadsOn self.old (Content row.old) self.new (option_map (reads.ended_read self.new.reader) result) }
     {
         self.reader.take_row(row)
     }
 
     /// The writer's round takes a number, and tells whether it has ended: a page that was named isn't there.
     pub(crate) fn write_number(&mut self, number: u64) -> bool
-        requires told { write.IsTold self.old.writer.round (Number number) }
-        ensures { Writes self.old (Number number) self.new (again_if result) }
+        requires told { IsTold (machine response.writing) self.old.writer.round (Number number) }
+        ensures { WritesOn self.old (Number number) self.new (again_if result) }
     {
         self.writer.told(number)
     }
 
     /// The writer's round takes a row that stands over another one, and gives another one in its place.
     pub(crate) fn write_on(&mut self, row: &mut HeldRow<A>)
-        requires told { write.IsTold self.old.writer.round (Content row.old) }
+        requires told { IsTold (machine response.writing) self.old.writer.round (Content row.old) }
         requires on { reads_on (Content row.old) ≡ true }
-        ensures { Writes self.old (Content row.old) self.new None }
+        ensures { WritesOn self.old (Content row.old) self.new None }
     {
         self.writer.read_on(row);
     }
 
     /// The writer's round takes a row, gives another one in its place, and tells how it ends, once it does.
     pub(crate) fn write_row(&mut self, row: &mut HeldRow<A>) -> Option<WriteEnded>
-        requires told { write.IsTold self.old.writer.round (Content row.old) }
-        ensures { Writes self.old (Content row.old) self.new (option_map (writes.end_of self.new.writer) result) }
+        requires told { IsTold (machine response.writing) self.old.writer.round (Content row.old) }
+        ensures { WritesOn self.old (Content row.old) self.new (option_map (writes.ended_write self.new.writer) result) }
     {
         self.writer.take_row(row)
     }
@@ -301,7 +303,7 @@ impl<A: Allocator> Places<A> {
 
 /// The step that a round asks for.
 fn reading<'a>(asked: Asked) -> Step<&'a Record>
-    ensures { lent result ≡ step_of asked }
+    ensures { lent result ≡ asked_step asked }
 {
     match asked {
         Asked::Slot(pid) => Step::Slot(pid),

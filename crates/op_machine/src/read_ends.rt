@@ -1,6 +1,6 @@
 //! What an operation makes of the end of a reader's round, where its pages stand.
 ghost use Rattle.std.specs.Prelude.{◌≡◌, ◌≤◌, ℕ, IsSome};
-ghost use Rattle.bw_model.specs.Replies.{command_key, is_writer};
+ghost use Rattle.bw_model.specs.Replies.{command_key};
 ghost use Rattle.chain_search.specs.Knowledge.{Knowledge};
 ghost use Rattle.chain_search.specs.Recalled.{Recalled};
 ghost use Rattle.installs.specs.Spares.{Spares};
@@ -11,7 +11,7 @@ ghost use Rattle.op_machine.specs.Places.{HaveLimits, state_of};
 ghost use Rattle.op_machine.specs.Shows.{ShowsState, wanted_at};
 ghost use Rattle.op_machine.specs.Tasks.{Seeks};
 ghost use Rattle.op_machine.specs.States as State;
-ghost use Rattle.rounds.specs.ReadRounds.{end_of};
+ghost use Rattle.rounds.specs.ReadRounds.{ended_read};
 
 use crate::places::Places;
 use crate::task::{Task, cursor_page};
@@ -44,8 +44,8 @@ impl Task {
     pub(crate) fn end_reading<A: Allocator>(&self, ended: ReadEnded, places: &mut Places<A>)
         requires have { HaveLimits self.now.limits places.old }
         requires key { places.old.reader.round.key ≡ command_key self.now.command }
-        ensures stands { (spares : Spares) (k : Knowledge) (r : Recalled) → FacesRead self.now spares k r (end_of places.old.reader ended) → ShowsState self.now spares k r (state_of places.new) }
-        ensures few { (spares : Spares) (r : Recalled) → left_at r spares (state_of places.new) ≤ left_for (Outcome.Read (end_of places.old.reader ended)) }
+        ensures stands { (spares : Spares) (k : Knowledge) (r : Recalled) → FacesRead self.now spares k r (ended_read places.old.reader ended) → ShowsState self.now spares k r (state_of places.new) }
+        ensures few { (spares : Spares) (r : Recalled) → left_at r spares (state_of places.new) ≤ left_for (Outcome.Read (ended_read places.old.reader ended)) }
         ensures asks { (spares : Spares) → IsSome (wanted_at spares (state_of places.new)) }
         ensures have { HaveLimits self.now.limits places.new }
     {

@@ -12,7 +12,7 @@ ghost use Rattle.op_machine.specs.Places.{HaveLimits, state_of};
 ghost use Rattle.op_machine.specs.Shows.{ShowsState, wanted_at};
 ghost use Rattle.op_machine.specs.Tasks.{IsSameTask};
 ghost use Rattle.op_machine.specs.Upkeep.{IsIdleFor, IsUpkeepFor, IsUpkeepPlan, plan_of};
-ghost use Rattle.rounds.specs.WriteRounds.{end_of};
+ghost use Rattle.rounds.specs.WriteRounds.{ended_write};
 ghost use Rattle.smo.specs.Upkeep.{IsIdle};
 ghost use Rattle.smo.specs.declared.version.Version.{Version};
 
@@ -39,9 +39,9 @@ impl Task {
         places: &mut Places<A>,
     )
         requires have { HaveLimits self.old.limits places.old }
-        requires faced { (k : Knowledge) × (r : Recalled) × FacesWritten self.old spares.now k r (end_of places.old.writer ended) }
-        ensures stands { (k : Knowledge) (r : Recalled) → FacesWritten self.old spares.now k r (end_of places.old.writer ended) → ShowsState self.new spares.now k r (state_of places.new) }
-        ensures few { (k : Knowledge) (r : Recalled) → FacesWritten self.old spares.now k r (end_of places.old.writer ended) → with_errands self.new.errands (left_at r spares.now (state_of places.new)) ≤ with_errands self.old.errands (left_for (Outcome.Written (end_of places.old.writer ended))) }
+        requires faced { (k : Knowledge) × (r : Recalled) × FacesWritten self.old spares.now k r (ended_write places.old.writer ended) }
+        ensures stands { (k : Knowledge) (r : Recalled) → FacesWritten self.old spares.now k r (ended_write places.old.writer ended) → ShowsState self.new spares.now k r (state_of places.new) }
+        ensures few { (k : Knowledge) (r : Recalled) → FacesWritten self.old spares.now k r (ended_write places.old.writer ended) → with_errands self.new.errands (left_at r spares.now (state_of places.new)) ≤ with_errands self.old.errands (left_for (Outcome.Written (ended_write places.old.writer ended))) }
         ensures asks { IsSome (wanted_at spares.now (state_of places.new)) }
         ensures same { IsSameTask self.old self.new }
         ensures have { HaveLimits self.new.limits places.new }

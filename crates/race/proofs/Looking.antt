@@ -10,7 +10,7 @@ use Rattle.shell_lines.specs.Request.{IsShortCommand}
 use Rattle.shell_lines.specs.RaceLine.{SaysOfJob}
 use Rattle.bw_shell.specs.Lines.{lines_of, ended, HasNoFeed, Splits}
 use Rattle.bw_shell.specs.declared.refusal.Refusal.{Refusal}
-use Rattle.race.specs.Asked.{AskFor, RefuseAt, RefusesLine}
+use Rattle.race.specs.Asked.{AskFor, RefuseAt, RefusesJobLine}
 use Rattle.race.specs.Looked.{AreLinesOf}
 
 -- ---- lines of bytes
@@ -106,7 +106,7 @@ lines_with whole last bytes done line behind ends each clean is = at ends
     at false = (s.0, (s.1, subst (λ (l : List (List ℕ)). Splits bytes l s.1) (append_assoc done (line ∷ []) s.0) all))
 
 pub refused_line : Whole → Last → (bytes : List ℕ) (done : List (List ℕ)) (rest : List ℕ) (asked : List JobCommand) (line behind : List ℕ) (ends : Bool) (number : ℕ) (why : Refusal)
-    → AreLooked bytes done rest asked → HasNoFeed line → rest ≡ line ++ 10 ∷ behind → number ≡ length done + 1 → 0 < length line → RefusesLine line why
+    → AreLooked bytes done rest asked → HasNoFeed line → rest ≡ line ++ 10 ∷ behind → number ≡ length done + 1 → 0 < length line → RefusesJobLine line why
     → (lines : List (List ℕ)) × AreLinesOf bytes ends lines × RefuseAt lines number why
 refused_line whole last bytes done rest asked line behind ends number why l clean is count some refuses =
     let w = lines_with whole last bytes done line behind ends l.each clean (l.whole ∙ ap (λ (x : List ℕ). flat_map ended done ++ x) is ∙ one_more done line behind) in
@@ -129,7 +129,7 @@ last_looked whole last bytes done (b ∷ bs) asked own l clean one =
     (done ++ (b ∷ bs) ∷ [], sym (ap lines_of l.whole ∙ last done (b ∷ bs) l.each clean (omega arith)), ask_more done asked (b ∷ bs) own l.asks one)
 
 pub last_refused : Last → (bytes : List ℕ) (done : List (List ℕ)) (rest : List ℕ) (asked : List JobCommand) (number : ℕ) (why : Refusal)
-    → AreLooked bytes done rest asked → HasNoFeed rest → number ≡ length done + 1 → 0 < length rest → RefusesLine rest why
+    → AreLooked bytes done rest asked → HasNoFeed rest → number ≡ length done + 1 → 0 < length rest → RefusesJobLine rest why
     → (lines : List (List ℕ)) × AreLinesOf bytes true lines × RefuseAt lines number why
 last_refused last bytes done rest asked number why l clean count some refuses =
     (done ++ rest ∷ [], sym (ap lines_of l.whole ∙ last done rest l.each clean some), (done, rest, [], refl, (asked, l.asks), count, some, refuses))

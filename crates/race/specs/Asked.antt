@@ -18,8 +18,8 @@ abbrev pub AsksBehind : List JobCommand → List ℕ → List JobCommand → Typ
 AsksBehind asked line more = (own : List JobCommand) × AskFor (line ∷ []) own × (more ≡ asked ++ own)
 
 -- Why a line is refused: first that it is outside the grammar, then that a key or value is too long, then that memory was refused.
-abbrev pub RefusesLine : List ℕ → Refusal → Type 0
-RefusesLine line refusal =
+abbrev pub RefusesJobLine : List ℕ → Refusal → Type 0
+RefusesJobLine line refusal =
     ((refusal ≡ Malformed) × ((asks : JobCommand) → SaysOfJob line asks → ⊥))
     ⊎ ((refusal ≡ TooLong) × (asks : JobCommand) × SaysOfJob line asks × (IsShortCommand asks.command → ⊥))
     ⊎ ((refusal ≡ Memory) × (asks : JobCommand) × SaysOfJob line asks × IsShortCommand asks.command)
@@ -28,4 +28,4 @@ RefusesLine line refusal =
 abbrev pub RefuseAt : List (List ℕ) → ℕ → Refusal → Type 0
 RefuseAt lines number refusal =
     (front : List (List ℕ)) × (line : List ℕ) × (behind : List (List ℕ)) × (lines ≡ front ++ line ∷ behind)
-    × ((asked : List JobCommand) × AskFor front asked) × (number ≡ length front + 1) × (0 < length line) × RefusesLine line refusal
+    × ((asked : List JobCommand) × AskFor front asked) × (number ≡ length front + 1) × (0 < length line) × RefusesJobLine line refusal

@@ -76,8 +76,8 @@ abbrev pub RunsBytes : Limits → List ℕ → Bool → List ℕ → Bool → Ty
 RunsBytes limits bytes ended text refused = (lines : List (List ℕ)) × AreLinesOf bytes ended lines × RunsLines limits ended lines text refused
 
 -- What is printed for what was taken from the input.
-abbrev pub Tells : Option (List ℕ) → Limits → List ℕ → Bool → List ℕ → Bool → Type 0
-Tells left limits taken read_failed text refused =
+abbrev pub TellsJobs : Option (List ℕ) → Limits → List ℕ → Bool → List ℕ → Bool → Type 0
+TellsJobs left limits taken read_failed text refused =
     -- to its end, or as far as a failed read
     ((read_failed ≡ false → IsAtEnd left) × RunsBytes limits taken (not read_failed) text refused)
     -- memory was refused before
@@ -89,7 +89,7 @@ pub record IsRace (limits : Limits) (in_old in_new : Option (List ℕ)) (read_fa
   pub text : List ℕ
   pub refused : Bool
   pub reads : Consumes in_old in_new taken
-  pub tells : Tells in_new limits taken read_failed text refused
+  pub tells : TellsJobs in_new limits taken read_failed text refused
   pub writes : Writes out_old out_new text (not write_failed)
   pub status_is : (status ≡ 0) ↔ ((read_failed ≡ false) × (write_failed ≡ false) × (refused ≡ false))
   pub status_else : (status ≡ 0) ⊎ (status ≡ 1)

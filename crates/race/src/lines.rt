@@ -2,7 +2,7 @@
 
 ghost use Rattle.std.specs.Prelude.{◌≡◌, ◌<◌, ◌∷◌, ◌++◌, ℕ, List, length, IfOk, IfErr, MatchOption, OnOk};
 ghost use Rattle.bw_shell.specs.Lines.{HasNoFeed};
-ghost use Rattle.race.specs.Asked.{AskFor, AsksBehind, RefuseAt, RefusesLine};
+ghost use Rattle.race.specs.Asked.{AskFor, AsksBehind, RefuseAt, RefusesJobLine};
 ghost use Rattle.race.specs.Looked.{AreLinesOf};
 
 use bw_shell::{Refusal, lines_are_exact};
@@ -33,7 +33,7 @@ fn next_line<'a>(rest: &'a [u8]) -> Option<(&'a [u8], &'a [u8])>
 /// Adds the command that a line asks for.
 fn look_at(asked: &mut Vec<JobCommand>, line: &[u8]) -> Result<(), Refusal>
     ensures ok { OnOk result (AsksBehind asked.old.items line.now asked.new.items) }
-    ensures refused { IfErr result (λ refusal. (0 < length line.now) × RefusesLine line.now refusal) }
+    ensures refused { IfErr result (λ refusal. (0 < length line.now) × RefusesJobLine line.now refusal) }
 {
     if line.is_empty() {
         return Ok(());

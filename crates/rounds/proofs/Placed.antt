@@ -7,24 +7,23 @@ use Rattle.deltas.specs.declared.record.Record.{Record}
 use Rattle.deltas.specs.Records.{next_row}
 use Rattle.chain_search.specs.Fitted.{IsPageChain}
 use Rattle.smo.specs.declared.version.Version.{Version}
-use Rattle.descent.specs.Descents.{Descent, IsTold, Responds, Root, Page}
+use Rattle.descent.specs.Descents.{Descent, Responds, Root, Page, descending}
+use Rattle.descent.specs.Machines.{IsTold}
 use Rattle.descent.specs.Visits as page
-use Rattle.descent.specs.declared.visit.Sight.TheVariants.{Empty, Whole}
-use Rattle.descent.specs.declared.visit.State.{State}
-use Rattle.descent.specs.declared.visit.State.TheVariants.{Slot, Row}
-use Rattle.descent.proofs.Visiting.{is_chain, row_below}
+use Rattle.descent.specs.Visits.{Empty, Whole, VisitState, Slot, Row}
+use Rattle.descent.proofs.Visiting.{row_below}
 
 -- a descent at a page
-abbrev pub visiting : Limits → ℕ → List Record → State → Descent
+abbrev pub visiting : Limits → ℕ → List Record → VisitState → Descent
 visiting limits pid part state = record { limits = limits; state = Page (record { limits = limits; pid = pid; part = part; state = state }) }
 
 -- the page that slot 0 has is one that there may be
-pub root_within : (limits : Limits) (n : ℕ) → IsTold (record { limits = limits; state = Root }) (Number n) → (0 < n) × (n < limits.pids)
+pub root_within : (limits : Limits) (n : ℕ) → IsTold descending (record { limits = limits; state = Root }) (Number n) → (0 < n) × (n < limits.pids)
 root_within limits n told = (told.fits.0, told.fits.1)
 
 module _ (limits : Limits) (pid : ℕ) (part : List Record) where
   -- so is the row that a page's slot has
-  pub head_below : (n : ℕ) → IsTold (visiting limits pid part Slot) (Number n) → n < limits.rows
+  pub head_below : (n : ℕ) → IsTold descending (visiting limits pid part Slot) (Number n) → n < limits.rows
   head_below n told = row_below limits told.k pid n told.shows.page told.fits
 
   pub starts : (n : ℕ) → 0 < n → Responds (visiting limits pid part Slot) (Number n) (visiting limits pid [] (Row n n)) None
@@ -38,7 +37,7 @@ module _ (limits : Limits) (pid head row : ℕ) (part : List Record) (w : Record
   visit = record { limits = limits; pid = pid; part = part; state = Row head row }
 
   abbrev Told : Type 0
-  Told = IsTold (visiting limits pid part (Row head row)) (Content w)
+  Told = IsTold descending (visiting limits pid part (Row head row)) (Content w)
 
   pub few : Told → length part < 13
   few told = told.fits.short pid head part told.shows.stands.in_slot told.shows.stands.seen
@@ -47,7 +46,7 @@ module _ (limits : Limits) (pid head row : ℕ) (part : List Record) (w : Record
   under_within under is told = subst (λ (o : Option ℕ). IfSome o (λ n. (0 < n) × (n < limits.rows))) is told.fits.next
 
   pub is_whole : next_row w ≡ None → Told → IsPageChain (part ++ w ∷ [])
-  is_whole last told = is_chain visit head row w last (record { k = told.k; shows = told.shows; fits = told.fits })
+  is_whole last told = (whole_chain told.k visit head row w last told.shows told.fits).is_chain
 
   pub continues : (under : ℕ) → next_row w ≡ Some under → Responds (visiting limits pid part (Row head row)) (Content w) (visiting limits pid (part ++ w ∷ []) (Row head under)) None
   continues under is = inr (record {

@@ -10,9 +10,9 @@ use Rattle.descent.specs.ReadRounds as reader
 use Rattle.descent.specs.Descents as stands
 use Rattle.descent.specs.ReadGoals as goal
 use Rattle.descent.specs.ReadEnds as end
-use Rattle.descent.specs.declared.visit.Sight.TheVariants as sight
-use Rattle.rounds.specs.Descents.{sight_of, state_of, step_of}
-use Rattle.rounds.specs.ReadRounds.{end_of, goal_of}
+use Rattle.descent.specs.Visits as sight
+use Rattle.rounds.specs.Descents.{sight_of, placed_state, asked_step}
+use Rattle.rounds.specs.ReadRounds.{ended_read, read_goal}
 use Rattle.rounds.specs.declared.asked.Asked.TheVariants as asked
 use Rattle.rounds.specs.declared.descents.At.TheVariants.{Root, Slot, Row}
 use Rattle.rounds.specs.declared.descents.Seen.TheVariants.{On, Empty, Whole}
@@ -21,16 +21,16 @@ use Rattle.rounds.specs.declared.read_round.ReadEnded.TheVariants.{Removed, Besi
 
 module _ (limits : Limits) (one : Record) (round : reader.ReadRound) (first second : Version) where
   -- slot 0, then the slot of page 5, then row 8 under one that was read from row 9 on
-  asks_slot_0 : wanted_at (state_of limits Root []) ≡ step.Slot 0
+  asks_slot_0 : wanted_at (placed_state limits Root []) ≡ step.Slot 0
   asks_slot_0 = refl
 
-  goes_to_5 : state_of limits (Slot 5) [] ≡ (going_to 5 (record { limits = limits; state = stands.Root })).state
+  goes_to_5 : placed_state limits (Slot 5) [] ≡ (going_to 5 (record { limits = limits; state = stands.Root })).state
   goes_to_5 = refl
 
-  asks_slot_5 : wanted_at (state_of limits (Slot 5) []) ≡ step_of (asked.Slot 5)
+  asks_slot_5 : wanted_at (placed_state limits (Slot 5) []) ≡ asked_step (asked.Slot 5)
   asks_slot_5 = refl
 
-  asks_row_8 : wanted_at (state_of limits (Row 5 9 8) (one ∷ [])) ≡ step_of (asked.Row 8)
+  asks_row_8 : wanted_at (placed_state limits (Row 5 9 8) (one ∷ [])) ≡ asked_step (asked.Row 8)
   asks_row_8 = refl
 
   -- the page that is whole is the one in hand
@@ -44,17 +44,17 @@ module _ (limits : Limits) (one : Record) (round : reader.ReadRound) (first seco
   sees_first = refl
 
   -- with the second page aside, a round goes to the left of that one, and ends beside it
-  goes_left_of_second : goal_of Left second ≡ goal.Left second
+  goes_left_of_second : read_goal Left second ≡ goal.Left second
   goes_left_of_second = refl
 
-  seeks : goal_of Seek second ≡ goal.Seek
+  seeks : read_goal Seek second ≡ goal.Seek
   seeks = refl
 
-  is_removed : end_of (record { round = round; page = first; aside = second; met = second }) Removed ≡ end.Removed first
+  is_removed : ended_read (record { round = round; page = first; aside = second; met = second }) Removed ≡ end.Removed first
   is_removed = refl
 
-  is_beside : end_of (record { round = round; page = first; aside = second; met = second }) Beside ≡ end.Beside first second
+  is_beside : ended_read (record { round = round; page = first; aside = second; met = second }) Beside ≡ end.Beside first second
   is_beside = refl
 
-  goes_on : option_map (end_of (record { round = round; page = first; aside = second; met = second })) None ≡ None
+  goes_on : option_map (ended_read (record { round = round; page = first; aside = second; met = second })) None ≡ None
   goes_on = refl

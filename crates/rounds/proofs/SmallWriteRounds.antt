@@ -9,45 +9,45 @@ use Rattle.smo.specs.declared.version.Version.{Version}
 use Rattle.descent.specs.Courses as kept
 use Rattle.descent.specs.WriteRounds as writer
 use Rattle.descent.specs.WriteEnds as end
-use Rattle.rounds.specs.Courses.{goal_of, kept_if}
-use Rattle.rounds.specs.WriteRounds.{WriteRound, again_if, end_of}
+use Rattle.rounds.specs.Courses.{write_goal, kept_if}
+use Rattle.rounds.specs.WriteRounds.{PlacedWrite, again_if, ended_write}
 use Rattle.rounds.specs.declared.course.Aim.TheVariants as aim
 use Rattle.rounds.specs.declared.write_ended.WriteEnded.TheVariants.{Removed, Term, Tend, Leaf, Merge, Unterm}
 
 module _ (round : writer.WriteRound) (first second third : Version) where
   -- the first page is in hand, the second stands in the parent's place, the third in the left one's
-  abbrev stands : WriteRound
+  abbrev stands : PlacedWrite
   stands = record { round = round; page = first; parent = second; left = third }
 
-  is_removed : end_of stands Removed ≡ end.Removed first
+  is_removed : ended_write stands Removed ≡ end.Removed first
   is_removed = refl
 
-  is_leaf : end_of (record stands { round = record round { parent = Some second } }) Leaf ≡ end.Leaf (Some second) first
+  is_leaf : ended_write (record stands { round = record round { parent = Some second } }) Leaf ≡ end.Leaf (Some second) first
   is_leaf = refl
 
-  gets_term : (term : TermRecord) → end_of stands (Term term) ≡ end.Term second term
+  gets_term : (term : TermRecord) → ended_write stands (Term term) ≡ end.Term second term
   gets_term term = refl
 
-  is_small : (upkeep : Upkeep) → end_of stands (Tend upkeep) ≡ end.Tend second first upkeep
+  is_small : (upkeep : Upkeep) → ended_write stands (Tend upkeep) ≡ end.Tend second first upkeep
   is_small upkeep = refl
 
-  gets_first : (merge : MergeRecord) → end_of stands (Merge merge) ≡ end.Merge third first merge
+  gets_first : (merge : MergeRecord) → ended_write stands (Merge merge) ≡ end.Merge third first merge
   gets_first merge = refl
 
-  loses_first : (unterm : UntermRecord) → end_of stands (Unterm unterm) ≡ end.Unterm second third first unterm
+  loses_first : (unterm : UntermRecord) → ended_write stands (Unterm unterm) ≡ end.Unterm second third first unterm
   loses_first unterm = refl
 
-  goes_on : option_map (end_of stands) None ≡ None
+  goes_on : option_map (ended_write stands) None ≡ None
   goes_on = refl
 
   -- to the left of page 5; to a page for the one in the left one's place, and for both
-  goes_left : goal_of (aim.Left 5) second third ≡ kept.Left 5
+  goes_left : write_goal (aim.Left 5) second third ≡ kept.Left 5
   goes_left = refl
 
-  for_one : goal_of aim.Merge second third ≡ kept.Merge third
+  for_one : write_goal aim.Merge second third ≡ kept.Merge third
   for_one = refl
 
-  for_both : goal_of aim.Unterm second third ≡ kept.Unterm second third
+  for_both : write_goal aim.Unterm second third ≡ kept.Unterm second third
   for_both = refl
 
   stands_there : kept_if false second ≡ None

@@ -7,7 +7,7 @@ use Rattle.chain_search.specs.Chains.{IsItemsOf}
 use Rattle.chain_search.specs.Fitted.{IsFitted}
 use Rattle.smo.specs.Sizes.{HasFewDeltas, HasManyItems}
 use Rattle.smo.proofs.Places.{made}
-use Rattle.descent.specs.Courses.{Goal, Seek, Left, Merge, Unterm, removed_of}
+use Rattle.descent.specs.Courses.{WriteGoal, Seek, Left, Merge, Unterm, removed_of}
 use Rattle.descent.specs.WriteRounds.{IsLong, SeeksLeaf}
 
 -- a page that isn't long has few deltas
@@ -24,13 +24,13 @@ module _ (chain : List Record) (count : ℕ) (counted : (items : List Item) → 
 
 -- the goal, by the removed page to whose left it is
 
-pub left_by : (goal : Goal) (pid : ℕ) → removed_of goal ≡ Some pid → goal ≡ Left pid
+pub left_by : (goal : WriteGoal) (pid : ℕ) → removed_of goal ≡ Some pid → goal ≡ Left pid
 left_by Seek pid e = cc
 left_by (Left other) pid e = let is : other ≡ pid = cc in cc
 left_by (Merge left) pid e = cc
 left_by (Unterm parent left) pid e = cc
 
-pub seek_by : (goal : Goal) → SeeksLeaf goal → removed_of goal ≡ None → goal ≡ Seek
+pub seek_by : (goal : WriteGoal) → SeeksLeaf goal → removed_of goal ≡ None → goal ≡ Seek
 seek_by Seek seeks e = refl
 seek_by (Left pid) seeks e = cc
 seek_by (Merge left) seeks e = absurd seeks

@@ -5,68 +5,70 @@ use Rattle.bw_model.specs.declared.limits.Limits.{Limits}
 use Rattle.bw_model.specs.declared.step.Answer.{Answer}
 use Rattle.deltas.specs.declared.record.Record.{Record}
 use Rattle.descent.specs.Descents as from_root
+use Rattle.descent.specs.Machines.{IsTold}
+use Rattle.descent.specs.Rounds.{Responds, Sees, machine}
 use Rattle.descent.specs.WriteResponses as response
 use Rattle.descent.specs.WriteRounds as writer
-use Rattle.descent.specs.declared.visit.Sight.TheVariants as sight
+use Rattle.descent.specs.Visits as sight
 use Rattle.descent.specs.WriteEnds as end
-use Rattle.descent.proofs.Writing.{can_see, sees_as, way_shows}
-use Rattle.rounds.specs.Courses.{Course}
-use Rattle.rounds.specs.Descents.{Descent, sight_of}
-use Rattle.rounds.specs.WriteRounds.{CanSee, Sees, WriteRound, end_of}
+use Rattle.descent.proofs.Writing.{can_see, treats_as, way_shows}
+use Rattle.rounds.specs.Courses.{PlacedCourse}
+use Rattle.rounds.specs.Descents.{PlacedDescent, sight_of}
+use Rattle.rounds.specs.WriteRounds.{CanSeeToWrite, SeesToWrite, PlacedWrite, ended_write}
 use Rattle.rounds.specs.declared.descents.Seen.{Seen}
 use Rattle.rounds.specs.declared.descents.Seen.TheVariants.{On, Empty, Whole}
 use Rattle.rounds.specs.declared.write_ended.WriteEnded.{WriteEnded}
 
 -- an answer that fits the round fits its descent
-pub way_told : (round : writer.WriteRound) (told : Answer Record) → writer.IsTold round told → from_root.IsTold (writer.descent_of round) told
-way_told round told h = record { k = h.k; shows = way_shows round h.k h.r h.shows; fits = h.fits }
+pub way_told : (round : writer.WriteRound) (told : Answer Record) → IsTold (machine response.writing) round told → IsTold from_root.descending (response.writing.way round) told
+way_told round told h = record { k = h.k; r = h.r; shows = way_shows round h.k h.r h.shows; fits = h.fits }
 
 -- the round with its descent as an answer left it
-abbrev pub after : WriteRound → Descent → WriteRound
+abbrev pub after : PlacedWrite → PlacedDescent → PlacedWrite
 after was now = record was { round = record was.round { limits = now.way.limits; state = now.way.state }; page = now.page }
 
-module _ (was : WriteRound) (now : Descent) (told : Answer Record) where
+module _ (was : PlacedWrite) (now : PlacedDescent) (told : Answer Record) where
   abbrev pub Moved : Seen → Type 0
-  Moved seen = from_root.Responds (writer.descent_of was.round) told now.way (sight_of seen now.page)
+  Moved seen = from_root.Responds (response.writing.way was.round) told now.way (sight_of seen now.page)
 
   -- with the limits that it had
   abbrev with_limits : Limits → writer.WriteRound
   with_limits limits = record was.round { limits = limits; state = now.way.state }
 
   -- what was seen is a page that the round has reached
-  pub can_see_now : (seen : Seen) → Moved seen → now.way.limits ≡ was.round.limits → writer.IsTold was.round told → CanSee (after was now) seen
+  pub can_see_now : (seen : Seen) → Moved seen → now.way.limits ≡ was.round.limits → IsTold (machine response.writing) was.round told → CanSeeToWrite (after was now) seen
   can_see_now On b limits t = tt
   can_see_now Empty b limits t = tt
-  can_see_now Whole b limits t = subst (λ (l : Limits). response.CanTreat (with_limits l) now.page) (sym limits) (can_see was.round now.way.state told (sight.Whole now.page) b t)
+  can_see_now Whole b limits t = subst (λ (l : Limits). response.CanTreatWrite (with_limits l) now.page) (sym limits) (can_see was.round now.way.state told (sight.Whole now.page) b t)
 
   -- the round reads on
-  pub goes_on : Moved On → now.way.limits ≡ was.round.limits → response.Responds was.round told (after was now).round None
+  pub goes_on : Moved On → now.way.limits ≡ was.round.limits → Responds response.writing was.round told (after was now).round None
   goes_on b limits =
       let same : (after was now).round ≡ with_limits was.round.limits = ap with_limits limits in
       inl (record { on = b; same = same; none = refl })
 
   -- a page that was named isn't there
-  pub is_missing : Moved Empty → response.Responds was.round told (after was now).round (Some end.Again)
+  pub is_missing : Moved Empty → Responds response.writing was.round told (after was now).round (Some end.Again)
   is_missing b = inr (record { sight = sight.Empty; finds = b; sees = refl })
 
   -- the round responds as it does with what was seen
-  pub responds_now : (seen : Seen) (new : WriteRound) (result : Option WriteEnded) → Moved seen → now.way.limits ≡ was.round.limits → Sees (after was now) seen new result
-      → response.Responds was.round told new.round (option_map (end_of new) result)
+  pub responds_now : (seen : Seen) (new : PlacedWrite) (result : Option WriteEnded) → Moved seen → now.way.limits ≡ was.round.limits → SeesToWrite (after was now) seen new result
+      → Responds response.writing was.round told new.round (option_map (ended_write new) result)
   responds_now On new result b limits sees =
-      let same : new.round ≡ with_limits was.round.limits = ap (λ (r : WriteRound). r.round) sees.0 ∙ ap with_limits limits in
+      let same : new.round ≡ with_limits was.round.limits = ap (λ (r : PlacedWrite). r.round) sees.0 ∙ ap with_limits limits in
       inl (record {
-        on = subst (λ (r : WriteRound). from_root.Responds (writer.descent_of was.round) told (writer.descent_of r.round) None) (sym sees.0) b;
+        on = subst (λ (r : PlacedWrite). from_root.Responds (response.writing.way was.round) told (response.writing.way r.round) None) (sym sees.0) b;
         same = same ∙ ap (λ (r : writer.WriteRound). writer.at was.round r.state) (sym same);
-        none = ap (option_map (end_of new)) sees.1;
+        none = ap (option_map (ended_write new)) sees.1;
       })
-  responds_now Empty new result b limits sees = inr (record { sight = sight.Empty; finds = b; sees = ap (option_map (end_of new)) sees })
+  responds_now Empty new result b limits sees = inr (record { sight = sight.Empty; finds = b; sees = ap (option_map (ended_write new)) sees })
   responds_now Whole new result b limits sees =
-      let there : response.Sees (with_limits was.round.limits) (sight.Whole now.page) new.round (option_map (end_of new) result) =
-      subst (λ (l : Limits). response.Sees (with_limits l) (sight.Whole now.page) new.round (option_map (end_of new) result)) limits sees in
-      inr (record { sight = sight.Whole now.page; finds = b; sees = sees_as was.round new.round was.round.state now.way.state (sight.Whole now.page) (option_map (end_of new) result) there })
+      let there : Sees response.writing (with_limits was.round.limits) (sight.Whole now.page) new.round (option_map (ended_write new) result) =
+      subst (λ (l : Limits). Sees response.writing (with_limits l) (sight.Whole now.page) new.round (option_map (ended_write new) result)) limits sees in
+      inr (record { sight = sight.Whole now.page; finds = b; sees = treats_as was.round new.round was.round.state now.way.state now.page (option_map (ended_write new) result) there })
 
 -- the round whose fields these are
-abbrev pub placed : List ℕ → ℕ → Bool → ℕ → Course → Descent → WriteRound
+abbrev pub placed : List ℕ → ℕ → Bool → ℕ → PlacedCourse → PlacedDescent → PlacedWrite
 placed key due tends floor course descent = record {
   round = record { limits = descent.way.limits; key = key; due = due; tends = tends; floor = floor; goal = course.course.goal; parent = course.course.parent; left = course.course.left; state = descent.way.state };
   page = descent.page;

@@ -6,7 +6,7 @@ use Rattle.rounds.specs.declared.course.Aim.{Aim}
 use Rattle.rounds.specs.declared.course.Aim.TheVariants.{Seek, Left, Merge, Unterm}
 
 -- The course, and the pages that stand in the two places, whether they are kept or were before.
-pub record Course : Type 0 where
+pub record PlacedCourse : Type 0 where
   pub course : kept.Course
   pub parent : Version
   pub left : Version
@@ -17,8 +17,8 @@ kept_if false page = None
 kept_if true page = Some page
 
 -- the goal that an aim is, where the pages in the two places are these
-abbrev pub goal_of : Aim → Version → Version → kept.Goal
-goal_of Seek parent left = kept.Seek
-goal_of (Left pid) parent left = kept.Left pid
-goal_of Merge parent left = kept.Merge left
-goal_of Unterm parent left = kept.Unterm parent left
+abbrev pub write_goal : Aim → Version → Version → kept.WriteGoal
+write_goal Seek parent left = kept.Seek
+write_goal (Left pid) parent left = kept.Left pid
+write_goal Merge parent left = kept.Merge left
+write_goal Unterm parent left = kept.Unterm parent left

@@ -6,7 +6,7 @@ use Rattle.rounds.specs.declared.leg.On.{On}
 use Rattle.rounds.specs.declared.leg.On.TheVariants.{Top, Below, Round, Past}
 
 -- The leg, and the page that stands in the place, whether it is kept or was before.
-pub record Leg : Type 0 where
+pub record PlacedLeg : Type 0 where
   pub leg : legs.Leg
   pub page : Version
 

@@ -4,7 +4,7 @@ ghost use Rattle.std.specs.Bool.{Decides};
 ghost use Rattle.descent.specs.Courses as goal;
 ghost use Rattle.descent.specs.Courses.{down_to, removed_of};
 ghost use Rattle.descent.specs.WriteRounds.{SeeksLeaf};
-ghost use Rattle.rounds.specs.Courses.{goal_of, kept_if};
+ghost use Rattle.rounds.specs.Courses.{write_goal, kept_if};
 ghost use Rattle.smo.specs.declared.version.Version.{Version};
 
 use crate::{Descent, PageInHand};
@@ -36,11 +36,11 @@ pub(crate) struct Course<A: Allocator = Global> {
 }
 
 impl<A: Allocator> Model for Course<A> {
-    ghost use Rattle.rounds.specs.Courses.{Course, goal_of, kept_if};
+    ghost use Rattle.rounds.specs.Courses.{PlacedCourse, write_goal, kept_if};
 
-    ghost Value = { Course };
+    ghost Value = { PlacedCourse };
 
-    ghost view = { λ c. record { course = record { goal = goal_of c.aim c.parent c.left; parent = kept_if c.has_parent c.parent; left = kept_if c.has_left c.left }; parent = c.parent; left = c.left } };
+    ghost view = { λ c. record { course = record { goal = write_goal c.aim c.parent c.left; parent = kept_if c.has_parent c.parent; left = kept_if c.has_left c.left }; parent = c.parent; left = c.left } };
 }
 
 impl<A: Allocator + Copy> Course<A> {
@@ -71,7 +71,7 @@ impl<A: Allocator> Course<A> {
 
     /// What pages are read for.
     pub(crate) fn aim(&self) -> Aim
-        ensures { goal_of result self.now.parent self.now.left ≡ self.now.course.goal }
+        ensures { write_goal result self.now.parent self.now.left ≡ self.now.course.goal }
     {
         self.aim
     }
@@ -165,7 +165,7 @@ impl<A: Allocator> Course<A> {
 
 /// The aim of a round down to the leaf to the left of this removed page, or to the leaf of the key.
 fn down(removed: Option<u16>) -> Aim
-    ensures { (parent left : Version) → goal_of result parent left ≡ down_to removed }
+    ensures { (parent left : Version) → write_goal result parent left ≡ down_to removed }
 {
     match removed {
         None => Aim::Seek,

@@ -3,10 +3,11 @@ ghost use Rattle.std.specs.Prelude.{◌≡◌, ◌<◌, ℕ, [], IfOk};
 ghost use Rattle.bw_model.specs.declared.step.Answer.TheVariants.{Content, Number};
 ghost use Rattle.chain_search.specs.Discipline.{May};
 ghost use Rattle.chain_search.specs.Knowledge.{Knowledge};
-ghost use Rattle.descent.specs.Descents.{HasCome, IsTold, Responds, Shows, going_to, wanted};
+ghost use Rattle.descent.specs.Descents.{Responds, Shows, descending, going_to, wanted};
+ghost use Rattle.descent.specs.Machines.{IsTold};
 ghost use Rattle.descent.specs.Visits.{ReadsWithin};
 ghost use Rattle.descent.specs.Descents as state;
-ghost use Rattle.rounds.specs.Descents.{sight_of, state_of, step_of};
+ghost use Rattle.rounds.specs.Descents.{sight_of, placed_state, asked_step};
 
 use crate::{Asked, PageInHand};
 use bw_model::Limits;
@@ -45,11 +46,11 @@ pub(crate) struct Descent<A: Allocator = Global> {
 }
 
 impl<A: Allocator> Model for Descent<A> {
-    ghost use Rattle.rounds.specs.Descents.{Descent, IsSoundAt, state_of};
+    ghost use Rattle.rounds.specs.Descents.{PlacedDescent, IsSoundAt, placed_state};
 
-    ghost Value = { Descent };
+    ghost Value = { PlacedDescent };
 
-    ghost view = { λ d. record { way = record { limits = d.limits; state = state_of d.limits d.at d.part }; page = d.page } };
+    ghost view = { λ d. record { way = record { limits = d.limits; state = placed_state d.limits d.at d.part }; page = d.page } };
 
     ghost invariant = { λ d. IsSoundAt d.limits d.at };
 }
@@ -97,9 +98,9 @@ impl<A: Allocator> Descent<A> {
 
     /// What the descent reads next.
     pub(crate) fn asks(&self) -> Asked
-        ensures wanted { step_of result ≡ wanted self.now.way }
-        ensures within { ReadsWithin self.now.way.limits (step_of result) }
-        ensures may { (actor : ℕ) (k : Knowledge) → Shows self.now.way k → May actor k (step_of result) }
+        ensures wanted { asked_step result ≡ wanted self.now.way }
+        ensures within { ReadsWithin self.now.way.limits (asked_step result) }
+        ensures may { (actor : ℕ) (k : Knowledge) → Shows self.now.way k → May actor k (asked_step result) }
     {
         match self.at {
             At::Root => Asked::Slot(0),
@@ -126,7 +127,7 @@ impl<A: Allocator> Descent<A> {
 
     /// Takes the number that was read in the slot that the descent asked for.
     pub(crate) fn told(&mut self, number: u64) -> Seen
-        requires told { IsTold self.old.way (Number number) }
+        requires told { IsTold descending self.old.way (Number number) }
         ensures responds { Responds self.old.way (Number number) self.new.way (sight_of result self.new.page) }
         ensures limits { self.new.way.limits ≡ self.old.way.limits }
         ensures page { self.new.page ≡ self.old.page }
@@ -151,7 +152,7 @@ impl<A: Allocator> Descent<A> {
         requires page_below { pid < self.old.way.limits.pids }
         requires some { 0 < head }
         requires below { head < self.old.way.limits.rows }
-        ensures { self.new ≡ record self.old { way = record self.old.way { state = state_of self.old.way.limits (At.Row pid head head) [] } } }
+        ensures { self.new ≡ record self.old { way = record self.old.way { state = placed_state self.old.way.limits (At.Row pid head head) [] } } }
     {
         self.part.restart();
         let row = head;
@@ -160,7 +161,7 @@ impl<A: Allocator> Descent<A> {
 
     /// Takes the row that the descent asked for, and gives another one in its place. With the base the page is whole.
     pub(crate) fn take_row(&mut self, row: &mut HeldRow<A>) -> Seen
-        requires told { IsTold self.old.way (Content row.old) }
+        requires told { IsTold descending self.old.way (Content row.old) }
         ensures responds { Responds self.old.way (Content row.old) self.new.way (sight_of result self.new.page) }
         ensures limits { self.new.way.limits ≡ self.old.way.limits }
     {

@@ -1,5 +1,5 @@
 //! On which leg of its way a reader's round is, over a place for a page.
-ghost use Rattle.std.specs.Prelude.{◌≡◌, None, Some, IfOk, MatchOption, ⊤, false, true};
+ghost use Rattle.std.specs.Prelude.{◌≡◌, None, Some, IfOk, false, true};
 ghost use Rattle.descent.specs.ReadLegs.{Down, IsPlain, Past, Round, below, level_on};
 ghost use Rattle.rounds.specs.Legs.{IsPlainWithout};
 
@@ -28,9 +28,9 @@ pub(crate) struct Leg<A: Allocator = Global> {
 }
 
 impl<A: Allocator> Model for Leg<A> {
-    ghost use Rattle.rounds.specs.Legs.{Leg, leg_of};
+    ghost use Rattle.rounds.specs.Legs.{PlacedLeg, leg_of};
 
-    ghost Value = { Leg };
+    ghost Value = { PlacedLeg };
 
     ghost view = { λ l. record { leg = leg_of l.on l.page; page = l.page } };
 }

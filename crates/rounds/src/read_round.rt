@@ -3,18 +3,20 @@ ghost use Rattle.std.specs.Prelude.{◌≡◌, ◌<◌, ℕ, IfOk, IsTrue, Match
 ghost use Rattle.std.specs.Bool.{Decides};
 ghost use Rattle.std.specs.Option.{option_map};
 ghost use Rattle.bw_model.specs.declared.step.Answer.TheVariants.{Content, Number};
-ghost use Rattle.chain_search.specs.Chains.{is_removed, level_in, low_in, right_in};
+ghost use Rattle.chain_search.specs.Chains.{level_in, low_in, right_in};
 ghost use Rattle.chain_search.specs.Discipline.{May};
 ghost use Rattle.chain_search.specs.Knowledge.{Knowledge};
 ghost use Rattle.chain_search.specs.Recalled.{Recalled};
-ghost use Rattle.descent.specs.ReadLegs.{Down, IsPlain, level_on};
-ghost use Rattle.descent.specs.ReadRounds.{CanTreat, IsSame, IsTold, Responds, Shows, Treats, going_to, on, toward, wanted, way_of};
+ghost use Rattle.descent.specs.Machines.{IsTold};
+ghost use Rattle.descent.specs.ReadLegs.{Down, level_on};
+ghost use Rattle.descent.specs.ReadRounds.{CanTreatRead, IsSame, Shows, TreatsRead, going_to, on, read_way, reading, toward, wanted};
+ghost use Rattle.descent.specs.Rounds.{Responds, machine};
 ghost use Rattle.descent.specs.Visits.{ReadsWithin};
 ghost use Rattle.descent.specs.Ways.{EndsHere, LeadsDown, LeadsRight, StaysLeft, precedes};
 ghost use Rattle.descent.specs.Descents.{Root};
 ghost use Rattle.descent.specs.ReadGoals as goal;
-ghost use Rattle.rounds.specs.Descents.{step_of};
-ghost use Rattle.rounds.specs.ReadRounds.{CanGoOn, CanSee, Sees, end_of};
+ghost use Rattle.rounds.specs.Descents.{asked_step};
+ghost use Rattle.rounds.specs.ReadRounds.{CanGoOn, CanSeeToRead, SeesToRead, ended_read};
 
 mod detour;
 #[cfg(test)]
@@ -64,11 +66,11 @@ pub struct ReadRound<A: Allocator = Global> {
 }
 
 impl<A: Allocator> Model for ReadRound<A> {
-    ghost use Rattle.rounds.specs.ReadRounds.{ReadRound, goal_of};
+    ghost use Rattle.rounds.specs.ReadRounds.{PlacedRead, read_goal};
 
-    ghost Value = { ReadRound };
+    ghost Value = { PlacedRead };
 
-    ghost view = { λ r. record { round = record { limits = r.descent.way.limits; key = r.key; goal = goal_of r.going r.aside; leg = r.leg.leg; state = r.descent.way.state }; page = r.descent.page; aside = r.aside; met = r.leg.page } };
+    ghost view = { λ r. record { round = record { limits = r.descent.way.limits; key = r.key; goal = read_goal r.going r.aside; leg = r.leg.leg; state = r.descent.way.state }; page = r.descent.page; aside = r.aside; met = r.leg.page } };
 }
 
 impl<A: Allocator + Copy> ReadRound<A> {
@@ -134,17 +136,17 @@ impl<A: Allocator> ReadRound<A> {
 
     /// What the round reads next.
     pub fn asks(&self) -> Asked
-        ensures wanted { step_of result ≡ wanted self.now.round }
-        ensures within { ReadsWithin self.now.round.limits (step_of result) }
-        ensures may { (actor : ℕ) (k : Knowledge) (r : Recalled) → Shows self.now.round k r → May actor k (step_of result) }
+        ensures wanted { asked_step result ≡ wanted self.now.round }
+        ensures within { ReadsWithin self.now.round.limits (asked_step result) }
+        ensures may { (actor : ℕ) (k : Knowledge) (r : Recalled) → Shows self.now.round k r → May actor k (asked_step result) }
     {
         self.descent.asks()
     }
 
     /// Takes the number that was read in the slot that the round asked for, and tells how the round ends, once it does.
     pub fn told(&mut self, number: u64) -> Option<ReadEnded>
-        requires told { IsTold self.old.round (Number number) }
-        ensures responds { Responds self.old.round (Number number) self.new.round (option_map (end_of self.new) result) }
+        requires told { IsTold (machine reading) self.old.round (Number number) }
+        ensures responds { Responds reading self.old.round (Number number) self.new.round (option_map (ended_read self.new) result) }
         ensures same { IsSame self.old.round self.new.round }
     {
         let seen = self.descent.told(number);
@@ -153,8 +155,8 @@ impl<A: Allocator> ReadRound<A> {
 
     /// Takes the row that the round asked for, gives another one in its place, and tells how the round ends, once it does.
     pub fn take_row(&mut self, row: &mut HeldRow<A>) -> Option<ReadEnded>
-        requires told { IsTold self.old.round (Content row.old) }
-        ensures responds { Responds self.old.round (Content row.old) self.new.round (option_map (end_of self.new) result) }
+        requires told { IsTold (machine reading) self.old.round (Content row.old) }
+        ensures responds { Responds reading self.old.round (Content row.old) self.new.round (option_map (ended_read self.new) result) }
         ensures same { IsSame self.old.round self.new.round }
     {
         let seen = self.descent.take_row(row);
@@ -163,8 +165,8 @@ impl<A: Allocator> ReadRound<A> {
 
     /// Goes on from what was seen, or ends.
     fn see(&mut self, seen: Seen) -> Option<ReadEnded>
-        requires can { CanSee self.old seen }
-        ensures sees { Sees self.old seen self.new result }
+        requires can { CanSeeToRead self.old seen }
+        ensures sees { SeesToRead self.old seen self.new result }
         ensures same { IsSame self.old.round self.new.round }
     {
         match seen {
@@ -176,8 +178,8 @@ impl<A: Allocator> ReadRound<A> {
 
     /// Goes on from the page in hand, which was read now, or ends there.
     fn treat(&mut self) -> Option<ReadEnded>
-        requires can { CanTreat self.old.round self.old.page }
-        ensures treats { Treats self.old.round self.old.page self.new.round (option_map (end_of self.new) result) }
+        requires can { CanTreatRead self.old.round self.old.page }
+        ensures treats { TreatsRead self.old.round self.old.page self.new.round (option_map (ended_read self.new) result) }
         ensures same { IsSame self.old.round self.new.round }
     {
         if self.leg.is_round() {
@@ -192,7 +194,7 @@ impl<A: Allocator> ReadRound<A> {
     /// Goes on from the page in hand, which isn't removed, or ends there.
     fn go_on(&mut self) -> Option<ReadEnded>
         requires can { CanGoOn self.old.round self.old.page }
-        ensures treats { Treats self.old.round self.old.page self.new.round (option_map (end_of self.new) result) }
+        ensures treats { TreatsRead self.old.round self.old.page self.new.round (option_map (ended_read self.new) result) }
         ensures same { IsSame self.old.round self.new.round }
     {
         if let Some(right) = self.next_aside() {
@@ -208,7 +210,7 @@ impl<A: Allocator> ReadRound<A> {
 
     /// The page's right, where the page in hand ends on the way.
     fn next_aside(&self) -> Option<u16>
-        ensures { MatchOption result (StaysLeft (way_of self.now.round.goal self.now.round.key) self.now.page.chain) (LeadsRight (way_of self.now.round.goal self.now.round.key) self.now.page.chain) }
+        ensures { MatchOption result (StaysLeft (read_way self.now.round.goal self.now.round.key) self.now.page.chain) (LeadsRight (read_way self.now.round.goal self.now.round.key) self.now.page.chain) }
     {
         match self.going {
             Going::Left => self.right_to_the_left(),
@@ -228,9 +230,9 @@ impl<A: Allocator> ReadRound<A> {
     /// Goes down to a child of the page in hand, which is the page above from then on.
     fn go_below(&mut self)
         requires can { CanGoOn self.old.round self.old.page }
-        requires stays { StaysLeft (way_of self.old.round.goal self.old.round.key) self.old.page.chain }
+        requires stays { StaysLeft (read_way self.old.round.goal self.old.round.key) self.old.page.chain }
         requires index { 0 < level_in self.old.page.chain }
-        ensures treats { Treats self.old.round self.old.page self.new.round None }
+        ensures treats { TreatsRead self.old.round self.old.page self.new.round None }
         ensures same { IsSame self.old.round self.new.round }
     {
         let child = self.next_below();
@@ -241,8 +243,8 @@ impl<A: Allocator> ReadRound<A> {
     /// The child of the greatest term on the way.
     fn next_below(&self) -> u16
         requires index { 0 < level_in self.now.page.chain }
-        requires reached { IsTrue (way_of self.now.round.goal self.now.round.key (low_in self.now.page.chain)) }
-        ensures { LeadsDown (way_of self.now.round.goal self.now.round.key) self.now.page.chain result }
+        requires reached { IsTrue (read_way self.now.round.goal self.now.round.key (low_in self.now.page.chain)) }
+        ensures { LeadsDown (read_way self.now.round.goal self.now.round.key) self.now.page.chain result }
     {
         match self.going {
             Going::Left => self.child_to_the_left(),
@@ -264,8 +266,8 @@ impl<A: Allocator> ReadRound<A> {
     /// Ends at the leaf where the way ends; to the left of a removed page, passes that page.
     fn end(&mut self) -> Option<ReadEnded>
         requires can { CanGoOn self.old.round self.old.page }
-        requires ends { EndsHere (way_of self.old.round.goal self.old.round.key) self.old.page.chain }
-        ensures treats { Treats self.old.round self.old.page self.new.round (option_map (end_of self.new) result) }
+        requires ends { EndsHere (read_way self.old.round.goal self.old.round.key) self.old.page.chain }
+        ensures treats { TreatsRead self.old.round self.old.page self.new.round (option_map (ended_read self.new) result) }
         ensures same { IsSame self.old.round self.new.round }
     {
         match self.going {
@@ -279,7 +281,7 @@ impl<A: Allocator> ReadRound<A> {
     fn pass(&mut self) -> Option<ReadEnded>
         requires can { CanGoOn (toward (goal.Left self.old.aside) self.old.round) self.old.page }
         requires ends { EndsHere (precedes (low_in self.old.aside.chain)) self.old.page.chain }
-        ensures treats { Treats (toward (goal.Left self.old.aside) self.old.round) self.old.page self.new.round (option_map (end_of self.new) result) }
+        ensures treats { TreatsRead (toward (goal.Left self.old.aside) self.old.round) self.old.page self.new.round (option_map (ended_read self.new) result) }
         ensures same { IsSame self.old.round self.new.round }
     {
         if self.is_beside() {

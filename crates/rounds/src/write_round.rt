@@ -7,13 +7,15 @@ ghost use Rattle.chain_search.specs.Discipline.{May};
 ghost use Rattle.chain_search.specs.Knowledge.{Knowledge};
 ghost use Rattle.chain_search.specs.Recalled.{Recalled};
 ghost use Rattle.descent.specs.Courses as goal;
+ghost use Rattle.descent.specs.Machines.{IsTold};
+ghost use Rattle.descent.specs.Rounds.{Responds, machine};
 ghost use Rattle.descent.specs.Visits.{ReadsWithin, reads_on};
-ghost use Rattle.descent.specs.WriteResponses.{CanTreat, IsFine, IsHere, IsIdleOnWay, IsLeftLeaf, IsSplitFinished, Responds, Treats};
-ghost use Rattle.descent.specs.WriteRounds.{IsSame, IsTold, SeeksLeaf, Shows, ends_at, goes_left, wanted, way_of};
+ghost use Rattle.descent.specs.WriteResponses.{CanTreatWrite, IsFine, IsHere, IsIdleOnWay, IsAtLeft, IsSplitFinished, TreatsWrite, writing};
+ghost use Rattle.descent.specs.WriteRounds.{IsSame, SeeksLeaf, Shows, ends_at, goes_left, wanted, write_way};
 ghost use Rattle.descent.specs.Ways.{LeadsDown, LeadsRight, StaysLeft};
 ghost use Rattle.descent.specs.Descents.{Root};
-ghost use Rattle.rounds.specs.Descents.{step_of};
-ghost use Rattle.rounds.specs.WriteRounds.{CanSee, Sees, again_if, end_of};
+ghost use Rattle.rounds.specs.Descents.{asked_step};
+ghost use Rattle.rounds.specs.WriteRounds.{CanSeeToWrite, SeesToWrite, again_if, ended_write};
 
 mod due;
 #[cfg(test)]
@@ -41,9 +43,9 @@ pub struct WriteRound<A: Allocator = Global> {
 }
 
 impl<A: Allocator> Model for WriteRound<A> {
-    ghost use Rattle.rounds.specs.WriteRounds.{WriteRound};
+    ghost use Rattle.rounds.specs.WriteRounds.{PlacedWrite};
 
-    ghost Value = { WriteRound };
+    ghost Value = { PlacedWrite };
 
     ghost view = { λ r. record { round = record { limits = r.descent.way.limits; key = r.key; due = r.due; tends = r.tends; floor = r.floor; goal = r.course.course.goal; parent = r.course.course.parent; left = r.course.course.left; state = r.descent.way.state }; page = r.descent.page; parent = r.course.parent; left = r.course.left } };
 }
@@ -133,9 +135,9 @@ impl<A: Allocator> WriteRound<A> {
 
     /// What the round reads next.
     pub fn asks(&self) -> Asked
-        ensures wanted { step_of result ≡ wanted self.now.round }
-        ensures within { ReadsWithin self.now.round.limits (step_of result) }
-        ensures may { (actor : ℕ) (k : Knowledge) (r : Recalled) → Shows self.now.round k r → May actor k (step_of result) }
+        ensures wanted { asked_step result ≡ wanted self.now.round }
+        ensures within { ReadsWithin self.now.round.limits (asked_step result) }
+        ensures may { (actor : ℕ) (k : Knowledge) (r : Recalled) → Shows self.now.round k r → May actor k (asked_step result) }
     {
         self.descent.asks()
     }
@@ -143,8 +145,8 @@ impl<A: Allocator> WriteRound<A> {
     /// Takes the number that was read in the slot that the round asked for, and tells whether the page isn't there, which ends the round:
     /// a new one begins.
     pub fn told(&mut self, number: u64) -> bool
-        requires told { IsTold self.old.round (Number number) }
-        ensures responds { Responds self.old.round (Number number) self.new.round (again_if result) }
+        requires told { IsTold (machine writing) self.old.round (Number number) }
+        ensures responds { Responds writing self.old.round (Number number) self.new.round (again_if result) }
         ensures same { IsSame self.old.round self.new.round }
     {
         match self.descent.told(number) {
@@ -156,9 +158,9 @@ impl<A: Allocator> WriteRound<A> {
 
     /// Takes the row that the round asked for, which stands over another one, and gives another one in its place.
     pub fn read_on(&mut self, row: &mut HeldRow<A>)
-        requires told { IsTold self.old.round (Content row.old) }
+        requires told { IsTold (machine writing) self.old.round (Content row.old) }
         requires on { reads_on (Content row.old) ≡ true }
-        ensures responds { Responds self.old.round (Content row.old) self.new.round None }
+        ensures responds { Responds writing self.old.round (Content row.old) self.new.round None }
         ensures same { IsSame self.old.round self.new.round }
     {
         self.descent.take_row(row);
@@ -167,8 +169,8 @@ impl<A: Allocator> WriteRound<A> {
     /// Takes the row that the round asked for, gives another one in its place, and tells how the round ends, once it does.
     #[inline(never)]
     pub fn take_row(&mut self, row: &mut HeldRow<A>) -> Option<WriteEnded>
-        requires told { IsTold self.old.round (Content row.old) }
-        ensures responds { Responds self.old.round (Content row.old) self.new.round (option_map (end_of self.new) result) }
+        requires told { IsTold (machine writing) self.old.round (Content row.old) }
+        ensures responds { Responds writing self.old.round (Content row.old) self.new.round (option_map (ended_write self.new) result) }
         ensures same { IsSame self.old.round self.new.round }
     {
         let seen = self.descent.take_row(row);
@@ -177,8 +179,8 @@ impl<A: Allocator> WriteRound<A> {
 
     /// Goes on from what was seen, or ends.
     fn see(&mut self, seen: Seen) -> Option<WriteEnded>
-        requires can { CanSee self.old seen }
-        ensures sees { Sees self.old seen self.new result }
+        requires can { CanSeeToWrite self.old seen }
+        ensures sees { SeesToWrite self.old seen self.new result }
         ensures same { IsSame self.old.round self.new.round }
     {
         match seen {
@@ -190,8 +192,8 @@ impl<A: Allocator> WriteRound<A> {
 
     /// Goes on from the page in hand, which was read now, or ends there, by what it was read for.
     fn treat(&mut self) -> Option<WriteEnded>
-        requires can { CanTreat self.old.round self.old.page }
-        ensures treats { Treats self.old.round self.old.page self.new.round (option_map (end_of self.new) result) }
+        requires can { CanTreatWrite self.old.round self.old.page }
+        ensures treats { TreatsWrite self.old.round self.old.page self.new.round (option_map (ended_write self.new) result) }
         ensures same { IsSame self.old.round self.new.round }
     {
         if self.course.seeks_leaf() {
@@ -203,9 +205,9 @@ impl<A: Allocator> WriteRound<A> {
     /// Ends at the removed page, which was read again.
     #[inline(never)]
     fn end_again(&self) -> WriteEnded
-        requires can { CanTreat self.now.round self.now.page }
+        requires can { CanTreatWrite self.now.round self.now.page }
         requires again { ¬ SeeksLeaf self.now.round.goal }
-        ensures { Treats self.now.round self.now.page self.now.round (Some (end_of self.now result)) }
+        ensures { TreatsWrite self.now.round self.now.page self.now.round (Some (ended_write self.now result)) }
     {
         match self.course.aim() {
             Aim::Seek | Aim::Left(_) => unreachable!(),
@@ -216,9 +218,9 @@ impl<A: Allocator> WriteRound<A> {
 
     /// Ends at a removed page; else goes on from the page, or ends there.
     fn meet(&mut self) -> Option<WriteEnded>
-        requires can { CanTreat self.old.round self.old.page }
+        requires can { CanTreatWrite self.old.round self.old.page }
         requires seeks { SeeksLeaf self.old.round.goal }
-        ensures treats { Treats self.old.round self.old.page self.new.round (option_map (end_of self.new) result) }
+        ensures treats { TreatsWrite self.old.round self.old.page self.new.round (option_map (ended_write self.new) result) }
         ensures same { IsSame self.old.round self.new.round }
     {
         if self.page().chain().is_removed() {
@@ -233,11 +235,11 @@ impl<A: Allocator> WriteRound<A> {
     /// Ends where a change is due that finishes the split of the left page; else treats the page as any other.
     #[inline(never)]
     fn finish(&mut self) -> Option<WriteEnded>
-        requires can { CanTreat self.old.round self.old.page }
+        requires can { CanTreatWrite self.old.round self.old.page }
         requires seeks { SeeksLeaf self.old.round.goal }
         requires alive { is_removed self.old.page.chain ≡ false }
         requires left { self.old.round.left ≡ Some self.old.left }
-        ensures treats { Treats self.old.round self.old.page self.new.round (option_map (end_of self.new) result) }
+        ensures treats { TreatsWrite self.old.round self.old.page self.new.round (option_map (ended_write self.new) result) }
         ensures same { IsSame self.old.round self.new.round }
     {
         if self.course.has_parent() {
@@ -254,11 +256,11 @@ impl<A: Allocator> WriteRound<A> {
 
     /// Goes on to the right of a page that ends on the way; else settles what is due at the page.
     fn decide(&mut self) -> Option<WriteEnded>
-        requires can { CanTreat self.old.round self.old.page }
+        requires can { CanTreatWrite self.old.round self.old.page }
         requires seeks { SeeksLeaf self.old.round.goal }
         requires alive { is_removed self.old.page.chain ≡ false }
         requires finished { IsSplitFinished self.old.round.parent self.old.round.left self.old.page }
-        ensures treats { Treats self.old.round self.old.page self.new.round (option_map (end_of self.new) result) }
+        ensures treats { TreatsWrite self.old.round self.old.page self.new.round (option_map (ended_write self.new) result) }
         ensures same { IsSame self.old.round self.new.round }
     {
         match self.next_aside() {
@@ -273,16 +275,16 @@ impl<A: Allocator> WriteRound<A> {
 
     /// The page's right, where the page ends on the way.
     fn next_aside(&self) -> Option<u16>
-        ensures { MatchOption result (StaysLeft (way_of self.now.round.goal self.now.round.key) self.now.page.chain) (LeadsRight (way_of self.now.round.goal self.now.round.key) self.now.page.chain) }
+        ensures { MatchOption result (StaysLeft (write_way self.now.round.goal self.now.round.key) self.now.page.chain) (LeadsRight (write_way self.now.round.goal self.now.round.key) self.now.page.chain) }
     {
         right_on_way(self.page().chain(), &self.key, self.is_left())
     }
 
     /// Ends where the page is to be consolidated or split; else ends at it, or goes down.
     fn settle(&mut self) -> Option<WriteEnded>
-        requires can { CanTreat self.old.round self.old.page }
+        requires can { CanTreatWrite self.old.round self.old.page }
         requires here { IsHere self.old.round self.old.page }
-        ensures treats { Treats self.old.round self.old.page self.new.round (option_map (end_of self.new) result) }
+        ensures treats { TreatsWrite self.old.round self.old.page self.new.round (option_map (ended_write self.new) result) }
         ensures same { IsSame self.old.round self.new.round }
     {
         if self.is_long() {
@@ -296,10 +298,10 @@ impl<A: Allocator> WriteRound<A> {
 
     /// Goes down from a page at which nothing is due, or ends there, where the round ends at its level.
     fn go_on(&mut self) -> Option<WriteEnded>
-        requires can { CanTreat self.old.round self.old.page }
+        requires can { CanTreatWrite self.old.round self.old.page }
         requires here { IsHere self.old.round self.old.page }
         requires fine { IsFine self.old.round.due self.old.page }
-        ensures treats { Treats self.old.round self.old.page self.new.round (option_map (end_of self.new) result) }
+        ensures treats { TreatsWrite self.old.round self.old.page self.new.round (option_map (ended_write self.new) result) }
         ensures same { IsSame self.old.round self.new.round }
     {
         let level = self.page().chain().level();
@@ -320,12 +322,12 @@ impl<A: Allocator> WriteRound<A> {
     /// Ends at a small page of level 1 where it is to be removed or its term to be held; else goes down.
     #[inline(never)]
     fn tend(&mut self) -> Option<WriteEnded>
-        requires can { CanTreat self.old.round self.old.page }
+        requires can { CanTreatWrite self.old.round self.old.page }
         requires here { IsHere self.old.round self.old.page }
         requires fine { IsFine self.old.round.due self.old.page }
         requires index { ends_at self.old.round.goal self.old.round.floor < level_in self.old.page.chain }
         requires tends { self.old.round.tends ≡ true }
-        ensures treats { Treats self.old.round self.old.page self.new.round (option_map (end_of self.new) result) }
+        ensures treats { TreatsWrite self.old.round self.old.page self.new.round (option_map (ended_write self.new) result) }
         ensures same { IsSame self.old.round self.new.round }
     {
         match self.due_upkeep() {
@@ -339,12 +341,12 @@ impl<A: Allocator> WriteRound<A> {
 
     /// Goes down to a child of the page, which is the parent of those that are read from now on.
     fn go_below(&mut self)
-        requires can { CanTreat self.old.round self.old.page }
+        requires can { CanTreatWrite self.old.round self.old.page }
         requires here { IsHere self.old.round self.old.page }
         requires fine { IsFine self.old.round.due self.old.page }
         requires index { ends_at self.old.round.goal self.old.round.floor < level_in self.old.page.chain }
         requires idle { IsIdleOnWay self.old.round self.old.page }
-        ensures treats { Treats self.old.round self.old.page self.new.round None }
+        ensures treats { TreatsWrite self.old.round self.old.page self.new.round None }
         ensures same { IsSame self.old.round self.new.round }
     {
         let child = self.next_below();
@@ -355,20 +357,20 @@ impl<A: Allocator> WriteRound<A> {
     /// The child of the greatest term on the way.
     fn next_below(&self) -> u16
         requires index { 0 < level_in self.now.page.chain }
-        requires reached { IsTrue (way_of self.now.round.goal self.now.round.key (low_in self.now.page.chain)) }
-        requires stays { StaysLeft (way_of self.now.round.goal self.now.round.key) self.now.page.chain }
-        ensures { LeadsDown (way_of self.now.round.goal self.now.round.key) self.now.page.chain result }
+        requires reached { IsTrue (write_way self.now.round.goal self.now.round.key (low_in self.now.page.chain)) }
+        requires stays { StaysLeft (write_way self.now.round.goal self.now.round.key) self.now.page.chain }
+        ensures { LeadsDown (write_way self.now.round.goal self.now.round.key) self.now.page.chain result }
     {
         child_on_way(self.page().chain(), &self.key, self.is_left())
     }
 
     /// Ends at the leaf; to the left of a removed page, reads that one again where a change may be due.
     fn end(&mut self) -> Option<WriteEnded>
-        requires can { CanTreat self.old.round self.old.page }
+        requires can { CanTreatWrite self.old.round self.old.page }
         requires here { IsHere self.old.round self.old.page }
         requires fine { IsFine self.old.round.due self.old.page }
         requires level { level_in self.old.page.chain ≡ ends_at self.old.round.goal self.old.round.floor }
-        ensures treats { Treats self.old.round self.old.page self.new.round (option_map (end_of self.new) result) }
+        ensures treats { TreatsWrite self.old.round self.old.page self.new.round (option_map (ended_write self.new) result) }
         ensures same { IsSame self.old.round self.new.round }
     {
         match self.course.removed() {
@@ -382,8 +384,8 @@ impl<A: Allocator> WriteRound<A> {
     fn end_left(&mut self, pid: u16) -> Option<WriteEnded>
         requires some { 0 < pid }
         requires below { pid < self.old.round.limits.pids }
-        requires left { IsLeftLeaf self.old.round self.old.page pid }
-        ensures treats { Treats self.old.round self.old.page self.new.round (option_map (end_of self.new) result) }
+        requires left { IsAtLeft self.old.round self.old.page pid }
+        ensures treats { TreatsWrite self.old.round self.old.page self.new.round (option_map (ended_write self.new) result) }
         ensures same { IsSame self.old.round self.new.round }
     {
         if self.page().chain().right() == Some(pid) {

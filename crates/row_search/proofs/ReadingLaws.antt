@@ -23,7 +23,7 @@ use Rattle.record_slots.specs.Parts.{IsItem, row_of, items_of}
 use Rattle.record_slots.proofs.ItemLaws.{first_words, behind_words}
 use Rattle.record_slots.proofs.SpellingLaws.{counts, items_fit, items_spelled, row_spelled}
 use Rattle.record_slots.proofs.TextLaws.{read_back}
-use Rattle.row_search.specs.Reading.{text_in, field_in, bound_in, right_in, item_in, items_in, record_from, record_in}
+use Rattle.row_search.specs.Reading.{text_in, field_in, bound_in, page_or_none, item_in, items_in, record_from, record_in}
 use Rattle.row_search.proofs.ItemTexts.{unmarked, window}
 
 -- a text that stands first in some words
@@ -50,7 +50,7 @@ bound_read (Some text) words short e =
     let none : (get_or words 0 0 == no_bound) ≡ false = false_from_ne_true (get_or words 0 0 == no_bound) (λ is. let e : get_or words 0 0 ≡ no_bound = eqb-true (get_or words 0 0) no_bound is in omega arith) in
     ap (λ b. if b then None else Some (field_in words)) none ∙ ap Some (field_read text words short e)
 
-right_read : (right : Option ℕ) → IfSome right IsPid → right_in (unwrap_or right 0) ≡ right
+right_read : (right : Option ℕ) → IfSome right IsPid → page_or_none (unwrap_or right 0) ≡ right
 right_read None h = refl
 right_read (Some zero) h = let some = h.0 in absurd (omega arith)
 right_read (Some (suc page)) h = ap (λ b. if b then None else Some (suc page)) (eqb-suc-zero page)

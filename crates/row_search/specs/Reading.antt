@@ -19,8 +19,8 @@ field_in words = text_in (slice_index words 0) (drop 1 words)
 abbrev pub bound_in : List ℕ → Option (List ℕ)
 bound_in words = if slice_index words 0 == NO_BOUND then None else Some (field_in words)
 
-abbrev pub right_in : ℕ → Option ℕ
-right_in page = if page == 0 then None else Some page
+abbrev pub page_or_none : ℕ → Option ℕ
+page_or_none page = if page == 0 then None else Some page
 
 -- the item of its words, on a level
 abbrev pub item_in : ℕ → List ℕ → Item
@@ -38,35 +38,35 @@ abbrev pub first_key : List Item → List ℕ
 first_key [] = []
 first_key (item ∷ items) = item.key
 
-abbrev pub value_of : Content → List ℕ
-value_of (Value value) = value
-value_of (Child page held) = []
+abbrev pub bytes_of_value : Content → List ℕ
+bytes_of_value (Value value) = value
+bytes_of_value (Child page held) = []
 
 abbrev pub first_value : List Item → List ℕ
 first_value [] = []
-first_value (item ∷ items) = value_of item.content
+first_value (item ∷ items) = bytes_of_value item.content
 
 -- the record of a kind, with these parts
 abbrev pub record_from : ℕ → ℕ → ℕ → ℕ → List ℕ → Option (List ℕ) → List Item → Record
 record_from kind level next page first second items =
-    if kind == 1 then Base (record { level = level; low = first; high = second; right = right_in page; removed = false; items = items })
+    if kind == 1 then Base (record { level = level; low = first; high = second; right = page_or_none page; removed = false; items = items })
     else if kind == 2 then Put (record { next = next; key = first_key items; value = first_value items })
     else if kind == 3 then Delete (record { next = next; key = first })
     else if kind == 4 then Split (record { level = level; next = next; separator = first; page = page })
     else if kind == 5 then Term (record { level = level; next = next; separator = first; child = page })
     else if kind == 6 then Hold (record { level = level; next = next; separator = first; child = page })
     else if kind == 7 then Remove (record { level = level; next = next })
-    else if kind == 8 then Merge (record { level = level; next = next; low = first; high = second; right = right_in page; items = items })
+    else if kind == 8 then Merge (record { level = level; next = next; low = first; high = second; right = page_or_none page; items = items })
     else Unterm (record { level = level; next = next; separator = first; child = page })
 
 abbrev pub kind_in : List ℕ → ℕ
 kind_in words = slice_index words 0 % PART_LIMIT
 
-abbrev pub level_in : List ℕ → ℕ
-level_in words = slice_index words 0 / LEVEL_UNIT % PART_LIMIT
+abbrev pub level_of_words : List ℕ → ℕ
+level_of_words words = slice_index words 0 / LEVEL_UNIT % PART_LIMIT
 
 abbrev pub count_in : List ℕ → ℕ
 count_in words = slice_index words 0 / ITEM_UNIT % PART_LIMIT
 
 abbrev pub record_in : List ℕ → Record
-record_in words = record_from (kind_in words) (level_in words) (slice_index words 1) (slice_index words 2) (field_in (drop FIRST_KEY words)) (bound_in (drop SECOND_KEY words)) (items_in (level_in words) (count_in words) (drop FIRST_ITEM words))
+record_in words = record_from (kind_in words) (level_of_words words) (slice_index words 1) (slice_index words 2) (field_in (drop FIRST_KEY words)) (bound_in (drop SECOND_KEY words)) (items_in (level_of_words words) (count_in words) (drop FIRST_ITEM words))

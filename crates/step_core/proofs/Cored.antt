@@ -27,7 +27,7 @@ use Rattle.tree_law.specs.Own.{RowsAreApart}
 use Rattle.tree_law.specs.State.{IsState}
 use Rattle.tree_law.specs.TraceLaws.{AnswersFit, BeginsKeep, Grows, Steps}
 use Rattle.chain_search.specs.Recalled.{Recalled, blank, recall, recalls, recalls_after}
-use Rattle.actors.specs.Actors.{Actor, IsActor, IsShown, command_left, idle_actor, knows_then, running_command, wanted_by}
+use Rattle.actors.specs.Actors.{Actor, IsActor, IsActorShown, command_left, idle_actor, knows_then, running_command, wanted_by}
 use Rattle.actors.specs.Spending.{steps_due}
 use Rattle.step_core.specs.Actors.{IsReady, IsServedAt, IsWithinAt, wanted_in}
 use Rattle.step_core.proofs.Lawful.{Asks, asks, is_placed, served_at, within_at}
@@ -124,7 +124,7 @@ module _ (limits : Limits) where
   -- the actor of a turn that goes on with its operation shows what is known
   pub core_shown : (table : Table) (actors : List Actor) (entries : List Entry) (i j : ℕ) (old : Actor) → IsCore limits table actors entries
       → (demand : Demand) (v : Core) → record { limits = limits; entries = entries; demand = demand } ≡ v → refusal_of v (turn.Step i) ≡ None → j ≡ i → old ≡ get_or actors j old
-      → IsShown old × (is_some (running_command old) ≡ true)
+      → IsActorShown old × (is_some (running_command old) ≡ true)
   core_shown table actors entries i j old core demand v is refusal same at =
       let goes : (i < limits.actors) × (is_some (command_of entries i) ≡ true) = step_goes (record { limits = limits; entries = entries; demand = demand }) i (subst (λ u. refusal_of u (turn.Step i) ≡ None) (sym is) refusal) in
       let found : slice_get actors i ≡ Some old = get_is actors i old (rw core.count goes.0) (subst (λ k. old ≡ get_or actors k old) same at) in

@@ -17,7 +17,7 @@ use Rattle.op_machine.specs.Hands.{Hand}
 use Rattle.tree_law.specs.Own.{RowsAreApart}
 use Rattle.tree_law.specs.State.{IsState}
 use Rattle.tree_law.specs.TraceLaws.{AnswersFit, HeadsStand}
-use Rattle.actors.specs.Running.{Running}
+use Rattle.actors.specs.Running.{UnderWay}
 use Rattle.actors.specs.Actors.{IsActorWith, IsRunning, wanted_by}
 use Rattle.step_core.specs.Actors.{IsServed, IsServedAt, IsWithinAt}
 
@@ -56,10 +56,10 @@ module _ (limits : Limits) (entries : List Entry) (state : IsState limits entrie
     served : AnswersFit → (step : StepOf Record) → May a (knows entries a) step → IsServed limits (knows entries a) m step
     served fit step may = λ answer told. fit limits entries a step answer state may told
 
-    may_take : (r : Recalled) (hand : Hand) (running : Running) → IsRunning limits a (knows entries a) r hand running → May a (knows entries a) running.wanted
+    may_take : (r : Recalled) (hand : Hand) (running : UnderWay) → IsRunning limits a (knows entries a) r hand running → May a (knows entries a) running.wanted
     may_take r hand running at = subst (λ n. May n (knows entries a) running.wanted) at.own_actor at.goes.may.may
 
-    pub served_at : AnswersFit → (r : Recalled) (hand : Hand) (running : Option Running) → IsActorWith limits a (knows entries a) r hand running → IsServedAt limits (knows entries a) m (wanted_by running)
+    pub served_at : AnswersFit → (r : Recalled) (hand : Hand) (running : Option UnderWay) → IsActorWith limits a (knows entries a) r hand running → IsServedAt limits (knows entries a) m (wanted_by running)
     served_at fit r hand None at = tt
     served_at fit r hand (Some running) at = served fit running.wanted (may_take r hand running at)
 
@@ -82,6 +82,6 @@ module _ (limits : Limits) (entries : List Entry) (state : IsState limits entrie
       within (ReusePids word bits) h may = rw same h.0
       within (ReuseRows word bits) h may = rw same h.0
 
-      pub within_at : (r : Recalled) (hand : Hand) (running : Option Running) → IsActorWith limits a (knows entries a) r hand running → IsWithinAt table a (wanted_by running)
+      pub within_at : (r : Recalled) (hand : Hand) (running : Option UnderWay) → IsActorWith limits a (knows entries a) r hand running → IsWithinAt table a (wanted_by running)
       within_at r hand None at = tt
       within_at r hand (Some running) at = within running.wanted (subst (λ l. IsWithin l running.wanted) at.own_limits at.goes.may.within) (may_take r hand running at)

@@ -2,8 +2,8 @@
 use Rattle.std.proofs.Common.{◌≡◌, ℕ, List, Bool, Option, Some, None, cond, is_some, true, false, inl, inr, sym, ap, ◌∙◌, subst, refl}
 use Rattle.std.specs.Str.{bytes_eq}
 use Rattle.std.proofs.lemmas.Option.{same_Some}
-use Rattle.actors.specs.Running.{Running}
-use Rattle.actors.specs.Actors.{Actor, GoesOn, IsActor, IsActorWith, IsGoing, command_at, running_command, wanted_by}
+use Rattle.actors.specs.Running.{UnderWay}
+use Rattle.actors.specs.Actors.{Actor, ActsOn, IsActor, IsActorWith, IsGoing, command_at, running_command, wanted_by}
 use Rattle.bw_model.specs.declared.command.Command.{Command}
 use Rattle.bw_model.specs.declared.command.Command.TheVariants.{Get, Insert, Upsert, Delete, Swap, Page, Tidy}
 use Rattle.bw_model.specs.declared.command.Reply.{Reply}
@@ -66,13 +66,13 @@ asked_is task spares k r (Change now then) h = h.asked.going
 asked_is task spares k r (Leave reply) h = h.0.going
 
 -- an actor with an operation shows that command, and wants a step
-command_shown : (limits : Limits) (number : ℕ) (k : Knowledge) (r : Recalled) (hand : Hand) (running : Option Running) → is_some (command_at running) ≡ true → IsActorWith limits number k r hand running → k.asked.command ≡ command_at running
+command_shown : (limits : Limits) (number : ℕ) (k : Knowledge) (r : Recalled) (hand : Hand) (running : Option UnderWay) → is_some (command_at running) ≡ true → IsActorWith limits number k r hand running → k.asked.command ≡ command_at running
 command_shown limits number k r hand None some at = cc
 command_shown limits number k r hand (Some running) some at = asked_is running.op.task hand.spares k r running.op.state at.goes.shows.stands
 
 module _ (limits : Limits) (number : ℕ) (k : Knowledge) (r : Recalled) (memory : Memory) (step : StepOf Record) (answer : Answer Record) where
   -- the answer of the memory fits
-  going_with : (hand : Hand) (o : Option Running) → is_some (command_at o) ≡ true → IsReady limits number k r memory (record { hand = hand; running = o }) → wanted_by o ≡ Some step → IsAnswer memory step answer
+  going_with : (hand : Hand) (o : Option UnderWay) → is_some (command_at o) ≡ true → IsReady limits number k r memory (record { hand = hand; running = o }) → wanted_by o ≡ Some step → IsAnswer memory step answer
       → (going : IsGoing limits number k r (record { hand = hand; running = o }) answer) × (going.running.wanted ≡ step)
   going_with hand None some ready is answered = cc
   going_with hand (Some running) some ready is answered =
@@ -84,20 +84,20 @@ module _ (limits : Limits) (number : ℕ) (k : Knowledge) (r : Recalled) (memory
 
   -- it goes on by that answer
   pub goes_by : (at new : Actor) (told : Answer Record) (reply : Option Reply) → is_some (running_command at) ≡ true → IsReady limits number k r memory at → wanted_by at.running ≡ Some step → IsAnswer memory step answer → told ≡ answer
-      → ((going : IsGoing limits number k r at told) → GoesOn limits number k r at going.running.wanted told reply new) → GoesOn limits number k r at step answer reply new
+      → ((going : IsGoing limits number k r at told) → ActsOn limits number k r at going.running.wanted told reply new) → ActsOn limits number k r at step answer reply new
   goes_by at new told reply some ready is answered same goes =
       let on = going at some ready is answered in
-      let from : GoesOn limits number k r at on.0.running.wanted answer reply new = subst (λ a. (g : IsGoing limits number k r at a) → GoesOn limits number k r at g.running.wanted a reply new) same goes on.0 in
-      subst (λ asked. GoesOn limits number k r at asked answer reply new) on.1 from
+      let from : ActsOn limits number k r at on.0.running.wanted answer reply new = subst (λ a. (g : IsGoing limits number k r at a) → ActsOn limits number k r at g.running.wanted a reply new) same goes on.0 in
+      subst (λ asked. ActsOn limits number k r at asked answer reply new) on.1 from
 
   -- where the reply has pairs, the step ends a cursor page
-  pub needs_room : (at new : Actor) (reply : Reply) → is_some (running_command at) ≡ true → IsActor limits number k r at → wanted_by at.running ≡ Some step → GoesOn limits number k r at step answer (Some reply) new → ShowsPairs reply → NeedsRoom at
+  pub needs_room : (at new : Actor) (reply : Reply) → is_some (running_command at) ≡ true → IsActor limits number k r at → wanted_by at.running ≡ Some step → ActsOn limits number k r at step answer (Some reply) new → ShowsPairs reply → NeedsRoom at
   needs_room at new reply some shows is goes pairs =
       let page = asks_page limits number k reply goes.allowed.replied.1 pairs in
       subst (IsPageEnd (running_command at)) (sym is) (record { from = page.0; asks = sym (command_shown limits number k r at.hand at.running some shows) ∙ page.1; leaves = goes.allowed.replied.0 })
 
 -- what an actor makes of an answer, it makes of it by any name
-pub goes_same : (at new : Actor) (told answer : Answer Record) → told ≡ answer → ((limits : Limits) (number : ℕ) (k : Knowledge) (r : Recalled) (going : IsGoing limits number k r at told) → GoesOn limits number k r at going.running.wanted told None new)
-    → (limits : Limits) (number : ℕ) (k : Knowledge) (r : Recalled) (going : IsGoing limits number k r at answer) → GoesOn limits number k r at going.running.wanted answer None new
+pub goes_same : (at new : Actor) (told answer : Answer Record) → told ≡ answer → ((limits : Limits) (number : ℕ) (k : Knowledge) (r : Recalled) (going : IsGoing limits number k r at told) → ActsOn limits number k r at going.running.wanted told None new)
+    → (limits : Limits) (number : ℕ) (k : Knowledge) (r : Recalled) (going : IsGoing limits number k r at answer) → ActsOn limits number k r at going.running.wanted answer None new
 goes_same at new told answer same goes =
-    subst (λ a. (limits : Limits) (number : ℕ) (k : Knowledge) (r : Recalled) (going : IsGoing limits number k r at a) → GoesOn limits number k r at going.running.wanted a None new) same goes
+    subst (λ a. (limits : Limits) (number : ℕ) (k : Knowledge) (r : Recalled) (going : IsGoing limits number k r at a) → ActsOn limits number k r at going.running.wanted a None new) same goes

@@ -103,9 +103,9 @@ IsEventOf memory (entry.Step actor step answer (Some reply)) event = event ≡ D
 IsEventOf memory (entry.Step actor step answer None) event = (event ≡ Stepped (link_told memory step answer)) × (is_some (link_told memory step answer) ≡ is_won step answer)
 
 -- A step has the answer of the memory before it.
-abbrev pub IsToldBy : Memory → Entry → Type 0
-IsToldBy memory (entry.Begin actor command) = Unit {0}
-IsToldBy memory (entry.Step actor step answer reply) = IsAnswer memory step answer
+abbrev pub IsAnsweredIn : Memory → Entry → Type 0
+IsAnsweredIn memory (entry.Begin actor command) = Unit {0}
+IsAnsweredIn memory (entry.Step actor step answer reply) = IsAnswer memory step answer
 
 -- The step is the one that its actor's operation wanted.
 abbrev pub IsWanted : Core → Entry → Type 0
@@ -124,7 +124,7 @@ pub record AddsTurn (old : Core) (turn : Turn) (event : Event) (new : Core) : Ty
   pub wanted : IsWanted old added
   pub others : KeepsOthers (actor_of turn) old new
   pub room : old.demand.room ≤ new.demand.room
-  pub told : IsToldBy (memory_of old.limits old.entries) added
+  pub told : IsAnsweredIn (memory_of old.limits old.entries) added
   pub event_of : IsEventOf (memory_of old.limits old.entries) added event
   pub same_limits : new.limits ≡ old.limits
 

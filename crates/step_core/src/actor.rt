@@ -1,6 +1,6 @@
 //! One actor of a core: what its step needs of memory, and how it is taken.
 ghost use Rattle.std.specs.Prelude.{◌≡◌, ◌≢◌, ℕ, IfOk, IsSome, None, OnErr, Some, is_some, true};
-ghost use Rattle.actors.specs.Actors.{GoesOn, IsGoing, IsShown, IsTold, running_command, wanted_by};
+ghost use Rattle.actors.specs.Actors.{ActsOn, IsGoing, IsActorShown, IsToldActor, running_command, wanted_by};
 ghost use Rattle.bw_model.specs.declared.limits.Limits.{Limits};
 ghost use Rattle.chain_search.specs.Knowledge.{Knowledge};
 ghost use Rattle.chain_search.specs.Recalled.{Recalled};
@@ -38,7 +38,7 @@ pub(crate) fn prepare<A: Allocator + Copy>(
     number: u8,
     memory: &Table<A>,
 ) -> Result<Ready<A>, AllocError>
-    requires shown { IsShown actor.now }
+    requires shown { IsActorShown actor.now }
     requires running { is_some (running_command actor.now) ≡ true }
     requires within { IsWithinAt memory.now number (wanted_by actor.now.running) }
     ensures wanted { IfOk result (λ ready. wanted_by actor.now.running ≡ Some ready.step) }
@@ -71,7 +71,7 @@ pub(crate) fn go_on<A: Allocator>(
     requires wanted { wanted_by actor.old.running ≡ Some ready.step }
     requires answer { IsAnswer (memory_in memory.old) ready.step ready.answer }
     requires again { ready.again ≡ ready.step }
-    ensures goes { (limits : Limits) (k : Knowledge) (r : Recalled) → IsReady limits number k r (memory_in memory.old) actor.old → GoesOn limits number k r actor.old result.step result.answer None actor.new }
+    ensures goes { (limits : Limits) (k : Knowledge) (r : Recalled) → IsReady limits number k r (memory_in memory.old) actor.old → ActsOn limits number k r actor.old result.step result.answer None actor.new }
     ensures limits { memory.new.limits ≡ memory.old.limits }
     ensures wanted { wanted_by actor.old.running ≡ Some result.step }
     ensures answer { IsAnswer (memory_in memory.old) result.step result.answer }
@@ -90,9 +90,9 @@ pub(crate) fn go_on<A: Allocator>(
 
 /// Tells the actor the answer to the step that its operation wants; a record that was read is written into the room first.
 fn tell<A: Allocator>(actor: &mut Actor<A>, answer: &Answer<SharedRecord<A>>, room: &mut HeldRow<A>)
-    requires told { IsTold actor.old answer.now }
+    requires told { IsToldActor actor.old answer.now }
     requires stays { wanted_by actor.old.running ≢ Some Step.Leave }
-    ensures goes { (limits : Limits) (number : ℕ) (k : Knowledge) (r : Recalled) (going : IsGoing limits number k r actor.old answer.now) → GoesOn limits number k r actor.old going.running.wanted answer.now None actor.new }
+    ensures goes { (limits : Limits) (number : ℕ) (k : Knowledge) (r : Recalled) (going : IsGoing limits number k r actor.old answer.now) → ActsOn limits number k r actor.old going.running.wanted answer.now None actor.new }
     ensures command { running_command actor.new ≡ running_command actor.old }
 {
     match answer {
@@ -148,7 +148,7 @@ pub(crate) fn leave<A: Allocator>(
     requires knows { (limits : Limits) × (k : Knowledge) × (r : Recalled) × IsReady limits number k r (memory_in memory.old) actor.old }
     requires within { IsWithinAt memory.old number (wanted_by actor.old.running) }
     requires room { NeedsRoom actor.old → IsSome room }
-    ensures goes { (limits : Limits) (k : Knowledge) (r : Recalled) → IsReady limits number k r (memory_in memory.old) actor.old → GoesOn limits number k r actor.old Step.Leave Answer.Done (Some result) actor.new }
+    ensures goes { (limits : Limits) (k : Knowledge) (r : Recalled) → IsReady limits number k r (memory_in memory.old) actor.old → ActsOn limits number k r actor.old Step.Leave Answer.Done (Some result) actor.new }
     ensures limits { memory.new.limits ≡ memory.old.limits }
     ensures memory { memory_in memory.new ≡ memory_after number Step.Leave (memory_in memory.old) }
     ensures command { running_command actor.new ≡ None }

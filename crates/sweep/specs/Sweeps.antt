@@ -118,7 +118,7 @@ pub record IsKeptOutside (limits : Limits) (actor : ℕ) (limbo : Limbo) (k : Kn
   pub kept : AreKept limits actor limbo k.limbo
 
 -- Something is known that the answer to the step wanted last fits.
-pub record IsTold (sweep : Sweep) (told : Answer Record) : Type 0 where
+pub record FitsSweep (sweep : Sweep) (told : Answer Record) : Type 0 where
   pub k : Knowledge
   pub fits : Fits sweep.limits k (wanted sweep) told
 

@@ -1,5 +1,5 @@
 //! The sweep of an actor's limbo, one step at a time.
-ghost use Rattle.std.specs.Prelude.{◌≡◌, ◌<◌, ◌≤◌, ◌+◌, ◌∷◌, [], ◌↔◌, ℕ, length, IsFalse, IsNone, IsTrue, None, Some, MatchOption, IfSome};
+ghost use Rattle.std.specs.Prelude.{◌≡◌, ◌<◌, ◌≤◌, ◌+◌, ◌↔◌, IsNone, IsTrue, None, Some, MatchOption, IfSome};
 ghost use Rattle.chain_search.specs.Discipline.{May, MayFree};
 ghost use Rattle.chain_search.specs.Fitting.{Fits};
 ghost use Rattle.chain_search.specs.Knowledge.{Knowledge, learn};
@@ -7,9 +7,9 @@ ghost use Rattle.chain_search.specs.Useful.{IsUseful};
 ghost use Rattle.epochs.specs.Limbo.{Limbo as LimboSeen};
 ghost use Rattle.chain_search.specs.Within.{IsWithin};
 ghost use Rattle.sweep.specs.Bounded.{Spends, steps_left};
-ghost use Rattle.sweep.specs.Kept.{AreKept, IsLimboOf};
+ghost use Rattle.sweep.specs.Kept.{IsLimboOf};
 ghost use Rattle.sweep.specs.Moves.{BeginsSweep, Compares, Frees, IsEmpty, Moves, Stamps, state_if};
-ghost use Rattle.sweep.specs.Sweeps.{Follows, IsOfSweep, IsSame, IsSoundSweep, IsTold, IsKeptOutside, Shows, other_at, wanted};
+ghost use Rattle.sweep.specs.Sweeps.{Follows, IsOfSweep, IsSame, IsSoundSweep, FitsSweep, IsKeptOutside, Shows, other_at, wanted};
 
 use crate::announces::Announces;
 use bw_model::{Answer, Limits, Step};
@@ -93,7 +93,7 @@ impl Sweep {
     /// Takes the answer to the step wanted last, and tells whether the sweep goes on.
     pub fn next<A: Allocator>(&mut self, limbo: &mut Limbo<A>, answer: &Answer<Record>) -> bool
         requires sound { IsSoundSweep self.old limbo.old }
-        requires told { IsTold self.old answer.now }
+        requires told { FitsSweep self.old answer.now }
         ensures moves { Moves self.old.limits self.old.state limbo.old answer.now (state_if result self.new.state) limbo.new }
         ensures same { IsSame self.old self.new }
         ensures follows { (k : Knowledge) → Shows self.old limbo.old k → Fits self.old.limits k (wanted self.old) answer.now → Follows k (learn k (wanted self.old) answer.now) self.new limbo.new result }
@@ -118,7 +118,7 @@ impl Sweep {
         limbo: &mut Limbo<A>,
         answer: &Answer<Record>,
     ) -> Option<State>
-        requires told { IsTold self.old answer.now }
+        requires told { FitsSweep self.old answer.now }
         ensures moves { Moves self.old.limits self.old.state limbo.old answer.now result limbo.new }
         ensures same { IsSame self.old self.new }
     {

@@ -1,6 +1,6 @@
 //! What each actor is doing, and what it keeps.
-ghost use Rattle.std.specs.Prelude.{◌≡◌, IsSome};
-ghost use Rattle.actors.specs.Actors.{IsShown, running_command};
+ghost use Rattle.std.specs.Prelude.{◌≡◌};
+ghost use Rattle.actors.specs.Actors.{IsActorShown};
 
 use crate::places::LEFT;
 use crate::sheet::Sheet;
@@ -17,7 +17,7 @@ const FEW: usize = 8;
 
 /// An actor: three lines, of which the first begins at the height `y`.
 pub(crate) fn actor_lines(sheet: &mut Sheet, number: u8, actor: &Actor, announced: u64, y: u32)
-    requires { IsShown actor.now }
+    requires { IsActorShown actor.now }
     ensures { sheet.new ≡ sheet.old }
 {
     let mut words = Words::new();
@@ -38,7 +38,7 @@ pub(crate) fn actor_lines(sheet: &mut Sheet, number: u8, actor: &Actor, announce
 
 /// What it was asked, the step that it wants, and its errands.
 fn doing(actor: &Actor, announced: u64) -> Words
-    requires { IsShown actor.now }
+    requires { IsActorShown actor.now }
 {
     let mut words = Words::new();
     if !actor.is_running() {

@@ -2,7 +2,7 @@
 ghost use Rattle.std.specs.Prelude.{◌≡◌, IfSome};
 ghost use Rattle.bw_tree.specs.Seats.{unfinished_command};
 ghost use Rattle.bw_tree.specs.Trees.{IsSeatOf};
-ghost use Rattle.walks.specs.Cursors.{asked_by};
+ghost use Rattle.walks.specs.Cursors.{cursor_command};
 
 use bw_model::{Command, Key, Reply, Value};
 use bw_tree::{BwSeat, Tree};
@@ -68,7 +68,7 @@ pub(crate) fn are_numbers(pairs: &[(Key, Value)], first: u32, end: u32) -> bool 
 
 /// A walk from a number on, below another one, if there is a bound, for an idle seat.
 pub(crate) fn walk_from(seat: &BwSeat, from: u32, bound: Option<u32>) -> Option<Cursor>
-    ensures { IfSome result (λ cursor. unfinished_command seat.now ≡ asked_by cursor) }
+    ensures { IfSome result (λ cursor. unfinished_command seat.now ≡ cursor_command cursor) }
 {
     if !seat.is_idle() {
         return None;

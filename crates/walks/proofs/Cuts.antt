@@ -11,7 +11,7 @@ use Rattle.bw_model.specs.Bytes.{is_below, is_under, key_cmp}
 use Rattle.bw_model.specs.Pairs.{ArePairsOf}
 use Rattle.base_page.proofs.KeyLaws.{and_both, and_left, and_right, below_from, below-trans, below_reach, either}
 use Rattle.walks.specs.Pages.{end_under, pairs_under, place_under}
-use Rattle.walks.specs.Walks.{AreAscending}
+use Rattle.walks.specs.Walks.{PairsAscend}
 
 abbrev pub Pair : Type 0
 Pair = List ℕ × List ℕ
@@ -36,7 +36,7 @@ none_above bound key (pair ∷ pairs) out above =
     ap (λ b. cond b (pair ∷ pairs_under bound pairs) (pairs_under bound pairs)) passed ∙ none_above bound key pairs out above.1
 
 -- what stands before the first pair that isn't below the bound are the pairs below it
-pub cut_is : (bound : Option (List ℕ)) (pairs : List Pair) → AreAscending pairs → take_while (test bound) pairs ≡ pairs_under bound pairs
+pub cut_is : (bound : Option (List ℕ)) (pairs : List Pair) → PairsAscend pairs → take_while (test bound) pairs ≡ pairs_under bound pairs
 unfolding IsStrictlySortedBy
 cut_is bound [] ascend = refl
 cut_is bound (pair ∷ pairs) ascend = take_while-cons (test bound) pair pairs ∙ either (is_under pair.0 bound)

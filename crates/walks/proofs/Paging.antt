@@ -21,9 +21,9 @@ use Rattle.bw_tree.specs.declared.called.Called.TheVariants as called
 use Rattle.bw_tree.proofs.Going.{answered_snoc}
 use Rattle.walks.proofs.Asking.{Calls, finishes, fronts, is_operation, last_unanswered, operation, since}
 use Rattle.walks.proofs.Replying.{IsPaged, paged}
-use Rattle.walks.specs.Cursors.{Cursor, HasShown, IsRun, WasIdle, asked_by, page_from}
+use Rattle.walks.specs.Cursors.{Cursor, HasShown, IsRunOn, WasIdle, cursor_command, page_from}
 use Rattle.walks.specs.Pages.{pairs_under, place_under}
-use Rattle.walks.specs.Walks.{AreAscending}
+use Rattle.walks.specs.Walks.{PairsAscend}
 
 -- the seat has seen more, and this ends with the reply to its last call
 pub record IsReplied (seat : Seat) (asked : Command) (answered : Reply) (later : Seat) : Type 0 where
@@ -37,7 +37,7 @@ longer : {X : Type 0} (xs : List X) (x : X) → xs ≡ xs ++ x ∷ [] → ⊥
 longer xs x e = let long = ap length e ∙ length-append xs (x ∷ []) in omega (arith, long)
 
 pub replied : (asked : Bool) (seat later : Seat) (from : List ℕ) (budget : ℕ) (answered : Reply) → IsSame seat later → unfinished_command seat ≡ (if asked then Some (command.Page from) else None)
-    → IsRun asked seat (command.Page from) budget (called.Done answered) later → IsReplied seat (command.Page from) answered later
+    → IsRunOn asked seat (command.Page from) budget (called.Done answered) later → IsReplied seat (command.Page from) answered later
 replied false seat later from budget answered same ready h = record {
   grows = h.grows;
   more = λ e. longer (calls_in seat) (command.Page from, Some answered) ((λ i. calls_of (sym same.actor i) (sym e i)) ∙ h.calls);
@@ -54,10 +54,10 @@ replied true seat later from budget answered same ready h =
       last = h.calls ∙ ap (λ calls. answered_last calls answered) is ∙ answered_snoc before (command.Page from) None answered;
     }
 
-module _ (old : Cursor) (seat later : Seat) (from : List ℕ) (budget : ℕ) (came : Called) (answered : Reply) (at : old.at ≡ Some from) (same : IsSame seat later) (ready : unfinished_command seat ≡ asked_by old)
-    (runs : IsRun old.asked seat (command.Page from) budget came later) (is_done : came ≡ called.Done answered) (history : IsOneHistory later.limits later.seen) where
-  abbrev done : IsRun old.asked seat (command.Page from) budget (called.Done answered) later
-  done = subst (λ z. IsRun old.asked seat (command.Page from) budget z later) is_done runs
+module _ (old : Cursor) (seat later : Seat) (from : List ℕ) (budget : ℕ) (came : Called) (answered : Reply) (at : old.at ≡ Some from) (same : IsSame seat later) (ready : unfinished_command seat ≡ cursor_command old)
+    (runs : IsRunOn old.asked seat (command.Page from) budget came later) (is_done : came ≡ called.Done answered) (history : IsOneHistory later.limits later.seen) where
+  abbrev done : IsRunOn old.asked seat (command.Page from) budget (called.Done answered) later
+  done = subst (λ z. IsRunOn old.asked seat (command.Page from) budget z later) is_done runs
 
   abbrev r : IsReplied seat (command.Page from) answered later
   r = replied old.asked seat later from budget answered same (ready ∙ ap (λ key. if old.asked then page_from key else None) at) done
@@ -73,8 +73,8 @@ module _ (old : Cursor) (seat later : Seat) (from : List ℕ) (budget : ℕ) (ca
   is_paged = paged later.limits later.seen history.linearized.points mine from refl answered
       (history.linearized.answered.each mine (length r.ends.0) answered (is_operation later.limits later.seen r.ends.0 later.actor (command.Page from) answered r.calls history.linearized.run.run r.ends.1 r.last) ends_so)
 
-  pub items_ascend : (items : List (List ℕ × List ℕ)) (high : Option (List ℕ)) → answered ≡ reply.Page items high → AreAscending items
-  items_ascend items high is = let same_items : is_paged.items ≡ items = of_page (sym is_paged.is ∙ is) in subst AreAscending same_items is_paged.pairs.ascending
+  pub items_ascend : (items : List (List ℕ × List ℕ)) (high : Option (List ℕ)) → answered ≡ reply.Page items high → PairsAscend items
+  items_ascend items high is = let same_items : is_paged.items ≡ items = of_page (sym is_paged.is ∙ is) in subst PairsAscend same_items is_paged.pairs.ascending
     where
       of_page : {a b : List (List ℕ × List ℕ)} {x y : Option (List ℕ)} → reply.Page a x ≡ reply.Page b y → a ≡ b
       of_page e = cc

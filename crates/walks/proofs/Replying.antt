@@ -28,7 +28,7 @@ use Rattle.bw_model.specs.Bytes.{is_below, is_under}
 use Rattle.chain_search.specs.Chains.{covers, high_in, low_in}
 use Rattle.chain_search.specs.SideChain.{LivePage}
 use Rattle.walks.proofs.Spans.{begun_since}
-use Rattle.walks.specs.Pages.{end_under, place_under, pairs_under, IsPageOf, IsShown, Page, operation_of}
+use Rattle.walks.specs.Pages.{end_under, place_under, pairs_under, IsPageOf, IsPageShown, WalkedPage, page_operation}
 use Rattle.walks.proofs.Cuts.{cut_pairs}
 
 -- a cursor page with these pairs, at a point
@@ -142,17 +142,17 @@ module _ (limits : Limits) (run : List Entry) (is_run : IsRun limits run) (opera
   own_before m own = dite (dec_le m done) (λ le. le) (λ gt. absurd (no_step_after m (omega arith) own))
 
 -- what a page shows is the map's at its operation's point
-pub page_is_shown : (limits : Limits) (turns : List Turn) (run : List Entry) (bound : Option (List ℕ)) (page : Page) (linear : IsLinearized limits turns run) → IsPageOf run bound page → IsShown run linear.points bound page
+pub page_is_shown : (limits : Limits) (turns : List Turn) (run : List Entry) (bound : Option (List ℕ)) (page : WalkedPage) (linear : IsLinearized limits turns run) → IsPageOf run bound page → IsPageShown run linear.points bound page
 page_is_shown limits turns run bound page linear is =
-    let p : IsPaged run linear.points (operation_of page) page.from (reply.Page is.items is.high) =
-    paged limits run linear.points (operation_of page) page.from refl (reply.Page is.items is.high) (linear.answered.each (operation_of page) page.done (reply.Page is.items is.high) is.begins is.ends) in
+    let p : IsPaged run linear.points (page_operation page) page.from (reply.Page is.items is.high) =
+    paged limits run linear.points (page_operation page) page.from refl (reply.Page is.items is.high) (linear.answered.each (page_operation page) page.done (reply.Page is.items is.high) is.begins is.ends) in
     let same_items : is.items ≡ p.items = items_same p.is in
     let same_high : is.high ≡ p.high = high_same p.is in
     let cut = cut_pairs (logged_value (log_at run linear.points p.step)) page.from p.high bound p.items p.pairs in
     record {
       step = p.step;
       own = p.own;
-      within = own_before limits run linear.run.run (operation_of page) page.done (reply.Page is.items is.high) is.ends p.step p.own;
+      within = own_before limits run linear.run.run (page_operation page) page.done (reply.Page is.items is.high) is.ends p.step p.own;
       point = p.point;
       ahead = subst (λ next. is_under page.from next ≡ true) (sym (is.next ∙ ap (place_under bound) same_high)) (goes_ahead p.high p.ahead);
       pairs = subst (λ (z : Option (List ℕ) × List (List ℕ × List ℕ)). IsPairsOf (log_at run linear.points p.step) page.from (end_under bound z.0) z.1)

@@ -9,17 +9,17 @@ use Rattle.bw_tree.specs.Runs.{StartsWith}
 use Rattle.bw_tree.specs.Seats.{IsSame, Seat, unfinished_command}
 use Rattle.bw_tree.specs.declared.called.Called.TheVariants as called
 use Rattle.bw_tree.proofs.Going.{starts_on}
-use Rattle.walks.specs.Cursors.{Cursor, HasShown, HasWalked, IsNextOf, IsRun, IsSpentOn, WasIdle, added_by}
+use Rattle.walks.specs.Cursors.{Cursor, HasShown, HasWalked, IsNextOf, IsRunOn, IsSpentAt, WasIdle, added_by}
 use Rattle.walks.specs.Walks.{IsWalk, pairs_shown}
 use Rattle.walks.specs.declared.cursor.Walk.{Walk}
 use Rattle.walks.specs.declared.cursor.Walk.TheVariants as walk
 use Rattle.walks.proofs.Walking.{shown_on, walk_on, walk_stays}
 
-done_idle : (asked : Bool) (seat later : Seat) (from : List ℕ) (budget : ℕ) (reply : Reply) → IsRun asked seat (command.Page from) budget (called.Done reply) later → (StartsWith later.seen seat.seen) × (unfinished_command later ≡ None)
+done_idle : (asked : Bool) (seat later : Seat) (from : List ℕ) (budget : ℕ) (reply : Reply) → IsRunOn asked seat (command.Page from) budget (called.Done reply) later → (StartsWith later.seen seat.seen) × (unfinished_command later ≡ None)
 done_idle false seat later from budget reply run = (run.grows, run.idle)
 done_idle true seat later from budget reply run = (run.grows, run.idle)
 
-spent_grows : (asked : Bool) (seat later : Seat) (from : List ℕ) (budget : ℕ) → IsRun asked seat (command.Page from) budget called.Spent later → StartsWith later.seen seat.seen
+spent_grows : (asked : Bool) (seat later : Seat) (from : List ℕ) (budget : ℕ) → IsRunOn asked seat (command.Page from) budget called.Spent later → StartsWith later.seen seat.seen
 spent_grows false seat later from budget run = run.grows
 spent_grows true seat later from budget run = run.grows
 
@@ -79,7 +79,7 @@ module _ (first mid last : Cursor) (seat between later : Seat) (budget : ℕ) (a
   walked_more walked = walked_on first mid last seat between later before middle after walked
       (subst (λ pairs. HasWalked mid between middle pairs last later) (sym adds) (walked_next mid last between later budget answered middle same next))
 
-  pub spent_on : answered ≡ walk.Spent → HasWalked first seat before middle mid between → IsSpentOn seat budget last later
+  pub spent_on : answered ≡ walk.Spent → HasWalked first seat before middle mid between → IsSpentAt seat budget last later
   spent_on is walked = record { old = mid; seat = between; grows = walked.grows; asked = subst (λ one. IsNextOf mid between budget one last later) is next }
 
   pub walked_counted : answered ≡ walk.Page → (n : ℕ) → (walked : HasWalked first seat before middle mid between) × (length walked.pages ≡ n) → (walked : HasWalked first seat before after last later) × (length walked.pages ≡ n + 1)

@@ -13,8 +13,8 @@ use Rattle.chain_search.specs.declared.trace.Entry.{Entry}
 use Rattle.chain_search.proofs.Pushes.{slice_get-append_left, slice_get_below, slice_get_kept}
 use Rattle.op_machine.specs.Operations.{Finishes, Operation}
 use Rattle.bw_tree.specs.Runs.{StartsWith}
-use Rattle.walks.specs.Pages.{IsPageOf, IsShown, Page, end_under, operation_of, place_under}
-use Rattle.walks.specs.Walks.{AreAscending, IsWalk, TellMap, pairs_shown}
+use Rattle.walks.specs.Pages.{IsPageOf, IsPageShown, WalkedPage, end_under, page_operation, place_under}
+use Rattle.walks.specs.Walks.{PairsAscend, IsWalk, TellMap, pairs_shown}
 use Rattle.walks.proofs.Cuts.{Pair, below_bound}
 
 -- a page of a run is one of each longer run
@@ -31,37 +31,37 @@ finish_stays run rest operation n answered (step, told, own) = (
   },
 )
 
-pub page_stays : (run later : List Entry) (bound : Option (List ℕ)) (page : Page) → StartsWith later run → IsPageOf run bound page → IsPageOf later bound page
+pub page_stays : (run later : List Entry) (bound : Option (List ℕ)) (page : WalkedPage) → StartsWith later run → IsPageOf run bound page → IsPageOf later bound page
 page_stays run later bound page (rest, more) is = subst (λ es. IsPageOf es bound page) (sym more) (record {
   begins = slice_get_kept run rest page.begun _ is.begins;
   items = is.items;
   high = is.high;
-  ends = finish_stays run rest (operation_of page) page.done _ is.ends;
+  ends = finish_stays run rest (page_operation page) page.done _ is.ends;
   next = is.next;
   pairs = is.pairs;
 })
 
-pub walk_stays : (run later : List Entry) (bound at : Option (List ℕ)) (since : ℕ) (pages : List Page) (to : Option (List ℕ)) (till : ℕ) → StartsWith later run → IsWalk run bound at since pages to till → IsWalk later bound at since pages to till
+pub walk_stays : (run later : List Entry) (bound at : Option (List ℕ)) (since : ℕ) (pages : List WalkedPage) (to : Option (List ℕ)) (till : ℕ) → StartsWith later run → IsWalk run bound at since pages to till → IsWalk later bound at since pages to till
 walk_stays run later bound at since [] to till more walk = walk
 walk_stays run later bound at since (page ∷ pages) to till more walk = (walk.0, walk.1, page_stays run later bound page more walk.2, walk_stays run later bound page.next (page.done + 1) pages to till more walk.3)
 
 -- a walk takes its time
-pub walk_lasts : (run : List Entry) (bound at : Option (List ℕ)) (since : ℕ) (pages : List Page) (to : Option (List ℕ)) (till : ℕ) → IsWalk run bound at since pages to till → since ≤ till
+pub walk_lasts : (run : List Entry) (bound at : Option (List ℕ)) (since : ℕ) (pages : List WalkedPage) (to : Option (List ℕ)) (till : ℕ) → IsWalk run bound at since pages to till → since ≤ till
 walk_lasts run bound at since [] to till walk = walk.1
 walk_lasts run bound at since (page ∷ pages) to till walk =
     let rest = walk_lasts run bound page.next (page.done + 1) pages to till walk.3 in let begun = walk.1 in let ends = walk.2.ends.2.begun in omega arith
 
-walk_from : (run : List Entry) (bound at : Option (List ℕ)) (early since : ℕ) (pages : List Page) (to : Option (List ℕ)) (till : ℕ) → early ≤ since → IsWalk run bound at since pages to till → IsWalk run bound at early pages to till
+walk_from : (run : List Entry) (bound at : Option (List ℕ)) (early since : ℕ) (pages : List WalkedPage) (to : Option (List ℕ)) (till : ℕ) → early ≤ since → IsWalk run bound at since pages to till → IsWalk run bound at early pages to till
 walk_from run bound at early since [] to till le walk = let then' = walk.1 in (walk.0, omega arith)
 walk_from run bound at early since (page ∷ pages) to till le walk = let then' = walk.1 in (walk.0, omega arith, walk.2, walk.3)
 
 -- a walk that goes on
-pub walk_on : (run : List Entry) (bound at : Option (List ℕ)) (since : ℕ) (pages : List Page) (mid : Option (List ℕ)) (then' : ℕ) (more : List Page) (to : Option (List ℕ)) (till : ℕ)
+pub walk_on : (run : List Entry) (bound at : Option (List ℕ)) (since : ℕ) (pages : List WalkedPage) (mid : Option (List ℕ)) (then' : ℕ) (more : List WalkedPage) (to : Option (List ℕ)) (till : ℕ)
     → IsWalk run bound at since pages mid then' → IsWalk run bound mid then' more to till → IsWalk run bound at since (pages ++ more) to till
 walk_on run bound at since [] mid then' more to till walk rest = walk_from run bound at since then' more to till walk.1 (subst (λ key. IsWalk run bound key then' more to till) walk.0 rest)
 walk_on run bound at since (page ∷ pages) mid then' more to till walk rest = (walk.0, walk.1, walk.2, walk_on run bound page.next (page.done + 1) pages mid then' more to till walk.3 rest)
 
-pub shown_on : (pages more : List Page) → pairs_shown (pages ++ more) ≡ pairs_shown pages ++ pairs_shown more
+pub shown_on : (pages more : List WalkedPage) → pairs_shown (pages ++ more) ≡ pairs_shown pages ++ pairs_shown more
 shown_on [] more = refl
 shown_on (page ∷ pages) more = ap (λ rest. page.pairs ++ rest) (shown_on pages more) ∙ sym (append_assoc page.pairs (pairs_shown pages) (pairs_shown more))
 
@@ -69,7 +69,7 @@ abbrev keys : List Pair → List (List ℕ)
 keys pairs = map (λ (pair : Pair). pair.0) pairs
 
 -- ascending pairs above ascending pairs
-sorted_on : (xs ys : List Pair) → AreAscending xs → AreAscending ys → ((x y : List ℕ) (v w : List ℕ) → Contains xs (x, v) → Contains ys (y, w) → key_cmp x y ≡ Less) → AreAscending (xs ++ ys)
+sorted_on : (xs ys : List Pair) → PairsAscend xs → PairsAscend ys → ((x y : List ℕ) (v w : List ℕ) → Contains xs (x, v) → Contains ys (y, w) → key_cmp x y ≡ Less) → PairsAscend (xs ++ ys)
 unfolding IsStrictlySortedBy
 sorted_on [] ys one other apart = other
 sorted_on (pair ∷ xs) ys one other apart = (
@@ -113,8 +113,8 @@ module _ (run : List Entry) (points : List Bool) where
           (λ before. let through : is_below key next ≡ true = ap is_lt (below-trans key from next (below_from key from before) (below_from from next ahead)) in absurd (cc))
           (λ after. ap not after)
 
-  module _ (bound : Option (List ℕ)) (shown : (page : Page) → IsPageOf run bound page → IsShown run points bound page) where
-    one_tells : (page : Page) (since till : ℕ) → IsPageOf run bound page → since ≤ page.begun → page.done + 1 ≤ till → TellMap run points since till page.from (end_under bound page.next) page.pairs
+  module _ (bound : Option (List ℕ)) (shown : (page : WalkedPage) → IsPageOf run bound page → IsPageShown run points bound page) where
+    one_tells : (page : WalkedPage) (since till : ℕ) → IsPageOf run bound page → since ≤ page.begun → page.done + 1 ≤ till → TellMap run points since till page.from (end_under bound page.next) page.pairs
     one_tells page since till is early late =
         let s = shown page is in let begun = s.own.2.1.begun in let done = s.within in record {
           ascending = s.pairs.ascending;
@@ -124,12 +124,12 @@ module _ (run : List Entry) (points : List Bool) where
         }
 
     -- at its end a walk shows no more
-    ended : (since : ℕ) (pages : List Page) (to : Option (List ℕ)) (till : ℕ) → IsWalk run bound None since pages to till → (pages ≡ []) × (to ≡ None)
+    ended : (since : ℕ) (pages : List WalkedPage) (to : Option (List ℕ)) (till : ℕ) → IsWalk run bound None since pages to till → (pages ≡ []) × (to ≡ None)
     ended since [] to till walk = (refl, walk.0)
     ended since (page ∷ pages) to till walk = let none = walk.0 in cc
 
     -- where a page goes on is below the bound
-    next_under : (page : Page) (next : List ℕ) → IsPageOf run bound page → page.next ≡ Some next → is_under next bound ≡ true
+    next_under : (page : WalkedPage) (next : List ℕ) → IsPageOf run bound page → page.next ≡ Some next → is_under next bound ≡ true
     next_under page next is goes = by_high is.high (sym is.next ∙ goes)
       where
         by_high : (high : Option (List ℕ)) → place_under bound high ≡ Some next → is_under next bound ≡ true
@@ -138,11 +138,11 @@ module _ (run : List Entry) (points : List Bool) where
             (λ within. let some : Some high ≡ Some next = subst (λ b. (if b then Some high else None) ≡ Some next) within e in let same : high ≡ next = cc in subst (λ key. is_under key bound ≡ true) same within)
             (λ past. let none : None ≡ Some next = subst (λ b. (if b then Some high else None) ≡ Some next) past e in absurd (cc))
 
-    goes_ahead : (page : Page) (next : List ℕ) → IsPageOf run bound page → page.next ≡ Some next → is_below page.from next ≡ true
+    goes_ahead : (page : WalkedPage) (next : List ℕ) → IsPageOf run bound page → page.next ≡ Some next → is_below page.from next ≡ true
     goes_ahead page next is goes = subst (λ end. is_under page.from end ≡ true) goes (shown page is).ahead
 
     -- a key below where the walk stands is below where it goes
-    below_end : (from : List ℕ) (since : ℕ) (pages : List Page) (to : Option (List ℕ)) (till : ℕ) → is_under from bound ≡ true → IsWalk run bound (Some from) since pages to till
+    below_end : (from : List ℕ) (since : ℕ) (pages : List WalkedPage) (to : Option (List ℕ)) (till : ℕ) → is_under from bound ≡ true → IsWalk run bound (Some from) since pages to till
         → (key : List ℕ) → is_below key from ≡ true → is_under key (end_under bound to) ≡ true
     below_end from since [] to till under walk key below = subst (λ end. is_under key (end_under bound end) ≡ true) (sym walk.0) below
     below_end from since (page ∷ pages) to till under walk key below = go page.next refl (λ next up rest. below_end next (page.done + 1) pages to till up rest key)
@@ -170,7 +170,7 @@ module _ (run : List Entry) (points : List Bool) where
     }
 
     -- a walk tells of the map from where it began to where it stands
-    pub walk_tells : (from : List ℕ) (since : ℕ) (pages : List Page) (to : Option (List ℕ)) (till : ℕ) → IsWalk run bound (Some from) since pages to till → TellMap run points since till from (end_under bound to) (pairs_shown pages)
+    pub walk_tells : (from : List ℕ) (since : ℕ) (pages : List WalkedPage) (to : Option (List ℕ)) (till : ℕ) → IsWalk run bound (Some from) since pages to till → TellMap run points since till from (end_under bound to) (pairs_shown pages)
     walk_tells from since [] to till walk = subst (λ end. TellMap run points since till from (end_under bound end) []) (sym walk.0) (tell_none from since till)
     walk_tells from since (page ∷ pages) to till walk = go page.next refl (λ next rest. walk_tells next (page.done + 1) pages to till rest)
       where

@@ -10,7 +10,7 @@ use Rattle.bw_tree.specs.Runs.{StartsWith}
 use Rattle.bw_tree.specs.Seats.{Seat}
 use Rattle.bw_tree.specs.declared.called.Called.{Called}
 use Rattle.bw_tree.specs.declared.called.Called.TheVariants as called
-use Rattle.walks.specs.Pages.{IsPageOf, Page}
+use Rattle.walks.specs.Pages.{IsPageOf, WalkedPage}
 use Rattle.walks.specs.Walks.{IsWalk, pairs_shown}
 use Rattle.walks.specs.declared.cursor.Walk.{Walk}
 use Rattle.walks.specs.declared.cursor.Walk.TheVariants as walk
@@ -31,13 +31,13 @@ page_from None = None
 page_from (Some key) = Some (command.Page key)
 
 -- the command that a cursor has on its seat, if it has one
-abbrev pub asked_by : Cursor → Option Command
-asked_by cursor = if cursor.asked then page_from cursor.at else None
+abbrev pub cursor_command : Cursor → Option Command
+cursor_command cursor = if cursor.asked then page_from cursor.at else None
 
 -- The command was called on the seat, or, where it had been asked, resumed.
-abbrev pub IsRun : Bool → Seat → Command → ℕ → Called → Seat → Type 0
-IsRun false seat command budget called later = IsCalled seat command budget called later
-IsRun true seat command budget called later = IsResumed seat budget called later
+abbrev pub IsRunOn : Bool → Seat → Command → ℕ → Called → Seat → Type 0
+IsRunOn false seat command budget called later = IsCalled seat command budget called later
+IsRunOn true seat command budget called later = IsResumed seat budget called later
 
 -- The run is one that the actor has seen while it had no operation.
 abbrev pub WasIdle : Seat → List Entry → Type 0
@@ -46,21 +46,21 @@ WasIdle seat early = StartsWith seat.seen early × (command_of early seat.actor 
 -- The page was shown that begins where the cursor stood: its operation was done with the seat's last step, and was begun after all that the
 -- seat had seen while it was idle. The cursor stands where the page ends.
 pub record HasShown (old : Cursor) (seat : Seat) (budget : ℕ) (new : Cursor) (later : Seat) : Type 0 where
-  pub page : Page
+  pub page : WalkedPage
   pub from : old.at ≡ Some page.from
   pub is : IsPageOf later.seen old.bound page
   pub own : page.actor ≡ later.actor
   pub last : length later.seen ≡ page.done + 1
   pub since : (early : List Entry) → WasIdle seat early → length early ≤ page.begun
   pub reply : Reply
-  pub run : IsRun old.asked seat (command.Page page.from) budget (called.Done reply) later
+  pub run : IsRunOn old.asked seat (command.Page page.from) budget (called.Done reply) later
   pub stands : new ≡ record { at = page.next; bound = old.bound; asked = false; pairs = page.pairs }
 
 -- The operation of the page that begins where the cursor stands is unfinished in the seat.
 pub record HasAsked (old : Cursor) (seat : Seat) (budget : ℕ) (new : Cursor) (later : Seat) : Type 0 where
   pub from : List ℕ
   pub at : old.at ≡ Some from
-  pub run : IsRun old.asked seat (command.Page from) budget called.Spent later
+  pub run : IsRunOn old.asked seat (command.Page from) budget called.Spent later
   pub stands : new ≡ record old { asked = true }
 
 -- What asking a cursor for its next page came to. At its end nothing is done.
@@ -72,7 +72,7 @@ IsNextOf old seat budget walk.End new later = (old.at ≡ None) × (new ≡ old)
 -- A list of pairs grew by what pages show that follow one another in one walk, from where the cursor stood to where it stands. After whatever
 -- the seat had seen while it was idle the walk began, and it was over before something that the seat has seen while it was idle.
 pub record HasWalked (old : Cursor) (seat : Seat) (before after : List (List ℕ × List ℕ)) (new : Cursor) (later : Seat) : Type 0 where
-  pub pages : List Page
+  pub pages : List WalkedPage
   pub shown : after ≡ before ++ pairs_shown pages
   pub walk : (early : List Entry) → WasIdle seat early → (late : List Entry) × WasIdle later late × IsWalk later.seen old.bound old.at (length early) pages new.at (length late)
   pub bound : new.bound ≡ old.bound
@@ -85,7 +85,7 @@ added_by walk.Spent cursor = []
 added_by walk.End cursor = []
 
 -- The budget of one page was spent, after all that the first seat had seen.
-pub record IsSpentOn (first : Seat) (budget : ℕ) (new : Cursor) (later : Seat) : Type 0 where
+pub record IsSpentAt (first : Seat) (budget : ℕ) (new : Cursor) (later : Seat) : Type 0 where
   pub old : Cursor
   pub seat : Seat
   pub grows : StartsWith seat.seen first.seen
@@ -98,4 +98,4 @@ HasManyPages old seat before after new later = (walked : HasWalked old seat befo
 -- Why a scan stopped.
 abbrev pub HasStopped : Scanned → Cursor → Seat → ℕ → List (List ℕ × List ℕ) → List (List ℕ × List ℕ) → Cursor → Seat → Type 0
 HasStopped scanned.End old seat budget before after new later = new.at ≡ None
-HasStopped scanned.Spent old seat budget before after new later = IsSpentOn seat budget new later ⊎ HasManyPages old seat before after new later
+HasStopped scanned.Spent old seat budget before after new later = IsSpentAt seat budget new later ⊎ HasManyPages old seat before after new later

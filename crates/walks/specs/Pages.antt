@@ -10,7 +10,7 @@ use Rattle.op_machine.specs.Points.{IsPoint, log_at}
 
 -- a page: the key at which it begins, the key at which the walk goes on after it, if it does, the pairs that it shows, and its operation: of
 -- which actor, and at which places of the run it was begun and was done
-pub record Page : Type 0 where
+pub record WalkedPage : Type 0 where
   pub from : List ℕ
   pub next : Option (List ℕ)
   pub pairs : List (List ℕ × List ℕ)
@@ -32,23 +32,23 @@ end_under bound (Some next) = Some next
 abbrev pub pairs_under : Option (List ℕ) → List (List ℕ × List ℕ) → List (List ℕ × List ℕ)
 pairs_under bound pairs = filter (λ pair. is_under pair.0 bound) pairs
 
-abbrev pub operation_of : Page → Operation
-operation_of page = record { start = page.begun; actor = page.actor; command = command.Page page.from }
+abbrev pub page_operation : WalkedPage → Operation
+page_operation page = record { start = page.begun; actor = page.actor; command = command.Page page.from }
 
 -- The page is what its operation has replied, a cursor page, as far as that is below the bound.
-pub record IsPageOf (run : List Entry) (bound : Option (List ℕ)) (page : Page) : Type 0 where
-  pub begins : IsOperation run (operation_of page)
+pub record IsPageOf (run : List Entry) (bound : Option (List ℕ)) (page : WalkedPage) : Type 0 where
+  pub begins : IsOperation run (page_operation page)
   pub items : List (List ℕ × List ℕ)
   pub high : Option (List ℕ)
-  pub ends : Finishes run (operation_of page) page.done (reply.Page items high)
+  pub ends : Finishes run (page_operation page) page.done (reply.Page items high)
   pub next : page.next ≡ place_under bound high
   pub pairs : page.pairs ≡ pairs_under bound items
 
 -- At its operation's point, a step of the operation's own, the map has exactly the page's pairs in the page's range. The walk goes on above
 -- where the page begins.
-pub record IsShown (run : List Entry) (points : List Bool) (bound : Option (List ℕ)) (page : Page) : Type 0 where
+pub record IsPageShown (run : List Entry) (points : List Bool) (bound : Option (List ℕ)) (page : WalkedPage) : Type 0 where
   pub step : ℕ
-  pub own : IsOwnStep run (operation_of page) step
+  pub own : IsOwnStep run (page_operation page) step
   pub within : step ≤ page.done
   pub point : IsPoint points step
   pub ahead : IsTrue (is_under page.from page.next)

@@ -1,16 +1,15 @@
 //! A cursor.
-ghost use Rattle.std.specs.Prelude.{◌≡◌, ◌≤◌, None, Some, [], false, length, is_none, is_some, if◌then◌else◌};
+ghost use Rattle.std.specs.Prelude.{◌≡◌, ◌≤◌, None, Some, [], false, length, is_none, if◌then◌else◌};
 ghost use Rattle.std.specs.List.{prefix_len};
 ghost use Rattle.bw_model.specs.Bytes.{is_under};
 ghost use Rattle.bw_model.specs.declared.command.Command.TheVariants as command;
 ghost use Rattle.bw_model.specs.declared.pairs.TheConstants.{MAX_PAIRS};
-ghost use Rattle.bw_model.specs.declared.command.Reply.TheVariants as reply;
 ghost use Rattle.bw_tree.specs.Runs.{IsOneHistory};
 ghost use Rattle.bw_tree.specs.Seats.{IsSame, unfinished_command};
 ghost use Rattle.bw_tree.specs.Trees.{IsSeatOf};
-ghost use Rattle.walks.specs.Cursors.{IsNextOf, IsRun, asked_by};
+ghost use Rattle.walks.specs.Cursors.{IsNextOf, IsRunOn, cursor_command};
 ghost use Rattle.walks.specs.Pages.{pairs_under, place_under};
-ghost use Rattle.walks.specs.Walks.{AreAscending};
+ghost use Rattle.walks.specs.Walks.{PairsAscend};
 
 use bw_model::{Command, Key, Pairs, Reply, Value};
 use bw_tree::{BwSeat, Called, Tree};
@@ -89,10 +88,10 @@ impl Cursor {
     /// its operation, on the seat that has it; any other one calls on an idle seat, and the seats may change from page to page.
     pub fn next<A: Allocator>(&mut self, tree: &Tree<A>, seat: &mut BwSeat<A>, budget: u32) -> Walk
         requires own { IsSeatOf tree.now seat.old }
-        requires ready { unfinished_command seat.old ≡ asked_by self.old }
+        requires ready { unfinished_command seat.old ≡ cursor_command self.old }
         requires some { 1 ≤ budget }
         ensures same { IsSame seat.old seat.new }
-        ensures ready { unfinished_command seat.new ≡ asked_by self.new }
+        ensures ready { unfinished_command seat.new ≡ cursor_command self.new }
         ensures next { IsNextOf self.old seat.old budget result self.new seat.new }
         ensures history { IsOneHistory seat.new.limits seat.new.seen }
     {
@@ -117,7 +116,7 @@ impl Cursor {
 
     /// Keeps a page, cut off at the bound, and goes on to where it ends.
     fn show(&mut self, items: Pairs, high: Option<Key>)
-        requires ascend { AreAscending items }
+        requires ascend { PairsAscend items }
         ensures { self.new ≡ record { at = place_under self.old.bound high; bound = self.old.bound; asked = false; pairs = pairs_under self.old.bound items } }
     {
         self.shown = count_under(items.as_slice(), &self.bound);
@@ -139,7 +138,7 @@ fn run<A: Allocator>(
     requires ready { unfinished_command seat.old ≡ (if asked then Some (command.Page from.now) else None) }
     requires some { 1 ≤ budget }
     ensures same { IsSame seat.old seat.new }
-    ensures runs { IsRun asked seat.old (command.Page from.now) budget result seat.new }
+    ensures runs { IsRunOn asked seat.old (command.Page from.now) budget result seat.new }
     ensures history { IsOneHistory seat.new.limits seat.new.seen }
 {
     if asked {

@@ -1,5 +1,5 @@
 //! Laws of walks: each function does nothing, and its contract is proved of all walks.
-ghost use Rattle.std.specs.Prelude.{ℕ, List, Option, Some, ◌++◌, ◌≡◌};
+ghost use Rattle.std.specs.Prelude.{ℕ, List, Option, Some, ◌++◌};
 ghost use Rattle.bw_model.specs.declared.limits.Limits.{Limits};
 ghost use Rattle.bw_tree.specs.Runs.{StartsWith};
 ghost use Rattle.bw_tree.specs.Seats.{IsSame, Seat};
@@ -7,30 +7,30 @@ ghost use Rattle.chain_search.specs.declared.trace.Entry.{Entry};
 ghost use Rattle.chain_search.specs.declared.trace.Turn.{Turn};
 ghost use Rattle.op_machine.specs.Linearized.{IsLinearized};
 ghost use Rattle.walks.specs.Cursors.{Cursor, HasWalked, IsNextOf, added_by};
-ghost use Rattle.walks.specs.Pages.{IsPageOf, IsShown, Page, end_under};
+ghost use Rattle.walks.specs.Pages.{IsPageOf, IsPageShown, WalkedPage, end_under};
 ghost use Rattle.walks.specs.Walks.{IsWalk, TellMap, pairs_shown};
 ghost use Rattle.walks.specs.declared.cursor.Walk.{Walk};
 
 /// The pairs of a page are the map's in the page's range, at a step of the page's own operation. This is so by whatever points the run is
 /// linearized.
 pub fn pages_are_the_maps()
-    ensures { (limits : Limits) (turns : List Turn) (run : List Entry) (bound : Option (List ℕ)) (page : Page) (linear : IsLinearized limits turns run)
-        → IsPageOf run bound page → IsShown run linear.points bound page }
+    ensures { (limits : Limits) (turns : List Turn) (run : List Entry) (bound : Option (List ℕ)) (page : WalkedPage) (linear : IsLinearized limits turns run)
+        → IsPageOf run bound page → IsPageShown run linear.points bound page }
 {}
 
 /// What a walk has shown of the keys from where it began to where it stands: they ascend strictly, what the map has had there all the while is
 /// among it, and the map has had all of it at some time in between.
 pub fn walks_tell_the_map()
-    ensures { (limits : Limits) (turns : List Turn) (run : List Entry) (bound : Option (List ℕ)) (from : List ℕ) (since : ℕ) (pages : List Page) (to : Option (List ℕ)) (till : ℕ)
+    ensures { (limits : Limits) (turns : List Turn) (run : List Entry) (bound : Option (List ℕ)) (from : List ℕ) (since : ℕ) (pages : List WalkedPage) (to : Option (List ℕ)) (till : ℕ)
         (linear : IsLinearized limits turns run) → IsWalk run bound (Some from) since pages to till → TellMap run linear.points since till from (end_under bound to) (pairs_shown pages) }
 {}
 
 /// A walk is one of each longer run; and a walk that begins where another one ended goes on with it. So the seats may change from page to page,
 /// where each has seen what the one before it had seen.
 pub fn walks_go_on()
-    ensures longer { (run later : List Entry) (bound at : Option (List ℕ)) (since : ℕ) (pages : List Page) (to : Option (List ℕ)) (till : ℕ)
+    ensures longer { (run later : List Entry) (bound at : Option (List ℕ)) (since : ℕ) (pages : List WalkedPage) (to : Option (List ℕ)) (till : ℕ)
         → StartsWith later run → IsWalk run bound at since pages to till → IsWalk later bound at since pages to till }
-    ensures joined { (run : List Entry) (bound at : Option (List ℕ)) (since : ℕ) (pages : List Page) (mid : Option (List ℕ)) (between : ℕ) (more : List Page) (to : Option (List ℕ)) (till : ℕ)
+    ensures joined { (run : List Entry) (bound at : Option (List ℕ)) (since : ℕ) (pages : List WalkedPage) (mid : Option (List ℕ)) (between : ℕ) (more : List WalkedPage) (to : Option (List ℕ)) (till : ℕ)
         → IsWalk run bound at since pages mid between → IsWalk run bound mid between more to till → IsWalk run bound at since (pages ++ more) to till }
 {}
 

@@ -1,11 +1,11 @@
 //! Walks to their end.
-ghost use Rattle.std.specs.Prelude.{◌≡◌, ◌≤◌, ◌<◌, ◌+◌, ◌++◌, IfOk, OnErr, length, map};
+ghost use Rattle.std.specs.Prelude.{◌≡◌, ◌≤◌, ◌<◌, ◌+◌, ◌++◌, IfOk, OnErr, length};
 ghost use Rattle.std.specs.Vec.{vec_capacity};
 ghost use Rattle.bw_model.specs.declared.pairs.TheConstants.{MAX_PAIRS};
 ghost use Rattle.bw_tree.specs.Runs.{IsOneHistory};
 ghost use Rattle.bw_tree.specs.Seats.{IsSame, unfinished_command};
 ghost use Rattle.bw_tree.specs.Trees.{IsSeatOf};
-ghost use Rattle.walks.specs.Cursors.{HasStopped, HasWalked, IsNextOf, added_by, asked_by};
+ghost use Rattle.walks.specs.Cursors.{HasStopped, HasWalked, IsNextOf, added_by, cursor_command};
 
 use crate::cursor::{Cursor, Walk};
 use bw_model::{Key, MAX_PAIRS, Value};
@@ -32,10 +32,10 @@ impl Cursor {
         list: &mut Vec<(Key, Value), B>,
     ) -> Result<Scanned, AllocError>
         requires own { IsSeatOf tree.now seat.old }
-        requires ready { unfinished_command seat.old ≡ asked_by self.old }
+        requires ready { unfinished_command seat.old ≡ cursor_command self.old }
         requires some { 1 ≤ budget }
         ensures same { IsSame seat.old seat.new }
-        ensures ready { unfinished_command seat.new ≡ asked_by self.new }
+        ensures ready { unfinished_command seat.new ≡ cursor_command self.new }
         ensures walked { HasWalked self.old seat.old list.old.items list.new.items self.new seat.new }
         ensures stopped { IfOk result (λ scanned. HasStopped scanned self.old seat.old budget list.old.items list.new.items self.new seat.new) }
         ensures full { OnErr result (vec_capacity list.new < length list.new.items + MAX_PAIRS) }
@@ -61,10 +61,10 @@ impl Cursor {
         list: &mut Vec<(Key, Value), B>,
     ) -> Result<Walk, AllocError>
         requires own { IsSeatOf tree.now seat.old }
-        requires ready { unfinished_command seat.old ≡ asked_by self.old }
+        requires ready { unfinished_command seat.old ≡ cursor_command self.old }
         requires some { 1 ≤ budget }
         ensures same { IsSame seat.old seat.new }
-        ensures ready { unfinished_command seat.new ≡ asked_by self.new }
+        ensures ready { unfinished_command seat.new ≡ cursor_command self.new }
         ensures next { IfOk result (λ walk. IsNextOf self.old seat.old budget walk self.new seat.new) }
         ensures list { IfOk result (λ walk. list.new.items ≡ list.old.items ++ added_by walk self.new) }
         ensures full { OnErr result (vec_capacity list.new < length list.new.items + MAX_PAIRS) }

@@ -3,13 +3,13 @@ use Rattle.std.proofs.Common.{◌≡◌, ◌≤◌, ◌+◌, ◌*◌, ◌-◌, �
 use Rattle.std.proofs.lemmas.List.{take-append-drop, drop-drop, length-take-le}
 use Rattle.std.proofs.Math.Seq.{take-append_seam, drop-append_seam}
 use Rattle.record_slots.specs.Layout.{first_at, form_unit, this_form}
-use Rattle.widening.specs.Spread.{behind, fields, first_field, grown, spread, spread_fields}
+use Rattle.widening.specs.Spread.{behind, fields, first_field, grown_by, spread, spread_fields}
 
 pub spread_none : (words : List ℕ) → spread_fields 0 words ≡ words
 unfolding spread_fields
 spread_none words = refl
 
-pub spread_more : (count : ℕ) (words : List ℕ) → spread_fields (suc count) words ≡ take first_field words ++ (replicate grown 0 ++ spread_fields count (drop first_field words))
+pub spread_more : (count : ℕ) (words : List ℕ) → spread_fields (suc count) words ≡ take first_field words ++ (replicate grown_by 0 ++ spread_fields count (drop first_field words))
 unfolding spread_fields
 spread_more count words = refl
 
@@ -18,16 +18,16 @@ pub spread_field : (count a b c d e : ℕ) (words : List ℕ) → spread_fields 
 unfolding spread_fields
 spread_field count a b c d e words = refl
 
-pub spread_length : (count : ℕ) (words : List ℕ) → first_field * count ≤ length words → length (spread_fields count words) ≡ length words + grown * count
+pub spread_length : (count : ℕ) (words : List ℕ) → first_field * count ≤ length words → length (spread_fields count words) ≡ length words + grown_by * count
 spread_length zero words many = ap length (spread_none words) ∙ (let e : length words ≡ length words + 0 = omega arith in e)
 spread_length (suc count) words many =
     let d = length-drop first_field words in
     let t = length-take-le first_field words (omega arith) in
     let r = spread_length count (drop first_field words) (omega arith) in
-    let a = length-append (take first_field words) (replicate grown 0 ++ spread_fields count (drop first_field words)) in
-    let b = length-append (replicate grown 0) (spread_fields count (drop first_field words)) in
-    let gap : List ℕ = replicate grown 0 in
-    let g : length gap ≡ grown = refl in
+    let a = length-append (take first_field words) (replicate grown_by 0 ++ spread_fields count (drop first_field words)) in
+    let b = length-append (replicate grown_by 0) (spread_fields count (drop first_field words)) in
+    let gap : List ℕ = replicate grown_by 0 in
+    let g : length gap ≡ grown_by = refl in
     ap length (spread_more count words) ∙ (omega arith)
 
 -- the words of zeros
@@ -44,15 +44,15 @@ spread_zeros (suc count) rest whole e =
 -- one field more is written
 pub field_more : (left place count : ℕ) (words before now whole : List ℕ) → count ≡ place + suc left
     → before ++ spread_fields (suc left) (drop (first_field * place) words) ≡ whole
-    → now ≡ (before ++ take first_field (drop (first_field * place) words)) ++ replicate grown 0
+    → now ≡ (before ++ take first_field (drop (first_field * place) words)) ++ replicate grown_by 0
     → now ++ spread_fields left (drop (first_field * (place + 1)) words) ≡ whole
 field_more left place count words before now whole e so more =
     let rest : List ℕ = drop (first_field * place) words in
     let next : drop first_field rest ≡ drop (first_field * (place + 1)) words = drop-drop first_field (first_field * place) words ∙ ap (λ n. drop n words) (let f : first_field * place + first_field ≡ first_field * (place + 1) = omega arith in f) in
     ap (λ ws. ws ++ spread_fields left (drop (first_field * (place + 1)) words)) more
-    ∙ append_assoc (before ++ take first_field rest) (replicate grown 0) (spread_fields left (drop (first_field * (place + 1)) words))
-    ∙ append_assoc before (take first_field rest) (replicate grown 0 ++ spread_fields left (drop (first_field * (place + 1)) words))
-    ∙ ap (λ ws. before ++ (take first_field rest ++ (replicate grown 0 ++ spread_fields left ws))) (sym next)
+    ∙ append_assoc (before ++ take first_field rest) (replicate grown_by 0) (spread_fields left (drop (first_field * (place + 1)) words))
+    ∙ append_assoc before (take first_field rest) (replicate grown_by 0 ++ spread_fields left (drop (first_field * (place + 1)) words))
+    ∙ ap (λ ws. before ++ (take first_field rest ++ (replicate grown_by 0 ++ spread_fields left ws))) (sym next)
     ∙ ap (λ ws. before ++ ws) (sym (spread_more left rest)) ∙ so
 
 front : (n : ℕ) (xs ys : List ℕ) → length xs ≡ n → take n (xs ++ ys) ≡ xs
@@ -70,10 +70,10 @@ fields_one (suc count) xs ys h g e =
     let dy = length-drop first_field ys in
     let sx : List ℕ = spread_fields count (drop first_field xs) in
     let sy : List ℕ = spread_fields count (drop first_field ys) in
-    let same : take first_field xs ++ (replicate grown 0 ++ sx) ≡ take first_field ys ++ (replicate grown 0 ++ sy) = sym (spread_more count xs) ∙ e ∙ spread_more count ys in
-    let one : take first_field xs ≡ take first_field ys = sym (front first_field (take first_field xs) (replicate grown 0 ++ sx) tx) ∙ ap (take first_field) same ∙ front first_field (take first_field ys) (replicate grown 0 ++ sy) ty in
-    let rest : replicate grown 0 ++ sx ≡ replicate grown 0 ++ sy = sym (back first_field (take first_field xs) (replicate grown 0 ++ sx) tx) ∙ ap (drop first_field) same ∙ back first_field (take first_field ys) (replicate grown 0 ++ sy) ty in
-    let others = fields_one count (drop first_field xs) (drop first_field ys) (omega arith) (omega arith) (ap (drop grown) rest) in
+    let same : take first_field xs ++ (replicate grown_by 0 ++ sx) ≡ take first_field ys ++ (replicate grown_by 0 ++ sy) = sym (spread_more count xs) ∙ e ∙ spread_more count ys in
+    let one : take first_field xs ≡ take first_field ys = sym (front first_field (take first_field xs) (replicate grown_by 0 ++ sx) tx) ∙ ap (take first_field) same ∙ front first_field (take first_field ys) (replicate grown_by 0 ++ sy) ty in
+    let rest : replicate grown_by 0 ++ sx ≡ replicate grown_by 0 ++ sy = sym (back first_field (take first_field xs) (replicate grown_by 0 ++ sx) tx) ∙ ap (drop first_field) same ∙ back first_field (take first_field ys) (replicate grown_by 0 ++ sy) ty in
+    let others = fields_one count (drop first_field xs) (drop first_field ys) (omega arith) (omega arith) (ap (drop grown_by) rest) in
     sym (take-append-drop first_field xs) ∙ (λ i. one i ++ others i) ∙ take-append-drop first_field ys
 
 cut : (words : List ℕ) → 3 ≤ length words → words ≡ get_or words 0 0 ∷ get_or words 1 0 ∷ get_or words 2 0 ∷ drop first_at words

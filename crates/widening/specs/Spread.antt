@@ -6,8 +6,8 @@ use Rattle.record_slots.specs.Layout.{first_at, form_unit, this_form}
 abbrev pub first_field : ℕ
 first_field = 5
 
-abbrev pub grown : ℕ
-grown = 4
+abbrev pub grown_by : ℕ
+grown_by = 4
 
 -- how many fields a row has, and how many words more today's row has behind them
 abbrev pub fields : ℕ
@@ -19,7 +19,7 @@ behind = 56
 -- zeros behind each of so many fields, and the words behind them as they are
 unfoldable pub spread_fields : ℕ → List ℕ → List ℕ
 spread_fields zero words = words
-spread_fields (suc count) words = take first_field words ++ (replicate grown 0 ++ spread_fields count (drop first_field words))
+spread_fields (suc count) words = take first_field words ++ (replicate grown_by 0 ++ spread_fields count (drop first_field words))
 
 -- today's form in the first word, and zeros behind each field and behind the last word
 unfoldable pub spread : List ℕ → List ℕ

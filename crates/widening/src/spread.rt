@@ -1,7 +1,7 @@
 //! A row of the first form whose fields are spread to today's length.
 ghost use Rattle.std.specs.Prelude.{◌≡◌, ◌<◌, ◌≤◌, ◌+◌, ◌*◌, ◌++◌, length, replicate, slice_index};
 ghost use Rattle.record_slots.specs.Layout.{form_unit, row_size};
-ghost use Rattle.widening.specs.Spread.{fields, first_field, grown, spread, spread_fields};
+ghost use Rattle.widening.specs.Spread.{fields, first_field, grown_by, spread, spread_fields};
 
 use crate::layout::{FIELDS, FIRST_FIELD_WORDS, FIRST_ROW_WORDS};
 use arrayvec::ArrayVec;
@@ -26,7 +26,7 @@ pub(crate) fn spread(words: &[u64; FIRST_ROW_WORDS]) -> [u64; ROW_WORDS]
 fn push_fields(wide: &mut ArrayVec<u64, ROW_WORDS>, words: &[u64], count: usize)
     requires few { count ≤ fields }
     requires many { first_field * count ≤ length words.now }
-    requires room { length wide.old.items + (length words.now + grown * count) ≤ row_size }
+    requires room { length wide.old.items + (length words.now + grown_by * count) ≤ row_size }
     ensures { wide.new.items ≡ wide.old.items ++ spread_fields count words.now }
 {
     for place in 0..count {

@@ -8,12 +8,12 @@ use Rattle.workers.specs.declared.worker.Worker.{Worker}
 use Rattle.workers.specs.Working.{HasDone}
 
 -- A worker ran jobs at its place, and what its seat has seen is one history.
-abbrev pub HasRun : {A : Type 0} → ℕ → ℕ → Worker A → Worker A → Type 0
-HasRun limit place old new = HasDone place limit old.seat new × IsOneHistory new.seat.limits new.seat.seen
+abbrev pub HasRunJobs : {A : Type 0} → ℕ → ℕ → Worker A → Worker A → Type 0
+HasRunJobs limit place old new = HasDone place limit old.seat new × IsOneHistory new.seat.limits new.seat.seen
 
 -- A worker was told whether it may run jobs. If so it ran some, else it is as it was.
 abbrev pub ComesBack : {A : Type 0} → Bool → ℕ → ℕ → Worker A → Worker A → Type 0
-ComesBack told limit place old new = MatchBool told (HasRun limit place old new) (new ≡ old)
+ComesBack told limit place old new = MatchBool told (HasRunJobs limit place old new) (new ≡ old)
 
 -- A worker is back, and was told by this lock.
 pub record IsBack {A : Type 0} (limit id place : ℕ) (old : Worker A) (back : Back A) : Type 0 where

@@ -19,7 +19,7 @@ use Rattle.op_machine.specs.Quiet.{IsQuiet, HasMapOf}
 use Rattle.std.specs.Prelude.{replicate}
 use Rattle.std.proofs.Common.{ap}
 use Rattle.chain_search.specs.Chains.{low_in, high_in, right_in}
-use Rattle.op_machine.specs.Examples.{small, opening_leaf, new_leaf, split, root_page, root, remove, merge, index_page, page_life}
+use Rattle.op_machine.specs.Examples.{small, opening_leaf, new_leaf, split_leaf, root_page, root, remove_leaf, merge_leaf, index_above, page_life}
 use Rattle.op_machine.proofs.Listed.{EachAt-get, slice_get-from_take, UpTo-at}
 use Rattle.bw_model.specs.Bytes.{is_below, is_in_range}
 use Rattle.base_page.specs.declared.item.Content.{Content as ContentOf}
@@ -68,7 +68,7 @@ pub removed_2 : MovesAt small page_life 20 2 held removed
 removed_2 = record { entry = _; at = refl; holds = removes _ (0, 2, 6, ((None, refl), refl), refl) }
 
 pub merged_2 : MovesAt small page_life 22 2 removed merged
-merged_2 = record { entry = _; at = refl; holds = merges 1 _ (split ∷ opening_leaf ∷ []) (0, 3, 7, ((None, refl), refl), refl) (record { page = lit< tt; linked = lit< tt; records = (refl, (refl, refl)) }) refl }
+merged_2 = record { entry = _; at = refl; holds = merges 1 _ (split_leaf ∷ opening_leaf ∷ []) (0, 3, 7, ((None, refl), refl), refl) (record { page = lit< tt; linked = lit< tt; records = (refl, (refl, refl)) }) refl }
 
 pub cleared_2 : MovesAt small page_life 24 2 merged cleared
 cleared_2 = record { entry = _; at = refl; holds = unterms 3 _ (0, 5, 8, ((None, refl), refl), refl) refl }
@@ -77,7 +77,7 @@ absent_or_absent : (b : Bool) → ◌≡◌ {A = Option ContentOf} (if b then No
 absent_or_absent true = refl
 absent_or_absent false = refl
 
-both : (key : List ℕ) → content_in (merge ∷ split ∷ opening_leaf ∷ []) key ≡ None
+both : (key : List ℕ) → content_in (merge_leaf ∷ split_leaf ∷ opening_leaf ∷ []) key ≡ None
 both key = by_cases (is_in_range (codes "m") None key) (not (is_below key (codes "m")))
   where
     by_cases : (a b : Bool) → ◌≡◌ {A = Option ContentOf} (if a then None else (if b then None else None)) None
@@ -87,19 +87,19 @@ both key = by_cases (is_in_range (codes "m") None key) (not (is_below key (codes
 pub is_quiet : IsQuiet small page_life (replicate 26 false)
 is_quiet = record {
   at_each = UpTo-at (λ k. HasMapOf (memory_at small page_life k) (log_at page_life (replicate 26 false) k)) 26
-      (alone_leaf 0 (record { page = lit< tt; linked = lit< tt; records = (refl, refl) }), (alone_leaf 1 (record { page = lit< tt; linked = lit< tt; records = (refl, refl) }), (alone_leaf 2 (record { page = lit< tt; linked = lit< tt; records = (refl, refl) }), (alone_leaf 3 (record { page = lit< tt; linked = lit< tt; records = (refl, refl) }), (alone_leaf 4 (record { page = lit< tt; linked = lit< tt; records = (refl, refl) }), (alone_leaf 5 (record { page = lit< tt; linked = lit< tt; records = (refl, refl) }), (alone_leaf 6 (record { page = lit< tt; linked = lit< tt; records = (refl, refl) }), (alone_leaf 7 (record { page = lit< tt; linked = lit< tt; records = (refl, refl) }), (alone_leaf 8 (record { page = lit< tt; linked = lit< tt; records = (refl, refl) }), (alone_leaf 9 (record { page = lit< tt; linked = lit< tt; records = (refl, refl) }), (alone_leaf 10 (record { page = lit< tt; linked = lit< tt; records = (refl, refl) }), (alone_leaf 11 (record { page = lit< tt; linked = lit< tt; records = (refl, refl) }), (alone_leaf 12 (record { page = lit< tt; linked = lit< tt; records = (refl, refl) }), (alone_leaf 13 (record { page = lit< tt; linked = lit< tt; records = (refl, refl) }), (two_leaves 14 (new_leaf ∷ []) (record { page = lit< tt; linked = lit< tt; records = (refl, (refl, refl)) }) (record { page = lit< tt; linked = lit< tt; records = (refl, refl) }) refl refl (λ key. refl), (two_leaves 15 (new_leaf ∷ []) (record { page = lit< tt; linked = lit< tt; records = (refl, (refl, refl)) }) (record { page = lit< tt; linked = lit< tt; records = (refl, refl) }) refl refl (λ key. refl), (two_leaves 16 (new_leaf ∷ []) (record { page = lit< tt; linked = lit< tt; records = (refl, (refl, refl)) }) (record { page = lit< tt; linked = lit< tt; records = (refl, refl) }) refl refl (λ key. refl), (two_leaves 17 (new_leaf ∷ []) (record { page = lit< tt; linked = lit< tt; records = (refl, (refl, refl)) }) (record { page = lit< tt; linked = lit< tt; records = (refl, refl) }) refl refl (λ key. refl), (two_leaves 18 (new_leaf ∷ []) (record { page = lit< tt; linked = lit< tt; records = (refl, (refl, refl)) }) (record { page = lit< tt; linked = lit< tt; records = (refl, refl) }) refl refl (λ key. refl), (two_leaves 19 (new_leaf ∷ []) (record { page = lit< tt; linked = lit< tt; records = (refl, (refl, refl)) }) (record { page = lit< tt; linked = lit< tt; records = (refl, refl) }) refl refl (λ key. refl), (two_leaves 20 (new_leaf ∷ []) (record { page = lit< tt; linked = lit< tt; records = (refl, (refl, refl)) }) (record { page = lit< tt; linked = lit< tt; records = (refl, refl) }) refl refl (λ key. refl), (two_leaves 21 (remove ∷ new_leaf ∷ []) (record { page = lit< tt; linked = lit< tt; records = (refl, (refl, refl)) }) (record { page = lit< tt; linked = lit< tt; records = (refl, (refl, refl)) }) refl refl (λ key. refl), (two_leaves 22 (remove ∷ new_leaf ∷ []) (record { page = lit< tt; linked = lit< tt; records = (refl, (refl, refl)) }) (record { page = lit< tt; linked = lit< tt; records = (refl, (refl, refl)) }) refl refl (λ key. refl), (merged_leaf 23 (record { page = lit< tt; linked = lit< tt; records = (refl, (refl, (refl, refl))) }), (merged_leaf 24 (record { page = lit< tt; linked = lit< tt; records = (refl, (refl, (refl, refl))) }), (merged_leaf 25 (record { page = lit< tt; linked = lit< tt; records = (refl, (refl, (refl, refl))) }), merged_leaf 26 (record { page = lit< tt; linked = lit< tt; records = (refl, (refl, (refl, refl))) })))))))))))))))))))))))))));
+      (alone_leaf 0 (record { page = lit< tt; linked = lit< tt; records = (refl, refl) }), (alone_leaf 1 (record { page = lit< tt; linked = lit< tt; records = (refl, refl) }), (alone_leaf 2 (record { page = lit< tt; linked = lit< tt; records = (refl, refl) }), (alone_leaf 3 (record { page = lit< tt; linked = lit< tt; records = (refl, refl) }), (alone_leaf 4 (record { page = lit< tt; linked = lit< tt; records = (refl, refl) }), (alone_leaf 5 (record { page = lit< tt; linked = lit< tt; records = (refl, refl) }), (alone_leaf 6 (record { page = lit< tt; linked = lit< tt; records = (refl, refl) }), (alone_leaf 7 (record { page = lit< tt; linked = lit< tt; records = (refl, refl) }), (alone_leaf 8 (record { page = lit< tt; linked = lit< tt; records = (refl, refl) }), (alone_leaf 9 (record { page = lit< tt; linked = lit< tt; records = (refl, refl) }), (alone_leaf 10 (record { page = lit< tt; linked = lit< tt; records = (refl, refl) }), (alone_leaf 11 (record { page = lit< tt; linked = lit< tt; records = (refl, refl) }), (alone_leaf 12 (record { page = lit< tt; linked = lit< tt; records = (refl, refl) }), (alone_leaf 13 (record { page = lit< tt; linked = lit< tt; records = (refl, refl) }), (two_leaves 14 (new_leaf ∷ []) (record { page = lit< tt; linked = lit< tt; records = (refl, (refl, refl)) }) (record { page = lit< tt; linked = lit< tt; records = (refl, refl) }) refl refl (λ key. refl), (two_leaves 15 (new_leaf ∷ []) (record { page = lit< tt; linked = lit< tt; records = (refl, (refl, refl)) }) (record { page = lit< tt; linked = lit< tt; records = (refl, refl) }) refl refl (λ key. refl), (two_leaves 16 (new_leaf ∷ []) (record { page = lit< tt; linked = lit< tt; records = (refl, (refl, refl)) }) (record { page = lit< tt; linked = lit< tt; records = (refl, refl) }) refl refl (λ key. refl), (two_leaves 17 (new_leaf ∷ []) (record { page = lit< tt; linked = lit< tt; records = (refl, (refl, refl)) }) (record { page = lit< tt; linked = lit< tt; records = (refl, refl) }) refl refl (λ key. refl), (two_leaves 18 (new_leaf ∷ []) (record { page = lit< tt; linked = lit< tt; records = (refl, (refl, refl)) }) (record { page = lit< tt; linked = lit< tt; records = (refl, refl) }) refl refl (λ key. refl), (two_leaves 19 (new_leaf ∷ []) (record { page = lit< tt; linked = lit< tt; records = (refl, (refl, refl)) }) (record { page = lit< tt; linked = lit< tt; records = (refl, refl) }) refl refl (λ key. refl), (two_leaves 20 (new_leaf ∷ []) (record { page = lit< tt; linked = lit< tt; records = (refl, (refl, refl)) }) (record { page = lit< tt; linked = lit< tt; records = (refl, refl) }) refl refl (λ key. refl), (two_leaves 21 (remove_leaf ∷ new_leaf ∷ []) (record { page = lit< tt; linked = lit< tt; records = (refl, (refl, refl)) }) (record { page = lit< tt; linked = lit< tt; records = (refl, (refl, refl)) }) refl refl (λ key. refl), (two_leaves 22 (remove_leaf ∷ new_leaf ∷ []) (record { page = lit< tt; linked = lit< tt; records = (refl, (refl, refl)) }) (record { page = lit< tt; linked = lit< tt; records = (refl, (refl, refl)) }) refl refl (λ key. refl), (merged_leaf 23 (record { page = lit< tt; linked = lit< tt; records = (refl, (refl, (refl, refl))) }), (merged_leaf 24 (record { page = lit< tt; linked = lit< tt; records = (refl, (refl, (refl, refl))) }), (merged_leaf 25 (record { page = lit< tt; linked = lit< tt; records = (refl, (refl, (refl, refl))) }), merged_leaf 26 (record { page = lit< tt; linked = lit< tt; records = (refl, (refl, (refl, refl))) })))))))))))))))))))))))))));
 }
   where
     alone_leaf : (k : ℕ) → IsChainOf (memory_at small page_life k) 1 (opening_leaf ∷ []) → HasMapOf (memory_at small page_life k) []
     alone_leaf k is = no_values (memory_at small page_life k) (record { pid = 1; chain = opening_leaf ∷ [] } ∷ []) (refl, is, refl) (refl, refl) (λ key. refl, tt)
 
-    two_leaves : (k : ℕ) (right : List Record) → IsChainOf (memory_at small page_life k) 1 (split ∷ opening_leaf ∷ []) → IsChainOf (memory_at small page_life k) 2 right
+    two_leaves : (k : ℕ) (right : List Record) → IsChainOf (memory_at small page_life k) 1 (split_leaf ∷ opening_leaf ∷ []) → IsChainOf (memory_at small page_life k) 2 right
         → ◌≡◌ {A = List ℕ × Option (List ℕ)} (low_in right, high_in right) (codes "m", None) → right_in right ≡ None → ((key : List ℕ) → content_in right key ≡ None) → HasMapOf (memory_at small page_life k) []
-    two_leaves k right is other range last empty = no_values (memory_at small page_life k) (record { pid = 1; chain = split ∷ opening_leaf ∷ [] } ∷ record { pid = 2; chain = right } ∷ [])
+    two_leaves k right is other range last empty = no_values (memory_at small page_life k) (record { pid = 1; chain = split_leaf ∷ opening_leaf ∷ [] } ∷ record { pid = 2; chain = right } ∷ [])
         (refl, is, (refl, other, rw last refl)) (refl, (ap (λ r. r.0) range, let none : high_in right ≡ None = ap (λ r. r.1) range in rw none refl)) (λ key. absent_or_absent (not (is_below key (codes "m"))), (empty, tt))
 
-    merged_leaf : (k : ℕ) → IsChainOf (memory_at small page_life k) 1 (merge ∷ split ∷ opening_leaf ∷ []) → HasMapOf (memory_at small page_life k) []
-    merged_leaf k is = no_values (memory_at small page_life k) (record { pid = 1; chain = merge ∷ split ∷ opening_leaf ∷ [] } ∷ []) (refl, is, refl) (refl, refl) (λ key. both key, tt)
+    merged_leaf : (k : ℕ) → IsChainOf (memory_at small page_life k) 1 (merge_leaf ∷ split_leaf ∷ opening_leaf ∷ []) → HasMapOf (memory_at small page_life k) []
+    merged_leaf k is = no_values (memory_at small page_life k) (record { pid = 1; chain = merge_leaf ∷ split_leaf ∷ opening_leaf ∷ [] } ∷ []) (refl, is, refl) (refl, refl) (λ key. both key, tt)
 
 pub not_yet : (earlier : ℕ) → earlier < 17 → ¬ IsRootLevel (memory_at small page_life earlier) 1
 not_yet earlier h = UpTo-at (λ k. ¬ IsRootLevel (memory_at small page_life k) 1) 16
@@ -109,19 +109,19 @@ not_yet earlier h = UpTo-at (λ k. ¬ IsRootLevel (memory_at small page_life k) 
     leaf_root k is (chain, other, level) = let same : chain ≡ opening_leaf ∷ [] = IsChainOf-unique (memory_at small page_life k) 1 chain (opening_leaf ∷ []) other is in
         let odd : ◌≡◌ {A = ℕ} 0 1 = subst (λ c. level_in c ≡ 1) same level in cc
 
-    split_root : (k : ℕ) → IsChainOf (memory_at small page_life k) 1 (split ∷ opening_leaf ∷ []) → IsPageOfLevel (memory_at small page_life k) 1 1 → ⊥
-    split_root k is (chain, other, level) = let same : chain ≡ split ∷ opening_leaf ∷ [] = IsChainOf-unique (memory_at small page_life k) 1 chain (split ∷ opening_leaf ∷ []) other is in
+    split_root : (k : ℕ) → IsChainOf (memory_at small page_life k) 1 (split_leaf ∷ opening_leaf ∷ []) → IsPageOfLevel (memory_at small page_life k) 1 1 → ⊥
+    split_root k is (chain, other, level) = let same : chain ≡ split_leaf ∷ opening_leaf ∷ [] = IsChainOf-unique (memory_at small page_life k) 1 chain (split_leaf ∷ opening_leaf ∷ []) other is in
         let odd : ◌≡◌ {A = ℕ} 0 1 = subst (λ c. level_in c ≡ 1) same level in cc
 
-pub index_level : IsLevel small page_life 19 1 (index_page ∷ [])
+pub index_level : IsLevel small page_life 19 1 (index_above ∷ [])
 index_level = (
   3,
   (17, omega arith, refl, (root ∷ [], record { page = lit< tt; linked = lit< tt; records = (refl, refl) }, refl), not_yet),
   (refl, record { page = lit< tt; linked = lit< tt; records = (refl, (refl, refl)) }, refl),
 )
 
-pub index_whole : IsWhole (index_page ∷ [])
+pub index_whole : IsWhole (index_above ∷ [])
 index_whole = (refl, refl)
 
-pub has_held_term : HasTerm small page_life (index_page ∷ []) (codes "m") 2 true
-has_held_term = (index_page, (0, lit< tt, refl), refl, refl)
+pub has_held_term : HasTerm small page_life (index_above ∷ []) (codes "m") 2 true
+has_held_term = (index_above, (0, lit< tt, refl), refl, refl)

@@ -4,9 +4,9 @@ ghost use Rattle.std.specs.Bool.{Decides};
 ghost use Rattle.std.specs.Option.{option_map};
 ghost use Rattle.chain_search.specs.Chains.{is_removed, level_in, low_in, right_in};
 ghost use Rattle.descent.specs.ReadLegs.{IsPlain, Round};
-ghost use Rattle.descent.specs.ReadRounds.{CanTreat, IsSame, LacksLeft, Treats, left_of, way_of};
+ghost use Rattle.descent.specs.ReadRounds.{CanTreatRead, IsSame, LacksLeft, TreatsRead, left_of, read_way};
 ghost use Rattle.descent.specs.Ways.{LeadsDown, LeadsOn, LeadsRight, StaysLeft};
-ghost use Rattle.rounds.specs.ReadRounds.{IsOfLevel, LeadsLeft, end_of};
+ghost use Rattle.rounds.specs.ReadRounds.{IsOnLevelOf, LeadsLeft, ended_read};
 
 use super::{Going, ReadEnded, ReadRound};
 use crate::way::{child_on_way, right_on_way};
@@ -17,10 +17,10 @@ impl<A: Allocator> ReadRound<A> {
     /// Ends at a removed leaf; goes round a removed index page, where the page above leads to the left of it.
     #[inline(never)]
     pub(super) fn meet_removed(&mut self) -> Option<ReadEnded>
-        requires can { CanTreat self.old.round self.old.page }
+        requires can { CanTreatRead self.old.round self.old.page }
         requires plain { IsPlain self.old.round.leg }
         requires gone { is_removed self.old.page.chain ≡ true }
-        ensures treats { Treats self.old.round self.old.page self.new.round (option_map (end_of self.new) result) }
+        ensures treats { TreatsRead self.old.round self.old.page self.new.round (option_map (ended_read self.new) result) }
         ensures same { IsSame self.old.round self.new.round }
     {
         if self.page().chain().level() == 0 {
@@ -54,9 +54,9 @@ impl<A: Allocator> ReadRound<A> {
     /// right; where that one was merged, goes on from the page in hand.
     #[inline(never)]
     pub(super) fn come_nearer(&mut self) -> Option<ReadEnded>
-        requires can { CanTreat self.old.round self.old.page }
+        requires can { CanTreatRead self.old.round self.old.page }
         requires round { self.old.round.leg ≡ Round self.old.met }
-        ensures treats { Treats self.old.round self.old.page self.new.round (option_map (end_of self.new) result) }
+        ensures treats { TreatsRead self.old.round self.old.page self.new.round (option_map (ended_read self.new) result) }
         ensures same { IsSame self.old.round self.new.round }
     {
         if !self.is_of_level() {
@@ -74,7 +74,7 @@ impl<A: Allocator> ReadRound<A> {
 
     /// Whether the page in hand isn't removed, and is of the removed page's level.
     fn is_of_level(&self) -> bool
-        ensures { Decides result (IsOfLevel self.now.page self.now.met) }
+        ensures { Decides result (IsOnLevelOf self.now.page self.now.met) }
     {
         let page = self.descent.page().chain();
         !page.is_removed() && page.level() == self.leg.page().chain().level()
@@ -92,11 +92,11 @@ impl<A: Allocator> ReadRound<A> {
     /// it as its right; else the next page from the page in hand.
     fn next_past(&self) -> u16
         requires reached { IsTrue (left_of self.now.met (low_in self.now.page.chain)) }
-        requires level { IsOfLevel self.now.page self.now.met }
+        requires level { IsOnLevelOf self.now.page self.now.met }
         requires index { 0 < level_in self.now.met.chain }
-        requires on_way { IsTrue (way_of self.now.round.goal self.now.round.key (low_in self.now.met.chain)) }
-        ensures through { right_in self.now.page.chain ≡ Some self.now.met.pid → LeadsDown (way_of self.now.round.goal self.now.round.key) self.now.met.chain result }
-        ensures past { right_in self.now.page.chain ≢ Some self.now.met.pid → LeadsOn (way_of self.now.round.goal self.now.round.key) self.now.page.chain result }
+        requires on_way { IsTrue (read_way self.now.round.goal self.now.round.key (low_in self.now.met.chain)) }
+        ensures through { right_in self.now.page.chain ≡ Some self.now.met.pid → LeadsDown (read_way self.now.round.goal self.now.round.key) self.now.met.chain result }
+        ensures past { right_in self.now.page.chain ≢ Some self.now.met.pid → LeadsOn (read_way self.now.round.goal self.now.round.key) self.now.page.chain result }
     {
         if self.has_removed_aside() {
             return self.child_of_removed();
@@ -120,8 +120,8 @@ impl<A: Allocator> ReadRound<A> {
     /// The child of the greatest term on the way that the removed page has.
     fn child_of_removed(&self) -> u16
         requires index { 0 < level_in self.now.met.chain }
-        requires on_way { IsTrue (way_of self.now.round.goal self.now.round.key (low_in self.now.met.chain)) }
-        ensures { LeadsDown (way_of self.now.round.goal self.now.round.key) self.now.met.chain result }
+        requires on_way { IsTrue (read_way self.now.round.goal self.now.round.key (low_in self.now.met.chain)) }
+        ensures { LeadsDown (read_way self.now.round.goal self.now.round.key) self.now.met.chain result }
     {
         let removed = self.leg.page().chain();
         match self.going {

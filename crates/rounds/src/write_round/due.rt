@@ -4,9 +4,9 @@ ghost use Rattle.std.specs.Bool.{Decides};
 ghost use Rattle.base_page.specs.declared.item.Content.TheVariants.{Child};
 ghost use Rattle.chain_search.specs.Chains.{content_in};
 ghost use Rattle.descent.specs.Courses as goal;
-ghost use Rattle.descent.specs.WriteResponses.{CanTreat, IsIdleOnWay, IsTended, Treats};
+ghost use Rattle.descent.specs.WriteResponses.{CanTreatWrite, IsIdleOnWay, IsTended, TreatsWrite};
 ghost use Rattle.descent.specs.WriteRounds.{IsLong, SeeksLeaf};
-ghost use Rattle.rounds.specs.WriteRounds.{end_of};
+ghost use Rattle.rounds.specs.WriteRounds.{ended_write};
 ghost use Rattle.smo.specs.Roots.{CanRoot, IsRootPlan};
 ghost use Rattle.smo.specs.Sizes.{HasManyItems};
 ghost use Rattle.smo.specs.Splits.{CanSplit, IsSplitPlan};
@@ -90,7 +90,7 @@ impl<A: Allocator> WriteRound<A> {
     #[inline(never)]
     pub(super) fn end_merge(&self) -> WriteEnded
         requires merges { self.now.round.goal ≡ goal.Merge self.now.left }
-        ensures { Treats self.now.round self.now.page self.now.round (Some (end_of self.now result)) }
+        ensures { TreatsWrite self.now.round self.now.page self.now.round (Some (ended_write self.now result)) }
     {
         match plan_merge(&self.left().version(), &self.page().version()) {
             None => WriteEnded::Done,
@@ -101,9 +101,9 @@ impl<A: Allocator> WriteRound<A> {
     /// Ends where the parent may lose the removed page's term.
     #[inline(never)]
     pub(super) fn end_unterm(&self) -> WriteEnded
-        requires can { CanTreat self.now.round self.now.page }
+        requires can { CanTreatWrite self.now.round self.now.page }
         requires unterms { self.now.round.goal ≡ goal.Unterm self.now.parent self.now.left }
-        ensures { Treats self.now.round self.now.page self.now.round (Some (end_of self.now result)) }
+        ensures { TreatsWrite self.now.round self.now.page self.now.round (Some (ended_write self.now result)) }
     {
         match plan_unterm(
             &self.parent().version(),

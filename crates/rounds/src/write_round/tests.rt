@@ -3,8 +3,8 @@ ghost use Rattle.std.specs.Prelude.{◌≡◌, ◌<◌, ◌∷◌, [], true, fal
 ghost use Rattle.chain_search.specs.Chains.{is_removed, low_in};
 ghost use Rattle.chain_search.specs.Fitted.{IsFitted};
 ghost use Rattle.deltas.specs.declared.record.Record.TheVariants.{Base};
-ghost use Rattle.descent.specs.WriteResponses.{CanMeet};
-ghost use Rattle.descent.specs.WriteRounds.{way_of};
+ghost use Rattle.descent.specs.WriteResponses.{CanMeetGoal};
+ghost use Rattle.descent.specs.WriteRounds.{write_way};
 
 mod pages;
 
@@ -100,7 +100,7 @@ fn stands(round: &WriteRound) -> bool
 
 /// Whether the page in hand begins on the way.
 fn is_reached(round: &WriteRound) -> bool
-    ensures { result ≡ way_of round.now.round.goal round.now.round.key (low_in round.now.page.chain) }
+    ensures { result ≡ write_way round.now.round.goal round.now.round.key (low_in round.now.page.chain) }
 {
     let low = KeyWords::of(&round.page().chain().low());
     if round.is_left() {
@@ -112,7 +112,7 @@ fn is_reached(round: &WriteRound) -> bool
 /// Whether the round may go to the removed page, and on from there.
 fn meets(round: &WriteRound) -> bool
     requires limits { round.now.round.limits.pids ≡ 4096 }
-    ensures { result ≡ true → CanMeet round.now.round.limits round.now.round.goal }
+    ensures { result ≡ true → CanMeetGoal round.now.round.limits round.now.round.goal }
 {
     match round.course.aim() {
         Aim::Seek | Aim::Merge => true,

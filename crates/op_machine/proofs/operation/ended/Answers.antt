@@ -1,9 +1,8 @@
 use Rattle.std.proofs.Common.{◌≡◌, ap, subst, sym, ◌∙◌}
 use Rattle.bw_model.specs.Answers.{answer_of}
 use Rattle.chain_search.specs.Knowledge.{Limbos}
-use Rattle.op_machine.specs.Places.{Places, state_of}
+use Rattle.op_machine.specs.Places.{OpPlaces, state_of}
 use Rattle.op_machine.specs.Shows.{learn_last, wanted_at}
-use Rattle.op_machine.specs.declared.then.Then.{Then}
 use Rattle.sweep.specs.Kept.{AreKept}
 use Rattle.op_machine.proofs.operation.ended.Goals as goal
 
@@ -12,7 +11,7 @@ unlink-requires g c =
     let told = c.requires.told.told_at in
     let stands = rw (← c.hand.view_is) at told.stands in
     let fits = rw (← c.hand.view_is) at told.fits in
-    let then_is : c.then.result.now ≡ c.args.places.now.then = c.then.ensures ∙ ap (λ (p : Places). p.then) c.change_next.ensures.only in
+    let then_is : c.then.result.now ≡ c.args.places.now.then = c.then.ensures ∙ ap (λ (p : OpPlaces). p.then) c.change_next.ensures.only in
     record {
       due = (
         told.task.limits,
@@ -36,5 +35,5 @@ returns-in-Some-clause-keeps g c task k r h f kept =
     let stands = rw (← c.hand.view_is) at h in
     let fits = rw (← c.hand.view_is) at f in
     let here = rw (← c.hand.view_is) at kept in
-    let then_is : c.then.result.now ≡ c.args.places.now.then = c.then.ensures ∙ ap (λ (p : Places). p.then) c.change_next.ensures.only in
+    let then_is : c.then.result.now ≡ c.args.places.now.then = c.then.ensures ∙ ap (λ (p : OpPlaces). p.then) c.change_next.ensures.only in
     rw (← c.hand.view_is) (c.unlink.ensures.keeps task.limits task.actor k _ here (rw then_is (rw c.in-Some.is at (c.change_next.ensures.unlinks task k r stands fits))))

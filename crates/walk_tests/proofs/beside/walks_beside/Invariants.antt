@@ -1,12 +1,12 @@
 use Rattle.std.proofs.Common.{◌≡◌}
 use Rattle.bw_tree.specs.Seats.{unfinished_command}
 use Rattle.bw_tree.specs.Trees.{IsSeatOf}
-use Rattle.walks.specs.Cursors.{asked_by}
+use Rattle.walks.specs.Cursors.{cursor_command}
 use Rattle.walk_tests.proofs.beside.walks_beside.Given as goal
 
 abbrev pub invariant-loop-round : goal.invariant-loop-round
 invariant-loop-round l = record {
   own : IsSeatOf l.tree l.seat;
   other : IsSeatOf l.tree l.other;
-  ready : unfinished_command l.seat ≡ asked_by l.cursor;
+  ready : unfinished_command l.seat ≡ cursor_command l.cursor;
 }

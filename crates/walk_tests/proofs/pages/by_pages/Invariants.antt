@@ -1,11 +1,11 @@
 use Rattle.std.proofs.Common.{◌≡◌}
 use Rattle.bw_tree.specs.Seats.{unfinished_command}
 use Rattle.bw_tree.specs.Trees.{IsSeatOf}
-use Rattle.walks.specs.Cursors.{asked_by}
+use Rattle.walks.specs.Cursors.{cursor_command}
 use Rattle.walk_tests.proofs.pages.by_pages.Given as goal
 
 abbrev pub invariant-loop : goal.invariant-loop
 invariant-loop l = record {
   own : IsSeatOf l.tree l.seat;
-  ready : unfinished_command l.seat ≡ asked_by l.cursor;
+  ready : unfinished_command l.seat ≡ cursor_command l.cursor;
 }

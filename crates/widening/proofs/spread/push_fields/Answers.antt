@@ -1,6 +1,6 @@
 use Rattle.std.proofs.Common.{◌≡◌, ◌+◌, ◌*◌, ◌-◌, ◌++◌, ℕ, suc, List, length, take, drop, replicate, subst, sym, ap, ◌∙◌, arith, length-append, length-drop}
 use Rattle.std.proofs.lemmas.List.{length-take-le, take_all}
-use Rattle.widening.specs.Spread.{first_field, grown, spread_fields}
+use Rattle.widening.specs.Spread.{first_field, grown_by, spread_fields}
 use Rattle.widening.proofs.SpreadLaws.{field_more, spread_none}
 use Rattle.widening.proofs.spread.push_fields.Goals as goal
 
@@ -14,7 +14,7 @@ loop-place-preserved c =
     let now = c.push_zeros.new.wide.items in
     let some : c.args.count - place ≡ suc left = omega (arith, c.loop-place-test.true) in
     let field : c.push_words.new.wide.items ≡ before ++ take first_field (drop (first_field * place) words) = c.push_words.ensures ∙ ap (λ n. before ++ take n (drop (first_field * place) words)) one in
-    let gap : List ℕ = replicate grown 0 in
+    let gap : List ℕ = replicate grown_by 0 in
     let more : now ≡ (before ++ take first_field (drop (first_field * place) words)) ++ gap = c.push_zeros.ensures ∙ ap (λ ws. ws ++ gap) field in
     let dropped = length-drop (first_field * place) words in
     let taken = length-take-le first_field (drop (first_field * place) words) (omega (arith, c.loop-place-test.true, c.requires.many)) in

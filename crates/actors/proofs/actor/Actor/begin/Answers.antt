@@ -5,7 +5,7 @@ use Rattle.chain_search.specs.Recalled.{blank}
 use Rattle.op_machine.specs.Outcomes.{is_leaving}
 use Rattle.op_machine.specs.Tasks.{Task}
 use Rattle.actors.specs.Actors.{IsActorWith}
-use Rattle.actors.specs.Running.{Running}
+use Rattle.actors.specs.Running.{UnderWay}
 use Rattle.actors.proofs.Going.{begun_few, begun_left, command_is, idle_at, is_asking, shown_begun, told_start}
 use Rattle.actors.proofs.actor.Actor.begin.Goals as goal
 
@@ -26,7 +26,7 @@ returns-clause-shows g c = λ k r h.
     let idle = idle_at _ _ k r c.self.inside.hand _ (rw (← c.self.view_is) at c.requires.idle) (rw (← c.self.view_is) at h) in
     let shown = shown_begun (begun k c.args.command) c.self.inside.hand c.begin.new.self c.begin.ensures.sweep c.begin.ensures.state (c.begin.ensures.shows _ _ idle) _ _ c.go_on.ensures in
     let asks = (c.wanted.ensures shown.0 shown.1 shown.2).wanted in
-    subst (λ (o : Option Running). IsActorWith c.args.limits.now c.args.number (begun k c.args.command) blank c.go_on.new.hand o) (sym (is_asking c.go_on.new.self c.go_on.new.hand _ asks))
+    subst (λ (o : Option UnderWay). IsActorWith c.args.limits.now c.args.number (begun k c.args.command) blank c.go_on.new.hand o) (sym (is_asking c.go_on.new.self c.go_on.new.hand _ asks))
     (begun_left (begun k c.args.command) c.self.inside.hand c.begin.new.self c.begin.ensures.sweep c.begin.ensures.state (c.begin.ensures.shows _ _ idle) _ _ _ _ (ap (λ (t : Task). t.limits) c.begin.ensures.task) (ap (λ (t : Task). t.actor) c.begin.ensures.task) _ (c.go_on.ensures.obeys _ c.wanted.ensures)
     c.go_on.ensures.same)
 

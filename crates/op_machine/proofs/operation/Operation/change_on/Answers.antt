@@ -1,6 +1,6 @@
-use Rattle.std.proofs.Common.{◌≡◌, ap, refl, sym, subst, ◌∙◌}
+use Rattle.std.proofs.Common.{◌≡◌, ap, refl}
 use Rattle.op_machine.specs.Outcomes.{Changed, changed}
-use Rattle.op_machine.specs.Places.{Places, ended_with, state_of}
+use Rattle.op_machine.specs.Places.{OpPlaces, ended_with}
 use Rattle.op_machine.proofs.Going.{follows, goes_on, told_change}
 use Rattle.op_machine.proofs.operation.Operation.change_on.Goals as goal
 
@@ -12,7 +12,7 @@ returns-in-Some-clause-asks g c =
     let told = rw (← c.self.view_is) at c.requires.told in
     let spares = c.ended.new.hand.spares in
     let then = c.self.inside.places.then in
-    let then_is : c.ended.new.places.then ≡ then = ap (λ (p : Places). p.then) c.ended.ensures.only in
+    let then_is : c.ended.new.places.then ≡ then = ap (λ (p : OpPlaces). p.then) c.ended.ensures.only in
     let ends = c.end_changing.ensures in
     rw (← c.self.view_is) (follows _ _ _ _ told.told_on _ _ c.ended.ensures.makes (Changed c.in-Some.end then) (ap (λ o. changed (ended_with then o)) c.in-Some.is) _
     (record { stands = rw then_is at (ends.stands spares); few = λ k r faced. rw then_is at (ends.few spares r); asks = ends.asks spares; same = ends.same; sweep = refl }))

@@ -1,7 +1,7 @@
 use Rattle.std.proofs.Common.{ap}
 use Rattle.std.specs.Option.{option_map}
 use Rattle.bw_model.specs.declared.step.Answer.TheVariants.{Content}
-use Rattle.rounds.specs.ReadRounds.{end_of}
+use Rattle.rounds.specs.ReadRounds.{ended_read}
 use Rattle.op_machine.specs.Outcomes.{Read, read_out}
 use Rattle.op_machine.specs.Places.{state_of}
 use Rattle.op_machine.proofs.Going.{follows, goes_on}
@@ -16,8 +16,8 @@ returns-in-Some g c =
     let mid = c.read_row.new.self in
     let is = stands_reading places.reader.round places.writer.round places.change places.then places.reply places.stand (rw (← c.self.view_is) at c.requires.reading) in
     let ends = c.end_reading.ensures in
-    let outcome = Read (end_of mid.reader c.in-Some.ended) in
-    rw (← c.self.view_is) (follows _ _ _ _ told _ _ (reads_into places mid spares (Content c.args.row.now) (option_map (end_of mid.reader) c.read_row.result) is c.read_row.ensures) outcome (ap (λ o. read_out (option_map (end_of mid.reader) o)) c.in-Some.is) _
+    let outcome = Read (ended_read mid.reader c.in-Some.ended) in
+    rw (← c.self.view_is) (follows _ _ _ _ told _ _ (reads_into places mid spares (Content c.args.row.now) (option_map (ended_read mid.reader) c.read_row.result) is c.read_row.ensures) outcome (ap (λ o. read_out (option_map (ended_read mid.reader) o)) c.in-Some.is) _
     (comes_to c.self.inside.task c.self.inside.sweep (state_of mid) (state_of c.end_reading.new.places) spares outcome (ends.stands spares) (ends.few spares) (ends.asks spares)))
 
 pub returns-in_default : goal.returns-in_default
@@ -27,4 +27,4 @@ returns-in_default g c =
     let spares = c.args.spares.now in
     let mid = c.read_row.new.self in
     let is = stands_reading places.reader.round places.writer.round places.change places.then places.reply places.stand (rw (← c.self.view_is) at c.requires.reading) in
-    rw (← c.self.view_is) (goes_on _ _ _ _ told _ _ (reads_into places mid spares (Content c.args.row.now) (option_map (end_of mid.reader) c.read_row.result) is c.read_row.ensures) (ap (λ o. read_out (option_map (end_of mid.reader) o)) c.in_default.is))
+    rw (← c.self.view_is) (goes_on _ _ _ _ told _ _ (reads_into places mid spares (Content c.args.row.now) (option_map (ended_read mid.reader) c.read_row.result) is c.read_row.ensures) (ap (λ o. read_out (option_map (ended_read mid.reader) o)) c.in_default.is))

@@ -1,9 +1,8 @@
-use Rattle.std.proofs.Common.{◌≡◌, Some, ap, refl, arith}
+use Rattle.std.proofs.Common.{ap, refl}
 use Rattle.std.specs.Option.{option_map}
 use Rattle.bw_model.specs.declared.step.Answer.TheVariants.{Content}
-use Rattle.rounds.specs.WriteRounds.{end_of}
+use Rattle.rounds.specs.WriteRounds.{ended_write}
 use Rattle.op_machine.specs.Outcomes.{Written, written_out}
-use Rattle.op_machine.specs.Places.{state_of}
 use Rattle.op_machine.proofs.Going.{faced, follows, goes_on}
 use Rattle.op_machine.proofs.InPlaces.{stands_writing, writes_into}
 use Rattle.op_machine.proofs.operation.Operation.write_last_row.Goals as goal
@@ -15,7 +14,7 @@ end_writing-requires-clause-faced g c =
     let spares = c.args.spares.now in
     let mid = c.write_row.new.self in
     let is = stands_writing places.reader.round places.writer.round places.change places.then places.reply places.stand (rw (← c.self.view_is) at c.requires.writing) in
-    let there = faced _ _ _ _ told _ _ (writes_into places mid spares (Content c.args.row.now) (option_map (end_of mid.writer) c.write_row.result) is c.write_row.ensures) (Written (end_of mid.writer c.in-Some.ended)) (ap (λ o. written_out (option_map (end_of mid.writer) o)) c.in-Some.is) in
+    let there = faced _ _ _ _ told _ _ (writes_into places mid spares (Content c.args.row.now) (option_map (ended_write mid.writer) c.write_row.result) is c.write_row.ensures) (Written (ended_write mid.writer c.in-Some.ended)) (ap (λ o. written_out (option_map (ended_write mid.writer) o)) c.in-Some.is) in
     (there.k, there.r, there.faces)
 
 pub returns-in-Some : goal.returns-in-Some
@@ -26,7 +25,7 @@ returns-in-Some g c =
     let mid = c.write_row.new.self in
     let is = stands_writing places.reader.round places.writer.round places.change places.then places.reply places.stand (rw (← c.self.view_is) at c.requires.writing) in
     let ends = c.end_writing.ensures in
-    rw (← c.self.view_is) (follows _ _ _ _ told _ _ (writes_into places mid spares (Content c.args.row.now) (option_map (end_of mid.writer) c.write_row.result) is c.write_row.ensures) (Written (end_of mid.writer c.in-Some.ended)) (ap (λ o. written_out (option_map (end_of mid.writer) o)) c.in-Some.is) _
+    rw (← c.self.view_is) (follows _ _ _ _ told _ _ (writes_into places mid spares (Content c.args.row.now) (option_map (ended_write mid.writer) c.write_row.result) is c.write_row.ensures) (Written (ended_write mid.writer c.in-Some.ended)) (ap (λ o. written_out (option_map (ended_write mid.writer) o)) c.in-Some.is) _
     (record { stands = ends.stands; few = ends.few; asks = ends.asks; same = ends.same; sweep = refl }))
 
 pub returns-in_default : goal.returns-in_default
@@ -36,4 +35,4 @@ returns-in_default g c =
     let spares = c.args.spares.now in
     let mid = c.write_row.new.self in
     let is = stands_writing places.reader.round places.writer.round places.change places.then places.reply places.stand (rw (← c.self.view_is) at c.requires.writing) in
-    rw (← c.self.view_is) (goes_on _ _ _ _ told _ _ (writes_into places mid spares (Content c.args.row.now) (option_map (end_of mid.writer) c.write_row.result) is c.write_row.ensures) (ap (λ o. written_out (option_map (end_of mid.writer) o)) c.in_default.is))
+    rw (← c.self.view_is) (goes_on _ _ _ _ told _ _ (writes_into places mid spares (Content c.args.row.now) (option_map (ended_write mid.writer) c.write_row.result) is c.write_row.ensures) (ap (λ o. written_out (option_map (ended_write mid.writer) o)) c.in_default.is))

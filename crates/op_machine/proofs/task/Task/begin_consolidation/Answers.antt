@@ -1,7 +1,6 @@
 use Rattle.std.proofs.Common.{◌≡◌, ◌<◌, ◌∙◌, length, ap, sym, subst}
-use Rattle.smo.specs.declared.version.Version.{Version}
 use Rattle.descent.specs.WriteEnds as end
-use Rattle.rounds.specs.WriteRounds.{WriteRound}
+use Rattle.rounds.specs.WriteRounds.{PlacedWrite}
 use Rattle.op_machine.specs.Outcomes.{FacesWritten}
 use Rattle.op_machine.proofs.Plans.{long_chain, one_chain}
 use Rattle.op_machine.proofs.task.Task.begin_consolidation.Goals as goal
@@ -9,7 +8,7 @@ use Rattle.op_machine.proofs.task.Task.begin_consolidation.Goals as goal
 pub returns-clause-stands : goal.returns-clause-stands
 returns-clause-stands g c k r faced =
     let page = c.version-page.result in
-    let is : page ≡ c.args.places.now.writer.page = c.version-page.ensures ∙ c.page.ensures ∙ ap (λ (w : WriteRound). w.page) c.writer.ensures in
+    let is : page ≡ c.args.places.now.writer.page = c.version-page.ensures ∙ c.page.ensures ∙ ap (λ (w : PlacedWrite). w.page) c.writer.ensures in
     let h : FacesWritten c.args.self.now c.args.spares.now k r (end.Consolidate page) = rw is faced in
     let base = c.consolidated-base in
     let alive = h.ends.page in

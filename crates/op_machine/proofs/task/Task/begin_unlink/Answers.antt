@@ -1,7 +1,7 @@
 use Rattle.std.proofs.Common.{◌≡◌, Some, ap, sym, ◌∙◌}
 use Rattle.deltas.specs.declared.record.Unterm.{Unterm}
 use Rattle.chain_search.specs.Chains.{chain_rows}
-use Rattle.rounds.specs.WriteRounds.{WriteRound}
+use Rattle.rounds.specs.WriteRounds.{PlacedWrite}
 use Rattle.smo.specs.declared.version.Version.{Version}
 use Rattle.op_machine.proofs.Unlinking.{keeps_spare}
 use Rattle.op_machine.proofs.task.Task.begin_unlink.Goals as goal
@@ -11,8 +11,8 @@ returns-clause-stands g c k r h =
     let ends = h.ends in
     let writer = c.args.places.now.writer in
     let removed = writer.page in
-    let parent_is : c.parent-parent.result.now ≡ writer.parent = c.parent-parent.ensures ∙ ap (λ (w : WriteRound). w.parent) c.writer.ensures in
-    let removed_is : c.page-removed.result.now ≡ removed = c.page-removed.ensures ∙ ap (λ (w : WriteRound). w.page) c.writer-2.ensures in
+    let parent_is : c.parent-parent.result.now ≡ writer.parent = c.parent-parent.ensures ∙ ap (λ (w : PlacedWrite). w.parent) c.writer.ensures in
+    let removed_is : c.page-removed.result.now ≡ removed = c.page-removed.ensures ∙ ap (λ (w : PlacedWrite). w.page) c.writer-2.ensures in
     let rows : c.rows.result.items ≡ chain_rows removed.head removed.chain = rw (c.head-3.ensures, c.chain.ensures, removed_is) at c.rows.ensures in
     let pid : c.pid-2.result ≡ c.args.unterm.child = c.pid-2.ensures ∙ ap (λ (v : Version). v.pid) removed_is ∙ sym (ap (λ (u : Unterm). u.child) ends.plan.is) in
     c.begin_change.ensures.stands k r (rw (c.pid.ensures, c.head.ensures, c.head-2.ensures, parent_is, removed_is) (record {

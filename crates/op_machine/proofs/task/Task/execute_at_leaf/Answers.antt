@@ -2,7 +2,7 @@ use Rattle.std.proofs.Common.{◌≡◌, ◌<◌, ◌∙◌, Some, true, false, 
 use Rattle.bw_model.specs.Replies.{command_key, reply_of, update_of}
 use Rattle.chain_search.specs.Chains.{content_in}
 use Rattle.chain_search.specs.Discipline.{found}
-use Rattle.rounds.specs.WriteRounds.{WriteRound}
+use Rattle.rounds.specs.WriteRounds.{PlacedWrite}
 use Rattle.smo.specs.declared.version.Version.{Version}
 use Rattle.smo.proofs.Places.{of_made}
 use Rattle.op_machine.specs.Brings.{update_over}
@@ -18,7 +18,7 @@ returns-clause-stands g c parent k r below idle =
     let leaf = c.args.places.now.writer.page in
     let key = command_key task.command in
     let old = found leaf.chain key in
-    let leaf_is : c.page-leaf.result.now ≡ leaf = c.page-leaf.ensures ∙ ap (λ (w : WriteRound). w.page) c.writer.ensures in
+    let leaf_is : c.page-leaf.result.now ≡ leaf = c.page-leaf.ensures ∙ ap (λ (w : PlacedWrite). w.page) c.writer.ensures in
     let chain_is : c.chain-2.result.now ≡ leaf.chain = c.chain-2.ensures ∙ ap (λ (v : Version). v.chain) leaf_is in
     let key_is : c.of.result ≡ key = c.of.ensures ∙ c.key.ensures ∙ ap command_key c.command.ensures in
     let old_is : c.find-old.result ≡ old = (rw (chain_is, key_is) at c.find-old.ensures) ∙ value_same (content_in leaf.chain key) in
@@ -70,7 +70,7 @@ returns-then-not-changes-clause-stands g c parent k r below idle =
     let leaf = c.args.places.now.writer.page in
     let key = command_key task.command in
     let old = found leaf.chain key in
-    let leaf_is : c.page-leaf.result.now ≡ leaf = c.page-leaf.ensures ∙ ap (λ (w : WriteRound). w.page) c.writer.ensures in
+    let leaf_is : c.page-leaf.result.now ≡ leaf = c.page-leaf.ensures ∙ ap (λ (w : PlacedWrite). w.page) c.writer.ensures in
     let chain_is : c.chain-2.result.now ≡ leaf.chain = c.chain-2.ensures ∙ ap (λ (v : Version). v.chain) leaf_is in
     let key_is : c.of.result ≡ key = c.of.ensures ∙ c.key.ensures ∙ ap command_key c.command.ensures in
     let old_is : c.find-old.result ≡ old = (rw (chain_is, key_is) at c.find-old.ensures) ∙ value_same (content_in leaf.chain key) in

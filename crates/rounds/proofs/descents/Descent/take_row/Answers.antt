@@ -1,15 +1,16 @@
 use Rattle.std.proofs.Common.{sym, ap, ◌∙◌}
 use Rattle.bw_model.specs.declared.step.Answer.TheVariants.{Content}
 use Rattle.deltas.specs.Records.{next_row}
-use Rattle.descent.specs.Descents.{IsTold}
-use Rattle.descent.specs.declared.visit.State.TheVariants.{Row}
-use Rattle.rounds.specs.Descents.{state_of}
+use Rattle.descent.specs.Descents.{descending}
+use Rattle.descent.specs.Machines.{IsTold}
+use Rattle.descent.specs.Visits.{Row}
+use Rattle.rounds.specs.Descents.{placed_state}
 use Rattle.rounds.proofs.Placed.{completes, continues, is_whole, visiting}
 use Rattle.rounds.proofs.descents.Descent.take_row.Goals as goal
 
 pub take-requires-clause-chain : goal.take-requires-clause-chain
 take-requires-clause-chain g c =
-    let told : IsTold (visiting c.self.inside.limits c.in-Row.pid c.self.inside.part (Row c.in-Row.head c.in-Row.row)) (Content c.args.row.now) = rw (← c.self.view_is, c.in-Row.is) at c.requires.told in
+    let told : IsTold descending (visiting c.self.inside.limits c.in-Row.pid c.self.inside.part (Row c.in-Row.head c.in-Row.row)) (Content c.args.row.now) = rw (← c.self.view_is, c.in-Row.is) at c.requires.told in
     rw c.push.ensures (is_whole c.self.inside.limits c.in-Row.pid c.in-Row.head c.in-Row.row c.self.inside.part c.args.row.now (ap next_row (sym c.row.ensures) ∙ sym c.next-next.ensures ∙ c.in-None.is) told)
 
 pub returns-in-Some-clause-responds : goal.returns-in-Some-clause-responds
@@ -20,5 +21,5 @@ pub returns-in-None-clause-responds : goal.returns-in-None-clause-responds
 returns-in-None-clause-responds g c =
     let limits = c.self.inside.limits in
     rw (← c.self.view_is, c.in-Row.is)
-    (completes limits c.in-Row.pid c.in-Row.head c.in-Row.row c.self.inside.part c.args.row.now (record { limits = limits; state = state_of limits c.self.inside.at c.self.inside.part }) c.take.new.self
+    (completes limits c.in-Row.pid c.in-Row.head c.in-Row.row c.self.inside.part c.args.row.now (record { limits = limits; state = placed_state limits c.self.inside.at c.self.inside.part }) c.take.new.self
     (ap next_row (sym c.row.ensures) ∙ sym c.next-next.ensures ∙ c.in-None.is) c.take.ensures.pid c.take.ensures.head (c.take.ensures.chain ∙ c.push.ensures))

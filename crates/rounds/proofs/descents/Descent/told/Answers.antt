@@ -1,5 +1,5 @@
 use Rattle.std.proofs.Common.{◌<◌, arith}
-use Rattle.rounds.specs.Descents.{state_of}
+use Rattle.rounds.specs.Descents.{placed_state}
 use Rattle.rounds.specs.declared.descents.At.TheVariants.{Slot}
 use Rattle.rounds.proofs.Placed.{is_empty, starts}
 use Rattle.rounds.proofs.descents.Descent.told.Goals as goal
@@ -7,7 +7,7 @@ use Rattle.rounds.proofs.descents.Descent.told.Goals as goal
 pub returns-in-Slot-clause-responds : goal.returns-in-Slot-clause-responds
 returns-in-Slot-clause-responds g c =
     let limits = c.self.inside.limits in
-    rw (← c.self.view_is, c.in-Slot.is) (is_empty limits c.in-Slot.pid c.self.inside.part c.args.number (record { limits = limits; state = state_of limits (Slot c.in-Slot.pid) c.self.inside.part }) c.if-number-eq0.true)
+    rw (← c.self.view_is, c.in-Slot.is) (is_empty limits c.in-Slot.pid c.self.inside.part c.args.number (record { limits = limits; state = placed_state limits (Slot c.in-Slot.pid) c.self.inside.part }) c.if-number-eq0.true)
 
 pub returns-in-Slot-2-clause-responds : goal.returns-in-Slot-2-clause-responds
 returns-in-Slot-2-clause-responds g c =

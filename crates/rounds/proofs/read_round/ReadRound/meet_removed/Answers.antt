@@ -1,13 +1,13 @@
 use Rattle.std.proofs.Common.{rules, ◌<◌, inl, inr, refl}
 use Rattle.chain_search.specs.Chains.{level_in}
-use Rattle.descent.specs.ReadRounds.{way_of}
+use Rattle.descent.specs.ReadRounds.{read_way}
 use Rattle.rounds.proofs.LegTurns.{above_leads, left_within}
 use Rattle.rounds.proofs.read_round.ReadRound.meet_removed.Goals as goal
 
 pub go_to-requires : goal.go_to-requires
 go_to-requires g c =
     let old = c.args.self.now in
-    let there = left_within old.round.limits (way_of old.round.goal old.round.key) old.round.goal old.page c.in-Some.left old.round.leg c.requires.can.meets c.in-Some.ensures in
+    let there = left_within old.round.limits (read_way old.round.goal old.round.key) old.round.goal old.page c.in-Some.left old.round.leg c.requires.can.meets c.in-Some.ensures in
     record { some = there.0; below = rw (← c.self.view_is, ← c.go_round.ensures.way) at there.1 }
 
 pub returns-in-Some-clause-treats : goal.returns-in-Some-clause-treats

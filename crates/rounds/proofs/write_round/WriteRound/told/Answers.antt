@@ -1,13 +1,13 @@
 use Rattle.std.proofs.Common.{subst}
 use Rattle.bw_model.specs.declared.step.Answer.TheVariants.{Number}
-use Rattle.rounds.specs.WriteRounds.{WriteRound}
+use Rattle.rounds.specs.WriteRounds.{PlacedWrite}
 use Rattle.rounds.proofs.WriteSeeing.{Moved, goes_on, is_missing, placed}
 use Rattle.rounds.proofs.write_round.WriteRound.told.Goals as goal
 use Rattle.rounds.proofs.write_round.WriteRound.told.Goals.{in-On, in-Empty}
 
 pub returns-clause-responds : goal.returns-clause-responds
 returns-clause-responds g c =
-    let was : WriteRound = placed c.self.inside.key c.self.inside.due c.self.inside.tends c.self.inside.floor c.self.inside.course c.self.inside.descent in
+    let was : PlacedWrite = placed c.self.inside.key c.self.inside.due c.self.inside.tends c.self.inside.floor c.self.inside.course c.self.inside.descent in
     let now = c.told.new.self in
     let told = Number c.args.number in
     rw (← c.self.view_is)
