@@ -4,8 +4,8 @@ use Rattle.bw_model.specs.declared.limits.Limits.{Limits}
 use Rattle.chain_search.specs.declared.trace.Entry.{Entry}
 use Rattle.chain_search.specs.declared.trace.Turn.{Turn}
 use Rattle.chain_search.specs.declared.trace.Turn.TheVariants.{Begin, Step}
-use Rattle.chain_search.specs.Trace.{command_of, memory_of, turn_of}
-use Rattle.op_machine.specs.Linearized.{IsLinearized}
+use Rattle.chain_search.specs.trace.Trace.{command_of, memory_of, turn_of}
+use Rattle.op_machine.specs.theorem.Linearized.{IsLinearized}
 use Rattle.step_core.specs.Turns.{Core, IsEventOf}
 use Rattle.step_core.specs.declared.event.Event.{Event}
 use Rattle.bw_shell.specs.declared.refusal.Refusal.{Refusal}

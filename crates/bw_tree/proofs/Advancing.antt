@@ -2,7 +2,7 @@
 use Rattle.std.proofs.Common.{◌≡◌, ℕ, List, Option, sym, subst}
 use Rattle.std.specs.Prelude.{IsSome, Some, None}
 use Rattle.atomic_table.specs.Seated.{TableId}
-use Rattle.actors.specs.Actors.{Actor, ActsOn, IsGoing, IsToldActor, command_left, running_command, wanted_by}
+use Rattle.op_machine.specs.machine.Actors.{Actor, ActsOn, IsGoing, IsToldActor, command_left, running_command, wanted_by}
 use Rattle.bw_model.specs.declared.command.Reply.{Reply}
 use Rattle.bw_model.specs.declared.limits.Limits.{Limits}
 use Rattle.bw_model.specs.declared.step.Answer.{Answer}
@@ -11,12 +11,12 @@ use Rattle.bw_model.specs.declared.step.Step.{Step as StepOf}
 use Rattle.bw_model.specs.declared.step.Step.TheVariants.{Leave}
 use Rattle.deltas.specs.declared.record.Record.{Record}
 use Rattle.chain_search.specs.declared.trace.Entry.{Entry}
-use Rattle.chain_search.specs.Discipline.{May}
-use Rattle.chain_search.specs.Fitting.{Fits}
-use Rattle.chain_search.specs.Knowledge.{Knowledge, knows}
-use Rattle.chain_search.specs.Recalled.{Recalled, recalls}
-use Rattle.chain_search.specs.Trace.{command_of}
-use Rattle.chain_search.specs.Within.{IsWithin}
+use Rattle.chain_search.specs.discipline.Discipline.{May}
+use Rattle.chain_search.specs.discipline.Fitting.{Fits}
+use Rattle.chain_search.specs.discipline.Knowledge.{Knowledge, knows}
+use Rattle.chain_search.specs.discipline.Recalled.{Recalled, recalls}
+use Rattle.chain_search.specs.trace.Trace.{command_of}
+use Rattle.chain_search.specs.trace.Within.{IsWithin}
 use Rattle.slot_rule.specs.Steps.{IsLawfulStep, Took}
 use Rattle.bw_tree.specs.Calls.{Advances}
 use Rattle.bw_tree.specs.Laws.{HaveLaws}

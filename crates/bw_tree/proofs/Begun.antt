@@ -2,9 +2,9 @@
 use Rattle.std.proofs.Common.{◌≡◌, ◌≢◌, ◌<◌, ◌^◌, ℕ, List, [], ◌∷◌, ◌++◌, Option, Bool, true, false, refl, sym, ap, ◌∙◌, subst, arith, append-nil}
 use Rattle.std.proofs.lemmas.Option.{same_Some}
 use Rattle.std.specs.Prelude.{IsSome, Some, None, IsTrue}
-use Rattle.actors.specs.Actors.{Actor, IsActor, IsActorWith, IsToldActor, command_at, command_left, running_command, wanted_by}
-use Rattle.actors.specs.Running.{UnderWay}
-use Rattle.actors.specs.Spending.{steps_due}
+use Rattle.op_machine.specs.machine.Actors.{Actor, IsActor, IsActorWith, IsToldActor, command_at, command_left, running_command, wanted_by}
+use Rattle.op_machine.specs.machine.UnderWay.{UnderWay}
+use Rattle.op_machine.specs.machine.UnderWay.{steps_due}
 use Rattle.bw_model.specs.declared.command.Command.{Command}
 use Rattle.bw_model.specs.declared.command.Reply.{Reply}
 use Rattle.bw_model.specs.declared.limits.Limits.{Limits}
@@ -14,14 +14,14 @@ use Rattle.bw_model.specs.declared.step.Step.TheVariants as step
 use Rattle.deltas.specs.declared.record.Record.{Record}
 use Rattle.chain_search.specs.declared.trace.Entry.{Entry}
 use Rattle.chain_search.specs.declared.trace.Entry.TheVariants.{Begin}
-use Rattle.chain_search.specs.Discipline.{May}
-use Rattle.chain_search.specs.Disciplined.{Extends}
-use Rattle.chain_search.specs.Knowledge.{Knowledge, begun, knows}
-use Rattle.chain_search.specs.Recalled.{Recalled, blank, recalls}
-use Rattle.chain_search.specs.Steps.{IsAnswer}
-use Rattle.chain_search.specs.Trace.{command_of, memory_of}
-use Rattle.chain_search.specs.Within.{IsWithin}
-use Rattle.op_machine.specs.Hands.{Hand}
+use Rattle.chain_search.specs.discipline.Discipline.{May}
+use Rattle.chain_search.specs.discipline.Disciplined.{Extends}
+use Rattle.chain_search.specs.discipline.Knowledge.{Knowledge, begun, knows}
+use Rattle.chain_search.specs.discipline.Recalled.{Recalled, blank, recalls}
+use Rattle.chain_search.specs.trace.Steps.{IsAnswer}
+use Rattle.chain_search.specs.trace.Trace.{command_of, memory_of}
+use Rattle.chain_search.specs.trace.Within.{IsWithin}
+use Rattle.op_machine.specs.machine.Hands.{Hand}
 use Rattle.slot_rule.specs.Steps.{IsLawfulStep, Took}
 use Rattle.tree_law.specs.Direct.{Accounts}
 use Rattle.tree_words.specs.Changes.{HasWord}

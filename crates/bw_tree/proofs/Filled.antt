@@ -13,12 +13,12 @@ use Rattle.bw_model.specs.Pairs.{IsPairsOf}
 use Rattle.bw_model.specs.Replies.{reply_of}
 use Rattle.chain_search.specs.declared.trace.Entry.{Entry}
 use Rattle.chain_search.specs.declared.trace.Entry.TheVariants.{Begin, Step}
-use Rattle.chain_search.specs.Disciplined.{Extends, own_entries}
-use Rattle.chain_search.specs.Trace.{command_of, turn_of}
+use Rattle.chain_search.specs.discipline.Disciplined.{Extends, own_entries}
+use Rattle.chain_search.specs.trace.Trace.{command_of, turn_of}
 use Rattle.listing.specs.Listed.{IsListing}
-use Rattle.op_machine.specs.Answered.{IsAnswered}
-use Rattle.op_machine.specs.Linearized.{IsLinearized}
-use Rattle.op_machine.specs.Points.{HasPoints, log_at, log_of}
+use Rattle.op_machine.specs.theorem.Answered.{IsAnswered}
+use Rattle.op_machine.specs.theorem.Linearized.{IsLinearized}
+use Rattle.op_machine.specs.theorem.Points.{HasPoints, log_at, log_of}
 use Rattle.slot_rule.specs.Views.{dealt, dealt_from, other_parts}
 use Rattle.tree_law.specs.Own.{OwnLasts}
 use Rattle.bw_tree.specs.Calls.{calls_along, calls_of}

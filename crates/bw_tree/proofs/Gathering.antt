@@ -1,9 +1,9 @@
 -- The other actors of a tree that is filled: they stand in one place, and see with a seat the longest run.
 use Rattle.std.proofs.Common.{◌≡◌, ℕ, List, [], ◌∷◌, ◌++◌, map, refl, sym, ap, ◌∙◌, subst}
-use Rattle.actors.specs.Actors.{Actor}
+use Rattle.op_machine.specs.machine.Actors.{Actor}
 use Rattle.bw_model.specs.declared.limits.Limits.{Limits}
 use Rattle.chain_search.specs.declared.trace.Entry.{Entry}
-use Rattle.chain_search.specs.Disciplined.{Extends}
+use Rattle.chain_search.specs.discipline.Disciplined.{Extends}
 use Rattle.slot_rule.specs.declared.view.Part.{Part}
 use Rattle.slot_rule.specs.declared.view.Reach.TheVariants.{Idle}
 use Rattle.slot_rule.specs.Running.{Each, ExtendsFor}

@@ -17,12 +17,12 @@ use Rattle.deltas.specs.declared.record.Record.{Record}
 use Rattle.deltas.specs.Memory.{Memory}
 use Rattle.chain_search.specs.declared.trace.Entry.{Entry}
 use Rattle.chain_search.specs.declared.trace.Entry.TheVariants.{Begin, Step}
-use Rattle.chain_search.specs.Trace.{command_of, memory_at}
+use Rattle.chain_search.specs.trace.Trace.{command_of, memory_at}
 use Rattle.chain_search.proofs.Pushes.{slice_get_below}
 use Rattle.chain_search.proofs.TraceLaws.{command_of-push}
-use Rattle.op_machine.specs.Answered.{IsAnswered, IsTrueReply, RepliesAt, RepliesAtPoint}
-use Rattle.op_machine.specs.Operations.{Finishes, IsOwnStep, Operation}
-use Rattle.op_machine.specs.Points.{HasPoints, IsPoint, log_at, updates_at, updates_by}
+use Rattle.op_machine.specs.theorem.Answered.{IsAnswered, IsTrueReply, RepliesAt, RepliesAtPoint}
+use Rattle.op_machine.specs.theorem.Operations.{Finishes, IsOwnStep, Operation}
+use Rattle.op_machine.specs.theorem.Points.{HasPoints, IsPoint, log_at, updates_at, updates_by}
 use Rattle.op_machine.proofs.LogLaws.{log_at-step}
 use Rattle.bw_tree.proofs.Alone.{IsSilent, get_middle}
 

@@ -1,12 +1,12 @@
 -- Two seats that meet, and a seat that heeds a note.
 use Rattle.std.proofs.Common.{◌≡◌, ℕ, List, [], ◌∷◌, ◌++◌, map, refl, sym, ap, ◌∙◌, subst}
-use Rattle.actors.specs.Actors.{Actor, IsActor}
-use Rattle.actors.specs.Spending.{steps_due}
+use Rattle.op_machine.specs.machine.Actors.{Actor, IsActor}
+use Rattle.op_machine.specs.machine.UnderWay.{steps_due}
 use Rattle.bw_model.specs.declared.limits.Limits.{Limits}
 use Rattle.chain_search.specs.declared.trace.Entry.{Entry}
-use Rattle.chain_search.specs.Disciplined.{Extends}
-use Rattle.chain_search.specs.Knowledge.{knows}
-use Rattle.chain_search.specs.Recalled.{recalls}
+use Rattle.chain_search.specs.discipline.Disciplined.{Extends}
+use Rattle.chain_search.specs.discipline.Knowledge.{knows}
+use Rattle.chain_search.specs.discipline.Recalled.{recalls}
 use Rattle.slot_rule.specs.declared.view.Part.{Part}
 use Rattle.slot_rule.specs.declared.view.Reach.{Reach}
 use Rattle.slot_rule.specs.declared.view.Reach.TheVariants.{Idle, Noted}

@@ -5,12 +5,12 @@ use mathlib.Core.Logic.{dite}
 use native.Mathlib.Decide.{ℕ_discrete}
 use Rattle.atomic_table.specs.Seated.{TableId}
 use Rattle.atomic_table.specs.Table.{opening}
-use Rattle.actors.specs.Actors.{Actor, IsActor, idle_actor}
+use Rattle.op_machine.specs.machine.Actors.{Actor, IsActor, idle_actor}
 use Rattle.bw_model.specs.declared.limits.Limits.{Limits}
 use Rattle.chain_search.specs.declared.trace.Entry.{Entry}
-use Rattle.chain_search.specs.Disciplined.{Extends}
-use Rattle.chain_search.specs.Knowledge.{nothing}
-use Rattle.chain_search.specs.Recalled.{Recalled, blank}
+use Rattle.chain_search.specs.discipline.Disciplined.{Extends}
+use Rattle.chain_search.specs.discipline.Knowledge.{nothing}
+use Rattle.chain_search.specs.discipline.Recalled.{Recalled, blank}
 use Rattle.slot_rule.specs.declared.view.Part.{Part}
 use Rattle.slot_rule.specs.declared.view.Reach.TheVariants.{Idle}
 use Rattle.slot_rule.specs.Running.{Running}

@@ -2,9 +2,9 @@
 use Rattle.std.proofs.Common.{◌≡◌, ◌<◌, ◌+◌, ◌-◌, inl, ℕ, List, [], ◌∷◌, ◌++◌, Option, refl, sym, ap, ◌∙◌, subst, arith, append-nil, eq-eqb}
 use Rattle.std.specs.Prelude.{IsSome, IfSome, Some, None}
 use Rattle.std.proofs.lemmas.Option.{same_Some}
-use Rattle.actors.specs.Running.{UnderWay}
-use Rattle.actors.specs.Actors.{Actor, ActsOn, IsActorWith, IsGoing, IsRunning, IsToldActor, command_at, command_left, knows_then, running_command, wanted_by}
-use Rattle.actors.specs.Spending.{steps_due}
+use Rattle.op_machine.specs.machine.UnderWay.{UnderWay}
+use Rattle.op_machine.specs.machine.Actors.{Actor, ActsOn, IsActorWith, IsGoing, IsRunning, IsToldActor, command_at, command_left, knows_then, running_command, wanted_by}
+use Rattle.op_machine.specs.machine.UnderWay.{steps_due}
 use Rattle.bw_model.specs.declared.command.Command.{Command}
 use Rattle.bw_model.specs.declared.command.Reply.{Reply}
 use Rattle.bw_model.specs.declared.limits.Limits.{Limits}
@@ -16,21 +16,21 @@ use Rattle.deltas.specs.declared.record.Record.{Record}
 use Rattle.deltas.specs.Memory.{replaced_at}
 use Rattle.chain_search.specs.declared.trace.Entry.{Entry}
 use Rattle.chain_search.specs.declared.trace.Entry.TheVariants.{Step}
-use Rattle.chain_search.specs.Discipline.{IsAllowed, May, MayFree, MayReply}
-use Rattle.chain_search.specs.Disciplined.{Extends}
-use Rattle.chain_search.specs.Fitting.{Fits}
-use Rattle.chain_search.specs.Knowledge.{Knowledge, finished, knows, learn}
-use Rattle.chain_search.specs.Recalled.{IsStepSpent, Recalled, recall, recalls}
-use Rattle.chain_search.specs.Steps.{IsAnswer}
-use Rattle.chain_search.specs.Trace.{command_of, commands_after, memory_of}
-use Rattle.chain_search.specs.Useful.{IsUseful}
-use Rattle.op_machine.specs.Bounded.{left_at}
-use Rattle.op_machine.specs.Hands.{Hand}
-use Rattle.op_machine.specs.Shows.{ShowsState}
-use Rattle.op_machine.specs.Spending.{sweep_left}
-use Rattle.op_machine.specs.Tasks.{Task}
-use Rattle.op_machine.specs.States.{State}
-use Rattle.op_machine.specs.States as state
+use Rattle.chain_search.specs.discipline.Discipline.{IsAllowed, May, MayFree, MayReply}
+use Rattle.chain_search.specs.discipline.Disciplined.{Extends}
+use Rattle.chain_search.specs.discipline.Fitting.{Fits}
+use Rattle.chain_search.specs.discipline.Knowledge.{Knowledge, finished, knows, learn}
+use Rattle.chain_search.specs.discipline.Recalled.{IsStepSpent, Recalled, recall, recalls}
+use Rattle.chain_search.specs.trace.Steps.{IsAnswer}
+use Rattle.chain_search.specs.trace.Trace.{command_of, commands_after, memory_of}
+use Rattle.chain_search.specs.discipline.Useful.{IsUseful}
+use Rattle.op_machine.specs.machine.Bounded.{left_at}
+use Rattle.op_machine.specs.machine.Hands.{Hand}
+use Rattle.op_machine.specs.machine.Shows.{ShowsState}
+use Rattle.op_machine.specs.machine.Spending.{sweep_left}
+use Rattle.op_machine.specs.machine.Tasks.{Task}
+use Rattle.op_machine.specs.machine.States.{State}
+use Rattle.op_machine.specs.machine.States as state
 use Rattle.slot_rule.specs.Steps.{IsLawfulStep, Took, with_step}
 use Rattle.tree_law.specs.Direct.{Accounts, StaysDirect}
 use Rattle.bw_tree.specs.Laws.{HaveLaws}

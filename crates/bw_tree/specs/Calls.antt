@@ -1,6 +1,6 @@
 -- Calls on a seat, as the run that it has seen tells of them.
 use Rattle.std.specs.Prelude.{◌≡◌, ℕ, ◌+◌, ◌<◌, ◌≤◌, List, [], ◌∷◌, ◌++◌, Option, Some, None, IfSome, length}
-use Rattle.actors.specs.Actors.{command_left}
+use Rattle.op_machine.specs.machine.Actors.{command_left}
 use Rattle.bw_model.specs.declared.command.Command.{Command}
 use Rattle.bw_model.specs.declared.command.Reply.{Reply}
 use Rattle.bw_model.specs.declared.step.Answer.{Answer}
@@ -10,9 +10,9 @@ use Rattle.bw_model.specs.declared.step.Step.TheVariants.{Leave}
 use Rattle.deltas.specs.declared.record.Record.{Record}
 use Rattle.chain_search.specs.declared.trace.Entry.{Entry}
 use Rattle.chain_search.specs.declared.trace.Entry.TheVariants.{Begin, Step}
-use Rattle.chain_search.specs.Disciplined.{Extends, own_entries}
-use Rattle.chain_search.specs.Steps.{IsAnswer}
-use Rattle.chain_search.specs.Trace.{memory_of}
+use Rattle.chain_search.specs.discipline.Disciplined.{Extends, own_entries}
+use Rattle.chain_search.specs.trace.Steps.{IsAnswer}
+use Rattle.chain_search.specs.trace.Trace.{memory_of}
 use Rattle.bw_tree.specs.Runs.{StartsWith}
 use Rattle.bw_tree.specs.Seats.{Seat, unfinished_command}
 use Rattle.bw_tree.specs.declared.called.Called.{Called}

@@ -2,9 +2,9 @@
 use Rattle.std.specs.Prelude.{List, map}
 use Rattle.bw_model.specs.declared.limits.Limits.{Limits}
 use Rattle.chain_search.specs.declared.trace.Entry.{Entry}
-use Rattle.chain_search.specs.Trace.{turn_of}
+use Rattle.chain_search.specs.trace.Trace.{turn_of}
 pub use Rattle.slot_rule.specs.Running.{StartsWith}
-use Rattle.op_machine.specs.Linearized.{IsLinearized, IsOrderly}
+use Rattle.op_machine.specs.theorem.Linearized.{IsLinearized, IsOrderly}
 use Rattle.tree_law.specs.Direct.{IsDirectState}
 use Rattle.tree_law.specs.State.{IsState}
 

@@ -3,12 +3,12 @@ use Rattle.std.specs.Prelude.{◌≡◌, ◌<◌, ℕ, List, Option}
 use Rattle.atomic_table.specs.Seated.{TableId}
 use Rattle.bw_model.specs.declared.command.Command.{Command}
 use Rattle.bw_model.specs.declared.limits.Limits.{Limits}
-use Rattle.actors.specs.Actors.{Actor, IsActor, running_command}
-use Rattle.actors.specs.Spending.{steps_due}
+use Rattle.op_machine.specs.machine.Actors.{Actor, IsActor, running_command}
+use Rattle.op_machine.specs.machine.UnderWay.{steps_due}
 use Rattle.chain_search.specs.declared.trace.Entry.{Entry}
-use Rattle.chain_search.specs.Knowledge.{knows}
-use Rattle.chain_search.specs.Recalled.{recalls}
-use Rattle.chain_search.specs.Trace.{command_of}
+use Rattle.chain_search.specs.discipline.Knowledge.{knows}
+use Rattle.chain_search.specs.discipline.Recalled.{recalls}
+use Rattle.chain_search.specs.trace.Trace.{command_of}
 use Rattle.slot_rule.specs.declared.view.Reach.TheVariants.{Idle}
 use Rattle.slot_rule.specs.Views.{SitsAt, Mine, seen_of}
 use Rattle.tree_law.specs.Direct.{Accounts}

@@ -4,16 +4,16 @@ ghost use Rattle.bw_tree.specs.Loaded.{AreAt};
 ghost use Rattle.bw_tree.specs.Runs.{IsOneHistory};
 ghost use Rattle.bw_tree.specs.Seats.{IsSame};
 ghost use Rattle.bw_tree.specs.Trees.{IsSeatOf, fresh_seat};
-ghost use Rattle.chain_search.specs.Disciplined.{Extends};
+ghost use Rattle.chain_search.specs.discipline.Disciplined.{Extends};
 ghost use Rattle.slot_rule.specs.Running.{Each, ExtendsFor};
 ghost use Rattle.slot_rule.specs.Views.{dealt, other_parts, refreshed};
 
 use crate::law::{TreeLaw, empty_run_is_lawful, runs_are_one_history};
 use crate::seat::BwSeat;
 use crate::tree::Tree;
-use actors::{Actor, idle_actors_rest};
 use atomic_table::Table;
 use bw_model::Limits;
+use op_machine::{Actor, idle_actors_rest};
 use row_chain::HeldRow;
 use slot_rule::{TableSeat, join, look, opening_keeps, part};
 use std::alloc::{AllocError, Allocator};

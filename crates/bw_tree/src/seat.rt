@@ -1,21 +1,21 @@
 //! A seat of a running tree.
 ghost use Rattle.std.specs.Prelude.{◌≡◌, ℕ, None, Some, IsSome, is_none};
-ghost use Rattle.actors.specs.Actors.{ActsOn, IsGoing, IsToldActor, running_command, wanted_by};
+ghost use Rattle.op_machine.specs.machine.Actors.{ActsOn, IsGoing, IsToldActor, running_command, wanted_by};
 ghost use Rattle.bw_model.specs.declared.limits.Limits.{Limits as LimitsSeen};
 ghost use Rattle.bw_model.specs.declared.step.Answer.TheVariants.{Done};
 ghost use Rattle.bw_tree.specs.Calls.{Advances, HasBegun, IsResumed};
 ghost use Rattle.bw_tree.specs.Runs.{IsOneHistory};
 ghost use Rattle.bw_tree.specs.Seats.{IsSame, unfinished_command};
 ghost use Rattle.bw_tree.specs.Told.{reply_if};
-ghost use Rattle.chain_search.specs.Knowledge.{Knowledge};
-ghost use Rattle.chain_search.specs.Recalled.{Recalled};
+ghost use Rattle.chain_search.specs.discipline.Knowledge.{Knowledge};
+ghost use Rattle.chain_search.specs.discipline.Recalled.{Recalled};
 ghost use Rattle.slot_rule.specs.Views.{IsOf};
 
 use crate::called::Called;
 use crate::law::{TreeWords, laws_of_runs, runs_are_one_history};
 use crate::taking::take;
-use actors::Actor;
 use bw_model::{Command, Limits, Reply, Step};
+use op_machine::Actor;
 use row_chain::HeldRow;
 use slot_rule::{TableSeat, act};
 use std::alloc::{Allocator, Global};

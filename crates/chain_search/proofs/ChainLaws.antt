@@ -5,8 +5,8 @@ use Rattle.std.specs.List.{Contains}
 use Rattle.deltas.specs.declared.record.Record.{Record}
 use Rattle.deltas.specs.Records.{next_row}
 use Rattle.deltas.specs.Memory.{Memory}
-use Rattle.chain_search.specs.Chains.{IsChainFrom, IsChainOf, IsOnChain, chain_rows, right_in}
-use Rattle.chain_search.specs.SideChain.{LivePage, IsSideChainFrom}
+use Rattle.chain_search.specs.chain.Chains.{IsChainFrom, IsChainOf, IsOnChain, chain_rows, right_in}
+use Rattle.chain_search.specs.chain.SideChain.{LivePage, IsSideChainFrom}
 
 pub IsChainFrom-unique : (rows : ℕ → Option Record) (row : ℕ) (c d : List Record) → IsChainFrom rows row c → IsChainFrom rows row d → c ≡ d
 IsChainFrom-unique rows row [] d h k = absurd h

@@ -18,9 +18,9 @@ use Rattle.deltas.specs.declared.record.Record.TheVariants as kind
 use Rattle.deltas.specs.declared.record.Merge.{Merge}
 use Rattle.deltas.specs.declared.record.Split.{Split}
 use Rattle.deltas.specs.Records.{names, content_said}
-use Rattle.chain_search.specs.Chains.{IsItemsOf, content_in}
-use Rattle.chain_search.specs.Fitted.{FitsOver, IsFitted}
-use Rattle.chain_search.specs.Walks.{bound_under, count_under}
+use Rattle.chain_search.specs.chain.Chains.{IsItemsOf, content_in}
+use Rattle.chain_search.specs.chain.Fitted.{FitsOver, IsFitted}
+use Rattle.chain_search.specs.chain.Walks.{bound_under, count_under}
 use Rattle.chain_search.proofs.FittedLaws.{ascends_after, by_order, items_unique, lacks_first, over, ruled}
 use Rattle.chain_search.proofs.Updated.{chosen, greater, itself, put_ascends, put_contents, with_put}
 

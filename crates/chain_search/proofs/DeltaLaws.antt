@@ -11,8 +11,8 @@ use Rattle.deltas.specs.Spellable.{IsSpellable}
 use Rattle.chain_search.specs.declared.delta.Kept.{Kept}
 use Rattle.chain_search.specs.declared.delta.Kept.TheVariants as kept
 use Rattle.chain_search.specs.declared.delta.KeptMerge.{KeptMerge}
-use Rattle.chain_search.specs.Deltas.{IsSmallDelta, kept_record}
-use Rattle.chain_search.specs.Fitted.{IsFitted}
+use Rattle.chain_search.specs.chain.Deltas.{IsSmallDelta, kept_record}
+use Rattle.chain_search.specs.chain.Fitted.{IsFitted}
 use Rattle.chain_search.proofs.FittedLaws.{fits_at, over}
 
 -- a delta that a row can spell needs little room

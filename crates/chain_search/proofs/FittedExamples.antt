@@ -17,8 +17,8 @@ use Rattle.deltas.specs.declared.record.Record.{Record}
 use Rattle.deltas.specs.declared.record.Record.TheVariants.{Base}
 use Rattle.deltas.specs.Applies.{Applies}
 use Rattle.deltas.specs.Spellable.{HasPid, IsPid, IsRow, IsSpellableLink, IsSpellablePage}
-use Rattle.chain_search.specs.Examples.{leaf, split, split_leaf, merge, merged_leaf, put, delete, remove, leaf_chain, index, index_page, term, hold, unterm, termed_page, held_page, untermed_page, index_chain, index_split, split_index, upper_index, index_merge, merged_index, hold_again, long_index, put_over_removal, put_outside, base_over_base, first_held, marked_base, unnamed_split}
-use Rattle.chain_search.specs.Fitted.{FitsOver, IsPageChain, Makes}
+use Rattle.chain_search.specs.chain.Examples.{leaf, split, split_leaf, merge, merged_leaf, put, delete, remove, leaf_chain, index, index_page, term, hold, unterm, termed_page, held_page, untermed_page, index_chain, index_split, split_index, upper_index, index_merge, merged_index, hold_again, long_index, put_over_removal, put_outside, base_over_base, first_held, marked_base, unnamed_split}
+use Rattle.chain_search.specs.chain.Fitted.{FitsOver, IsPageChain, Makes}
 use Rattle.chain_search.proofs.FittedLaws.{by_order, first_spellable, found_first, fits_over, Makes-base, Makes-next}
 
 abbrev k07 : List ℕ

@@ -26,8 +26,8 @@ use Rattle.deltas.specs.Records.{names, content_said, next_row, level_after, low
 use Rattle.deltas.specs.Applies.{Applies}
 use Rattle.deltas.specs.Fits.{FitsOnPage}
 use Rattle.deltas.specs.Spellable.{HasPid, IsPid, IsSpellable, IsSpellablePage}
-use Rattle.chain_search.specs.Chains.{content_in, level_in, low_in, high_in, right_in}
-use Rattle.chain_search.specs.Fitted.{FitsOver, IsFitted, Makes}
+use Rattle.chain_search.specs.chain.Chains.{content_in, level_in, low_in, high_in, right_in}
+use Rattle.chain_search.specs.chain.Fitted.{FitsOver, IsFitted, Makes}
 
 -- items
 

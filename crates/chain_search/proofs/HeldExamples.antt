@@ -7,9 +7,9 @@ use Rattle.base_page.specs.declared.item.Content.TheVariants.{Child}
 use Rattle.base_page.specs.declared.item.Item.{Item}
 use Rattle.base_page.specs.Pages.{IsAscending}
 use Rattle.base_page.specs.Rules.{held_count}
-use Rattle.chain_search.specs.Chains.{IsItemsOf}
-use Rattle.chain_search.specs.Examples.{four_held, index_of, one_held}
-use Rattle.chain_search.specs.HeldBack.{HoldsBack, begins_at, has_held_neighbour}
+use Rattle.chain_search.specs.chain.Chains.{IsItemsOf}
+use Rattle.chain_search.specs.chain.Examples.{four_held, index_of, one_held}
+use Rattle.chain_search.specs.chain.HeldBack.{HoldsBack, begins_at, has_held_neighbour}
 use Rattle.chain_search.proofs.FittedLaws.{items_unique}
 
 one_ascends : IsAscending one_held

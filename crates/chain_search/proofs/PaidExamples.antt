@@ -2,9 +2,9 @@
 use Rattle.std.proofs.Common.{◌≡◌, inl, inr, ℕ, Option, Some, None, true, false, refl, arith}
 use Rattle.bw_model.specs.declared.step.Answer.TheVariants.{Number, Content, Whether, Done}
 use Rattle.bw_model.specs.declared.step.Step.TheVariants.{Slot, Row, Exchange, TakeRow, Leave}
-use Rattle.chain_search.specs.Examples.{remove}
-use Rattle.chain_search.specs.Recalled.{IsPaid, recall}
-use Rattle.chain_search.specs.Recollections.{after_bits, after_loss, after_miss, after_removal, after_split}
+use Rattle.chain_search.specs.chain.Examples.{remove}
+use Rattle.chain_search.specs.discipline.Recalled.{IsPaid, recall}
+use Rattle.chain_search.specs.discipline.Recollections.{after_bits, after_loss, after_miss, after_removal, after_split}
 
 pub named : IsPaid after_split (Slot 2) (Number 0)
 named = (refl, refl, (λ e. omega arith, tt), inl refl)

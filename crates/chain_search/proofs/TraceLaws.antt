@@ -10,8 +10,8 @@ use Rattle.bw_model.specs.declared.step.Answer.TheVariants.{Number, Content}
 use Rattle.deltas.specs.declared.record.Record.{Record}
 use Rattle.deltas.specs.Memory.{Memory}
 use Rattle.chain_search.specs.declared.trace.Entry.{Entry}
-use Rattle.chain_search.specs.Trace.{memory_of, memory_at, memory_after_entry, commands_after, command_of, TakesStep, IsStep, Happens}
-use Rattle.chain_search.specs.Learnt.{ShowsRow, HasLearnt}
+use Rattle.chain_search.specs.trace.Trace.{memory_of, memory_at, memory_after_entry, commands_after, command_of, TakesStep, IsStep, Happens}
+use Rattle.chain_search.specs.discipline.Learnt.{ShowsRow, HasLearnt}
 use Rattle.chain_search.proofs.Pushes.{slice_get-push, slice_get-push_cases, slice_get_kept, slice_get_below, take-push, take-push_whole}
 
 pub memory_of-push : (limits : Limits) (entries : List Entry) (entry : Entry) → memory_of limits (entries ++ entry ∷ []) ≡ memory_after_entry (memory_of limits entries) entry

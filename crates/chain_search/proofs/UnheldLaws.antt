@@ -10,8 +10,8 @@ use Rattle.base_page.specs.declared.item.Item.{Item}
 use Rattle.base_page.specs.Pages.{content_at}
 use Rattle.base_page.specs.Rules.{held_count, is_held}
 use Rattle.deltas.specs.declared.record.Record.{Record}
-use Rattle.chain_search.specs.Chains.{IsItemsOf}
-use Rattle.chain_search.specs.Unheld.{IsUnheld}
+use Rattle.chain_search.specs.chain.Chains.{IsItemsOf}
+use Rattle.chain_search.specs.chain.Unheld.{IsUnheld}
 
 counted : (held : Bool) (count : ℕ) → (if held then 1 else 0) + count ≡ 0 → (held ≡ false) × (count ≡ 0)
 counted true count none = absurd (omega (arith, none))

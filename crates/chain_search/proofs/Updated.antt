@@ -20,7 +20,7 @@ use Rattle.deltas.specs.declared.record.Record.{Record}
 use Rattle.deltas.specs.declared.record.Record.TheVariants as kind
 use Rattle.deltas.specs.Spellable.{IsRow}
 use Rattle.deltas.specs.Fits.{FitsPut, FitsDelete}
-use Rattle.chain_search.specs.Fitted.{FitsOver, Makes}
+use Rattle.chain_search.specs.chain.Fitted.{FitsOver, Makes}
 use Rattle.chain_search.proofs.FittedLaws.{by_order, all_below, ascends_after, fits_over, lacks_first}
 
 pub itself : (key : List ℕ) → key_cmp key key ≡ Equal

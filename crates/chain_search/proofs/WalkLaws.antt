@@ -20,8 +20,8 @@ use Rattle.base_page.proofs.PageLaws.{belongs}
 use Rattle.base_page.proofs.PlaceLaws.{content_at_place}
 use Rattle.deltas.specs.declared.record.Record.{Record}
 use Rattle.deltas.specs.Records.{names, content_said}
-use Rattle.chain_search.specs.Chains.{content_in}
-use Rattle.chain_search.specs.Walks.{greater, is_named, is_open, IsGreatestKey}
+use Rattle.chain_search.specs.chain.Chains.{content_in}
+use Rattle.chain_search.specs.chain.Walks.{greater, is_named, is_open, IsGreatestKey}
 
 none_there : {G : Type 0} (o : Option Content) → o ≡ None → IsSome o → G
 none_there None e h = cc

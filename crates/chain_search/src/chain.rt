@@ -1,8 +1,8 @@
 //! The chain of a page as it was read.
 ghost use Rattle.std.specs.Prelude.{◌≡◌, ◌+◌, ◌∷◌, [], ◌++◌, length, option_copied};
 ghost use Rattle.deltas.specs.declared.record.Record.TheVariants.{Base};
-ghost use Rattle.chain_search.specs.Chains.{level_in, low_in, high_in, right_in, is_removed, covers};
-ghost use Rattle.chain_search.specs.Fitted.{IsPageChain};
+ghost use Rattle.chain_search.specs.chain.Chains.{level_in, low_in, high_in, right_in, is_removed, covers};
+ghost use Rattle.chain_search.specs.chain.Fitted.{IsPageChain};
 
 mod count;
 mod pages;
@@ -29,7 +29,7 @@ impl Model for Chain {
     ghost use Rattle.std.specs.Prelude.{List, ◌∷◌, [], ◌++◌};
     ghost use Rattle.deltas.specs.declared.record.Record.{Record};
     ghost use Rattle.deltas.specs.declared.record.Record.TheVariants.{Base};
-    ghost use Rattle.chain_search.specs.Fitted.{IsPageChain};
+    ghost use Rattle.chain_search.specs.chain.Fitted.{IsPageChain};
 
     ghost Value = { List Record };
 

@@ -1,8 +1,8 @@
 //! A page's chain while it is read.
 ghost use Rattle.std.specs.Prelude.{◌≡◌, ◌<◌, ◌∷◌, [], ◌++◌, length};
 ghost use Rattle.deltas.specs.declared.record.Record.TheVariants.{Base};
-ghost use Rattle.chain_search.specs.Deltas.{IsSmallDelta};
-ghost use Rattle.chain_search.specs.Fitted.{IsPageChain};
+ghost use Rattle.chain_search.specs.chain.Deltas.{IsSmallDelta};
+ghost use Rattle.chain_search.specs.chain.Fitted.{IsPageChain};
 ghost use Rattle.chain_search.specs.declared.chain_part.TheConstants.{MAX_RECORDS};
 
 use crate::Chain;

@@ -1,7 +1,7 @@
 //! The deltas of a chain, each in little room.
 ghost use Rattle.std.specs.Prelude.{◌≡◌};
 ghost use Rattle.deltas.specs.Records.{next_row};
-ghost use Rattle.chain_search.specs.Deltas.{IsSmallDelta};
+ghost use Rattle.chain_search.specs.chain.Deltas.{IsSmallDelta};
 
 mod says;
 
@@ -46,7 +46,7 @@ impl Model for Delta {
 
     ghost Value = { Record };
 
-    ghost use Rattle.chain_search.specs.Deltas.{kept_record};
+    ghost use Rattle.chain_search.specs.chain.Deltas.{kept_record};
 
     ghost view = { λ d. kept_record d.kept };
 }

@@ -3,12 +3,12 @@ ghost use Rattle.std.specs.Prelude.{codes, ◌≡◌, [], true, false, None, Som
 ghost use Rattle.bw_model.specs.declared.step.Answer.TheVariants.{Number, Content, Whether, Done};
 ghost use Rattle.bw_model.specs.declared.step.Step.TheVariants.{Slot, Row, Exchange, TakeRow, Leave};
 ghost use Rattle.base_page.specs.declared.item.Content.TheVariants.{Value, Child};
-ghost use Rattle.chain_search.specs.Chains.{content_in, high_in, right_in, is_removed, covers};
-ghost use Rattle.chain_search.specs.Examples.{put_leaf, deleted_leaf, split_leaf, removed_leaf, merged_leaf, leaf_chain, index_page, termed_page, held_page, untermed_page, index_chain, split_index, long_index, put_over_removal, put_outside, base_over_base, first_held, marked_base, unnamed_split, remove, one_held, four_held, index_of};
-ghost use Rattle.chain_search.specs.Fitted.{IsPageChain};
-ghost use Rattle.chain_search.specs.HeldBack.{HoldsBack, begins_at, has_held_neighbour};
-ghost use Rattle.chain_search.specs.Recalled.{IsPaid, recall};
-ghost use Rattle.chain_search.specs.Recollections.{after_bits, after_loss, after_miss, after_removal, after_split};
+ghost use Rattle.chain_search.specs.chain.Chains.{content_in, high_in, right_in, is_removed, covers};
+ghost use Rattle.chain_search.specs.chain.Examples.{put_leaf, deleted_leaf, split_leaf, removed_leaf, merged_leaf, leaf_chain, index_page, termed_page, held_page, untermed_page, index_chain, split_index, long_index, put_over_removal, put_outside, base_over_base, first_held, marked_base, unnamed_split, remove, one_held, four_held, index_of};
+ghost use Rattle.chain_search.specs.chain.Fitted.{IsPageChain};
+ghost use Rattle.chain_search.specs.chain.HeldBack.{HoldsBack, begins_at, has_held_neighbour};
+ghost use Rattle.chain_search.specs.discipline.Recalled.{IsPaid, recall};
+ghost use Rattle.chain_search.specs.discipline.Recollections.{after_bits, after_loss, after_miss, after_removal, after_split};
 
 /// The newest record that names a key decides it; the base decides each other one.
 pub fn leaves_decide()

@@ -13,12 +13,12 @@ ghost use Rattle.deltas.specs.Fits.{FitsPut, FitsDelete};
 ghost use Rattle.deltas.specs.Memory.{Memory};
 ghost use Rattle.deltas.specs.Spellable.{IsRow};
 ghost use Rattle.chain_search.specs.declared.trace.Entry.{Entry};
-ghost use Rattle.chain_search.specs.Chains.{IsChainOf};
-ghost use Rattle.chain_search.specs.Fitted.{FitsOver, IsPageChain, Makes};
-ghost use Rattle.chain_search.specs.Learnt.{HasLearnt};
-ghost use Rattle.chain_search.specs.SideChain.{LivePage, IsSideChainFrom};
-ghost use Rattle.chain_search.specs.Run.{IsNext, IsRun};
-ghost use Rattle.chain_search.specs.Trace.{memory_of, memory_at, memory_after_entry, command_of, commands_after, IsStep};
+ghost use Rattle.chain_search.specs.chain.Chains.{IsChainOf};
+ghost use Rattle.chain_search.specs.chain.Fitted.{FitsOver, IsPageChain, Makes};
+ghost use Rattle.chain_search.specs.discipline.Learnt.{HasLearnt};
+ghost use Rattle.chain_search.specs.chain.SideChain.{LivePage, IsSideChainFrom};
+ghost use Rattle.chain_search.specs.trace.Run.{IsNext, IsRun};
+ghost use Rattle.chain_search.specs.trace.Trace.{memory_of, memory_at, memory_after_entry, command_of, commands_after, IsStep};
 
 /// A run grows by an entry that may stand next.
 pub fn run_grows()

@@ -1,6 +1,6 @@
 //! Replies as entries keep them: the pairs of a cursor page stand out of line, so that an entry is short.
 ghost use Rattle.std.specs.Prelude.{◌≡◌, [], None, Some, IfOk, IsSome};
-ghost use Rattle.chain_search.specs.Entries.{ShowsPairs};
+ghost use Rattle.chain_search.specs.trace.Entries.{ShowsPairs};
 
 use bw_model::{Key, Pairs, Reply, Value};
 use std::alloc::{AllocError, Allocator, Global};
@@ -73,7 +73,7 @@ pub struct BoxedReply<A: Allocator = Global> {
 
 impl<A: Allocator> Model for BoxedReply<A> {
     ghost use Rattle.bw_model.specs.declared.command.Reply.{Reply};
-    ghost use Rattle.chain_search.specs.Entries.{unboxed};
+    ghost use Rattle.chain_search.specs.trace.Entries.{unboxed};
 
     ghost Value = { Reply };
 

@@ -1,7 +1,7 @@
 //! Records that rows and entries own together, and the steps, answers and entries that hold them.
 ghost use Rattle.std.specs.Prelude.{◌≡◌, IfOk, OnErr};
 ghost use Rattle.bw_model.specs.Lent.{lent};
-ghost use Rattle.chain_search.specs.Steps.{MovesRecord};
+ghost use Rattle.chain_search.specs.trace.Steps.{MovesRecord};
 ghost use Rattle.chain_search.specs.declared.trace.Entry.TheVariants as entry;
 
 use crate::{BoxedReply, Entry};
@@ -70,7 +70,7 @@ impl<A: Allocator> Model for SharedEntry<A> {
 
     ghost Value = { Entry };
 
-    ghost use Rattle.chain_search.specs.Entries.{entry_of};
+    ghost use Rattle.chain_search.specs.trace.Entries.{entry_of};
 
     ghost view = { λ e. entry_of e.happened };
 }

@@ -2,16 +2,17 @@
 use Rattle.std.proofs.Common.{◌≡◌, ◌<◌, ◌≤◌, ◌+◌, ◌-◌, ◌*◌, ◌++◌, ◌||◌, inl, inr, ◌⊎◌, ℕ, zero, suc, List, [], ◌∷◌, length, Bool, true, false, None, refl, sym, ap, ◌∙◌, subst, arith, length-append}
 use Rattle.std.specs.Prelude.{IsFalse, IsTrue, if◌then◌else◌}
 use Rattle.bw_model.specs.declared.limits.Limits.{Limits}
+use Rattle.bw_model.specs.declared.step.Step.{Step}
 use Rattle.bw_model.specs.declared.step.Step.TheVariants as step
 use Rattle.bw_model.specs.declared.step.Answer.{Answer}
 use Rattle.bw_model.specs.declared.step.Answer.TheVariants as answer
 use Rattle.deltas.specs.declared.record.Record.{Record}
 use Rattle.deltas.specs.declared.record.Record.TheVariants as kind
 use Rattle.deltas.specs.Records.{next_row}
-use Rattle.chain_search.specs.Chains.{is_removed}
-use Rattle.chain_search.specs.Fitting.{Fits, FitsRow}
-use Rattle.chain_search.specs.Knowledge.{Knowledge}
-use Rattle.chain_search.specs.Recalled.{AnyNames, IsPaid, IsSpentWith, IsUnread, Recalled, Walk, is_removal, recall, trail}
+use Rattle.chain_search.specs.chain.Chains.{is_removed}
+use Rattle.chain_search.specs.discipline.Fitting.{Fits, FitsRow}
+use Rattle.chain_search.specs.discipline.Knowledge.{Knowledge}
+use Rattle.chain_search.specs.discipline.Recalled.{AnyNames, IsPaid, IsSpentWith, IsUnread, Recalled, Walk, is_removal, recall, trail}
 use Rattle.smo.specs.declared.version.Version.{Version}
 use Rattle.descent.specs.Visits.{VisitState, Slot, Row, FindsHead, Completes, Continues, FindsEmpty, Visit, at, wanted}
 use Rattle.descent.specs.Walks.{IsSeeking, few_reads, left_at, left_in, with_walk}

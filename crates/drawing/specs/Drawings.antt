@@ -1,6 +1,6 @@
 -- What is drawn of a tree, and what a run that draws it writes.
 use Rattle.std.specs.Prelude.{◌≡◌, ℕ, ◌⊎◌, List}
-use Rattle.chain_search.specs.Trace.{memory_of}
+use Rattle.chain_search.specs.trace.Trace.{memory_of}
 use Rattle.scene.specs.Scenes.{Scene, IsSceneOf}
 use Rattle.shapes.specs.declared.shape.Shape.{Shape}
 use Rattle.shapes.specs.Document.{IsWellFormed}

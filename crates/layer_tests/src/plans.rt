@@ -2,8 +2,8 @@
 ghost use Rattle.std.specs.Prelude.{◌≡◌, ◌≤◌, length, None, false};
 ghost use Rattle.bw_model.specs.Bytes.{longest};
 ghost use Rattle.deltas.specs.Spellable.{IsPid};
-ghost use Rattle.chain_search.specs.Chains.{is_removed};
-ghost use Rattle.chain_search.specs.Examples.{held_page, index, index_page, termed_page};
+ghost use Rattle.chain_search.specs.chain.Chains.{is_removed};
+ghost use Rattle.chain_search.specs.chain.Examples.{held_page, index, index_page, termed_page};
 
 mod grown;
 mod holds;

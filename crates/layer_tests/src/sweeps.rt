@@ -1,8 +1,8 @@
 //! Sweeps step by step: what they ask for, in which order, and what is left in limbo.
 ghost use Rattle.std.specs.Prelude.{◌≡◌, ◌<◌, ◌≤◌, ◌^◌};
 ghost use Rattle.bw_model.specs.declared.limits.Limits.{Limits as LimitsSeen};
-ghost use Rattle.chain_search.specs.Fitting.{Fits};
-ghost use Rattle.chain_search.specs.Knowledge.{nothing};
+ghost use Rattle.chain_search.specs.discipline.Fitting.{Fits};
+ghost use Rattle.chain_search.specs.discipline.Knowledge.{nothing};
 ghost use Rattle.sweep.specs.Kept.{IsLimboOf, empty_limbo};
 ghost use Rattle.sweep.specs.Sweeps.{IsOfSweep};
 

@@ -7,9 +7,9 @@ use Rattle.deltas.specs.declared.record.Record.{Record}
 use Rattle.deltas.specs.declared.record.Record.TheVariants.{Base}
 use Rattle.deltas.specs.Records.{next_row}
 use Rattle.deltas.specs.Spellable.{IsSpellable}
-use Rattle.chain_search.specs.Chains.{IsChainFrom}
-use Rattle.chain_search.specs.Deltas.{IsSmallDelta}
-use Rattle.chain_search.specs.Fitted.{IsFitted}
+use Rattle.chain_search.specs.chain.Chains.{IsChainFrom}
+use Rattle.chain_search.specs.chain.Deltas.{IsSmallDelta}
+use Rattle.chain_search.specs.chain.Fitted.{IsFitted}
 use Rattle.chain_search.proofs.DeltaLaws.{small}
 use Rattle.chain_search.proofs.FittedLaws.{first_spellable}
 

@@ -6,8 +6,8 @@ use Rattle.base_page.proofs.ItemLaws.{back_all}
 use Rattle.bw_model.specs.declared.limits.Limits.{Limits}
 use Rattle.deltas.specs.declared.record.Record.{Record}
 use Rattle.deltas.specs.Memory.{Memory}
-use Rattle.chain_search.specs.Chains.{right_in}
-use Rattle.chain_search.specs.SideChain.{IsSideChainFrom, LivePage}
+use Rattle.chain_search.specs.chain.Chains.{right_in}
+use Rattle.chain_search.specs.chain.SideChain.{IsSideChainFrom, LivePage}
 use Rattle.tree_law.specs.Leaves.{HasLeafPages, IsLeafPage}
 use Rattle.listing.specs.Listed.{HasPage, HavePages, StandsAt}
 

@@ -10,12 +10,12 @@ use Rattle.base_page.specs.Rules.{IsRuled}
 use Rattle.deltas.specs.declared.record.Record.{Record}
 use Rattle.deltas.specs.Memory.{Memory}
 use Rattle.chain_search.specs.declared.trace.Entry.{Entry}
-use Rattle.chain_search.specs.Chains.{IsChainFrom}
-use Rattle.chain_search.specs.Fitted.{IsPageChain, Makes}
-use Rattle.chain_search.specs.SideChain.{LivePage}
-use Rattle.chain_search.specs.Trace.{memory_of, turn_of}
-use Rattle.op_machine.specs.Linearized.{IsLinearized}
-use Rattle.op_machine.specs.Points.{log_of}
+use Rattle.chain_search.specs.chain.Chains.{IsChainFrom}
+use Rattle.chain_search.specs.chain.Fitted.{IsPageChain, Makes}
+use Rattle.chain_search.specs.chain.SideChain.{LivePage}
+use Rattle.chain_search.specs.trace.Trace.{memory_of, turn_of}
+use Rattle.op_machine.specs.theorem.Linearized.{IsLinearized}
+use Rattle.op_machine.specs.theorem.Points.{log_of}
 use Rattle.tree_law.specs.Leaves.{HasLeafPages}
 
 -- Whatever the points by which the trace is linearized: the pairs are exactly those that its log has, in the order of keys.

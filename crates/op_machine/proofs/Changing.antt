@@ -10,10 +10,10 @@ use Rattle.bw_model.specs.declared.step.Step.{Step}
 use Rattle.bw_model.specs.declared.step.Step.TheVariants.{TakePid}
 use Rattle.deltas.specs.declared.record.Record.{Record}
 use Rattle.deltas.specs.declared.record.Record.TheVariants as kind
-use Rattle.chain_search.specs.Discipline.{MayReply}
-use Rattle.chain_search.specs.Fitting.{Fits}
-use Rattle.chain_search.specs.Knowledge.{Knowledge, learn}
-use Rattle.chain_search.specs.Recalled.{IsStepSpent, Recalled, recall}
+use Rattle.chain_search.specs.discipline.Discipline.{MayReply}
+use Rattle.chain_search.specs.discipline.Fitting.{Fits}
+use Rattle.chain_search.specs.discipline.Knowledge.{Knowledge, learn}
+use Rattle.chain_search.specs.discipline.Recalled.{IsStepSpent, Recalled, recall}
 use Rattle.installs.specs.Bounded as bound
 use Rattle.installs.specs.Changes as change
 use Rattle.installs.specs.Spares.{HaveRoom, Spares}
@@ -21,13 +21,13 @@ use Rattle.installs.specs.declared.change.End.{End}
 use Rattle.installs.specs.declared.change.End.TheVariants.{Won, Lost, Full}
 use Rattle.installs.specs.declared.plan.Plan.{Plan}
 use Rattle.installs.specs.declared.plan.Plan.TheVariants.{Install, Split, Root, Unlink}
-use Rattle.op_machine.specs.Bounded.{left_for, one_round}
-use Rattle.op_machine.specs.Brings.{Brings, IsReadPlan, IsUpdateOf, IsUsefulOver, IsUsefulPlan}
-use Rattle.op_machine.specs.Hands.{AreRowsOf, IsTakenBy}
-use Rattle.op_machine.specs.Outcomes as outcome
-use Rattle.op_machine.specs.Outcomes.{FacesChanged}
-use Rattle.op_machine.specs.Shows.{IsInChange}
-use Rattle.op_machine.specs.Tasks.{IsBetweenChanges, IsUnreadPid, Seeks, Task}
+use Rattle.op_machine.specs.machine.Bounded.{left_for, one_round}
+use Rattle.op_machine.specs.machine.Brings.{Brings, IsReadPlan, IsUpdateOf, IsUsefulOver, IsUsefulPlan}
+use Rattle.op_machine.specs.machine.Hands.{AreRowsOf, IsTakenBy}
+use Rattle.op_machine.specs.machine.Outcomes as outcome
+use Rattle.op_machine.specs.machine.Outcomes.{FacesChanged}
+use Rattle.op_machine.specs.machine.Shows.{IsInChange}
+use Rattle.op_machine.specs.machine.Tasks.{IsBetweenChanges, IsUnreadPid, Seeks, Task}
 use Rattle.op_machine.specs.declared.then.Then.{Then}
 use Rattle.op_machine.specs.declared.then.Then.TheVariants.{Round, Limbo, Errand, Reply}
 use Rattle.op_machine.specs.declared.unlinked.Unlinked.{Unlinked}

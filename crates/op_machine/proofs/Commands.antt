@@ -19,12 +19,12 @@ use Rattle.deltas.specs.Spellable.{IsRow}
 use Rattle.deltas.specs.declared.record.Delete.{Delete as DeleteOf}
 use Rattle.deltas.specs.declared.record.Record.TheVariants as kind
 use Rattle.deltas.specs.declared.record.Put.{Put}
-use Rattle.chain_search.specs.Chains.{covers, is_removed, level_in}
-use Rattle.chain_search.specs.Discipline.{FitsOn, update_record, value_of}
-use Rattle.chain_search.specs.Fitted.{FitsOver, Makes}
-use Rattle.chain_search.specs.Knowledge.{Knowledge}
+use Rattle.chain_search.specs.chain.Chains.{covers, is_removed, level_in}
+use Rattle.chain_search.specs.discipline.Discipline.{FitsOn, update_record, value_of}
+use Rattle.chain_search.specs.chain.Fitted.{FitsOver, Makes}
+use Rattle.chain_search.specs.discipline.Knowledge.{Knowledge}
 use Rattle.installs.specs.Changes.{KeepsSparePage, linked_by}
-use Rattle.op_machine.specs.Brings.{IsUsefulOver, update_over}
+use Rattle.op_machine.specs.machine.Brings.{IsUsefulOver, update_over}
 
 -- an update that a test decides, which doesn't know whose it is
 chosen_is : (b : Bool) (update u : Update) → (if b then Some update else None) ≡ Some u → update ≡ u

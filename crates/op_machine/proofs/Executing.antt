@@ -3,17 +3,17 @@ use Rattle.std.proofs.Common.{◌≡◌, inl, inr, ℕ, List, [], Option, Some, 
 use Rattle.std.specs.Prelude.{IsTrue}
 use Rattle.bw_model.specs.Replies.{command_key, reply_of, update_of}
 use Rattle.bw_model.specs.declared.command.Reply.{Reply}
-use Rattle.chain_search.specs.Chains.{covers}
-use Rattle.chain_search.specs.Discipline.{found}
-use Rattle.chain_search.specs.Knowledge.{Knowledge}
-use Rattle.chain_search.specs.Recalled.{Recalled}
+use Rattle.chain_search.specs.chain.Chains.{covers}
+use Rattle.chain_search.specs.discipline.Discipline.{found}
+use Rattle.chain_search.specs.discipline.Knowledge.{Knowledge}
+use Rattle.chain_search.specs.discipline.Recalled.{Recalled}
 use Rattle.installs.specs.Spares.{Spares}
 use Rattle.smo.specs.declared.version.Version.{Version}
-use Rattle.op_machine.specs.Errands.{way_key}
-use Rattle.op_machine.specs.Outcomes.{IsAtLeaf}
-use Rattle.op_machine.specs.Shows.{ShowsState}
-use Rattle.op_machine.specs.Tasks.{Task}
-use Rattle.op_machine.specs.States as at
+use Rattle.op_machine.specs.machine.Errands.{way_key}
+use Rattle.op_machine.specs.machine.Outcomes.{IsAtLeaf}
+use Rattle.op_machine.specs.machine.Shows.{ShowsState}
+use Rattle.op_machine.specs.machine.Tasks.{Task}
+use Rattle.op_machine.specs.machine.States as at
 use Rattle.op_machine.proofs.Commands.{none_due}
 
 module _ (task : Task) (spares : Spares) (k : Knowledge) (r : Recalled) (leaf : Version) (h : IsAtLeaf task spares k r leaf) (last : task.errands ≡ []) where

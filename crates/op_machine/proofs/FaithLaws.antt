@@ -5,12 +5,12 @@ use Rattle.bw_model.specs.declared.step.Step.TheVariants.{Enter, Leave}
 use Rattle.bw_model.specs.declared.step.Answer.{Answer}
 use Rattle.deltas.specs.declared.record.Record.{Record}
 use Rattle.chain_search.specs.declared.trace.Entry.{Entry}
-use Rattle.chain_search.specs.Learnt.{ShowsRow}
-use Rattle.chain_search.specs.Trace.{IsStep}
+use Rattle.chain_search.specs.discipline.Learnt.{ShowsRow}
+use Rattle.chain_search.specs.trace.Trace.{IsStep}
 use Rattle.std.specs.Prelude.{slice_get}
 use Rattle.chain_search.proofs.Pushes.{slice_get_below}
 use Rattle.chain_search.proofs.TraceLaws.{TakesStep-push_cases, ShowsRow-kept}
-use Rattle.op_machine.specs.Faithful.{KnowsRow, Disturbs}
+use Rattle.op_machine.specs.theorem.Faithful.{KnowsRow, Disturbs}
 
 module _ (entries : List Entry) (last : Entry) where
   -- knowledge at an earlier step stays

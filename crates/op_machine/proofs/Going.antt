@@ -3,17 +3,17 @@ use Rattle.std.proofs.Common.{◌≡◌, ◌≤◌, inl, inr, ℕ, List, Option,
 use Rattle.bw_model.specs.declared.step.Answer.{Answer}
 use Rattle.bw_model.specs.declared.step.Step.{Step}
 use Rattle.deltas.specs.declared.record.Record.{Record}
-use Rattle.chain_search.specs.Knowledge.{Knowledge}
-use Rattle.chain_search.specs.Recalled.{Recalled}
+use Rattle.chain_search.specs.discipline.Knowledge.{Knowledge}
+use Rattle.chain_search.specs.discipline.Recalled.{Recalled}
 use Rattle.installs.specs.Spares.{Spares}
-use Rattle.op_machine.specs.Bounded.{IsSpentLast, LeavesFor, left_at, with_errands}
-use Rattle.op_machine.specs.Hands.{Hand}
-use Rattle.op_machine.specs.Ops.{Op}
-use Rattle.op_machine.specs.Outcomes.{Comes, Entered, Faces, IsFaced, IsToldAt, Outcome}
-use Rattle.op_machine.specs.Shows.{FitsLast, learn_last, recall_last}
-use Rattle.op_machine.specs.Works.{AsksOn, FollowsOutcome, IsToldChange, IsToldOn, IsToldWith, TurnsInto, Works, asked_of}
-use Rattle.op_machine.specs.States.{State}
-use Rattle.op_machine.specs.States as at
+use Rattle.op_machine.specs.machine.Bounded.{IsSpentLast, LeavesFor, left_at, with_errands}
+use Rattle.op_machine.specs.machine.Hands.{Hand}
+use Rattle.op_machine.specs.machine.Ops.{Op}
+use Rattle.op_machine.specs.machine.Outcomes.{Comes, Entered, Faces, IsFaced, IsToldAt, Outcome}
+use Rattle.op_machine.specs.machine.Shows.{FitsLast, learn_last, recall_last}
+use Rattle.op_machine.specs.machine.Works.{AsksOn, FollowsOutcome, IsToldChange, IsToldOn, IsToldWith, TurnsInto, Works, asked_of}
+use Rattle.op_machine.specs.machine.States.{State}
+use Rattle.op_machine.specs.machine.States as at
 
 -- what is told of an operation is told of its state
 abbrev pub told_at : (op : Op) (spares : Spares) (told : Answer Record) → IsToldOn op spares told → IsToldAt op.state spares told

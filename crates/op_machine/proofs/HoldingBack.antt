@@ -10,19 +10,19 @@ use Rattle.base_page.specs.declared.item.Item.{Item}
 use Rattle.base_page.specs.Pages.{Page}
 use Rattle.base_page.specs.Rules.{IsFirstAt, IsRuled, held_count, is_held}
 use Rattle.base_page.proofs.KeyLaws.{itself}
-use Rattle.chain_search.specs.Chains.{content_in, is_removed, low_in}
-use Rattle.chain_search.specs.Discipline.{IsHeldBack}
-use Rattle.chain_search.specs.Fitted.{IsFitted, Makes}
-use Rattle.chain_search.specs.HeldBack.{HoldsBack, begins_at, has_held_neighbour}
-use Rattle.chain_search.specs.Knowledge.{Knowledge}
-use Rattle.chain_search.specs.Recalled.{Recalled}
+use Rattle.chain_search.specs.chain.Chains.{content_in, is_removed, low_in}
+use Rattle.chain_search.specs.discipline.Discipline.{IsHeldBack}
+use Rattle.chain_search.specs.chain.Fitted.{IsFitted, Makes}
+use Rattle.chain_search.specs.chain.HeldBack.{HoldsBack, begins_at, has_held_neighbour}
+use Rattle.chain_search.specs.discipline.Knowledge.{Knowledge}
+use Rattle.chain_search.specs.discipline.Recalled.{Recalled}
 use Rattle.chain_search.proofs.FittedLaws.{ruled}
 use Rattle.descent.specs.WriteRounds.{IsTermed, IsUpper}
 use Rattle.smo.specs.Holds.{CanHold, HasFreeNeighbours}
 use Rattle.smo.specs.Upkeep.{IsIdle, IsSmall}
 use Rattle.smo.specs.declared.version.Version.{Version}
 use Rattle.smo.proofs.Places.{from_made, index_at, made}
-use Rattle.op_machine.specs.Upkeep.{IsIdleFor, tidies}
+use Rattle.op_machine.specs.machine.Upkeep.{IsIdleFor, tidies}
 
 neither : (a b : Bool) → (a || b) ≡ false → (a ≡ false) × (b ≡ false)
 neither true b h = cc

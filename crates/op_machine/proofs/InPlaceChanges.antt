@@ -3,21 +3,21 @@ use Rattle.std.proofs.Common.{◌≡◌, ℕ, Option, Some, None, refl}
 use Rattle.std.specs.Prelude.{IfNone}
 use Rattle.bw_model.specs.declared.step.Answer.{Answer}
 use Rattle.deltas.specs.declared.record.Record.{Record}
-use Rattle.chain_search.specs.Fitting.{Fits}
-use Rattle.chain_search.specs.Knowledge.{Knowledge, learn}
-use Rattle.chain_search.specs.Recalled.{Recalled}
+use Rattle.chain_search.specs.discipline.Fitting.{Fits}
+use Rattle.chain_search.specs.discipline.Knowledge.{Knowledge, learn}
+use Rattle.chain_search.specs.discipline.Recalled.{Recalled}
 use Rattle.installs.specs.Bounded as bound
 use Rattle.installs.specs.Changes as change
 use Rattle.installs.specs.Outs.{TakesFresh, limbo_after}
 use Rattle.installs.specs.Spares.{HaveRoom, Spares}
 use Rattle.installs.specs.declared.change.End.{End}
-use Rattle.op_machine.specs.Bounded.{one_round}
-use Rattle.op_machine.specs.Outcomes.{UnlinksAfter, changed}
-use Rattle.op_machine.specs.Places.{ended_with}
-use Rattle.op_machine.specs.Shows.{IsInChange}
-use Rattle.op_machine.specs.Tasks.{Task}
-use Rattle.op_machine.specs.Works.{TurnsInto}
-use Rattle.op_machine.specs.States as at
+use Rattle.op_machine.specs.machine.Bounded.{one_round}
+use Rattle.op_machine.specs.machine.Outcomes.{UnlinksAfter, changed}
+use Rattle.op_machine.specs.machine.Places.{ended_with}
+use Rattle.op_machine.specs.machine.Shows.{IsInChange}
+use Rattle.op_machine.specs.machine.Tasks.{Task}
+use Rattle.op_machine.specs.machine.Works.{TurnsInto}
+use Rattle.op_machine.specs.machine.States as at
 use Rattle.op_machine.specs.declared.then.Then.{Then}
 use Rattle.op_machine.proofs.Changing.{change_ended, change_left, change_on, ended_left, taken_apart}
 use Rattle.op_machine.proofs.TakingOut.{unlinks}

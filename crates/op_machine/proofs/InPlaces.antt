@@ -9,9 +9,9 @@ use Rattle.bw_model.specs.declared.step.Answer.{Answer}
 use Rattle.bw_model.specs.declared.step.Step.{Step}
 use Rattle.bw_model.specs.declared.step.Step.TheVariants as step
 use Rattle.deltas.specs.declared.record.Record.{Record}
-use Rattle.chain_search.specs.Fitting.{Fits}
-use Rattle.chain_search.specs.Knowledge.{Knowledge}
-use Rattle.chain_search.specs.Recalled.{Recalled}
+use Rattle.chain_search.specs.discipline.Fitting.{Fits}
+use Rattle.chain_search.specs.discipline.Knowledge.{Knowledge}
+use Rattle.chain_search.specs.discipline.Recalled.{Recalled}
 use Rattle.descent.specs.Machines.{IsTold}
 use Rattle.descent.specs.ReadRounds as read
 use Rattle.descent.specs.Rounds.{machine}
@@ -23,17 +23,17 @@ use Rattle.descent.proofs.Reading as reading
 use Rattle.descent.proofs.Writing as writing
 use Rattle.installs.specs.Changes.{Change as ChangeOf}
 use Rattle.installs.specs.Spares.{Spares}
-use Rattle.op_machine.specs.Bounded.{left_at, left_for, left_round, one_round}
-use Rattle.op_machine.specs.Outcomes.{Faces, Outcome, is_changing, is_leaving, is_reading, is_writing, read_out, written_out}
-use Rattle.op_machine.specs.Places.{HaveLimits, OpPlaces, ReadsOn, WritesOn, state_at, state_of}
-use Rattle.op_machine.specs.Shows.{FitsLast, ShowsState, wanted_at}
-use Rattle.op_machine.specs.Tasks.{Task}
-use Rattle.op_machine.specs.Works.{FollowsOutcome, TurnsInto}
+use Rattle.op_machine.specs.machine.Bounded.{left_at, left_for, left_round, one_round}
+use Rattle.op_machine.specs.machine.Outcomes.{Faces, Outcome, is_changing, is_leaving, is_reading, is_writing, read_out, written_out}
+use Rattle.op_machine.specs.machine.Places.{HaveLimits, OpPlaces, ReadsOn, WritesOn, state_at, state_of}
+use Rattle.op_machine.specs.machine.Shows.{FitsLast, ShowsState, wanted_at}
+use Rattle.op_machine.specs.machine.Tasks.{Task}
+use Rattle.op_machine.specs.machine.Works.{FollowsOutcome, TurnsInto}
 use Rattle.op_machine.specs.declared.places.Stand.{Stand}
 use Rattle.op_machine.specs.declared.places.Stand.TheVariants.{Begun, Epoch, Enter, Read, Write, Change, Leave}
 use Rattle.bw_model.specs.declared.step.Told.{Told}
 use Rattle.bw_model.specs.declared.step.Told.TheVariants.{Start, Number, Whether, Done}
-use Rattle.op_machine.specs.States.{State}
+use Rattle.op_machine.specs.machine.States.{State}
 use Rattle.op_machine.specs.declared.then.Then.{Then}
 use Rattle.op_machine.proofs.Reading.{IsReading, reader_reads, writer_reads}
 use Rattle.op_machine.proofs.Rounds.{read_comes, read_leaves, write_comes, write_leaves}

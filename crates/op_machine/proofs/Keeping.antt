@@ -6,15 +6,15 @@ use Rattle.bw_model.specs.declared.step.Answer.TheVariants.{Start, Number, Conte
 use Rattle.bw_model.specs.declared.step.Step.{Step}
 use Rattle.bw_model.specs.declared.step.Step.TheVariants as step
 use Rattle.deltas.specs.declared.record.Record.{Record}
-use Rattle.chain_search.specs.Fitting.{Fits}
-use Rattle.chain_search.specs.Knowledge.{Knowledge, Limbos, learn}
-use Rattle.chain_search.specs.Recalled.{Recalled}
+use Rattle.chain_search.specs.discipline.Fitting.{Fits}
+use Rattle.chain_search.specs.discipline.Knowledge.{Knowledge, Limbos, learn}
+use Rattle.chain_search.specs.discipline.Recalled.{Recalled}
 use Rattle.epochs.specs.Limbo.{Limbo}
 use Rattle.installs.specs.Spares.{Spares}
-use Rattle.op_machine.specs.Outcomes.{is_changing}
-use Rattle.op_machine.specs.Shows.{FitsLast, ShowsState, learn_last, wanted_at}
-use Rattle.op_machine.specs.Tasks.{Task}
-use Rattle.op_machine.specs.States.{State, Begun, Epoch, Enter, Read, Write, Change, Leave}
+use Rattle.op_machine.specs.machine.Outcomes.{is_changing}
+use Rattle.op_machine.specs.machine.Shows.{FitsLast, ShowsState, learn_last, wanted_at}
+use Rattle.op_machine.specs.machine.Tasks.{Task}
+use Rattle.op_machine.specs.machine.States.{State, Begun, Epoch, Enter, Read, Write, Change, Leave}
 use Rattle.op_machine.proofs.Reading.{IsReading, reader_reads, writer_reads}
 use Rattle.sweep.specs.Kept.{AreKept}
 

@@ -5,7 +5,7 @@ use Rattle.bw_model.specs.declared.step.Answer.{Answer}
 use Rattle.bw_model.specs.declared.step.Step.{Step as StepOf}
 use Rattle.bw_model.specs.declared.step.Step.TheVariants as step
 use Rattle.deltas.specs.declared.record.Record.{Record}
-use Rattle.chain_search.specs.Knowledge.{Knowledge}
+use Rattle.chain_search.specs.discipline.Knowledge.{Knowledge}
 use Rattle.descent.specs.Descents as descent
 use Rattle.descent.specs.Visits as page
 use Rattle.descent.specs.Descents.{WayState as DescentState}
@@ -22,14 +22,14 @@ use Rattle.installs.specs.declared.plan.Plan.{Plan}
 use Rattle.installs.specs.declared.taking.Kind.TheVariants as kind
 use Rattle.installs.specs.declared.taking.Taking.{Taking}
 use Rattle.installs.specs.declared.taking.Taking.TheVariants as taking
-use Rattle.op_machine.specs.Hands.{Hand}
-use Rattle.op_machine.specs.Ops.{EndsAtLeave, HoldsLimbo, IsToldOp, Op, asked_by}
-use Rattle.op_machine.specs.Outcomes.{is_leaving}
-use Rattle.op_machine.specs.Shows.{wanted_at}
-use Rattle.op_machine.specs.Tasks.{Task}
-use Rattle.op_machine.specs.Works.{LeavesWith}
-use Rattle.op_machine.specs.Wants.{Want, Step, Done}
-use Rattle.op_machine.specs.States.{State, Begun, Epoch, Enter, Read, Write, Change, Leave}
+use Rattle.op_machine.specs.machine.Hands.{Hand}
+use Rattle.op_machine.specs.machine.Ops.{EndsAtLeave, HoldsLimbo, IsToldOp, Op, asked_by}
+use Rattle.op_machine.specs.machine.Outcomes.{is_leaving}
+use Rattle.op_machine.specs.machine.Shows.{wanted_at}
+use Rattle.op_machine.specs.machine.Tasks.{Task}
+use Rattle.op_machine.specs.machine.Works.{LeavesWith}
+use Rattle.op_machine.specs.machine.Wants.{Want, Step, Done}
+use Rattle.op_machine.specs.machine.States.{State, Begun, Epoch, Enter, Read, Write, Change, Leave}
 use Rattle.sweep.specs.Sweeps as sweep
 use Rattle.sweep.specs.Sweeps.{Sweep}
 use Rattle.sweep.specs.declared.sweep.State.{State as SweepState}

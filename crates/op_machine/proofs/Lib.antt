@@ -26,3 +26,5 @@ pub mod InPlaces
 pub mod InPlaceChanges
 pub mod Executing
 pub mod RowsRead
+pub mod ActorSpending
+pub mod ActorGoing

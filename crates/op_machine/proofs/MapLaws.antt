@@ -8,10 +8,10 @@ use Rattle.bw_model.specs.Log.{Update, logged_value}
 use Rattle.base_page.specs.declared.item.Content.TheVariants.{Value}
 use Rattle.deltas.specs.declared.record.Record.{Record}
 use Rattle.deltas.specs.Memory.{Memory}
-use Rattle.chain_search.specs.Chains.{IsChainOf, content_in, low_in, high_in, right_in, covers}
-use Rattle.chain_search.specs.SideChain.{LivePage, IsLeaves, IsWhole, Spells}
+use Rattle.chain_search.specs.chain.Chains.{IsChainOf, content_in, low_in, high_in, right_in, covers}
+use Rattle.chain_search.specs.chain.SideChain.{LivePage, IsLeaves, IsWhole, Spells}
 use Rattle.chain_search.proofs.ChainLaws.{IsSideChainFrom-unique}
-use Rattle.op_machine.specs.Quiet.{HasMapOf}
+use Rattle.op_machine.specs.theorem.Quiet.{HasMapOf}
 
 contained_alone : {X : Type 0} (x y : X) → Contains (x ∷ []) y → y ≡ x
 contained_alone x y (zero, h, e) = sym e

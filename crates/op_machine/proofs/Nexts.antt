@@ -4,19 +4,19 @@ use Rattle.bw_model.specs.declared.step.Answer.{Answer}
 use Rattle.bw_model.specs.declared.step.Answer.TheVariants.{Start}
 use Rattle.bw_model.specs.declared.step.Step.{Step as StepOf}
 use Rattle.deltas.specs.declared.record.Record.{Record}
-use Rattle.chain_search.specs.Knowledge.{Knowledge}
-use Rattle.chain_search.specs.Recalled.{Recalled}
+use Rattle.chain_search.specs.discipline.Knowledge.{Knowledge}
+use Rattle.chain_search.specs.discipline.Recalled.{Recalled}
 use Rattle.epochs.specs.Limbo.{Limbo}
 use Rattle.installs.specs.Spares.{Spares}
-use Rattle.op_machine.specs.Bounded.{IsSpentLast, left_at, one_round, with_errands}
-use Rattle.op_machine.specs.Hands.{Hand}
-use Rattle.op_machine.specs.Ops.{HoldsLimbo, IsToldOp, Op, Shows, asked_by, wanted_of}
-use Rattle.op_machine.specs.Outcomes.{has_begun}
-use Rattle.op_machine.specs.Shows.{FitsLast, learn_last, recall_last, wanted_at}
-use Rattle.op_machine.specs.Spending.{steps_left, sweep_left}
-use Rattle.op_machine.specs.Sweeping.{IsSameWork, ObeysSweep, swept_by, with_limbo}
-use Rattle.op_machine.specs.Works.{IsToldWith, asked_of}
-use Rattle.op_machine.specs.States.{State, Begun, Epoch, Enter, Read, Write, Change, Leave}
+use Rattle.op_machine.specs.machine.Bounded.{IsSpentLast, left_at, one_round, with_errands}
+use Rattle.op_machine.specs.machine.Hands.{Hand}
+use Rattle.op_machine.specs.machine.Ops.{HoldsLimbo, IsToldOp, Op, Shows, asked_by, wanted_of}
+use Rattle.op_machine.specs.machine.Outcomes.{has_begun}
+use Rattle.op_machine.specs.machine.Shows.{FitsLast, learn_last, recall_last, wanted_at}
+use Rattle.op_machine.specs.machine.Spending.{steps_left, sweep_left}
+use Rattle.op_machine.specs.machine.Sweeping.{IsSameWork, ObeysSweep, swept_by, with_limbo}
+use Rattle.op_machine.specs.machine.Works.{IsToldWith, asked_of}
+use Rattle.op_machine.specs.machine.States.{State, Begun, Epoch, Enter, Read, Write, Change, Leave}
 use Rattle.sweep.specs.Kept.{AreKept}
 use Rattle.sweep.specs.Sweeps.{Sweep}
 

@@ -6,13 +6,13 @@ use Rattle.deltas.specs.declared.record.Record.{Record}
 use Rattle.deltas.specs.declared.record.Record.TheVariants as delta
 use Rattle.deltas.specs.declared.record.Remove.{Remove}
 use Rattle.chain_search.specs.declared.trace.Entry.{Entry}
-use Rattle.chain_search.specs.Chains.{IsChainOf}
-use Rattle.chain_search.specs.Trace.{memory_of, Happens}
-use Rattle.chain_search.specs.Unheld.{IsUnheld}
+use Rattle.chain_search.specs.chain.Chains.{IsChainOf}
+use Rattle.chain_search.specs.trace.Trace.{memory_of, Happens}
+use Rattle.chain_search.specs.chain.Unheld.{IsUnheld}
 use Rattle.deltas.specs.Memory.{Memory}
 use Rattle.chain_search.proofs.TraceLaws.{Happens-below, Happens-kept, Happens-push_cases, Happens-last}
-use Rattle.op_machine.specs.Links.{Installs, Wins}
-use Rattle.op_machine.specs.Phases.{Phase, MovesPhase, Rests, IsInPhase, KeepsPhases, cleared}
+use Rattle.op_machine.specs.theorem.Links.{Installs, Wins}
+use Rattle.op_machine.specs.theorem.Phases.{Phase, MovesPhase, Rests, IsInPhase, KeepsPhases, cleared}
 
 module _ (limits : Limits) (entries : List Entry) (last : Entry) where
   pub Rests-kept : (m n pid : ℕ) → n ≤ length entries → Rests limits entries m n pid → Rests limits (entries ++ last ∷ []) m n pid

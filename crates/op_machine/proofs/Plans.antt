@@ -8,17 +8,17 @@ use Rattle.bw_model.specs.declared.limits.Limits.{Limits}
 use Rattle.deltas.specs.Memory.{Memory}
 use Rattle.deltas.specs.Records.{next_row}
 use Rattle.deltas.specs.declared.record.Record.{Record}
-use Rattle.chain_search.specs.Chains.{IsChainFrom, IsChainOf}
-use Rattle.chain_search.specs.Knowledge.{Knowledge}
-use Rattle.chain_search.specs.Recalled.{Recalled}
+use Rattle.chain_search.specs.chain.Chains.{IsChainFrom, IsChainOf}
+use Rattle.chain_search.specs.discipline.Knowledge.{Knowledge}
+use Rattle.chain_search.specs.discipline.Recalled.{Recalled}
 use Rattle.descent.specs.Versions.{IsAlive}
 use Rattle.descent.specs.WriteEnds as end
 use Rattle.installs.specs.Changes as change
 use Rattle.installs.specs.Spares.{Spares}
 use Rattle.smo.specs.declared.version.Version.{Version}
-use Rattle.op_machine.specs.Errands.{due_of}
-use Rattle.op_machine.specs.Outcomes.{FacesWritten}
-use Rattle.op_machine.specs.Tasks.{Seeks, Task}
+use Rattle.op_machine.specs.machine.Errands.{due_of}
+use Rattle.op_machine.specs.machine.Outcomes.{FacesWritten}
+use Rattle.op_machine.specs.machine.Tasks.{Seeks, Task}
 
 -- a page in hand is a place for a record
 pub place_of : (limits : Limits) (k : Knowledge) (r : Recalled) (page : Version) (content : Record) → IsAlive limits k r page → ForSome (next_row content) (λ next. next < limits.rows) → change.IsTargetOver limits page.pid page.head content

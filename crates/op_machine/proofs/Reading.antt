@@ -9,15 +9,15 @@ use Rattle.bw_model.specs.declared.step.Answer.{Answer}
 use Rattle.bw_model.specs.declared.step.Answer.TheVariants.{Start, Number, Content, Whether, Done}
 use Rattle.deltas.specs.declared.record.Record.{Record}
 use Rattle.deltas.specs.Memory.{replaced_at}
-use Rattle.chain_search.specs.Fitting.{Fits}
-use Rattle.chain_search.specs.Knowledge.{OwnPage, Other, Empty, Ready, Gone, Knowledge, learn}
-use Rattle.chain_search.specs.Recalled.{Recalled}
+use Rattle.chain_search.specs.discipline.Fitting.{Fits}
+use Rattle.chain_search.specs.discipline.Knowledge.{OwnPage, Other, Empty, Ready, Gone, Knowledge, learn}
+use Rattle.chain_search.specs.discipline.Recalled.{Recalled}
 use Rattle.descent.specs.Descents.{wanted_at, WayState, Root, Page}
 use Rattle.descent.specs.ReadRounds as read
 use Rattle.descent.specs.WriteRounds as write
 use Rattle.descent.specs.Visits as page
 use Rattle.installs.specs.Spares.{IsUnlinked, Spares}
-use Rattle.op_machine.specs.Tasks.{Seeks, Task}
+use Rattle.op_machine.specs.machine.Tasks.{Seeks, Task}
 
 -- the step reads a slot, or a row
 abbrev pub IsReading : Step Record → Type 0

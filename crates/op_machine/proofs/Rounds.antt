@@ -2,9 +2,9 @@
 use Rattle.std.proofs.Common.{◌≡◌, inl, inr, refl, sym, ap, subst, Option, Some, None, ◌∙◌, arith}
 use Rattle.bw_model.specs.declared.step.Answer.{Answer}
 use Rattle.deltas.specs.declared.record.Record.{Record}
-use Rattle.chain_search.specs.Fitting.{Fits}
-use Rattle.chain_search.specs.Knowledge.{Knowledge, learn}
-use Rattle.chain_search.specs.Recalled.{IsStepSpent, Recalled, recall}
+use Rattle.chain_search.specs.discipline.Fitting.{Fits}
+use Rattle.chain_search.specs.discipline.Knowledge.{Knowledge, learn}
+use Rattle.chain_search.specs.discipline.Recalled.{IsStepSpent, Recalled, recall}
 use Rattle.descent.specs.ReadRounds as read
 use Rattle.descent.specs.Rounds.{Follows, Responds, Sees}
 use Rattle.descent.specs.WriteResponses as response
@@ -19,12 +19,12 @@ use Rattle.descent.specs.ReadEnds as read_end
 use Rattle.descent.specs.WriteEnds.{WriteEnd}
 use Rattle.descent.specs.WriteEnds as write_end
 use Rattle.installs.specs.Spares.{Spares}
-use Rattle.op_machine.specs.Bounded.{LeavesFor, left_at, left_for, left_round, one_round}
-use Rattle.op_machine.specs.Outcomes as outcome
-use Rattle.op_machine.specs.Outcomes.{Comes, FacesRead, FacesWritten, HasSought, read_out, written_out}
-use Rattle.op_machine.specs.Shows.{IsInReadRound, IsInWriteRound}
-use Rattle.op_machine.specs.Tasks.{Task}
-use Rattle.op_machine.specs.States as at
+use Rattle.op_machine.specs.machine.Bounded.{LeavesFor, left_at, left_for, left_round, one_round}
+use Rattle.op_machine.specs.machine.Outcomes as outcome
+use Rattle.op_machine.specs.machine.Outcomes.{Comes, FacesRead, FacesWritten, HasSought, read_out, written_out}
+use Rattle.op_machine.specs.machine.Shows.{IsInReadRound, IsInWriteRound}
+use Rattle.op_machine.specs.machine.Tasks.{Task}
+use Rattle.op_machine.specs.machine.States as at
 use Rattle.op_machine.proofs.Reading.{reader_reads, seeks_still, writer_reads}
 
 module _ (task : Task) (spares : Spares) (k : Knowledge) (r : Recalled) (round new : read.ReadRound) (told : Answer Record) (h : IsInReadRound task spares k r round) (fits : Fits task.limits k (read.wanted round) told) where

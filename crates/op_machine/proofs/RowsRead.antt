@@ -3,8 +3,8 @@ use Rattle.std.proofs.Common.{◌≡◌, ℕ, Option, Some, None, true, false, r
 use Rattle.bw_model.specs.declared.limits.Limits.{Limits}
 use Rattle.bw_model.specs.declared.step.Answer.TheVariants.{Content}
 use Rattle.deltas.specs.declared.record.Record.{Record}
-use Rattle.chain_search.specs.Fitting.{Fits}
-use Rattle.chain_search.specs.Knowledge.{Knowledge}
+use Rattle.chain_search.specs.discipline.Fitting.{Fits}
+use Rattle.chain_search.specs.discipline.Knowledge.{Knowledge}
 use Rattle.epochs.specs.declared.item.Reuse.{Reuse}
 use Rattle.epochs.specs.declared.item.Reuse.TheVariants as reuse
 use Rattle.installs.specs.Changes as change
@@ -16,10 +16,10 @@ use Rattle.installs.specs.declared.plan.Plan.{Plan}
 use Rattle.installs.specs.declared.taking.Kind.TheVariants as kind
 use Rattle.installs.specs.declared.taking.Taking.{Taking}
 use Rattle.installs.specs.declared.taking.Taking.TheVariants as taking
-use Rattle.op_machine.specs.Ops.{asked_by}
-use Rattle.op_machine.specs.Outcomes.{has_begun, is_changing}
-use Rattle.op_machine.specs.Shows.{FitsLast, wanted_at}
-use Rattle.op_machine.specs.States.{State, Begun, Epoch, Enter, Read, Write, Change, Leave}
+use Rattle.op_machine.specs.machine.Ops.{asked_by}
+use Rattle.op_machine.specs.machine.Outcomes.{has_begun, is_changing}
+use Rattle.op_machine.specs.machine.Shows.{FitsLast, wanted_at}
+use Rattle.op_machine.specs.machine.States.{State, Begun, Epoch, Enter, Read, Write, Change, Leave}
 use Rattle.sweep.specs.Sweeps as sweep
 use Rattle.sweep.specs.Sweeps.{Sweep}
 use Rattle.sweep.specs.declared.sweep.State.{State as SweepState}

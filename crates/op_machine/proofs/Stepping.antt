@@ -5,9 +5,9 @@ use Rattle.bw_model.specs.declared.step.Step.TheVariants.{Exchange}
 use Rattle.base_page.specs.Pages.{Page}
 use Rattle.deltas.specs.declared.record.Record.{Record}
 use Rattle.deltas.specs.declared.record.Record.TheVariants as kind
-use Rattle.chain_search.specs.Discipline.{HasRead, MayFree}
-use Rattle.chain_search.specs.Knowledge.{Knowledge, Written}
-use Rattle.chain_search.specs.Useful.{IsUseful}
+use Rattle.chain_search.specs.discipline.Discipline.{HasRead, MayFree}
+use Rattle.chain_search.specs.discipline.Knowledge.{Knowledge, Written}
+use Rattle.chain_search.specs.discipline.Useful.{IsUseful}
 use Rattle.installs.specs.Changes as change
 use Rattle.installs.specs.Spares.{Spares, last_row, pid_of}
 use Rattle.installs.specs.Taking.{wanted_number}
@@ -18,7 +18,7 @@ use Rattle.installs.specs.declared.plan.Plan.TheVariants.{Install, Split, Root, 
 use Rattle.installs.specs.declared.taking.Kind.TheVariants.{Pid, Row}
 use Rattle.installs.specs.declared.taking.Taking as taken
 use Rattle.installs.specs.declared.taking.Taking.TheVariants.{Bits, Take}
-use Rattle.op_machine.specs.Brings.{IsUsefulOver, IsUsefulPlan}
+use Rattle.op_machine.specs.machine.Brings.{IsUsefulOver, IsUsefulPlan}
 
 -- a change frees nothing
 pub freely : (limits : Limits) (actor : ℕ) (k : Knowledge) (plan : Plan) (spares : Spares) (state : State) → MayFree limits actor k (change.wanted_at plan spares state)

@@ -4,20 +4,20 @@ use Rattle.std.specs.Prelude.{IfSome, MatchOption}
 use Rattle.bw_model.specs.declared.step.Answer.{Answer}
 use Rattle.bw_model.specs.declared.step.Step.{Step}
 use Rattle.deltas.specs.declared.record.Record.{Record}
-use Rattle.chain_search.specs.Discipline.{May, MayFree}
-use Rattle.chain_search.specs.Fitting.{Fits}
-use Rattle.chain_search.specs.Knowledge.{Knowledge, Limbos, learn}
-use Rattle.chain_search.specs.Recalled.{Recalled, recall}
-use Rattle.chain_search.specs.Useful.{IsUseful}
-use Rattle.chain_search.specs.Within.{IsWithin}
+use Rattle.chain_search.specs.discipline.Discipline.{May, MayFree}
+use Rattle.chain_search.specs.discipline.Fitting.{Fits}
+use Rattle.chain_search.specs.discipline.Knowledge.{Knowledge, Limbos, learn}
+use Rattle.chain_search.specs.discipline.Recalled.{Recalled, recall}
+use Rattle.chain_search.specs.discipline.Useful.{IsUseful}
+use Rattle.chain_search.specs.trace.Within.{IsWithin}
 use Rattle.epochs.specs.Limbo.{Limbo}
 use Rattle.installs.specs.Spares.{Spares}
-use Rattle.op_machine.specs.Hands.{Hand}
-use Rattle.op_machine.specs.Ops.{Goes, HoldsLimbo, IsSweeping, Op, Shows, asked_by}
-use Rattle.op_machine.specs.Shows.{FitsLast, ShowsState, learn_last, recall_last}
-use Rattle.op_machine.specs.Sweeping.{FollowsSweep, with_limbo}
-use Rattle.op_machine.specs.Tasks.{Task, Waits}
-use Rattle.op_machine.specs.States.{State, Begun}
+use Rattle.op_machine.specs.machine.Hands.{Hand}
+use Rattle.op_machine.specs.machine.Ops.{Goes, HoldsLimbo, IsSweeping, Op, Shows, asked_by}
+use Rattle.op_machine.specs.machine.Shows.{FitsLast, ShowsState, learn_last, recall_last}
+use Rattle.op_machine.specs.machine.Sweeping.{FollowsSweep, with_limbo}
+use Rattle.op_machine.specs.machine.Tasks.{Task, Waits}
+use Rattle.op_machine.specs.machine.States.{State, Begun}
 use Rattle.sweep.specs.Sweeps.{IsSoundSweep, IsKeptOutside, Sweep, wanted, Shows as ShowsSweep}
 
 module _ (task : Task) (spares : Spares) where

@@ -7,17 +7,17 @@ use Rattle.bw_model.specs.declared.step.Step.{Step as StepOf}
 use Rattle.deltas.specs.declared.record.Record.{Record}
 use Rattle.epochs.specs.Limbo.{Limbo}
 use Rattle.installs.specs.Spares.{Spares}
-use Rattle.op_machine.specs.Bounded.{IsSpentLast}
-use Rattle.op_machine.specs.Hands.{Hand}
-use Rattle.op_machine.specs.InPlace.{ShowsOn, Takes, Wants}
-use Rattle.op_machine.specs.Ops.{IsToldOp, Obeys, Op, Shows, asked_by, wanted_of}
-use Rattle.op_machine.specs.Outcomes.{has_begun}
-use Rattle.op_machine.specs.Shows.{learn_last, recall_last, wanted_at}
-use Rattle.op_machine.specs.Spending.{Spends, SpendsSteps, steps_left, sweep_left}
-use Rattle.op_machine.specs.Sweeping.{HasFewer, IsSameWork, MovesSweep, ObeysSweep, with_limbo}
-use Rattle.op_machine.specs.Works.{AsksOn, IsToldWith, KeepsLimbo, asked_of}
-use Rattle.op_machine.specs.Wants.{Step}
-use Rattle.op_machine.specs.States.{State, Begun, Epoch, Enter, Read, Write, Change, Leave}
+use Rattle.op_machine.specs.machine.Bounded.{IsSpentLast}
+use Rattle.op_machine.specs.machine.Hands.{Hand}
+use Rattle.op_machine.specs.machine.InPlace.{ShowsOn, Takes, Wants}
+use Rattle.op_machine.specs.machine.Ops.{IsToldOp, Obeys, Op, Shows, asked_by, wanted_of}
+use Rattle.op_machine.specs.machine.Outcomes.{has_begun}
+use Rattle.op_machine.specs.machine.Shows.{learn_last, recall_last, wanted_at}
+use Rattle.op_machine.specs.machine.Spending.{Spends, SpendsSteps, steps_left, sweep_left}
+use Rattle.op_machine.specs.machine.Sweeping.{HasFewer, IsSameWork, MovesSweep, ObeysSweep, with_limbo}
+use Rattle.op_machine.specs.machine.Works.{AsksOn, IsToldWith, KeepsLimbo, asked_of}
+use Rattle.op_machine.specs.machine.Wants.{Step}
+use Rattle.op_machine.specs.machine.States.{State, Begun, Epoch, Enter, Read, Write, Change, Leave}
 use Rattle.op_machine.proofs.Nexts.{asks, asks_none, fewer, fits_on, fits_swept, kept_after, kept_begun, left_first, left_is, nothing_left, rests, starts, sweep_asks, told_after, unswept}
 use Rattle.sweep.specs.Bounded as sweep
 use Rattle.sweep.specs.Sweeps.{Sweep}

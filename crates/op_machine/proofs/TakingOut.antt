@@ -6,9 +6,9 @@ use Rattle.bw_model.specs.declared.limits.Limits.{Limits}
 use Rattle.deltas.specs.declared.record.Record.{Record}
 use Rattle.deltas.specs.declared.record.Record.TheVariants as kind
 use Rattle.deltas.specs.Memory.{replaced_at}
-use Rattle.chain_search.specs.Chains.{IsChainFrom, chain_rows}
-use Rattle.chain_search.specs.Fitting.{AreOutOfLimbo}
-use Rattle.chain_search.specs.Knowledge.{Absent, Unstamped, Knowledge, Limbos, taken_out}
+use Rattle.chain_search.specs.chain.Chains.{IsChainFrom, chain_rows}
+use Rattle.chain_search.specs.discipline.Fitting.{AreOutOfLimbo}
+use Rattle.chain_search.specs.discipline.Knowledge.{Absent, Unstamped, Knowledge, Limbos, taken_out}
 use Rattle.epochs.specs.Limbo.{Limbo as LimboSeen}
 use Rattle.installs.specs.Changes.{linked_by}
 use Rattle.installs.specs.Outs.{TakesFresh, limbo_after, limbo_over}
@@ -16,8 +16,8 @@ use Rattle.installs.specs.declared.change.End.{End}
 use Rattle.installs.specs.declared.change.End.TheVariants.{Won, Lost, Full}
 use Rattle.installs.specs.declared.plan.Plan.{Plan}
 use Rattle.installs.specs.declared.plan.Plan.TheVariants.{Install, Split, Root, Unlink}
-use Rattle.op_machine.specs.Brings.{Brings}
-use Rattle.op_machine.specs.Hands.{IsPageOut, IsTakenBy, GoesToLimbo, TakesNothing, Unlinks}
+use Rattle.op_machine.specs.machine.Brings.{Brings}
+use Rattle.op_machine.specs.machine.Hands.{IsPageOut, IsTakenBy, GoesToLimbo, TakesNothing, Unlinks}
 use Rattle.op_machine.specs.declared.then.Then.{Then}
 use Rattle.op_machine.specs.declared.then.Then.TheVariants.{Round, Limbo, Errand, Reply}
 use Rattle.op_machine.specs.declared.unlinked.Unlinked.{Unlinked}

@@ -5,10 +5,10 @@ use Rattle.bw_model.specs.Replies.{is_writer}
 use Rattle.deltas.specs.declared.record.Hold.{Hold}
 use Rattle.deltas.specs.declared.record.Record.TheVariants as kind
 use Rattle.deltas.specs.declared.record.Remove.{Remove}
-use Rattle.chain_search.specs.Chains.{is_removed, level_in}
-use Rattle.chain_search.specs.Fitted.{IsPageChain}
-use Rattle.chain_search.specs.Knowledge.{Knowledge}
-use Rattle.chain_search.specs.Recalled.{Recalled}
+use Rattle.chain_search.specs.chain.Chains.{is_removed, level_in}
+use Rattle.chain_search.specs.chain.Fitted.{IsPageChain}
+use Rattle.chain_search.specs.discipline.Knowledge.{Knowledge}
+use Rattle.chain_search.specs.discipline.Recalled.{Recalled}
 use Rattle.descent.specs.Versions.{IsAlive}
 use Rattle.descent.specs.WriteEnds as end
 use Rattle.descent.specs.WriteRounds.{IsUpper}
@@ -22,11 +22,11 @@ use Rattle.smo.specs.Upkeep.{IsUpkeepDue}
 use Rattle.smo.specs.declared.upkeep.Upkeep.{Upkeep}
 use Rattle.smo.specs.declared.upkeep.Upkeep.TheVariants.{Hold as HoldTerm, Remove as RemovePage}
 use Rattle.smo.specs.declared.version.Version.{Version}
-use Rattle.op_machine.specs.Errands.{tends_of}
-use Rattle.op_machine.specs.Outcomes.{FacesWritten, IsAtLeafBelow}
-use Rattle.op_machine.specs.Shows.{MayBegin}
-use Rattle.op_machine.specs.Tasks.{Seeks, Task}
-use Rattle.op_machine.specs.Upkeep.{IsUpkeepFor, plan_of, tidies}
+use Rattle.op_machine.specs.machine.Errands.{tends_of}
+use Rattle.op_machine.specs.machine.Outcomes.{FacesWritten, IsAtLeafBelow}
+use Rattle.op_machine.specs.machine.Shows.{MayBegin}
+use Rattle.op_machine.specs.machine.Tasks.{Seeks, Task}
+use Rattle.op_machine.specs.machine.Upkeep.{IsUpkeepFor, plan_of, tidies}
 use Rattle.op_machine.specs.declared.then.Then.TheVariants.{Round}
 
 -- a round that tends small pages is one of a deletion or a tidying

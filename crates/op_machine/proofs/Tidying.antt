@@ -11,21 +11,21 @@ use Rattle.base_page.specs.Pages.{Page}
 use Rattle.deltas.specs.Spellable.{IsSpellablePage}
 use Rattle.deltas.specs.declared.record.Record.{Record}
 use Rattle.deltas.specs.declared.record.Record.TheVariants.{Base}
-use Rattle.chain_search.specs.Chains.{covers, level_in}
-use Rattle.chain_search.specs.Discipline.{MayReply}
-use Rattle.chain_search.specs.Fitted.{IsFitted}
-use Rattle.chain_search.specs.Knowledge.{Knowledge}
-use Rattle.chain_search.specs.Recalled.{Recalled}
+use Rattle.chain_search.specs.chain.Chains.{covers, level_in}
+use Rattle.chain_search.specs.discipline.Discipline.{MayReply}
+use Rattle.chain_search.specs.chain.Fitted.{IsFitted}
+use Rattle.chain_search.specs.discipline.Knowledge.{Knowledge}
+use Rattle.chain_search.specs.discipline.Recalled.{Recalled}
 use Rattle.chain_search.proofs.FittedLaws.{Makes-base}
 use Rattle.installs.specs.Spares.{Spares}
 use Rattle.smo.specs.Sizes.{HasFewItems}
 use Rattle.smo.specs.declared.version.Version.{Version}
 use Rattle.smo.proofs.Places.{from_made, of_made}
 use Rattle.smo.proofs.Unheld.{leaf_unheld}
-use Rattle.op_machine.specs.Errands.{due_of}
-use Rattle.op_machine.specs.Outcomes.{IsAtLeafBelow}
-use Rattle.op_machine.specs.Tasks.{Task}
-use Rattle.op_machine.specs.Upkeep.{IsIdleFor}
+use Rattle.op_machine.specs.machine.Errands.{due_of}
+use Rattle.op_machine.specs.machine.Outcomes.{IsAtLeafBelow}
+use Rattle.op_machine.specs.machine.Tasks.{Task}
+use Rattle.op_machine.specs.machine.Upkeep.{IsIdleFor}
 use Rattle.op_machine.proofs.HoldingBack.{kept_back}
 
 -- a test that replies either way

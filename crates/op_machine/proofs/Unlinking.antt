@@ -3,13 +3,13 @@ use Rattle.std.proofs.Common.{◌≡◌, ◌∙◌, ℕ, Option, Some, None, ap,
 use Rattle.std.specs.Prelude.{IfSome}
 use Rattle.deltas.specs.declared.record.Record.TheVariants as kind
 use Rattle.deltas.specs.declared.record.Unterm.{Unterm}
-use Rattle.chain_search.specs.Knowledge.{Knowledge}
+use Rattle.chain_search.specs.discipline.Knowledge.{Knowledge}
 use Rattle.installs.specs.Changes.{KeepsSparePage}
 use Rattle.installs.specs.Spares.{Spares}
 use Rattle.smo.specs.Readings.{HasSeen}
 use Rattle.smo.specs.Unterms.{IsUntermPlan}
 use Rattle.smo.specs.declared.version.Version.{Version}
-use Rattle.op_machine.specs.Tasks.{Seeks, Task}
+use Rattle.op_machine.specs.machine.Tasks.{Seeks, Task}
 
 -- a page that was read isn't the spare one
 not_spare : (k : Knowledge) (unterm : Unterm) (row : ℕ) (pid : Option ℕ) → k.read.heads unterm.child ≡ Some row → IfSome pid (λ pid. k.read.heads pid ≡ None) → KeepsSparePage (kind.Unterm unterm) pid

@@ -1,6 +1,6 @@
 //! What an operation is still to visit for the splits that it has linked.
 ghost use Rattle.std.specs.Prelude.{◌≡◌, ◌-◌, [], length, option_copied, slice_get, take};
-ghost use Rattle.op_machine.specs.Errands.{with_errand};
+ghost use Rattle.op_machine.specs.machine.Errands.{with_errand};
 
 use arrayvec::ArrayVec;
 use bw_model::Key;

@@ -1,18 +1,18 @@
 //! Worked runs: each function does nothing, and its contract says what the definitions make of one run.
 ghost use Rattle.std.specs.Prelude.{codes, ◌≡◌, ◌∷◌, [], map, replicate, true, false, Some};
 ghost use Rattle.bw_model.specs.declared.step.Link.TheVariants as link;
-ghost use Rattle.chain_search.specs.Run.{IsRun};
-ghost use Rattle.chain_search.specs.SideChain.{IsWhole};
-ghost use Rattle.chain_search.specs.Trace.{memory_at, turn_of};
-ghost use Rattle.op_machine.specs.Examples.{small, lookup, insert_and_lookup, page_life, index_above, row_reuse, hurried_reuse, unnamed_read, two_puts, needless_base, claimed_insert};
-ghost use Rattle.op_machine.specs.Direct.{IsDirect};
-ghost use Rattle.op_machine.specs.Faithful.{IsFaithful};
-ghost use Rattle.op_machine.specs.Index.{IsLevel, HasTerm};
-ghost use Rattle.op_machine.specs.Linearized.{IsLinearized, IsOrderly};
-ghost use Rattle.op_machine.specs.Links.{link_of};
-ghost use Rattle.op_machine.specs.Phases.{MovesAt, free, owned, fresh, indexed, held, removed, merged, cleared};
-ghost use Rattle.op_machine.specs.Quiet.{IsQuiet};
-ghost use Rattle.op_machine.specs.Reuse.{IsFreedByRule};
+ghost use Rattle.chain_search.specs.trace.Run.{IsRun};
+ghost use Rattle.chain_search.specs.chain.SideChain.{IsWhole};
+ghost use Rattle.chain_search.specs.trace.Trace.{memory_at, turn_of};
+ghost use Rattle.op_machine.specs.theorem.Examples.{small, lookup, insert_and_lookup, page_life, index_above, row_reuse, hurried_reuse, unnamed_read, two_puts, needless_base, claimed_insert};
+ghost use Rattle.op_machine.specs.theorem.Direct.{IsDirect};
+ghost use Rattle.op_machine.specs.theorem.Faithful.{IsFaithful};
+ghost use Rattle.op_machine.specs.theorem.Index.{IsLevel, HasTerm};
+ghost use Rattle.op_machine.specs.theorem.Linearized.{IsLinearized, IsOrderly};
+ghost use Rattle.op_machine.specs.theorem.Links.{link_of};
+ghost use Rattle.op_machine.specs.theorem.Phases.{MovesAt, free, owned, fresh, indexed, held, removed, merged, cleared};
+ghost use Rattle.op_machine.specs.theorem.Quiet.{IsQuiet};
+ghost use Rattle.op_machine.specs.theorem.Reuse.{IsFreedByRule};
 
 /// A lookup in the opening tree.
 pub fn lookup_is_linearized()

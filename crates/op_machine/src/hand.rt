@@ -1,8 +1,8 @@
 //! What an actor keeps between operations.
 ghost use Rattle.std.specs.Prelude.{◌≡◌, ℕ, IfErr, IfOk};
 ghost use Rattle.bw_model.specs.declared.limits.Limits.{Limits as LimitsSeen};
-ghost use Rattle.chain_search.specs.Knowledge.{Knowledge, Limbos};
-ghost use Rattle.op_machine.specs.Hands.{Unlinks, empty_hand};
+ghost use Rattle.chain_search.specs.discipline.Knowledge.{Knowledge, Limbos};
+ghost use Rattle.op_machine.specs.machine.Hands.{Unlinks, empty_hand};
 ghost use Rattle.sweep.specs.Kept.{AreKept};
 
 use crate::then::Then;
@@ -22,7 +22,7 @@ pub struct Hand<A: Allocator = Global> {
 }
 
 impl<A: Allocator> Model for Hand<A> {
-    ghost use Rattle.op_machine.specs.Hands.{Hand};
+    ghost use Rattle.op_machine.specs.machine.Hands.{Hand};
 
     ghost Value = { Hand };
 

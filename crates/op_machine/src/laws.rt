@@ -13,14 +13,14 @@ ghost use Rattle.deltas.specs.declared.record.Record.TheVariants.{Remove};
 ghost use Rattle.deltas.specs.declared.record.Remove.{Remove as Removal};
 ghost use Rattle.deltas.specs.Memory.{Memory};
 ghost use Rattle.chain_search.specs.declared.trace.Entry.{Entry};
-ghost use Rattle.chain_search.specs.Chains.{IsChainOf, content_in, low_in, high_in, right_in};
-ghost use Rattle.chain_search.specs.Trace.{memory_of, IsStep};
-ghost use Rattle.chain_search.specs.Unheld.{IsUnheld};
-ghost use Rattle.op_machine.specs.Points.{updates_at, log_of, log_at};
-ghost use Rattle.op_machine.specs.Links.{Installs, Wins};
-ghost use Rattle.op_machine.specs.Quiet.{HasMapOf};
-ghost use Rattle.op_machine.specs.Faithful.{Disturbs, KnowsRow};
-ghost use Rattle.op_machine.specs.Phases.{Phase, MovesPhase, IsInPhase, KeepsPhases, cleared};
+ghost use Rattle.chain_search.specs.chain.Chains.{IsChainOf, content_in, low_in, high_in, right_in};
+ghost use Rattle.chain_search.specs.trace.Trace.{memory_of, IsStep};
+ghost use Rattle.chain_search.specs.chain.Unheld.{IsUnheld};
+ghost use Rattle.op_machine.specs.theorem.Points.{updates_at, log_of, log_at};
+ghost use Rattle.op_machine.specs.theorem.Links.{Installs, Wins};
+ghost use Rattle.op_machine.specs.theorem.Quiet.{HasMapOf};
+ghost use Rattle.op_machine.specs.theorem.Faithful.{Disturbs, KnowsRow};
+ghost use Rattle.op_machine.specs.theorem.Phases.{Phase, MovesPhase, IsInPhase, KeepsPhases, cleared};
 
 /// An entry adds to the log what it updates, if it is marked.
 pub fn log_grows()

@@ -1,6 +1,8 @@
-//! Operations, as the steps of one actor, and the laws of their runs.
+//! Operations, as the steps of one actor, what an actor keeps between them, and the laws of their runs. Whoever has the memory asks for
+//! the step that is wanted, takes it, and tells the answer.
 #![tactic(auto)]
 
+mod actor;
 mod errands;
 mod examples;
 mod hand;
@@ -15,6 +17,7 @@ mod then;
 mod unlinked;
 mod write_ends;
 
+pub use actor::{Actor, idle_actors_rest};
 pub use errands::MAX_ERRANDS;
 pub use examples::{
     claimed_insert_is_refused, hurried_reuse_is_refused, insert_and_lookup_is_linearized,

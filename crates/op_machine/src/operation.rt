@@ -4,29 +4,29 @@ ghost use Rattle.bw_model.specs.Answers.{answer_of};
 ghost use Rattle.bw_model.specs.Lent.{lent};
 ghost use Rattle.bw_model.specs.declared.step.Answer.{Answer as AnswerOf};
 ghost use Rattle.bw_model.specs.declared.step.Answer.TheVariants.{Content};
-ghost use Rattle.chain_search.specs.Discipline.{May, MayFree};
-ghost use Rattle.chain_search.specs.Knowledge.{Knowledge, begun, learn};
-ghost use Rattle.chain_search.specs.Recalled.{Recalled, blank};
-ghost use Rattle.chain_search.specs.Useful.{IsUseful};
-ghost use Rattle.chain_search.specs.Within.{IsWithin};
+ghost use Rattle.chain_search.specs.discipline.Discipline.{May, MayFree};
+ghost use Rattle.chain_search.specs.discipline.Knowledge.{Knowledge, begun, learn};
+ghost use Rattle.chain_search.specs.discipline.Recalled.{Recalled, blank};
+ghost use Rattle.chain_search.specs.discipline.Useful.{IsUseful};
+ghost use Rattle.chain_search.specs.trace.Within.{IsWithin};
 ghost use Rattle.deltas.specs.declared.record.Record.{Record as RecordOf};
 ghost use Rattle.epochs.specs.Limbo.{Limbo as LimboSeen};
-ghost use Rattle.op_machine.specs.Hands.{Hand as HandSeen};
-ghost use Rattle.op_machine.specs.InPlace.{IsOpShown, Takes, Wants};
-ghost use Rattle.op_machine.specs.Ops.{EndsAtLeave, IsAtRestWith, IsToldOp, Obeys, Shows, wanted_of};
-ghost use Rattle.op_machine.specs.Outcomes.{changed, has_machine, is_changing, is_leaving, is_reading, is_writing};
-ghost use Rattle.op_machine.specs.Places.{ended_with, state_of};
-ghost use Rattle.op_machine.specs.Shows.{FitsLast, ShowsState, learn_last, wanted_at};
-ghost use Rattle.op_machine.specs.Spending.{steps_left};
-ghost use Rattle.op_machine.specs.Sweeping.{FollowsSweep, HasFewer, IsSameWork, IsToldSweep, MovesSweep};
-ghost use Rattle.op_machine.specs.Tasks.{Task as TaskSeen};
-ghost use Rattle.op_machine.specs.Works.{AsksOn, IsToldChange, IsToldOn, IsToldWith, KeepsLimbo, TurnsInto};
-ghost use Rattle.op_machine.specs.Wants as Want;
-ghost use Rattle.op_machine.specs.States as State;
+ghost use Rattle.op_machine.specs.machine.Hands.{Hand as HandSeen};
+ghost use Rattle.op_machine.specs.machine.InPlace.{IsOpShown, Takes, Wants};
+ghost use Rattle.op_machine.specs.machine.Ops.{EndsAtLeave, IsAtRestWith, IsToldOp, Obeys, Shows, wanted_of};
+ghost use Rattle.op_machine.specs.machine.Outcomes.{changed, has_machine, is_changing, is_leaving, is_reading, is_writing};
+ghost use Rattle.op_machine.specs.machine.Places.{ended_with, state_of};
+ghost use Rattle.op_machine.specs.machine.Shows.{FitsLast, ShowsState, learn_last, wanted_at};
+ghost use Rattle.op_machine.specs.machine.Spending.{steps_left};
+ghost use Rattle.op_machine.specs.machine.Sweeping.{FollowsSweep, HasFewer, IsSameWork, IsToldSweep, MovesSweep};
+ghost use Rattle.op_machine.specs.machine.Tasks.{Task as TaskSeen};
+ghost use Rattle.op_machine.specs.machine.Works.{AsksOn, IsToldChange, IsToldOn, IsToldWith, KeepsLimbo, TurnsInto};
+ghost use Rattle.op_machine.specs.machine.Wants as Want;
+ghost use Rattle.op_machine.specs.machine.States as State;
 ghost use Rattle.sweep.specs.Kept.{AreKept};
 ghost use Rattle.sweep.specs.Bounded.{steps_left as steps_of};
 ghost use Rattle.sweep.specs.Sweeps.{IsSoundSweep, FitsSweep as IsToldSweepAlone, Shows as ShowsSweep, wanted as sweep_wants};
-ghost use Rattle.chain_search.specs.Fitting.{Fits};
+ghost use Rattle.chain_search.specs.discipline.Fitting.{Fits};
 
 use crate::hand::Hand;
 use crate::places::{Places, Stand};
@@ -50,8 +50,8 @@ pub struct Operation<A: Allocator = Global> {
 }
 
 impl<A: Allocator> Model for Operation<A> {
-    ghost use Rattle.op_machine.specs.Ops.{Op};
-    ghost use Rattle.op_machine.specs.Places.{HaveLimits, state_of};
+    ghost use Rattle.op_machine.specs.machine.Ops.{Op};
+    ghost use Rattle.op_machine.specs.machine.Places.{HaveLimits, state_of};
 
     ghost Value = { Op };
 

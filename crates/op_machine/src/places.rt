@@ -4,8 +4,8 @@ ghost use Rattle.std.specs.Option.{option_map};
 ghost use Rattle.bw_model.specs.Answers.{answer_of};
 ghost use Rattle.bw_model.specs.Lent.{lent};
 ghost use Rattle.bw_model.specs.declared.step.Answer.TheVariants.{Content, Number};
-ghost use Rattle.chain_search.specs.Knowledge.{Knowledge};
-ghost use Rattle.chain_search.specs.Recalled.{Recalled};
+ghost use Rattle.chain_search.specs.discipline.Knowledge.{Knowledge};
+ghost use Rattle.chain_search.specs.discipline.Recalled.{Recalled};
 ghost use Rattle.descent.specs.Courses as course;
 ghost use Rattle.descent.specs.Machines.{IsTold};
 ghost use Rattle.descent.specs.ReadLegs.{Down};
@@ -17,12 +17,12 @@ ghost use Rattle.descent.specs.Descents.{Root};
 ghost use Rattle.descent.specs.ReadGoals as goal;
 ghost use Rattle.installs.specs.Changes.{IsSpellablePlan, IsTarget};
 ghost use Rattle.installs.specs.Spares.{HaveRoom};
-ghost use Rattle.op_machine.specs.Bounded.{few_changes, left_at};
-ghost use Rattle.op_machine.specs.Outcomes.{IsToldAt, UnlinksAfter, changed, has_begun, is_changing, is_leaving};
-ghost use Rattle.op_machine.specs.Places.{HaveLimits, ReadsOn, WritesOn, ended_with, left_round_of, state_of};
-ghost use Rattle.op_machine.specs.Shows.{FitsLast, MayBegin, MayStep, ShowsState, learn_last, wanted_at};
-ghost use Rattle.op_machine.specs.Tasks.{Task as TaskSeen};
-ghost use Rattle.op_machine.specs.Works.{TurnsInto};
+ghost use Rattle.op_machine.specs.machine.Bounded.{few_changes, left_at};
+ghost use Rattle.op_machine.specs.machine.Outcomes.{IsToldAt, UnlinksAfter, changed, has_begun, is_changing, is_leaving};
+ghost use Rattle.op_machine.specs.machine.Places.{HaveLimits, ReadsOn, WritesOn, ended_with, left_round_of, state_of};
+ghost use Rattle.op_machine.specs.machine.Shows.{FitsLast, MayBegin, MayStep, ShowsState, learn_last, wanted_at};
+ghost use Rattle.op_machine.specs.machine.Tasks.{Task as TaskSeen};
+ghost use Rattle.op_machine.specs.machine.Works.{TurnsInto};
 ghost use Rattle.rounds.specs.Descents.{asked_step};
 ghost use Rattle.rounds.specs.ReadRounds as reads;
 ghost use Rattle.rounds.specs.WriteRounds as writes;
@@ -62,7 +62,7 @@ pub(crate) struct Places<A: Allocator = Global> {
 }
 
 impl<A: Allocator> Model for Places<A> {
-    ghost use Rattle.op_machine.specs.Places.{OpPlaces};
+    ghost use Rattle.op_machine.specs.machine.Places.{OpPlaces};
 
     ghost Value = { OpPlaces };
 

@@ -1,16 +1,16 @@
 //! What an operation makes of the end of a reader's round, where its pages stand.
 ghost use Rattle.std.specs.Prelude.{◌≡◌, ◌≤◌, ℕ, IsSome};
 ghost use Rattle.bw_model.specs.Replies.{command_key};
-ghost use Rattle.chain_search.specs.Knowledge.{Knowledge};
-ghost use Rattle.chain_search.specs.Recalled.{Recalled};
+ghost use Rattle.chain_search.specs.discipline.Knowledge.{Knowledge};
+ghost use Rattle.chain_search.specs.discipline.Recalled.{Recalled};
 ghost use Rattle.installs.specs.Spares.{Spares};
-ghost use Rattle.op_machine.specs.Bounded.{left_at, left_for, one_round};
-ghost use Rattle.op_machine.specs.Outcomes as Outcome;
-ghost use Rattle.op_machine.specs.Outcomes.{FacesRead, StandsForReader};
-ghost use Rattle.op_machine.specs.Places.{HaveLimits, state_of};
-ghost use Rattle.op_machine.specs.Shows.{ShowsState, wanted_at};
-ghost use Rattle.op_machine.specs.Tasks.{Seeks};
-ghost use Rattle.op_machine.specs.States as State;
+ghost use Rattle.op_machine.specs.machine.Bounded.{left_at, left_for, one_round};
+ghost use Rattle.op_machine.specs.machine.Outcomes as Outcome;
+ghost use Rattle.op_machine.specs.machine.Outcomes.{FacesRead, StandsForReader};
+ghost use Rattle.op_machine.specs.machine.Places.{HaveLimits, state_of};
+ghost use Rattle.op_machine.specs.machine.Shows.{ShowsState, wanted_at};
+ghost use Rattle.op_machine.specs.machine.Tasks.{Seeks};
+ghost use Rattle.op_machine.specs.machine.States as State;
 ghost use Rattle.rounds.specs.ReadRounds.{ended_read};
 
 use crate::places::Places;

@@ -1,13 +1,13 @@
 //! What an operation was asked, and what it makes of what it has come to.
 ghost use Rattle.std.specs.Prelude.{◌≡◌, ◌<◌, ◌-◌, ℕ, List, [], Option, Some, IfSome, IsSome, MatchOption, is_some, length, option_copied, slice_get, take, true};
-ghost use Rattle.chain_search.specs.Chains.{high_in};
-ghost use Rattle.chain_search.specs.Discipline.{found};
-ghost use Rattle.chain_search.specs.Knowledge.{Knowledge};
+ghost use Rattle.chain_search.specs.chain.Chains.{high_in};
+ghost use Rattle.chain_search.specs.discipline.Discipline.{found};
+ghost use Rattle.chain_search.specs.discipline.Knowledge.{Knowledge};
 ghost use Rattle.bw_model.specs.Pairs.{ArePairsOf};
 ghost use Rattle.bw_model.specs.Replies.{is_writer, update_of};
 ghost use Rattle.bw_model.specs.declared.command.Reply.TheVariants as reply;
-ghost use Rattle.op_machine.specs.Brings.{update_over};
-ghost use Rattle.op_machine.specs.Errands.{due_of, tends_of, way_key, with_errand};
+ghost use Rattle.op_machine.specs.machine.Brings.{update_over};
+ghost use Rattle.op_machine.specs.machine.Errands.{due_of, tends_of, way_key, with_errand};
 ghost use Rattle.sweep.specs.Bounded.{steps_left as steps_of};
 ghost use Rattle.sweep.specs.Kept.{IsLimboOf};
 ghost use Rattle.sweep.specs.Moves.{IsEmpty};
@@ -35,7 +35,7 @@ pub(crate) struct Task {
 
 impl Model for Task {
     ghost use Rattle.std.specs.Prelude.{◌<◌};
-    ghost use Rattle.op_machine.specs.Tasks.{Task};
+    ghost use Rattle.op_machine.specs.machine.Tasks.{Task};
 
     ghost Value = { Task };
 

@@ -1,17 +1,17 @@
 //! What an operation makes of the end of a writer's round, where its pages stand, and of the end of a change.
 ghost use Rattle.std.specs.Prelude.{◌≡◌, ◌≤◌, ◌+◌, ◌-◌, [], Option, IsSome, MatchOption, length, take};
-ghost use Rattle.chain_search.specs.Knowledge.{Knowledge};
-ghost use Rattle.chain_search.specs.Recalled.{Recalled};
+ghost use Rattle.chain_search.specs.discipline.Knowledge.{Knowledge};
+ghost use Rattle.chain_search.specs.discipline.Recalled.{Recalled};
 ghost use Rattle.descent.specs.WriteEnds as end;
 ghost use Rattle.installs.specs.Spares.{Spares as SparesOf};
-ghost use Rattle.op_machine.specs.Bounded.{few_changes, left_at, left_for, with_errands};
-ghost use Rattle.op_machine.specs.Brings.{errands_after};
-ghost use Rattle.op_machine.specs.Outcomes as Outcome;
-ghost use Rattle.op_machine.specs.Outcomes.{FacesChanged, FacesWritten, IsAtLeaf, IsAtLeafBelow};
-ghost use Rattle.op_machine.specs.Places.{HaveLimits, state_of};
-ghost use Rattle.op_machine.specs.Shows.{ShowsState, wanted_at};
-ghost use Rattle.op_machine.specs.Tasks.{IsSameTask};
-ghost use Rattle.op_machine.specs.Upkeep.{IsIdleFor, IsUpkeepFor, IsUpkeepPlan, plan_of};
+ghost use Rattle.op_machine.specs.machine.Bounded.{few_changes, left_at, left_for, with_errands};
+ghost use Rattle.op_machine.specs.machine.Brings.{errands_after};
+ghost use Rattle.op_machine.specs.machine.Outcomes as Outcome;
+ghost use Rattle.op_machine.specs.machine.Outcomes.{FacesChanged, FacesWritten, IsAtLeaf, IsAtLeafBelow};
+ghost use Rattle.op_machine.specs.machine.Places.{HaveLimits, state_of};
+ghost use Rattle.op_machine.specs.machine.Shows.{ShowsState, wanted_at};
+ghost use Rattle.op_machine.specs.machine.Tasks.{IsSameTask};
+ghost use Rattle.op_machine.specs.machine.Upkeep.{IsIdleFor, IsUpkeepFor, IsUpkeepPlan, plan_of};
 ghost use Rattle.rounds.specs.WriteRounds.{ended_write};
 ghost use Rattle.smo.specs.Upkeep.{IsIdle};
 ghost use Rattle.smo.specs.declared.version.Version.{Version};

@@ -4,8 +4,8 @@ use Rattle.std.proofs.lemmas.List.{take_all, take_more}
 use Rattle.base_page.specs.Pages.{Page}
 use Rattle.deltas.specs.declared.record.Record.{Record}
 use Rattle.deltas.specs.declared.record.Record.TheVariants.{Base}
-use Rattle.chain_search.specs.Deltas.{IsSmallDelta}
-use Rattle.chain_search.specs.Fitted.{IsFitted}
+use Rattle.chain_search.specs.chain.Deltas.{IsSmallDelta}
+use Rattle.chain_search.specs.chain.Fitted.{IsFitted}
 use Rattle.chain_search.proofs.DeltaLaws.{small}
 
 -- each record that stands over another one needs little room

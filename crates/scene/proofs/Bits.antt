@@ -4,7 +4,7 @@ use Rattle.std.specs.Prelude.{bit_and, not, if◌then◌else◌}
 use Rattle.std.specs.Int.{bit_at}
 use Rattle.std.proofs.lemmas.Nat.{one_shl, pow_pos}
 use Rattle.chain_search.proofs.Tables.{tested}
-use Rattle.chain_search.specs.Steps.{IsWordOf}
+use Rattle.chain_search.specs.trace.Steps.{IsWordOf}
 use Rattle.scene.specs.Counts.{how_many}
 
 pub tested_at : (bits place : ℕ) → place < 64 → not (eqb (bit_and bits (1 * 2 ^ place % 2 ^ 64)) 0) ≡ (bit_at bits place == 1)

@@ -2,7 +2,7 @@
 use Rattle.std.proofs.Common.{◌≡◌, ℕ, List, [], ◌∷◌, ◌++◌, Option, None, Some, MatchOption, sym, subst, ap, ◌∙◌}
 use Rattle.deltas.specs.declared.record.Record.{Record}
 use Rattle.deltas.specs.Records.{next_row}
-use Rattle.chain_search.specs.Chains.{IsChainFrom}
+use Rattle.chain_search.specs.chain.Chains.{IsChainFrom}
 use Rattle.listing.proofs.Chaining.{HasRead}
 
 -- where a record has none under it, the chain ends

@@ -1,8 +1,8 @@
 //! Numbers of a memory: how many PIDs and rows are free, and the epochs.
 ghost use Rattle.std.specs.Prelude.{◌≡◌, ◌<◌, ◌*◌, ◌==◌, ◌^◌};
 ghost use Rattle.std.specs.Int.{bit_at};
-ghost use Rattle.chain_search.specs.Steps.{IsWordOf};
-ghost use Rattle.chain_search.specs.Tables.{memory_in};
+ghost use Rattle.chain_search.specs.trace.Steps.{IsWordOf};
+ghost use Rattle.chain_search.specs.trace.Tables.{memory_in};
 ghost use Rattle.scene.specs.Counts.{how_many};
 
 use bw_model::{Answer, Step};

@@ -1,6 +1,6 @@
 //! One level as it stands.
 ghost use Rattle.std.specs.Prelude.{◌≡◌, ℕ, IfOk};
-ghost use Rattle.chain_search.specs.Tables.{memory_in};
+ghost use Rattle.chain_search.specs.trace.Tables.{memory_in};
 ghost use Rattle.scene.specs.Levels.{first_child};
 ghost use Rattle.tree_law.specs.LevelPages.{HasPagesOn};
 
@@ -18,7 +18,7 @@ pub struct Level<A: Allocator = Global> {
 
 impl<A: Allocator> Model for Level<A> {
     ghost use Rattle.std.specs.Prelude.{List};
-    ghost use Rattle.chain_search.specs.SideChain.{LivePage};
+    ghost use Rattle.chain_search.specs.chain.SideChain.{LivePage};
 
     ghost Value = { List LivePage };
 

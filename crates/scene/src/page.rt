@@ -2,9 +2,9 @@
 ghost use Rattle.std.specs.Prelude.{◌≡◌, ◌<◌, List, IfOk, option_copied};
 ghost use Rattle.base_page.specs.Rules.{IsRuled};
 ghost use Rattle.deltas.specs.declared.record.Record.{Record as RecordSeen};
-ghost use Rattle.chain_search.specs.Chains.{right_in};
-ghost use Rattle.chain_search.specs.Fitted.{Makes};
-ghost use Rattle.chain_search.specs.Tables.{memory_in};
+ghost use Rattle.chain_search.specs.chain.Chains.{right_in};
+ghost use Rattle.chain_search.specs.chain.Fitted.{Makes};
+ghost use Rattle.chain_search.specs.trace.Tables.{memory_in};
 ghost use Rattle.listing.specs.Listed.{StandsAt};
 ghost use Rattle.scene.specs.Levels.{low_child};
 
@@ -24,8 +24,8 @@ pub struct ScenePage<A: Allocator = Global> {
 }
 
 impl<A: Allocator> Model for ScenePage<A> {
-    ghost use Rattle.chain_search.specs.Fitted.{Makes};
-    ghost use Rattle.chain_search.specs.SideChain.{LivePage};
+    ghost use Rattle.chain_search.specs.chain.Fitted.{Makes};
+    ghost use Rattle.chain_search.specs.chain.SideChain.{LivePage};
 
     ghost Value = { LivePage };
 

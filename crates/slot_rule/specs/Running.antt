@@ -7,10 +7,10 @@ use Rattle.bw_model.specs.declared.limits.Limits.{Limits}
 use Rattle.deltas.specs.declared.record.Record.{Record}
 use Rattle.chain_search.specs.declared.trace.Entry.{Entry}
 use Rattle.chain_search.specs.declared.trace.Entry.TheVariants.{Begin, Step}
-use Rattle.chain_search.specs.Discipline.{IsOwn, IsUnset}
-use Rattle.chain_search.specs.Disciplined.{Extends}
-use Rattle.chain_search.specs.Knowledge.{Knowledge, knows}
-use Rattle.chain_search.specs.Trace.{memory_of}
+use Rattle.chain_search.specs.discipline.Discipline.{IsOwn, IsUnset}
+use Rattle.chain_search.specs.discipline.Disciplined.{Extends}
+use Rattle.chain_search.specs.discipline.Knowledge.{Knowledge, knows}
+use Rattle.chain_search.specs.trace.Trace.{memory_of}
 use Rattle.record_slots.specs.Layout.{row_size}
 use Rattle.record_slots.specs.Spelling.{words_of}
 use Rattle.record_slots.specs.Spells.{IsSpelling}

@@ -11,9 +11,9 @@ use Rattle.bw_model.specs.declared.step.Step.TheVariants.{Row}
 use Rattle.deltas.specs.declared.record.Record.{Record}
 use Rattle.chain_search.specs.declared.trace.Entry.{Entry}
 use Rattle.chain_search.specs.declared.trace.Entry.TheVariants.{Begin, Step}
-use Rattle.chain_search.specs.Disciplined.{Extends}
-use Rattle.chain_search.specs.Steps.{IsAnswer}
-use Rattle.chain_search.specs.Trace.{memory_of}
+use Rattle.chain_search.specs.discipline.Disciplined.{Extends}
+use Rattle.chain_search.specs.trace.Steps.{IsAnswer}
+use Rattle.chain_search.specs.trace.Trace.{memory_of}
 use Rattle.record_slots.specs.Layout.{last_at}
 use Rattle.record_slots.specs.Spells.{IsSpelling}
 use Rattle.tree_words.specs.Changes.{told}

@@ -15,8 +15,8 @@ use Rattle.deltas.specs.declared.record.Record.TheVariants as kind
 use Rattle.deltas.specs.declared.record.Hold.{Hold}
 use Rattle.deltas.specs.Fits.{FitsHold}
 use Rattle.deltas.specs.Spellable.{IsSpellable}
-use Rattle.chain_search.specs.Chains.{is_removed, low_in}
-use Rattle.chain_search.specs.Fitted.{FitsOver, Makes}
+use Rattle.chain_search.specs.chain.Chains.{is_removed, low_in}
+use Rattle.chain_search.specs.chain.Fitted.{FitsOver, Makes}
 use Rattle.chain_search.proofs.FittedLaws.{ascends_after, by_order, fits_over, lacks_first}
 use Rattle.chain_search.proofs.Updated.{all_put, greater, itself, put_ascends, put_contents, put_few, with_put}
 use Rattle.smo.specs.declared.version.Version.{Version}

@@ -15,10 +15,10 @@ use Rattle.deltas.specs.declared.record.Term.{Term}
 use Rattle.deltas.specs.declared.record.Unterm.{Unterm}
 use Rattle.deltas.specs.Memory.{Memory, replaced_at}
 use Rattle.deltas.specs.Records.{next_row}
-use Rattle.chain_search.specs.Chains.{IsChainFrom, IsChainOf, chain_rows, content_in, covers, high_in, level_in, low_in, right_in}
-use Rattle.chain_search.specs.Discipline.{base_from}
-use Rattle.chain_search.specs.Fitted.{IsPageChain}
-use Rattle.chain_search.specs.SideChain.{LivePage, IsSideChainFrom, IsWholeFrom}
+use Rattle.chain_search.specs.chain.Chains.{IsChainFrom, IsChainOf, chain_rows, content_in, covers, high_in, level_in, low_in, right_in}
+use Rattle.chain_search.specs.discipline.Discipline.{base_from}
+use Rattle.chain_search.specs.chain.Fitted.{IsPageChain}
+use Rattle.chain_search.specs.chain.SideChain.{LivePage, IsSideChainFrom, IsWholeFrom}
 use Rattle.chain_search.proofs.ChainLaws.{IsChainOf-unique}
 use Rattle.chain_search.proofs.FittedLaws.{ruled}
 use Rattle.smo.specs.declared.split.SplitPlan.{SplitPlan}

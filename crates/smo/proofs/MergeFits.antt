@@ -13,8 +13,8 @@ use Rattle.deltas.specs.declared.record.Record.TheVariants as kind
 use Rattle.deltas.specs.declared.record.Merge.{Merge}
 use Rattle.deltas.specs.Fits.{FitsMerge}
 use Rattle.deltas.specs.Spellable.{IsSpellable, IsSpellablePage}
-use Rattle.chain_search.specs.Chains.{high_in, level_in, low_in, right_in}
-use Rattle.chain_search.specs.Fitted.{FitsOver, IsFitted, Makes}
+use Rattle.chain_search.specs.chain.Chains.{high_in, level_in, low_in, right_in}
+use Rattle.chain_search.specs.chain.Fitted.{FitsOver, IsFitted, Makes}
 use Rattle.chain_search.proofs.FittedLaws.{fits_over, made_children, made_right, ruled}
 use Rattle.smo.specs.declared.version.Version.{Version}
 use Rattle.smo.specs.Merges.{CanMerge, IsMergePlan, merge_of}

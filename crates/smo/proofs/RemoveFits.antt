@@ -10,8 +10,8 @@ use Rattle.deltas.specs.declared.record.Record.TheVariants as kind
 use Rattle.deltas.specs.declared.record.Remove.{Remove}
 use Rattle.deltas.specs.Fits.{FitsRemove}
 use Rattle.deltas.specs.Spellable.{IsSpellable}
-use Rattle.chain_search.specs.Chains.{low_in}
-use Rattle.chain_search.specs.Fitted.{FitsOver, IsFitted, Makes}
+use Rattle.chain_search.specs.chain.Chains.{low_in}
+use Rattle.chain_search.specs.chain.Fitted.{FitsOver, IsFitted, Makes}
 use Rattle.chain_search.proofs.FittedLaws.{fits_over, ruled}
 use Rattle.smo.specs.declared.version.Version.{Version}
 use Rattle.smo.specs.Removals.{CanRemove, IsRemovePlan, remove_of}

@@ -8,8 +8,8 @@ use Rattle.deltas.specs.declared.record.Record.{Record}
 use Rattle.deltas.specs.declared.record.Record.TheVariants as kind
 use Rattle.deltas.specs.declared.record.Remove.{Remove}
 use Rattle.deltas.specs.Records.{removed_after}
-use Rattle.chain_search.specs.Chains.{is_removed, low_in}
-use Rattle.chain_search.specs.Fitted.{FitsOver, IsFitted, Makes}
+use Rattle.chain_search.specs.chain.Chains.{is_removed, low_in}
+use Rattle.chain_search.specs.chain.Fitted.{FitsOver, IsFitted, Makes}
 use Rattle.chain_search.proofs.FittedLaws.{items_unique}
 
 -- nothing else fits over a removed page

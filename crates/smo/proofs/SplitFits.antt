@@ -15,8 +15,8 @@ use Rattle.deltas.specs.declared.record.Record.TheVariants as kind
 use Rattle.deltas.specs.declared.record.Split.{Split}
 use Rattle.deltas.specs.Fits.{FitsSplit}
 use Rattle.deltas.specs.Spellable.{HasPid, IsPid, IsSpellable, IsSpellablePage}
-use Rattle.chain_search.specs.Chains.{content_in, high_in, is_removed, level_in, right_in}
-use Rattle.chain_search.specs.Fitted.{FitsOver, IsFitted, Makes}
+use Rattle.chain_search.specs.chain.Chains.{content_in, high_in, is_removed, level_in, right_in}
+use Rattle.chain_search.specs.chain.Fitted.{FitsOver, IsFitted, Makes}
 use Rattle.chain_search.proofs.FittedLaws.{fits_over, made_children, made_right, ruled as rules_of}
 use Rattle.smo.specs.declared.split.SplitPlan.{SplitPlan}
 use Rattle.smo.specs.declared.version.Version.{Version}

@@ -13,8 +13,8 @@ use Rattle.deltas.specs.declared.record.Record.TheVariants as kind
 use Rattle.deltas.specs.declared.record.Term.{Term}
 use Rattle.deltas.specs.Fits.{FitsTerm}
 use Rattle.deltas.specs.Spellable.{IsSpellable}
-use Rattle.chain_search.specs.Chains.{content_in, covers, is_removed, level_in, low_in}
-use Rattle.chain_search.specs.Fitted.{FitsOver, Makes}
+use Rattle.chain_search.specs.chain.Chains.{content_in, covers, is_removed, level_in, low_in}
+use Rattle.chain_search.specs.chain.Fitted.{FitsOver, Makes}
 use Rattle.chain_search.proofs.FittedLaws.{by_order, fits_over}
 use Rattle.chain_search.proofs.Updated.{all_put, greater, itself, put_ascends, put_contents, put_few, with_put}
 use Rattle.smo.specs.declared.version.Version.{Version}

@@ -16,8 +16,8 @@ use Rattle.deltas.specs.declared.record.Record.TheVariants as kind
 use Rattle.deltas.specs.declared.record.Unterm.{Unterm}
 use Rattle.deltas.specs.Fits.{FitsUnterm}
 use Rattle.deltas.specs.Spellable.{IsSpellable}
-use Rattle.chain_search.specs.Chains.{is_removed, low_in}
-use Rattle.chain_search.specs.Fitted.{FitsOver, IsFitted, Makes}
+use Rattle.chain_search.specs.chain.Chains.{is_removed, low_in}
+use Rattle.chain_search.specs.chain.Fitted.{FitsOver, IsFitted, Makes}
 use Rattle.chain_search.proofs.FittedLaws.{ascends_after, by_order, fits_over, lacks_first, ruled}
 use Rattle.chain_search.proofs.Updated.{all_without, chosen, greater, itself, without, without_ascends, without_contents, without_few}
 use Rattle.smo.specs.declared.version.Version.{Version}

@@ -1,6 +1,6 @@
 //! The removal of a page whose term is held.
 ghost use Rattle.std.specs.Prelude.{◌≡◌, MatchOption, false};
-ghost use Rattle.chain_search.specs.Chains.{is_removed};
+ghost use Rattle.chain_search.specs.chain.Chains.{is_removed};
 ghost use Rattle.smo.specs.Removals.{CanRemove, IsRemovePlan};
 
 use crate::Version;

@@ -7,18 +7,18 @@ use Rattle.bw_model.specs.declared.step.Step.TheVariants.{Slot, Row, Epoch, Anno
 use Rattle.deltas.specs.declared.record.Record.{Record}
 use Rattle.deltas.specs.Memory.{Memory}
 use Rattle.chain_search.specs.declared.trace.Entry.{Entry}
-use Rattle.chain_search.specs.Discipline.{May}
-use Rattle.chain_search.specs.Knowledge.{knows}
-use Rattle.chain_search.specs.Recalled.{Recalled}
-use Rattle.chain_search.specs.Tables.{IsWithinTable, Table, memory_in}
-use Rattle.chain_search.specs.Trace.{memory_of}
-use Rattle.chain_search.specs.Within.{IsWithin}
-use Rattle.op_machine.specs.Hands.{Hand}
+use Rattle.chain_search.specs.discipline.Discipline.{May}
+use Rattle.chain_search.specs.discipline.Knowledge.{knows}
+use Rattle.chain_search.specs.discipline.Recalled.{Recalled}
+use Rattle.chain_search.specs.trace.Tables.{IsWithinTable, Table, memory_in}
+use Rattle.chain_search.specs.trace.Trace.{memory_of}
+use Rattle.chain_search.specs.trace.Within.{IsWithin}
+use Rattle.op_machine.specs.machine.Hands.{Hand}
 use Rattle.tree_law.specs.Own.{RowsAreApart}
 use Rattle.tree_law.specs.State.{IsState}
 use Rattle.tree_law.specs.TraceLaws.{AnswersFit, HeadsStand}
-use Rattle.actors.specs.Running.{UnderWay}
-use Rattle.actors.specs.Actors.{IsActorWith, IsRunning, wanted_by}
+use Rattle.op_machine.specs.machine.UnderWay.{UnderWay}
+use Rattle.op_machine.specs.machine.Actors.{IsActorWith, IsRunning, wanted_by}
 use Rattle.step_core.specs.Actors.{IsServed, IsServedAt, IsWithinAt}
 
 -- whether a record was placed in the row

@@ -13,10 +13,10 @@ use Rattle.deltas.specs.declared.record.Record.{Record}
 use Rattle.deltas.specs.Links.{record_link}
 use Rattle.chain_search.specs.declared.trace.Entry.{Entry}
 use Rattle.chain_search.specs.declared.trace.Entry.TheVariants as entry
-use Rattle.chain_search.specs.Trace.{memory_of}
+use Rattle.chain_search.specs.trace.Trace.{memory_of}
 use Rattle.step_core.specs.declared.event.Event.{Event}
-use Rattle.op_machine.specs.Links.{link_without}
-use Rattle.chain_search.specs.Steps.{IsAnswer, memory_after}
+use Rattle.op_machine.specs.theorem.Links.{link_without}
+use Rattle.chain_search.specs.trace.Steps.{IsAnswer, memory_after}
 use Rattle.deltas.specs.Memory.{Memory}
 use Rattle.step_core.specs.declared.event.Event.TheVariants.{Stepped}
 use Rattle.step_core.proofs.Lawful.{Asks, HasHeads, is_placed}

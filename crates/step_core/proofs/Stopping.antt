@@ -4,9 +4,9 @@ use Rattle.std.specs.Prelude.{slice_get}
 use Rattle.std.proofs.lemmas.List.{append-nil, map-append}
 use Rattle.bw_model.specs.declared.limits.Limits.{Limits}
 use Rattle.chain_search.specs.declared.trace.Turn.{Turn}
-use Rattle.chain_search.specs.Disciplined.{IsDisciplined}
-use Rattle.chain_search.specs.Trace.{turn_of}
-use Rattle.op_machine.specs.Linearized.{IsLinearized, IsOrderly}
+use Rattle.chain_search.specs.discipline.Disciplined.{IsDisciplined}
+use Rattle.chain_search.specs.trace.Trace.{turn_of}
+use Rattle.op_machine.specs.theorem.Linearized.{IsLinearized, IsOrderly}
 use Rattle.step_core.specs.declared.event.RunError.{RunError}
 use Rattle.step_core.specs.declared.event.Event.{Event}
 use Rattle.step_core.specs.Turns.{AddsTurn, AddsTurns, Core, Stops, StopsAt}

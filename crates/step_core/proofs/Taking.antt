@@ -2,8 +2,8 @@
 use Rattle.std.proofs.Common.{◌≡◌, ℕ, List, Bool, Option, Some, None, cond, is_some, true, false, inl, inr, sym, ap, ◌∙◌, subst, refl}
 use Rattle.std.specs.Str.{bytes_eq}
 use Rattle.std.proofs.lemmas.Option.{same_Some}
-use Rattle.actors.specs.Running.{UnderWay}
-use Rattle.actors.specs.Actors.{Actor, ActsOn, IsActor, IsActorWith, IsGoing, command_at, running_command, wanted_by}
+use Rattle.op_machine.specs.machine.UnderWay.{UnderWay}
+use Rattle.op_machine.specs.machine.Actors.{Actor, ActsOn, IsActor, IsActorWith, IsGoing, command_at, running_command, wanted_by}
 use Rattle.bw_model.specs.declared.command.Command.{Command}
 use Rattle.bw_model.specs.declared.command.Command.TheVariants.{Get, Insert, Upsert, Delete, Swap, Page, Tidy}
 use Rattle.bw_model.specs.declared.command.Reply.{Reply}
@@ -14,16 +14,16 @@ use Rattle.bw_model.specs.declared.step.Step.{Step as StepOf}
 use Rattle.bw_model.specs.Replies.{command_key, reply_of}
 use Rattle.deltas.specs.declared.record.Record.{Record}
 use Rattle.deltas.specs.Memory.{Memory}
-use Rattle.chain_search.specs.Discipline.{MayReply, found}
-use Rattle.chain_search.specs.Entries.{ShowsPairs}
-use Rattle.chain_search.specs.Knowledge.{Knowledge}
-use Rattle.chain_search.specs.Recalled.{Recalled}
-use Rattle.chain_search.specs.Steps.{IsAnswer}
+use Rattle.chain_search.specs.discipline.Discipline.{MayReply, found}
+use Rattle.chain_search.specs.trace.Entries.{ShowsPairs}
+use Rattle.chain_search.specs.discipline.Knowledge.{Knowledge}
+use Rattle.chain_search.specs.discipline.Recalled.{Recalled}
+use Rattle.chain_search.specs.trace.Steps.{IsAnswer}
 use Rattle.installs.specs.Spares.{Spares}
-use Rattle.op_machine.specs.Hands.{Hand}
-use Rattle.op_machine.specs.Shows.{ShowsState}
-use Rattle.op_machine.specs.Tasks.{Task}
-use Rattle.op_machine.specs.States.{State, Begun, Epoch, Enter, Read, Write, Change, Leave}
+use Rattle.op_machine.specs.machine.Hands.{Hand}
+use Rattle.op_machine.specs.machine.Shows.{ShowsState}
+use Rattle.op_machine.specs.machine.Tasks.{Task}
+use Rattle.op_machine.specs.machine.States.{State, Begun, Epoch, Enter, Read, Write, Change, Leave}
 use Rattle.step_core.specs.Actors.{IsPageEnd, IsReady, NeedsRoom}
 
 -- a reply that a test decides between two without pairs

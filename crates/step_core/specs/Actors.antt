@@ -6,12 +6,12 @@ use Rattle.bw_model.specs.declared.step.Answer.{Answer}
 use Rattle.bw_model.specs.declared.step.Step.{Step as StepOf}
 use Rattle.deltas.specs.declared.record.Record.{Record}
 use Rattle.deltas.specs.Memory.{Memory}
-use Rattle.actors.specs.Actors.{Actor, IsActor, running_command, wanted_by}
-use Rattle.chain_search.specs.Fitting.{Fits}
-use Rattle.chain_search.specs.Knowledge.{Knowledge}
-use Rattle.chain_search.specs.Recalled.{Recalled}
-use Rattle.chain_search.specs.Steps.{IsAnswer}
-use Rattle.chain_search.specs.Tables.{IsWithinTable, Table}
+use Rattle.op_machine.specs.machine.Actors.{Actor, IsActor, running_command, wanted_by}
+use Rattle.chain_search.specs.discipline.Fitting.{Fits}
+use Rattle.chain_search.specs.discipline.Knowledge.{Knowledge}
+use Rattle.chain_search.specs.discipline.Recalled.{Recalled}
+use Rattle.chain_search.specs.trace.Steps.{IsAnswer}
+use Rattle.chain_search.specs.trace.Tables.{IsWithinTable, Table}
 use Rattle.step_core.specs.Turns.{EndsPage}
 
 -- Whatever the memory answers to the step fits what the actor knows.

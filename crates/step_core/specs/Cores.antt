@@ -2,15 +2,15 @@
 use Rattle.std.specs.Prelude.{◌≡◌, ℕ, List, length, Some, slice_get}
 use Rattle.bw_model.specs.declared.limits.Limits.{Limits}
 use Rattle.chain_search.specs.declared.trace.Entry.{Entry}
-use Rattle.chain_search.specs.Disciplined.{IsDisciplined}
-use Rattle.chain_search.specs.Knowledge.{knows}
-use Rattle.chain_search.specs.Recalled.{recalls}
-use Rattle.chain_search.specs.Tables.{Table, memory_in}
-use Rattle.chain_search.specs.Trace.{command_of, memory_of}
+use Rattle.chain_search.specs.discipline.Disciplined.{IsDisciplined}
+use Rattle.chain_search.specs.discipline.Knowledge.{knows}
+use Rattle.chain_search.specs.discipline.Recalled.{recalls}
+use Rattle.chain_search.specs.trace.Tables.{Table, memory_in}
+use Rattle.chain_search.specs.trace.Trace.{command_of, memory_of}
 use Rattle.tree_law.specs.Direct.{Accounts, IsDirectState}
 use Rattle.tree_law.specs.State.{IsState}
-use Rattle.actors.specs.Actors.{Actor, IsActor, running_command}
-use Rattle.actors.specs.Spending.{steps_due}
+use Rattle.op_machine.specs.machine.Actors.{Actor, IsActor, running_command}
+use Rattle.op_machine.specs.machine.UnderWay.{steps_due}
 
 -- Causes pay for the steps that the actor's operation has taken, and for those that it has left.
 abbrev pub Pays : Limits → List Entry → ℕ → Actor → Type 0

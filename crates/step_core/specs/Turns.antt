@@ -14,12 +14,12 @@ use Rattle.chain_search.specs.declared.trace.Entry.{Entry}
 use Rattle.chain_search.specs.declared.trace.Entry.TheVariants as entry
 use Rattle.chain_search.specs.declared.trace.Turn.{Turn}
 use Rattle.chain_search.specs.declared.trace.Turn.TheVariants.{Begin, Step}
-use Rattle.chain_search.specs.Disciplined.{IsDisciplined}
-use Rattle.chain_search.specs.Steps.{IsAnswer, MovesRecord}
-use Rattle.chain_search.specs.Trace.{command_of, memory_of, turn_of}
+use Rattle.chain_search.specs.discipline.Disciplined.{IsDisciplined}
+use Rattle.chain_search.specs.trace.Steps.{IsAnswer, MovesRecord}
+use Rattle.chain_search.specs.trace.Trace.{command_of, memory_of, turn_of}
 use Rattle.deltas.specs.Memory.{Memory}
-use Rattle.op_machine.specs.Linearized.{IsLinearized, IsOrderly}
-use Rattle.op_machine.specs.Links.{link_of}
+use Rattle.op_machine.specs.theorem.Linearized.{IsLinearized, IsOrderly}
+use Rattle.op_machine.specs.theorem.Links.{link_of}
 use Rattle.step_core.specs.declared.event.RunError.{RunError}
 use Rattle.step_core.specs.declared.event.RunError.TheVariants.{NoActor, Unfinished, NoOperation, Memory as OutOfMemory}
 use Rattle.step_core.specs.declared.event.Event.{Event}

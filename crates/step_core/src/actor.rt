@@ -1,18 +1,17 @@
 //! One actor of a core: what its step needs of memory, and how it is taken.
 ghost use Rattle.std.specs.Prelude.{◌≡◌, ◌≢◌, ℕ, IfOk, IsSome, None, OnErr, Some, is_some, true};
-ghost use Rattle.actors.specs.Actors.{ActsOn, IsGoing, IsActorShown, IsToldActor, running_command, wanted_by};
+ghost use Rattle.op_machine.specs.machine.Actors.{ActsOn, IsGoing, IsActorShown, IsToldActor, running_command, wanted_by};
 ghost use Rattle.bw_model.specs.declared.limits.Limits.{Limits};
-ghost use Rattle.chain_search.specs.Knowledge.{Knowledge};
-ghost use Rattle.chain_search.specs.Recalled.{Recalled};
-ghost use Rattle.chain_search.specs.Steps.{IsAnswer, memory_after};
-ghost use Rattle.chain_search.specs.Tables.{memory_in};
+ghost use Rattle.chain_search.specs.discipline.Knowledge.{Knowledge};
+ghost use Rattle.chain_search.specs.discipline.Recalled.{Recalled};
+ghost use Rattle.chain_search.specs.trace.Steps.{IsAnswer, memory_after};
+ghost use Rattle.chain_search.specs.trace.Tables.{memory_in};
 ghost use Rattle.step_core.specs.Actors.{IsReady, IsWithinAt, NeedsRoom};
 ghost use Rattle.step_core.specs.Turns.{KeepsMore, link_told};
 
-use actors::Actor;
 use bw_model::{Answer, Command, Link, Step, Told};
 use chain_search::{BoxedPairs, BoxedReply, SharedRecord, Table, shared_step, step_again};
-use op_machine::exchange_link;
+use op_machine::{Actor, exchange_link};
 use row_chain::HeldRow;
 use std::alloc::{AllocError, Allocator};
 

@@ -1,9 +1,9 @@
 //! The core: all actors over one memory, one turn at a time.
 ghost use Rattle.std.specs.Prelude.{◌≡◌, ◌<◌, ◌≤◌, ◌&&◌, [], length, map, nat_lt, is_some, IfOk, IfErr, IfSome, OnErr, Some, None};
-ghost use Rattle.chain_search.specs.Disciplined.{IsDisciplined};
-ghost use Rattle.chain_search.specs.Trace.{command_of, turn_of};
+ghost use Rattle.chain_search.specs.discipline.Disciplined.{IsDisciplined};
+ghost use Rattle.chain_search.specs.trace.Trace.{command_of, turn_of};
 ghost use Rattle.listing.specs.Listed.{IsListing};
-ghost use Rattle.op_machine.specs.Linearized.{IsLinearized, IsOrderly};
+ghost use Rattle.op_machine.specs.theorem.Linearized.{IsLinearized, IsOrderly};
 ghost use Rattle.step_core.specs.Turns.{AddsTurn, AddsTurns, BeginsOrLeaves, LeavesAt, StopsAt, WantsMemory, busy_of, refusal_of};
 
 mod views;
@@ -12,10 +12,10 @@ use crate::actor::{Stepped, go_on, leave, prepare, room};
 use crate::event::{Event, RunError, Trace};
 use crate::law::{begins_keep_laws, states_are_lawful, steps_keep_laws};
 use crate::log::Log;
-use actors::{Actor, idle_actors_rest};
 use bw_model::{Answer, Command, Key, Limits, Link, OpenError, Step, Value};
 use chain_search::{SharedEntry, Table, Turn};
 use listing::{add_pairs, pages_are_listed};
+use op_machine::{Actor, idle_actors_rest};
 use row_chain::HeldRow;
 use std::alloc::{AllocError, Allocator, Global};
 use std::marker::Model;

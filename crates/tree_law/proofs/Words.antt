@@ -49,40 +49,40 @@ pub use Rattle.chain_search.proofs.ChainLaws.{IsChainFrom-unique, IsChainOf-uniq
 pub use Rattle.chain_search.proofs.Pushes.{slice_get_below, slice_get_kept, slice_get-push_cases, slice_get-push, take-push, take-push_whole}
 pub use Rattle.chain_search.proofs.RunLaws.{IsRun-push}
 pub use Rattle.chain_search.proofs.TraceLaws.{TakesStep-push_cases, memory_of-push, command_of-push, memory_at-push, Happens-kept, Happens-push_cases}
-pub use Rattle.chain_search.specs.Chains.{IsChainOf, IsOnChain, chain_rows, IsChainFrom, content_in, right_in, low_in, is_removed, level_in, high_in, covers, IsFront}
-pub use Rattle.chain_search.specs.Discipline.{MayReply, May, root_over, IsOwn, MayExchange, IsOwnBase, IsAllowed, FitsOn, found, value_of, IsUnset, IsPassed, MayFree, MayLink, MayRoot, MayAdd}
-pub use Rattle.chain_search.specs.Discipline.{base_from, HasRead, update_record, MayPost, IsMet, MayUpdate, LacksRoom, MayAnswer, WasStanding, NamesChild, MayUnterm, MayHold, MayMerge, MaySplit}
-pub use Rattle.chain_search.specs.Discipline.{MayConsolidate, MayRemove}
-pub use Rattle.chain_search.specs.Disciplined.{IsDisciplined, IsDisciplinedFrom, own_entries, is_entry_of}
-pub use Rattle.chain_search.specs.Fitted.{IsFitted, FitsOver, Makes}
-pub use Rattle.chain_search.specs.Fitting.{Fits}
-pub use Rattle.chain_search.specs.HeldBack.{HoldsBack}
-pub use Rattle.chain_search.specs.Knowledge.{begun, knows, Knowledge, knows_after, finished, Ready, learn, learnt_next, nothing, Foreign, Empty, OwnPage, Taken, Other, Gone, Written, filled, rooted}
-pub use Rattle.chain_search.specs.Knowledge.{OwnRow, emptied, exchanged, split_off, linked_over, forgotten, Unstamped, handed_page, is_on_walk, LimboMark, handed_over, Absent, Stamped, passed_by}
-pub use Rattle.chain_search.specs.Knowledge.{stamped, Readings, set_page, taken_out, next_seen, rebuilt, Limbos, updated, learn_head}
-pub use Rattle.chain_search.specs.Learnt.{ShowsRow}
-pub use Rattle.chain_search.specs.Recalled.{recall, Recalled, blank, recalls_after, recalls, is_removal}
-pub use Rattle.chain_search.specs.SideChain.{LivePage, IsSideChainFrom}
-pub use Rattle.chain_search.specs.Steps.{IsAnswer, memory_after, IsWordOf}
-pub use Rattle.chain_search.specs.Trace.{memory_at, command_of, memory_of, IsStep, commands_after, turn_of}
-pub use Rattle.chain_search.specs.Unheld.{IsUnheld}
-pub use Rattle.chain_search.specs.Useful.{IsUseful}
+pub use Rattle.chain_search.specs.chain.Chains.{IsChainOf, IsOnChain, chain_rows, IsChainFrom, content_in, right_in, low_in, is_removed, level_in, high_in, covers, IsFront}
+pub use Rattle.chain_search.specs.discipline.Discipline.{MayReply, May, root_over, IsOwn, MayExchange, IsOwnBase, IsAllowed, FitsOn, found, value_of, IsUnset, IsPassed, MayFree, MayLink, MayRoot, MayAdd}
+pub use Rattle.chain_search.specs.discipline.Discipline.{base_from, HasRead, update_record, MayPost, IsMet, MayUpdate, LacksRoom, MayAnswer, WasStanding, NamesChild, MayUnterm, MayHold, MayMerge, MaySplit}
+pub use Rattle.chain_search.specs.discipline.Discipline.{MayConsolidate, MayRemove}
+pub use Rattle.chain_search.specs.discipline.Disciplined.{IsDisciplined, IsDisciplinedFrom, own_entries, is_entry_of}
+pub use Rattle.chain_search.specs.chain.Fitted.{IsFitted, FitsOver, Makes}
+pub use Rattle.chain_search.specs.discipline.Fitting.{Fits}
+pub use Rattle.chain_search.specs.chain.HeldBack.{HoldsBack}
+pub use Rattle.chain_search.specs.discipline.Knowledge.{begun, knows, Knowledge, knows_after, finished, Ready, learn, learnt_next, nothing, Foreign, Empty, OwnPage, Taken, Other, Gone, Written, filled, rooted}
+pub use Rattle.chain_search.specs.discipline.Knowledge.{OwnRow, emptied, exchanged, split_off, linked_over, forgotten, Unstamped, handed_page, is_on_walk, LimboMark, handed_over, Absent, Stamped, passed_by}
+pub use Rattle.chain_search.specs.discipline.Knowledge.{stamped, Readings, set_page, taken_out, next_seen, rebuilt, Limbos, updated, learn_head}
+pub use Rattle.chain_search.specs.discipline.Learnt.{ShowsRow}
+pub use Rattle.chain_search.specs.discipline.Recalled.{recall, Recalled, blank, recalls_after, recalls, is_removal}
+pub use Rattle.chain_search.specs.chain.SideChain.{LivePage, IsSideChainFrom}
+pub use Rattle.chain_search.specs.trace.Steps.{IsAnswer, memory_after, IsWordOf}
+pub use Rattle.chain_search.specs.trace.Trace.{memory_at, command_of, memory_of, IsStep, commands_after, turn_of}
+pub use Rattle.chain_search.specs.chain.Unheld.{IsUnheld}
+pub use Rattle.chain_search.specs.discipline.Useful.{IsUseful}
 pub use Rattle.chain_search.specs.declared.trace.Entry.{Entry}
 pub use Rattle.chain_search.specs.declared.trace.Entry.TheVariants.{Begin, Step}
 pub use Rattle.op_machine.proofs.Listed.{and_right, same_operation, and_left, all_below-at}
 pub use Rattle.op_machine.proofs.LogLaws.{log_of-push, log_at-push}
-pub use Rattle.op_machine.specs.Answered.{WasHeldBack, RepliesAt}
-pub use Rattle.op_machine.specs.Direct.{is_step_of, Links, IsExchangeOf, IsCause, TakesNone, IsDirect, IsTheStep, IsTake}
-pub use Rattle.op_machine.specs.Examples.{opening_leaf, small, put_a}
-pub use Rattle.op_machine.specs.Index.{IsLeftmost, IsRootLevel, Indexes, HasPhaseOfTerm}
-pub use Rattle.op_machine.specs.Linearized.{IsLinearized}
-pub use Rattle.op_machine.specs.Links.{link_without, link_of, Wins, Installs}
-pub use Rattle.op_machine.specs.Operations.{IsOperation, Operation, Finishes, IsOwnStep, TakesOwnStep}
-pub use Rattle.op_machine.specs.Phases.{indexed, free, IsInPhase, MovesPhase, removes, Phase, cleared, held, removed, merged, splits, merges, becomes_root, reuses, under_root, terms, holds, unterms}
-pub use Rattle.op_machine.specs.Points.{log_at, log_of, IsPoint}
-pub use Rattle.op_machine.specs.Quiet.{HasMapOf, IsQuiet}
-pub use Rattle.op_machine.specs.Reuse.{UnlinksPid, UnlinksRow, HandsPid, HandsRow}
-pub use Rattle.op_machine.specs.Updates.{UpdatesAtLinks, IsUpdateLink, LinksUpdate}
+pub use Rattle.op_machine.specs.theorem.Answered.{WasHeldBack, RepliesAt}
+pub use Rattle.op_machine.specs.theorem.Direct.{is_step_of, Links, IsExchangeOf, IsCause, TakesNone, IsDirect, IsTheStep, IsTake}
+pub use Rattle.op_machine.specs.theorem.Examples.{opening_leaf, small, put_a}
+pub use Rattle.op_machine.specs.theorem.Index.{IsLeftmost, IsRootLevel, Indexes, HasPhaseOfTerm}
+pub use Rattle.op_machine.specs.theorem.Linearized.{IsLinearized}
+pub use Rattle.op_machine.specs.theorem.Links.{link_without, link_of, Wins, Installs}
+pub use Rattle.op_machine.specs.theorem.Operations.{IsOperation, Operation, Finishes, IsOwnStep, TakesOwnStep}
+pub use Rattle.op_machine.specs.theorem.Phases.{indexed, free, IsInPhase, MovesPhase, removes, Phase, cleared, held, removed, merged, splits, merges, becomes_root, reuses, under_root, terms, holds, unterms}
+pub use Rattle.op_machine.specs.theorem.Points.{log_at, log_of, IsPoint}
+pub use Rattle.op_machine.specs.theorem.Quiet.{HasMapOf, IsQuiet}
+pub use Rattle.op_machine.specs.theorem.Reuse.{UnlinksPid, UnlinksRow, HandsPid, HandsRow}
+pub use Rattle.op_machine.specs.theorem.Updates.{UpdatesAtLinks, IsUpdateLink, LinksUpdate}
 pub use Rattle.tree_law.specs.AllLinks.{split_a, term_b, item_a, base_b, unterm_a, split_b, upper_a, deletion_a, merge_a, all_links, insert_a}
 pub use Rattle.tree_law.specs.CursorPages.{right_term}
 pub use Rattle.tree_law.specs.Direct.{Accounts, IsLast, Affords, IsDirectState, Recollects, Walks, StaysDirect}

@@ -16,17 +16,17 @@ use Rattle.deltas.specs.Memory.{replaced_at}
 use Rattle.deltas.specs.NamedPages.{NamesPage}
 use Rattle.chain_search.specs.declared.trace.Entry.{Entry}
 use Rattle.chain_search.specs.declared.trace.Entry.TheVariants.{Begin, Step}
-use Rattle.chain_search.specs.Discipline.{IsAllowed}
-use Rattle.chain_search.specs.Disciplined.{IsDisciplined}
-use Rattle.chain_search.specs.Knowledge.{Ready, knows}
-use Rattle.chain_search.specs.Recalled.{Recalled, Walk, AnyNames, IsStepSpent, IsUnread, is_removal, recalls}
-use Rattle.chain_search.specs.Steps.{IsAnswer}
-use Rattle.chain_search.specs.Trace.{memory_of}
-use Rattle.chain_search.specs.Useful.{IsUseful}
-use Rattle.op_machine.specs.Direct.{IsCause, IsDirect, IsExchangeOf, IsTake, Links, IsTheStep, TakesNone, is_step_of}
-use Rattle.op_machine.specs.Updates.{IsUpdateLink}
-use Rattle.op_machine.specs.Operations.{Operation, IsOperation, TakesOwnStep}
-use Rattle.op_machine.specs.Updates.{IsUpdateLink}
+use Rattle.chain_search.specs.discipline.Discipline.{IsAllowed}
+use Rattle.chain_search.specs.discipline.Disciplined.{IsDisciplined}
+use Rattle.chain_search.specs.discipline.Knowledge.{Ready, knows}
+use Rattle.chain_search.specs.discipline.Recalled.{Recalled, Walk, AnyNames, IsStepSpent, IsUnread, is_removal, recalls}
+use Rattle.chain_search.specs.trace.Steps.{IsAnswer}
+use Rattle.chain_search.specs.trace.Trace.{memory_of}
+use Rattle.chain_search.specs.discipline.Useful.{IsUseful}
+use Rattle.op_machine.specs.theorem.Direct.{IsCause, IsDirect, IsExchangeOf, IsTake, Links, IsTheStep, TakesNone, is_step_of}
+use Rattle.op_machine.specs.theorem.Updates.{IsUpdateLink}
+use Rattle.op_machine.specs.theorem.Operations.{Operation, IsOperation, TakesOwnStep}
+use Rattle.op_machine.specs.theorem.Updates.{IsUpdateLink}
 use Rattle.tree_law.specs.State.{IsState, IsUnended}
 
 -- The operation is the last that its actor has begun.

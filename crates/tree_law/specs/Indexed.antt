@@ -5,11 +5,11 @@ use Rattle.bw_model.specs.declared.limits.Limits.{Limits}
 use Rattle.base_page.specs.declared.item.Content.TheVariants.{Child}
 use Rattle.deltas.specs.declared.record.Record.{Record}
 use Rattle.deltas.specs.Memory.{Memory}
-use Rattle.chain_search.specs.Chains.{IsChainOf, content_in, level_in, low_in, covers}
-use Rattle.chain_search.specs.SideChain.{LivePage, IsSideChainFrom, IsWhole}
+use Rattle.chain_search.specs.chain.Chains.{IsChainOf, content_in, level_in, low_in, covers}
+use Rattle.chain_search.specs.chain.SideChain.{LivePage, IsSideChainFrom, IsWhole}
 use Rattle.chain_search.specs.declared.trace.Entry.{Entry}
-use Rattle.chain_search.specs.Trace.{memory_at}
-use Rattle.op_machine.specs.Index.{IsRootLevel, IsLeftmost, IsExactIndex}
+use Rattle.chain_search.specs.trace.Trace.{memory_at}
+use Rattle.op_machine.specs.theorem.Index.{IsRootLevel, IsLeftmost, IsExactIndex}
 use Rattle.tree_law.specs.Keys.{Key}
 use Rattle.tree_law.specs.Phase.{Stage, PageOwner, Placed, mark, rank}
 use Rattle.tree_law.specs.Owners.{Owners}

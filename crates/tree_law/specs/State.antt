@@ -13,22 +13,22 @@ use Rattle.deltas.specs.declared.record.Record.TheVariants.{Base}
 use Rattle.deltas.specs.Memory.{Memory}
 use Rattle.chain_search.specs.declared.trace.Entry.{Entry}
 use Rattle.chain_search.specs.declared.trace.Entry.TheVariants.{Begin}
-use Rattle.chain_search.specs.Learnt.{HasLearnt}
-use Rattle.chain_search.specs.Run.{IsRun}
-use Rattle.chain_search.specs.Trace.{memory_of, memory_at, command_of}
-use Rattle.op_machine.specs.Answered.{FindsNothingFree, FindsTidy, RepliesAt}
-use Rattle.op_machine.specs.Operations.{EndAtLeaves, Operation, IsOperation, IsOwnStep, TakesOwnStep, Finishes}
-use Rattle.op_machine.specs.Points.{log_of, log_at, IsPoint}
-use Rattle.op_machine.specs.Quiet.{IsQuiet}
-use Rattle.op_machine.specs.Faithful.{IsFaithful, KnowsRow}
-use Rattle.op_machine.specs.Phases as phase
-use Rattle.op_machine.specs.Phases.{Phase, IsInPhase, KeepsPhases}
-use Rattle.op_machine.specs.Updates.{UpdatesAtLinks}
-use Rattle.op_machine.specs.Reuse.{HandsPid, HandsRow, UnlinksPid, UnlinksRow, IsFreedByRule}
+use Rattle.chain_search.specs.discipline.Learnt.{HasLearnt}
+use Rattle.chain_search.specs.trace.Run.{IsRun}
+use Rattle.chain_search.specs.trace.Trace.{memory_of, memory_at, command_of}
+use Rattle.op_machine.specs.theorem.Answered.{FindsNothingFree, FindsTidy, RepliesAt}
+use Rattle.op_machine.specs.theorem.Operations.{EndAtLeaves, Operation, IsOperation, IsOwnStep, TakesOwnStep, Finishes}
+use Rattle.op_machine.specs.theorem.Points.{log_of, log_at, IsPoint}
+use Rattle.op_machine.specs.theorem.Quiet.{IsQuiet}
+use Rattle.op_machine.specs.theorem.Faithful.{IsFaithful, KnowsRow}
+use Rattle.op_machine.specs.theorem.Phases as phase
+use Rattle.op_machine.specs.theorem.Phases.{Phase, IsInPhase, KeepsPhases}
+use Rattle.op_machine.specs.theorem.Updates.{UpdatesAtLinks}
+use Rattle.op_machine.specs.theorem.Reuse.{HandsPid, HandsRow, UnlinksPid, UnlinksRow, IsFreedByRule}
 use Rattle.tree_law.specs.Fitness.{AreFitted}
 use Rattle.tree_law.specs.Indexed.{IsFirst, IsIndexedAlong}
 use Rattle.tree_law.specs.Limbos.{IsInLimbo}
-use Rattle.chain_search.specs.Knowledge.{Ready, Knowledge, knows}
+use Rattle.chain_search.specs.discipline.Knowledge.{Ready, Knowledge, knows}
 use Rattle.tree_law.specs.Owners.{Free, Spare, Linked, Owners, Among}
 use Rattle.tree_law.specs.Phase.{Fresh, Indexed, Held, Removed, Merged, PageOwner, Nobody, Keeps, Placed, Cleared}
 use Rattle.tree_law.specs.Shared.{slot_in, shared}

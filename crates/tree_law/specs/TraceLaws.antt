@@ -8,21 +8,21 @@ use Rattle.bw_model.specs.declared.step.Answer.{Answer}
 use Rattle.bw_model.specs.declared.step.Step.{Step as StepOf}
 use Rattle.bw_model.specs.declared.step.Step.TheVariants.{Row}
 use Rattle.deltas.specs.declared.record.Record.{Record}
-use Rattle.chain_search.specs.Discipline.{IsAllowed, May}
-use Rattle.chain_search.specs.Disciplined.{IsDisciplined, own_entries}
-use Rattle.chain_search.specs.Fitting.{Fits}
-use Rattle.chain_search.specs.Knowledge.{knows, knows_after}
-use Rattle.chain_search.specs.Recalled.{recalls, recalls_after}
-use Rattle.chain_search.specs.Steps.{IsAnswer}
-use Rattle.chain_search.specs.Trace.{command_of, commands_after, memory_after_entry, memory_of, turn_of}
+use Rattle.chain_search.specs.discipline.Discipline.{IsAllowed, May}
+use Rattle.chain_search.specs.discipline.Disciplined.{IsDisciplined, own_entries}
+use Rattle.chain_search.specs.discipline.Fitting.{Fits}
+use Rattle.chain_search.specs.discipline.Knowledge.{knows, knows_after}
+use Rattle.chain_search.specs.discipline.Recalled.{recalls, recalls_after}
+use Rattle.chain_search.specs.trace.Steps.{IsAnswer}
+use Rattle.chain_search.specs.trace.Trace.{command_of, commands_after, memory_after_entry, memory_of, turn_of}
 use Rattle.chain_search.specs.declared.trace.Entry.{Entry}
 use Rattle.chain_search.specs.declared.trace.Entry.TheVariants.{Begin, Step}
-use Rattle.op_machine.specs.Index.{IsExactIndex}
-use Rattle.op_machine.specs.Linearized.{IsLinearized}
-use Rattle.op_machine.specs.Phases.{KeepsPhases}
-use Rattle.op_machine.specs.Points.{log_of}
-use Rattle.op_machine.specs.Quiet.{HasMapOf}
-use Rattle.op_machine.specs.Reuse.{IsFreedByRule}
+use Rattle.op_machine.specs.theorem.Index.{IsExactIndex}
+use Rattle.op_machine.specs.theorem.Linearized.{IsLinearized}
+use Rattle.op_machine.specs.theorem.Phases.{KeepsPhases}
+use Rattle.op_machine.specs.theorem.Points.{log_of}
+use Rattle.op_machine.specs.theorem.Quiet.{HasMapOf}
+use Rattle.op_machine.specs.theorem.Reuse.{IsFreedByRule}
 use Rattle.tree_law.specs.Leaves.{HasLeafPages}
 use Rattle.tree_law.specs.LevelPages.{HasAllLevels}
 use Rattle.tree_law.specs.State.{IsState}

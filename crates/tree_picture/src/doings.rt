@@ -1,15 +1,14 @@
 //! What each actor is doing, and what it keeps.
 ghost use Rattle.std.specs.Prelude.{◌≡◌};
-ghost use Rattle.actors.specs.Actors.{IsActorShown};
+ghost use Rattle.op_machine.specs.machine.Actors.{IsActorShown};
 
 use crate::places::LEFT;
 use crate::sheet::Sheet;
 use crate::steps::{command_words, step_words};
 use crate::write::{with_number, with_token};
-use actors::Actor;
 use bw_model::Key;
 use epochs::{Entry, Stage};
-use op_machine::Hand;
+use op_machine::{Actor, Hand};
 use shapes::{Colour, Text, Words};
 
 /// How many numbers or keys of a list are written.

@@ -12,12 +12,12 @@ use Rattle.bw_model.specs.declared.step.Step.TheVariants.{Leave}
 use Rattle.base_page.proofs.KeyLaws.{either}
 use Rattle.chain_search.specs.declared.trace.Entry.{Entry}
 use Rattle.chain_search.specs.declared.trace.Entry.TheVariants.{Begin, Step}
-use Rattle.chain_search.specs.Disciplined.{is_entry_of, own_entries}
-use Rattle.chain_search.specs.Run.{IsRun}
-use Rattle.chain_search.specs.Trace.{command_of, commands_after}
+use Rattle.chain_search.specs.discipline.Disciplined.{is_entry_of, own_entries}
+use Rattle.chain_search.specs.trace.Run.{IsRun}
+use Rattle.chain_search.specs.trace.Trace.{command_of, commands_after}
 use Rattle.chain_search.proofs.Pushes.{slice_get_below, slice_get_kept, slice_get-push, slice_get-push_cases}
 use Rattle.chain_search.proofs.RunLaws.{IsRun-last}
-use Rattle.op_machine.specs.Operations.{Finishes, IsOperation, Operation}
+use Rattle.op_machine.specs.theorem.Operations.{Finishes, IsOperation, Operation}
 use Rattle.bw_tree.specs.Calls.{answered_last, call_after, calls_along, calls_of}
 use Rattle.bw_tree.proofs.Going.{answered_snoc}
 use Rattle.walks.proofs.Replying.{some_of}

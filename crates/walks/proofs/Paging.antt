@@ -10,9 +10,9 @@ use Rattle.chain_search.specs.declared.trace.Entry.{Entry}
 use Rattle.bw_model.specs.declared.step.Answer.TheVariants as answer
 use Rattle.bw_model.specs.declared.step.Step.TheVariants.{Leave}
 use Rattle.chain_search.specs.declared.trace.Entry.TheVariants.{Step}
-use Rattle.chain_search.specs.Disciplined.{own_entries}
-use Rattle.chain_search.specs.Trace.{command_of}
-use Rattle.op_machine.specs.Operations.{Finishes, Operation}
+use Rattle.chain_search.specs.discipline.Disciplined.{own_entries}
+use Rattle.chain_search.specs.trace.Trace.{command_of}
+use Rattle.op_machine.specs.theorem.Operations.{Finishes, Operation}
 use Rattle.bw_tree.specs.Calls.{EndsWith, answered_last, calls_in, calls_of}
 use Rattle.bw_tree.specs.Runs.{IsOneHistory, StartsWith}
 use Rattle.bw_tree.specs.Seats.{IsSame, Seat, unfinished_command}

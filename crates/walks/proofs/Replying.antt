@@ -15,18 +15,18 @@ use Rattle.bw_model.specs.declared.limits.Limits.{Limits}
 use Rattle.chain_search.specs.declared.trace.Entry.{Entry}
 use Rattle.chain_search.specs.declared.trace.Entry.TheVariants.{Begin, Step}
 use Rattle.chain_search.specs.declared.trace.Turn.{Turn}
-use Rattle.chain_search.specs.Run.{IsRun}
-use Rattle.chain_search.specs.Trace.{command_of, commands_after, memory_at}
+use Rattle.chain_search.specs.trace.Run.{IsRun}
+use Rattle.chain_search.specs.trace.Trace.{command_of, commands_after, memory_at}
 use Rattle.chain_search.proofs.Pushes.{slice_get_below}
 use Rattle.chain_search.proofs.TraceLaws.{command_of-push}
-use Rattle.op_machine.specs.Answered.{FindsTidy, IsTrueReply, RepliesAtPoint, ShowsPage}
-use Rattle.op_machine.specs.Linearized.{IsLinearized}
-use Rattle.op_machine.specs.Operations.{Finishes, IsOwnStep, Operation}
-use Rattle.op_machine.specs.Points.{IsPoint, log_at}
+use Rattle.op_machine.specs.theorem.Answered.{FindsTidy, IsTrueReply, RepliesAtPoint, ShowsPage}
+use Rattle.op_machine.specs.theorem.Linearized.{IsLinearized}
+use Rattle.op_machine.specs.theorem.Operations.{Finishes, IsOwnStep, Operation}
+use Rattle.op_machine.specs.theorem.Points.{IsPoint, log_at}
 use Rattle.base_page.proofs.KeyLaws.{and_right, either}
 use Rattle.bw_model.specs.Bytes.{is_below, is_under}
-use Rattle.chain_search.specs.Chains.{covers, high_in, low_in}
-use Rattle.chain_search.specs.SideChain.{LivePage}
+use Rattle.chain_search.specs.chain.Chains.{covers, high_in, low_in}
+use Rattle.chain_search.specs.chain.SideChain.{LivePage}
 use Rattle.walks.proofs.Spans.{begun_since}
 use Rattle.walks.specs.Pages.{end_under, place_under, pairs_under, IsPageOf, IsPageShown, WalkedPage, page_operation}
 use Rattle.walks.proofs.Cuts.{cut_pairs}

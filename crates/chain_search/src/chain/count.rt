@@ -6,9 +6,9 @@ ghost use Rattle.base_page.specs.declared.item.Item.{Item};
 ghost use Rattle.deltas.specs.declared.record.Record.{Record};
 ghost use Rattle.deltas.specs.declared.record.Record.TheVariants.{Base};
 ghost use Rattle.deltas.specs.Records.{content_said, names};
-ghost use Rattle.chain_search.specs.Chains.{content_in, IsItemsOf};
-ghost use Rattle.chain_search.specs.Fitted.{IsFitted};
-ghost use Rattle.chain_search.specs.Walks.{bound_under, count_under};
+ghost use Rattle.chain_search.specs.chain.Chains.{content_in, IsItemsOf};
+ghost use Rattle.chain_search.specs.chain.Fitted.{IsFitted};
+ghost use Rattle.chain_search.specs.chain.Walks.{bound_under, count_under};
 
 use super::search::newest_of;
 use crate::Chain;

@@ -1,7 +1,7 @@
 //! The rows of a chain, and its records one by one.
 ghost use Rattle.std.specs.Prelude.{◌≡◌, ◌∷◌, [], ◌++◌};
 ghost use Rattle.deltas.specs.declared.record.Record.TheVariants.{Base};
-ghost use Rattle.chain_search.specs.Chains.{chain_rows};
+ghost use Rattle.chain_search.specs.chain.Chains.{chain_rows};
 
 use crate::{Chain, MAX_RECORDS};
 use arrayvec::ArrayVec;

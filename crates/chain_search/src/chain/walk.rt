@@ -4,8 +4,8 @@ ghost use Rattle.bw_model.specs.Bytes.{is_below};
 ghost use Rattle.base_page.specs.Pages.{AreItems, content_at};
 ghost use Rattle.base_page.specs.Places.{IsCut};
 ghost use Rattle.deltas.specs.Spellable.{IsSpellable};
-ghost use Rattle.chain_search.specs.Chains.{content_in};
-ghost use Rattle.chain_search.specs.Walks.{greater, is_open, IsGreatestKey};
+ghost use Rattle.chain_search.specs.chain.Chains.{content_in};
+ghost use Rattle.chain_search.specs.chain.Walks.{greater, is_open, IsGreatestKey};
 
 use super::search::newest_of;
 use crate::Chain;

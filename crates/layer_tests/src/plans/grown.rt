@@ -2,8 +2,8 @@
 ghost use Rattle.std.specs.Prelude.{◌≡◌, ◌≤◌, ◌∷◌, [], length, false, IfSome};
 ghost use Rattle.deltas.specs.Spellable.{IsPid};
 ghost use Rattle.deltas.specs.declared.record.Record.TheVariants.{Base};
-ghost use Rattle.chain_search.specs.Chains.{is_removed};
-ghost use Rattle.chain_search.specs.Fitted.{FitsOver, IsPageChain};
+ghost use Rattle.chain_search.specs.chain.Chains.{is_removed};
+ghost use Rattle.chain_search.specs.chain.Fitted.{FitsOver, IsPageChain};
 
 use crate::plans::{key, leaf, version};
 use base_page::Page;

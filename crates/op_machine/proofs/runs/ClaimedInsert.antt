@@ -14,18 +14,18 @@ use Rattle.bw_model.specs.declared.step.Answer.TheVariants.{Done}
 use Rattle.deltas.specs.Memory.{Memory}
 use Rattle.chain_search.specs.declared.trace.Entry.{Entry}
 use Rattle.chain_search.specs.declared.trace.Entry.TheVariants.{Begin, Step}
-use Rattle.chain_search.specs.Chains.{IsChainOf}
-use Rattle.chain_search.specs.SideChain.{Spells}
-use Rattle.chain_search.specs.Run.{IsRun}
-use Rattle.chain_search.specs.Trace.{memory_at, turn_of}
+use Rattle.chain_search.specs.chain.Chains.{IsChainOf}
+use Rattle.chain_search.specs.chain.SideChain.{Spells}
+use Rattle.chain_search.specs.trace.Run.{IsRun}
+use Rattle.chain_search.specs.trace.Trace.{memory_at, turn_of}
 use Rattle.chain_search.proofs.Pushes.{slice_get_below}
 use Rattle.chain_search.proofs.RunLaws.{IsRun-from_steps}
-use Rattle.op_machine.specs.Operations.{Operation, IsOwnStep, Finishes}
-use Rattle.op_machine.specs.Points.{HasPoints, log_at, updates_at, updates_by}
-use Rattle.op_machine.specs.Answered.{IsAnswered, IsTrueReply, RepliesAt}
-use Rattle.op_machine.specs.Quiet.{IsQuiet, HasMapOf}
-use Rattle.op_machine.specs.Linearized.{IsLinearized}
-use Rattle.op_machine.specs.Examples.{small, opening_leaf, claimed_insert}
+use Rattle.op_machine.specs.theorem.Operations.{Operation, IsOwnStep, Finishes}
+use Rattle.op_machine.specs.theorem.Points.{HasPoints, log_at, updates_at, updates_by}
+use Rattle.op_machine.specs.theorem.Answered.{IsAnswered, IsTrueReply, RepliesAt}
+use Rattle.op_machine.specs.theorem.Quiet.{IsQuiet, HasMapOf}
+use Rattle.op_machine.specs.theorem.Linearized.{IsLinearized}
+use Rattle.op_machine.specs.theorem.Examples.{small, opening_leaf, claimed_insert}
 use Rattle.op_machine.proofs.Listed.{EachAt-get, UpTo-at}
 use Rattle.op_machine.proofs.LogLaws.{log_at-step}
 use Rattle.op_machine.proofs.MapLaws.{one_leaf}

@@ -16,29 +16,29 @@ use Rattle.bw_model.specs.declared.step.Answer.TheVariants.{Number, Whether}
 use Rattle.deltas.specs.declared.record.Record.{Record}
 use Rattle.deltas.specs.Memory.{opening}
 use Rattle.chain_search.specs.declared.trace.Entry.TheVariants.{Begin, Step}
-use Rattle.chain_search.specs.Chains.{IsChainFrom, IsChainOf, chain_rows}
-use Rattle.chain_search.specs.Steps.{IsWordOf}
-use Rattle.chain_search.specs.Learnt.{ShowsRow}
-use Rattle.chain_search.specs.Run.{IsRun, MayPlace}
+use Rattle.chain_search.specs.chain.Chains.{IsChainFrom, IsChainOf, chain_rows}
+use Rattle.chain_search.specs.trace.Steps.{IsWordOf}
+use Rattle.chain_search.specs.discipline.Learnt.{ShowsRow}
+use Rattle.chain_search.specs.trace.Run.{IsRun, MayPlace}
 use Rattle.chain_search.proofs.ChainLaws.{IsChainFrom-unique}
-use Rattle.chain_search.specs.Trace.{memory_at, memory_of, TakesStep, Happens}
+use Rattle.chain_search.specs.trace.Trace.{memory_at, memory_of, TakesStep, Happens}
 use Rattle.chain_search.proofs.RunLaws.{IsRun-from_steps}
-use Rattle.op_machine.specs.Operations.{EndAtLeaves, Finishes, IsOperation, IsOwnStep, Operation, RepliesAtLeave}
+use Rattle.op_machine.specs.theorem.Operations.{EndAtLeaves, Finishes, IsOperation, IsOwnStep, Operation, RepliesAtLeave}
 use Rattle.std.specs.Option.{option_map}
 use Rattle.std.specs.Ordering.{is_eq}
 use Rattle.bw_model.specs.Bytes.{key_cmp}
 use Rattle.base_page.specs.declared.item.Content.TheVariants.{Value}
 use Rattle.bw_model.specs.declared.step.Link.TheVariants as link
 use Rattle.bw_model.specs.Log.{Update, set}
-use Rattle.op_machine.specs.Points.{log_at, HasPoints, IsPoint, has_point}
-use Rattle.op_machine.specs.Answered.{IsAnswered}
-use Rattle.op_machine.specs.Quiet.{IsQuiet, HasMapOf}
+use Rattle.op_machine.specs.theorem.Points.{log_at, HasPoints, IsPoint, has_point}
+use Rattle.op_machine.specs.theorem.Answered.{IsAnswered}
+use Rattle.op_machine.specs.theorem.Quiet.{IsQuiet, HasMapOf}
 use Rattle.std.specs.Prelude.{map}
-use Rattle.chain_search.specs.Trace.{turn_of}
-use Rattle.op_machine.specs.Faithful.{IsFaithful, KnowsRow, touches_pages}
-use Rattle.op_machine.specs.Examples.{small, opening_leaf, put_a, insert_and_lookup}
-use Rattle.op_machine.specs.Linearized.{IsLinearized}
-use Rattle.op_machine.specs.Updates.{LinksUpdate, IsUpdating, UpdatesAtLinks}
+use Rattle.chain_search.specs.trace.Trace.{turn_of}
+use Rattle.op_machine.specs.theorem.Faithful.{IsFaithful, KnowsRow, touches_pages}
+use Rattle.op_machine.specs.theorem.Examples.{small, opening_leaf, put_a, insert_and_lookup}
+use Rattle.op_machine.specs.theorem.Linearized.{IsLinearized}
+use Rattle.op_machine.specs.theorem.Updates.{LinksUpdate, IsUpdating, UpdatesAtLinks}
 use Rattle.op_machine.proofs.Listed.{EachAt-get, UpTo-at, all_below-at, same_operation}
 use Rattle.op_machine.proofs.MapLaws.{one_leaf}
 

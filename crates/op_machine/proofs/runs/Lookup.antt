@@ -14,30 +14,30 @@ use Rattle.deltas.specs.declared.record.Record.{Record}
 use Rattle.deltas.specs.Memory.{Memory, opening}
 use Rattle.chain_search.specs.declared.trace.Entry.{Entry}
 use Rattle.chain_search.specs.declared.trace.Entry.TheVariants.{Begin, Step}
-use Rattle.chain_search.specs.Run.{IsRun}
+use Rattle.chain_search.specs.trace.Run.{IsRun}
 use Rattle.std.specs.Prelude.{map}
-use Rattle.chain_search.specs.Trace.{turn_of}
-use Rattle.chain_search.specs.Trace.{memory_at, TakesStep, IsStep}
+use Rattle.chain_search.specs.trace.Trace.{turn_of}
+use Rattle.chain_search.specs.trace.Trace.{memory_at, TakesStep, IsStep}
 use Rattle.chain_search.proofs.RunLaws.{IsRun-from_steps}
-use Rattle.op_machine.specs.Operations.{EndAtLeaves, Finishes, IsOperation, IsOwnStep, Operation, RepliesAtLeave}
+use Rattle.op_machine.specs.theorem.Operations.{EndAtLeaves, Finishes, IsOperation, IsOwnStep, Operation, RepliesAtLeave}
 use Rattle.bw_model.specs.Log.{Update, logged_value}
 use Rattle.bw_model.specs.Replies.{reply_of}
-use Rattle.op_machine.specs.Points.{log_at, HasPoints, IsPoint, has_point}
-use Rattle.op_machine.specs.Answered.{IsAnswered}
-use Rattle.op_machine.specs.Quiet.{IsQuiet, HasMapOf}
+use Rattle.op_machine.specs.theorem.Points.{log_at, HasPoints, IsPoint, has_point}
+use Rattle.op_machine.specs.theorem.Answered.{IsAnswered}
+use Rattle.op_machine.specs.theorem.Quiet.{IsQuiet, HasMapOf}
 use Rattle.std.specs.Prelude.{slice_range}
 use Rattle.std.specs.List.{count_by}
-use Rattle.chain_search.specs.Chains.{IsChainOf, level_in}
+use Rattle.chain_search.specs.chain.Chains.{IsChainOf, level_in}
 use Rattle.chain_search.proofs.ChainLaws.{IsChainOf-unique}
 use Rattle.chain_search.proofs.Pushes.{slice_get_below}
-use Rattle.op_machine.specs.Direct.{IsDirect, is_step_of}
-use Rattle.op_machine.specs.Faithful.{IsFaithful, KnowsRow, touches_pages}
-use Rattle.op_machine.specs.Index.{IsExactIndex, IsPageOfLevel, IsRootLevel}
-use Rattle.op_machine.specs.Phases.{Phase, MovesPhase, KeepsPhases, takes, splits, becomes_root, terms, under_root, holds, removes, merges, unterms, reuses}
-use Rattle.op_machine.specs.Reuse.{IsFreedByRule}
-use Rattle.op_machine.specs.Examples.{small, opening_leaf, lookup}
-use Rattle.op_machine.specs.Linearized.{IsLinearized, IsOrderly}
-use Rattle.op_machine.specs.Updates.{UpdatesAtLinks}
+use Rattle.op_machine.specs.theorem.Direct.{IsDirect, is_step_of}
+use Rattle.op_machine.specs.theorem.Faithful.{IsFaithful, KnowsRow, touches_pages}
+use Rattle.op_machine.specs.theorem.Index.{IsExactIndex, IsPageOfLevel, IsRootLevel}
+use Rattle.op_machine.specs.theorem.Phases.{Phase, MovesPhase, KeepsPhases, takes, splits, becomes_root, terms, under_root, holds, removes, merges, unterms, reuses}
+use Rattle.op_machine.specs.theorem.Reuse.{IsFreedByRule}
+use Rattle.op_machine.specs.theorem.Examples.{small, opening_leaf, lookup}
+use Rattle.op_machine.specs.theorem.Linearized.{IsLinearized, IsOrderly}
+use Rattle.op_machine.specs.theorem.Updates.{UpdatesAtLinks}
 use Rattle.op_machine.proofs.Listed.{EachAt-get, UpTo-at, same_operation}
 use Rattle.op_machine.proofs.MapLaws.{one_leaf}
 

@@ -10,23 +10,23 @@ use Rattle.bw_model.specs.declared.step.Answer.TheVariants.{Whether}
 use Rattle.deltas.specs.declared.record.Record.TheVariants.{Base}
 use Rattle.deltas.specs.declared.record.Record.{Record}
 use Rattle.chain_search.specs.declared.trace.Entry.TheVariants.{Step}
-use Rattle.chain_search.specs.Chains.{IsChainOf}
-use Rattle.chain_search.specs.Run.{IsRun, MayPlace}
-use Rattle.chain_search.specs.Trace.{memory_at, memory_of, TakesStep}
+use Rattle.chain_search.specs.chain.Chains.{IsChainOf}
+use Rattle.chain_search.specs.trace.Run.{IsRun, MayPlace}
+use Rattle.chain_search.specs.trace.Trace.{memory_at, memory_of, TakesStep}
 use Rattle.chain_search.proofs.RunLaws.{IsRun-from_steps}
-use Rattle.op_machine.specs.Points.{log_at}
-use Rattle.op_machine.specs.Quiet.{IsQuiet, HasMapOf}
+use Rattle.op_machine.specs.theorem.Points.{log_at}
+use Rattle.op_machine.specs.theorem.Quiet.{IsQuiet, HasMapOf}
 use Rattle.std.specs.Prelude.{replicate}
 use Rattle.std.proofs.Common.{ap}
-use Rattle.chain_search.specs.Chains.{low_in, high_in, right_in}
-use Rattle.op_machine.specs.Examples.{small, opening_leaf, new_leaf, split_leaf, root_page, root, remove_leaf, merge_leaf, index_above, page_life}
+use Rattle.chain_search.specs.chain.Chains.{low_in, high_in, right_in}
+use Rattle.op_machine.specs.theorem.Examples.{small, opening_leaf, new_leaf, split_away, root_page, root, remove_leaf, merge_leaf, index_above, page_life}
 use Rattle.op_machine.proofs.Listed.{EachAt-get, slice_get-from_take, UpTo-at}
 use Rattle.bw_model.specs.Bytes.{is_below, is_in_range}
 use Rattle.base_page.specs.declared.item.Content.{Content as ContentOf}
-use Rattle.chain_search.specs.SideChain.{IsWhole}
-use Rattle.chain_search.specs.Chains.{content_in, level_in}
-use Rattle.op_machine.specs.Phases.{MakesRoot, MovesAt, free, owned, fresh, indexed, held, removed, merged, cleared, takes, splits, becomes_root, under_root, holds, removes, merges, unterms}
-use Rattle.op_machine.specs.Index.{IsLevel, IsRootLevel, IsPageOfLevel, HasTerm}
+use Rattle.chain_search.specs.chain.SideChain.{IsWhole}
+use Rattle.chain_search.specs.chain.Chains.{content_in, level_in}
+use Rattle.op_machine.specs.theorem.Phases.{MakesRoot, MovesAt, free, owned, fresh, indexed, held, removed, merged, cleared, takes, splits, becomes_root, under_root, holds, removes, merges, unterms}
+use Rattle.op_machine.specs.theorem.Index.{IsLevel, IsRootLevel, IsPageOfLevel, HasTerm}
 use Rattle.op_machine.proofs.MapLaws.{no_values}
 use Rattle.chain_search.proofs.ChainLaws.{unplaced, IsChainOf-unique}
 
@@ -68,7 +68,7 @@ pub removed_2 : MovesAt small page_life 20 2 held removed
 removed_2 = record { entry = _; at = refl; holds = removes _ (0, 2, 6, ((None, refl), refl), refl) }
 
 pub merged_2 : MovesAt small page_life 22 2 removed merged
-merged_2 = record { entry = _; at = refl; holds = merges 1 _ (split_leaf ∷ opening_leaf ∷ []) (0, 3, 7, ((None, refl), refl), refl) (record { page = lit< tt; linked = lit< tt; records = (refl, (refl, refl)) }) refl }
+merged_2 = record { entry = _; at = refl; holds = merges 1 _ (split_away ∷ opening_leaf ∷ []) (0, 3, 7, ((None, refl), refl), refl) (record { page = lit< tt; linked = lit< tt; records = (refl, (refl, refl)) }) refl }
 
 pub cleared_2 : MovesAt small page_life 24 2 merged cleared
 cleared_2 = record { entry = _; at = refl; holds = unterms 3 _ (0, 5, 8, ((None, refl), refl), refl) refl }
@@ -77,7 +77,7 @@ absent_or_absent : (b : Bool) → ◌≡◌ {A = Option ContentOf} (if b then No
 absent_or_absent true = refl
 absent_or_absent false = refl
 
-both : (key : List ℕ) → content_in (merge_leaf ∷ split_leaf ∷ opening_leaf ∷ []) key ≡ None
+both : (key : List ℕ) → content_in (merge_leaf ∷ split_away ∷ opening_leaf ∷ []) key ≡ None
 both key = by_cases (is_in_range (codes "m") None key) (not (is_below key (codes "m")))
   where
     by_cases : (a b : Bool) → ◌≡◌ {A = Option ContentOf} (if a then None else (if b then None else None)) None
@@ -93,13 +93,13 @@ is_quiet = record {
     alone_leaf : (k : ℕ) → IsChainOf (memory_at small page_life k) 1 (opening_leaf ∷ []) → HasMapOf (memory_at small page_life k) []
     alone_leaf k is = no_values (memory_at small page_life k) (record { pid = 1; chain = opening_leaf ∷ [] } ∷ []) (refl, is, refl) (refl, refl) (λ key. refl, tt)
 
-    two_leaves : (k : ℕ) (right : List Record) → IsChainOf (memory_at small page_life k) 1 (split_leaf ∷ opening_leaf ∷ []) → IsChainOf (memory_at small page_life k) 2 right
+    two_leaves : (k : ℕ) (right : List Record) → IsChainOf (memory_at small page_life k) 1 (split_away ∷ opening_leaf ∷ []) → IsChainOf (memory_at small page_life k) 2 right
         → ◌≡◌ {A = List ℕ × Option (List ℕ)} (low_in right, high_in right) (codes "m", None) → right_in right ≡ None → ((key : List ℕ) → content_in right key ≡ None) → HasMapOf (memory_at small page_life k) []
-    two_leaves k right is other range last empty = no_values (memory_at small page_life k) (record { pid = 1; chain = split_leaf ∷ opening_leaf ∷ [] } ∷ record { pid = 2; chain = right } ∷ [])
+    two_leaves k right is other range last empty = no_values (memory_at small page_life k) (record { pid = 1; chain = split_away ∷ opening_leaf ∷ [] } ∷ record { pid = 2; chain = right } ∷ [])
         (refl, is, (refl, other, rw last refl)) (refl, (ap (λ r. r.0) range, let none : high_in right ≡ None = ap (λ r. r.1) range in rw none refl)) (λ key. absent_or_absent (not (is_below key (codes "m"))), (empty, tt))
 
-    merged_leaf : (k : ℕ) → IsChainOf (memory_at small page_life k) 1 (merge_leaf ∷ split_leaf ∷ opening_leaf ∷ []) → HasMapOf (memory_at small page_life k) []
-    merged_leaf k is = no_values (memory_at small page_life k) (record { pid = 1; chain = merge_leaf ∷ split_leaf ∷ opening_leaf ∷ [] } ∷ []) (refl, is, refl) (refl, refl) (λ key. both key, tt)
+    merged_leaf : (k : ℕ) → IsChainOf (memory_at small page_life k) 1 (merge_leaf ∷ split_away ∷ opening_leaf ∷ []) → HasMapOf (memory_at small page_life k) []
+    merged_leaf k is = no_values (memory_at small page_life k) (record { pid = 1; chain = merge_leaf ∷ split_away ∷ opening_leaf ∷ [] } ∷ []) (refl, is, refl) (refl, refl) (λ key. both key, tt)
 
 pub not_yet : (earlier : ℕ) → earlier < 17 → ¬ IsRootLevel (memory_at small page_life earlier) 1
 not_yet earlier h = UpTo-at (λ k. ¬ IsRootLevel (memory_at small page_life k) 1) 16
@@ -109,8 +109,8 @@ not_yet earlier h = UpTo-at (λ k. ¬ IsRootLevel (memory_at small page_life k) 
     leaf_root k is (chain, other, level) = let same : chain ≡ opening_leaf ∷ [] = IsChainOf-unique (memory_at small page_life k) 1 chain (opening_leaf ∷ []) other is in
         let odd : ◌≡◌ {A = ℕ} 0 1 = subst (λ c. level_in c ≡ 1) same level in cc
 
-    split_root : (k : ℕ) → IsChainOf (memory_at small page_life k) 1 (split_leaf ∷ opening_leaf ∷ []) → IsPageOfLevel (memory_at small page_life k) 1 1 → ⊥
-    split_root k is (chain, other, level) = let same : chain ≡ split_leaf ∷ opening_leaf ∷ [] = IsChainOf-unique (memory_at small page_life k) 1 chain (split_leaf ∷ opening_leaf ∷ []) other is in
+    split_root : (k : ℕ) → IsChainOf (memory_at small page_life k) 1 (split_away ∷ opening_leaf ∷ []) → IsPageOfLevel (memory_at small page_life k) 1 1 → ⊥
+    split_root k is (chain, other, level) = let same : chain ≡ split_away ∷ opening_leaf ∷ [] = IsChainOf-unique (memory_at small page_life k) 1 chain (split_away ∷ opening_leaf ∷ []) other is in
         let odd : ◌≡◌ {A = ℕ} 0 1 = subst (λ c. level_in c ≡ 1) same level in cc
 
 pub index_level : IsLevel small page_life 19 1 (index_above ∷ [])

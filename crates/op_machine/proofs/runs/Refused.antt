@@ -10,11 +10,11 @@ use Rattle.bw_model.specs.declared.step.Link.TheVariants as link
 use Rattle.deltas.specs.declared.record.Record.{Record}
 use Rattle.chain_search.specs.declared.trace.Entry.{Entry}
 use Rattle.chain_search.specs.declared.trace.Entry.TheVariants.{Begin, Step}
-use Rattle.chain_search.specs.Trace.{TakesStep}
-use Rattle.op_machine.specs.Direct.{IsDirect}
-use Rattle.op_machine.specs.Faithful.{IsFaithful}
-use Rattle.op_machine.specs.Operations.{Operation}
-use Rattle.op_machine.specs.Examples.{small, opening_leaf, unnamed_read, two_puts, needless_base}
+use Rattle.chain_search.specs.trace.Trace.{TakesStep}
+use Rattle.op_machine.specs.theorem.Direct.{IsDirect}
+use Rattle.op_machine.specs.theorem.Faithful.{IsFaithful}
+use Rattle.op_machine.specs.theorem.Operations.{Operation}
+use Rattle.op_machine.specs.theorem.Examples.{small, opening_leaf, unnamed_read, two_puts, needless_base}
 use Rattle.op_machine.proofs.Listed.{EachAt, EachAt-get}
 
 abbrev operation : Operation

@@ -12,14 +12,14 @@ use Rattle.bw_model.specs.declared.step.Answer.{Answer}
 use Rattle.bw_model.specs.declared.step.Answer.TheVariants.{Number, Done}
 use Rattle.deltas.specs.declared.record.Record.{Record}
 use Rattle.chain_search.specs.declared.trace.Entry.TheVariants.{Step}
-use Rattle.chain_search.specs.Chains.{IsChainFrom, IsOnChain, chain_rows}
+use Rattle.chain_search.specs.chain.Chains.{IsChainFrom, IsOnChain, chain_rows}
 use Rattle.bw_model.specs.Words.{is_among}
-use Rattle.chain_search.specs.Run.{IsRun, MayPlace}
-use Rattle.chain_search.specs.Trace.{memory_at, memory_of, TakesStep}
+use Rattle.chain_search.specs.trace.Run.{IsRun, MayPlace}
+use Rattle.chain_search.specs.trace.Trace.{memory_at, memory_of, TakesStep}
 use Rattle.chain_search.proofs.ChainLaws.{IsChainFrom-unique, unplaced}
 use Rattle.chain_search.proofs.RunLaws.{IsRun-from_steps}
-use Rattle.op_machine.specs.Reuse.{IsFreed, IsFreedByRule, UnlinksRow, HandsRow}
-use Rattle.op_machine.specs.Examples.{small, opening_leaf, row_reuse, hurried_reuse}
+use Rattle.op_machine.specs.theorem.Reuse.{IsFreed, IsFreedByRule, UnlinksRow, HandsRow}
+use Rattle.op_machine.specs.theorem.Examples.{small, opening_leaf, row_reuse, hurried_reuse}
 use Rattle.op_machine.proofs.Listed.{EachAt-get, slice_get-from_take, all_below-at, and_left, and_right}
 
 alone : (n actor : ℕ) (step : StepOf Record) (answer : Answer Record) → TakesStep (take 6 row_reuse) n actor step answer → actor ≡ 0

@@ -1,6 +1,6 @@
 //! The numbers of a chain's rows.
 ghost use Rattle.std.specs.Prelude.{◌≡◌};
-ghost use Rattle.chain_search.specs.Chains.{chain_rows};
+ghost use Rattle.chain_search.specs.chain.Chains.{chain_rows};
 
 use crate::Chain;
 use arrayvec::ArrayVec;

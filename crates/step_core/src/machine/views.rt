@@ -1,14 +1,14 @@
 //! What stands in a core, for who looks at it. Nothing here is a turn.
 ghost use Rattle.std.specs.Prelude.{◌≡◌, nat_lt, is_some, IfSome};
-ghost use Rattle.actors.specs.Actors.{IsActor, running_command};
-ghost use Rattle.chain_search.specs.Knowledge.{knows};
-ghost use Rattle.chain_search.specs.Recalled.{recalls};
-ghost use Rattle.chain_search.specs.Tables.{memory_in};
-ghost use Rattle.chain_search.specs.Trace.{command_of, memory_of};
+ghost use Rattle.op_machine.specs.machine.Actors.{IsActor, running_command};
+ghost use Rattle.chain_search.specs.discipline.Knowledge.{knows};
+ghost use Rattle.chain_search.specs.discipline.Recalled.{recalls};
+ghost use Rattle.chain_search.specs.trace.Tables.{memory_in};
+ghost use Rattle.chain_search.specs.trace.Trace.{command_of, memory_of};
 ghost use Rattle.tree_law.specs.LevelPages.{HasAllLevels};
 
+use op_machine::Actor;
 use super::Core;
-use actors::Actor;
 use chain_search::Table;
 use std::alloc::Allocator;
 use tree_law::levels_stand;

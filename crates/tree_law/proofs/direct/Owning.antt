@@ -1,7 +1,7 @@
 -- A slot that an actor recalls to have read is not that of a page that it has made ready itself.
 use Rattle.tree_law.proofs.Words.{ap, cond, suc, List, inl, ◌≢◌, inr, subst, sym, ℕ, ◌≡◌, zero, ◌∙◌, ◌<◌, arith, Limits, Answer, StepOf, Slot, Record, May, knows, Knowledge, Ready, learn, Empty}
 use Rattle.tree_law.proofs.Words.{OwnPage, Other, Gone, exchanged, memory_of, Entry, IsExchangeOf, Key, Reached, PageFits, PageOwner, Keeps, put, slot_in, IsState, phase_of}
-use Rattle.op_machine.specs.Phases as phase
+use Rattle.op_machine.specs.theorem.Phases as phase
 use Rattle.tree_law.proofs.links.Keeping.{met_placed}
 use Rattle.tree_law.proofs.shape.Puts.{by_test}
 use Rattle.tree_law.proofs.links.Learning.{learning, takes_pid, wins}

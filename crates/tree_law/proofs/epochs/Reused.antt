@@ -2,7 +2,7 @@
 use Rattle.tree_law.proofs.Words.{false, ◌⊎◌, ap, refl, cond, Option, List, true, inl, inr, subst, sym, ℕ, ◌≡◌, Bool, ◌∙◌, ◌<◌, Some, ⊎_elim, Update, is_among, Reply, Limits, Answer, ReuseRows}
 use Rattle.tree_law.proofs.Words.{ReusePids, Memory, Record, IsOwn, IsOwnBase, IsPassed, Knowledge, finished, Ready, learn, Foreign, Taken, Written, OwnRow, IsAnswer, memory_after, Entry, Free}
 use Rattle.tree_law.proofs.Words.{Linked, Owners, Spare, Owner, OwnFits, put, shared, slot_in, IsReadyPage, phase_of, IsInTree, IsNamed, Times, Timed, Outing, IsTree}
-use Rattle.op_machine.specs.Phases as phase
+use Rattle.op_machine.specs.theorem.Phases as phase
 use Rattle.tree_law.proofs.epochs.Freeing.{or_cases, row_after, freed, freed_page, held, in_tree, not_among, stays, same_page, o1, page2, o2}
 use Rattle.tree_law.proofs.trace.Names.{Numbers}
 use Rattle.tree_law.proofs.shape.Puts.{by_test, decided}

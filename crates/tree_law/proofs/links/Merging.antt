@@ -3,7 +3,7 @@ use Rattle.tree_law.proofs.Words.{◌⊎◌, ap, refl, cond, Option, None, List,
 use Rattle.tree_law.proofs.Words.{Record, Merge, content_in, right_in, low_in, is_removed, level_in, high_in, HasRead, MayMerge, Knowledge, finished, Foreign, OwnPage, Other, Gone, Written, filled}
 use Rattle.tree_law.proofs.Words.{OwnRow, emptied, handed_over, Key, IsBelow, Covers, IsUnder, Linked, Owners, Spare, IsOut, IsLinked, OwnFits, HeadFits, PageFits, IsChain, Placed, PageOwner, Cleared}
 use Rattle.tree_law.proofs.Words.{rank, Removed, Merged, Stage, stage_removed, put, Shared, IsTree, spec, IsOff, Off, SidePage, InPlace}
-use Rattle.chain_search.specs.Knowledge.{cleared}
+use Rattle.chain_search.specs.discipline.Knowledge.{cleared}
 use Rattle.tree_law.proofs.shape.{not_below, upto_same, under_trans, by_range, covers_to, by_test, put_same, put_other, put_all, chain_unique, chain_kept, in_level_as, one_chain, right_page}
 use Rattle.tree_law.proofs.shape.{tree_kept, tree_merged, placed_level, exact_going, RowChange, row_own, row_same, PageChange, page_same, page_stage, page_link, page_gone, Change, kept_change}
 use Rattle.tree_law.proofs.shape.{closed_kept, chain_stands}

@@ -2,7 +2,7 @@
 use Rattle.tree_law.proofs.Words.{[], ap, refl, Option, suc, None, List, inl, inr, ◌∷◌, subst, ℕ, ◌≡◌, zero, ◌∙◌, arith, Some, map, Contains, option_map, IsTrue, is_in_range, Update, ArePairsOf}
 use Rattle.tree_law.proofs.Words.{ContentOf, Value, Memory, Record, content_in, right_in, low_in, high_in, covers, found, value_of, Knowledge, LivePage, HasMapOf, Key, Owners, leaf_map, Placed}
 use Rattle.tree_law.proofs.Words.{shared, IsLeafWith, IsTree, HasSidePage, SidePage, InPlace, IsPart}
-use Rattle.op_machine.specs.Answered.{IsCursorPage}
+use Rattle.op_machine.specs.theorem.Answered.{IsCursorPage}
 use Rattle.tree_law.proofs.shape.Exactness.{is_indexed}
 use Rattle.tree_law.proofs.shape.KeyOrder.{both, covers_from, covers_to, upto_trans}
 use Rattle.tree_law.proofs.shape.Mapping.{live, leaves, is_leaves, map_of}

@@ -2,7 +2,7 @@
 use Rattle.tree_law.proofs.Words.{false, [], ap, refl, Option, suc, None, List, true, ◌∷◌, subst, sym, ℕ, ◌≡◌, Bool, zero, ◌∙◌, ◌<◌, arith, Some, map, same_Some, Contains, MatchOption, IsTrue}
 use Rattle.tree_law.proofs.Words.{is_under, Update, logged_value, ContentOf, Memory, Record, IsChainOf, content_in, right_in, low_in, high_in, covers, value_of, Knowledge, LivePage, IsSideChainFrom}
 use Rattle.tree_law.proofs.Words.{HasMapOf, Key, Covers, IsUnder, Owners, IsChain, leaf_map, shared, slot_in, row_in, IsTree, Level, SidePage, InPlace, IsPart}
-use Rattle.chain_search.specs.SideChain.{IsWholeFrom, IsLeaves, Spells}
+use Rattle.chain_search.specs.chain.SideChain.{IsWholeFrom, IsLeaves, Spells}
 use Rattle.chain_search.proofs.ChainLaws.{IsSideChainFrom-unique}
 use Rattle.tree_law.proofs.shape.KeyOrder.{empty_lowest, covers_from, covers_to}
 use Rattle.tree_law.proofs.shape.Sides.{StartsFrom}

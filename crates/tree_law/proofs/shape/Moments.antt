@@ -1,8 +1,8 @@
 -- What was so of a moment is so in a longer trace.
 use Rattle.tree_law.proofs.Words.{false, [], suc, List, true, inl, length, ◌++◌, ◌≤◌, inr, ◌∷◌, subst, sym, ℕ, ◌≡◌, Bool, arith, Limits, Memory, memory_at-push, Happens-kept, Happens-push_cases}
 use Rattle.tree_law.proofs.Words.{IsChainOf, LivePage, IsSideChainFrom, memory_at, Entry, IsLeftmost, IsRootLevel, Indexes, HasPhaseOfTerm, indexed, IsInPhase, Phase, held, removed, merged, Key}
-use Rattle.op_machine.specs.Index.{IsPageAt}
-use Rattle.op_machine.specs.Phases.{Rests}
+use Rattle.op_machine.specs.theorem.Index.{IsPageAt}
+use Rattle.op_machine.specs.theorem.Phases.{Rests}
 use Rattle.op_machine.proofs.PhaseLaws.{IsInPhase-kept}
 
 module _ (limits : Limits) (entries : List Entry) (last : Entry) where

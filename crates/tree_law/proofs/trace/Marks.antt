@@ -3,7 +3,7 @@ use Rattle.tree_law.proofs.Words.{false, [], ap, refl, cond, Option, suc, None, 
 use Rattle.tree_law.proofs.Words.{MatchOption, Update, Command, Reply, Limits, Answer, StepOf, Record, slice_get_below, slice_get_kept, slice_get-push, take-push, take-push_whole, memory_at-push}
 use Rattle.tree_law.proofs.Words.{memory_at, command_of, memory_of, Entry, Begin, Step, log_at-push, IsOperation, Operation, Finishes, IsOwnStep, log_at, log_of, IsPoint, HasMapOf, IsQuiet, Tells}
 use Rattle.tree_law.proofs.Words.{operation_of, IsUnended, IsAnsweredBy, IsMarked, HasFound}
-use Rattle.op_machine.specs.Answered.{IsLeafOf}
+use Rattle.op_machine.specs.theorem.Answered.{IsLeafOf}
 use Rattle.tree_law.specs.State.{Justifies}
 use Rattle.tree_law.proofs.trace.Searches.{held_back_kept, nothing_free_kept}
 use Rattle.tree_law.proofs.trace.Owned.{pushed_length, point_below, point_last, own_step_kept, own_cases, step_cases, step_below, own_new, unended_kept, operation_old}

@@ -3,7 +3,7 @@ use Rattle.tree_law.proofs.Words.{◌⊎◌, [], ap, refl, Option, suc, List, tr
 use Rattle.tree_law.proofs.Words.{StepOf, Record, slice_get_below, slice_get_kept, slice_get-push_cases, slice_get-push, Entry, Begin, Step, IsOperation, Operation, IsOwnStep, TakesOwnStep, IsPoint}
 use Rattle.tree_law.proofs.Words.{operation_of, IsUnended}
 use Rattle.chain_search.proofs.Pushes.{slice_get-append_left}
-use Rattle.op_machine.specs.Operations.{IsOwnEntry}
+use Rattle.op_machine.specs.theorem.Operations.{IsOwnEntry}
 
 pub pushed_length : {X : Type 0} (xs : List X) (x : X) → length (xs ++ x ∷ []) ≡ suc (length xs)
 pushed_length [] x = refl

@@ -3,7 +3,7 @@ use Rattle.tree_law.proofs.Words.{false, ◌⊎◌, [], ap, refl, Option, suc, N
 use Rattle.tree_law.proofs.Words.{slice_get, MatchOption, Update, logged_value, update_of, command_key, Command, Reply, Limits, slice_get_below, command_of, Entry, Begin, Step, same_operation}
 use Rattle.tree_law.proofs.Words.{IsOperation, Operation, Finishes, IsOwnStep, log_at, log_of, IsPoint, IsQuiet, UpdatesAtLinks, Tells, operation_of, IsMarked}
 use Rattle.std.proofs.Common.{set}
-use Rattle.op_machine.specs.Points.{updates_at}
+use Rattle.op_machine.specs.theorem.Points.{updates_at}
 use Rattle.op_machine.proofs.LogLaws.{log_of-marked, log_at-step}
 use Rattle.tree_law.proofs.shape.Puts.{by_test}
 

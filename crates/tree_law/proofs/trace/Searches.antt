@@ -2,8 +2,8 @@
 use Rattle.tree_law.proofs.Words.{false, ◌⊎◌, [], ap, refl, cond, Option, suc, None, List, true, inl, length, ◌++◌, ◌≤◌, inr, ◌∷◌, subst, sym, ℕ, ◌≡◌, Bool, zero, ◌∙◌, ◌<◌, arith, Some, slice_get}
 use Rattle.tree_law.proofs.Words.{Command, Reply, Limits, Answer, Number, StepOf, PidBits, RowBits, Record, slice_get_below, memory_at-push, IsChainOf, low_in, is_removed, LacksRoom, HoldsBack, begun}
 use Rattle.tree_law.proofs.Words.{Knowledge, finished, learn, LivePage, Entry, Begin, Step, WasHeldBack, Operation, TakesOwnStep, operation_of, IsSearch, IsUnended, WasRead}
-use Rattle.op_machine.specs.Answered.{FindsNothingFree}
-use Rattle.chain_search.specs.Knowledge.{Asked}
+use Rattle.op_machine.specs.theorem.Answered.{FindsNothingFree}
+use Rattle.chain_search.specs.discipline.Knowledge.{Asked}
 use Rattle.tree_law.proofs.shape.Puts.{by_test}
 use Rattle.tree_law.proofs.links.Exchanged.{exchanged_alike}
 use Rattle.tree_law.proofs.trace.Owned.{pushed_length, own_kept, own_cases, takes_new}

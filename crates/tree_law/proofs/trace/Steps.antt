@@ -9,8 +9,8 @@ use Rattle.tree_law.proofs.Words.{HaveStood, Times, Timed, times_after, IsTree}
 use Rattle.std.specs.Option.{option_to_list}
 use Rattle.bw_model.specs.declared.command.Command.TheVariants.{Get, Delete, Page, Tidy}
 use Rattle.bw_model.specs.declared.command.Reply.TheVariants as reply
-use Rattle.op_machine.specs.Answered.{IsTrueReply}
-use Rattle.op_machine.specs.Points.{updates_by, has_point}
+use Rattle.op_machine.specs.theorem.Answered.{IsTrueReply}
+use Rattle.op_machine.specs.theorem.Points.{updates_by, has_point}
 use Rattle.tree_law.specs.Next.{grown, pointed as pointed'}
 use Rattle.tree_law.specs.TraceLaws.{StatesAreIndexed, StatesAreLinearized, StatesFreeByRule, StatesKeepPhases, Steps}
 use Rattle.tree_law.proofs.epochs.Freeing.{t1, t2, rows_after, rows_timed, pages_after, pages_timed}

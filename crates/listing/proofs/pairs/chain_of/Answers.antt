@@ -1,7 +1,7 @@
 use Rattle.std.proofs.Common.{◌≡◌, ◌+◌, ◌++◌, ◌∷◌, [], length, Some, sym, ap, subst, ◌∙◌}
 use Rattle.std.proofs.lemmas.List.{length-append}
 use Rattle.deltas.specs.declared.record.Record.TheVariants.{Base}
-use Rattle.chain_search.specs.Fitted.{IsPageChain}
+use Rattle.chain_search.specs.chain.Fitted.{IsPageChain}
 use Rattle.listing.proofs.Chaining.{HasRead, base_read, is_left, none_read, one_read, small_read}
 use Rattle.listing.proofs.pairs.chain_of.Goals as goal
 

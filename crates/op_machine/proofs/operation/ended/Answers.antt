@@ -1,8 +1,8 @@
 use Rattle.std.proofs.Common.{◌≡◌, ap, subst, sym, ◌∙◌}
 use Rattle.bw_model.specs.Answers.{answer_of}
-use Rattle.chain_search.specs.Knowledge.{Limbos}
-use Rattle.op_machine.specs.Places.{OpPlaces, state_of}
-use Rattle.op_machine.specs.Shows.{learn_last, wanted_at}
+use Rattle.chain_search.specs.discipline.Knowledge.{Limbos}
+use Rattle.op_machine.specs.machine.Places.{OpPlaces, state_of}
+use Rattle.op_machine.specs.machine.Shows.{learn_last, wanted_at}
 use Rattle.sweep.specs.Kept.{AreKept}
 use Rattle.op_machine.proofs.operation.ended.Goals as goal
 

@@ -1,7 +1,7 @@
 use Rattle.std.proofs.Common.{◌≡◌, ◌+◌, ◌++◌, ◌∷◌, [], length, Some, None, sym, ap, ◌∙◌, arith}
 use Rattle.std.proofs.lemmas.List.{length-append}
 use Rattle.deltas.specs.Records.{next_row}
-use Rattle.chain_search.specs.Tables.{memory_in}
+use Rattle.chain_search.specs.trace.Tables.{memory_in}
 use Rattle.listing.proofs.Chaining.{is_left, one_read}
 use Rattle.scene.proofs.Chains.{last_read}
 use Rattle.scene.proofs.page.records_at.Goals as goal

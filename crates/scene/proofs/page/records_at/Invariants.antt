@@ -1,5 +1,5 @@
 use Rattle.std.proofs.Common.{◌≡◌, length}
-use Rattle.chain_search.specs.Tables.{memory_in}
+use Rattle.chain_search.specs.trace.Tables.{memory_in}
 use Rattle.listing.proofs.Chaining.{HasRead}
 use Rattle.scene.proofs.page.records_at.Given as goal
 

@@ -1,7 +1,7 @@
 use Rattle.std.proofs.Common.{◌≡◌, Some, rules, sym, ap, ◌∙◌}
 use Rattle.std.specs.Option.{option_copied}
 use Rattle.std.proofs.lemmas.Option.{same_Some}
-use Rattle.chain_search.specs.Chains.{high_in, right_in}
+use Rattle.chain_search.specs.chain.Chains.{high_in, right_in}
 use Rattle.smo.proofs.Places.{decides_key}
 use Rattle.smo.proofs.neighbours.is_next_to.Goals as goal
 

@@ -5,7 +5,7 @@ use Rattle.bw_model.specs.Bytes.{is_below}
 use Rattle.base_page.specs.declared.item.Content.TheVariants.{Child}
 use Rattle.base_page.specs.declared.item.Item.{Item}
 use Rattle.deltas.specs.declared.record.Record.TheVariants as kind
-use Rattle.chain_search.specs.Chains.{level_in, low_in}
+use Rattle.chain_search.specs.chain.Chains.{level_in, low_in}
 use Rattle.smo.proofs.RootFits.{planned, root_stands, some}
 use Rattle.smo.proofs.root.plan_root.Goals as goal
 

@@ -1,7 +1,7 @@
 use Rattle.std.proofs.Common.{refl, sym, ◌∙◌, arith}
 use Rattle.std.specs.Prelude.{IsTrue}
 use Rattle.bw_model.specs.Bytes.{is_below}
-use Rattle.chain_search.specs.Chains.{low_in}
+use Rattle.chain_search.specs.chain.Chains.{low_in}
 use Rattle.smo.specs.Neighbours.{IsNextTo}
 use Rattle.smo.proofs.UntermFits.{planned}
 use Rattle.smo.proofs.unterm.plan_unterm.Goals as goal

@@ -5,8 +5,8 @@ use Rattle.bw_model.specs.Bytes.{is_below}
 use Rattle.deltas.specs.declared.record.Record.{Record}
 use Rattle.deltas.specs.declared.record.Record.TheVariants.{Base}
 use Rattle.deltas.specs.Spellable.{IsSpellable}
-use Rattle.chain_search.specs.Chains.{content_in}
-use Rattle.chain_search.specs.Walks.{is_open, IsGreatestKey}
+use Rattle.chain_search.specs.chain.Chains.{content_in}
+use Rattle.chain_search.specs.chain.Walks.{is_open, IsGreatestKey}
 use Rattle.chain_search.proofs.FittedLaws.{base_stands, fits_at}
 use Rattle.chain_search.proofs.WalkLaws.{offers_items, walked}
 use Rattle.chain_search.proofs.chain.Chain.greatest_below.Goals as goal

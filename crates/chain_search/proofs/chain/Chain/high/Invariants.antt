@@ -1,5 +1,5 @@
 use Rattle.std.proofs.Common.{◌≡◌, drop}
-use Rattle.chain_search.specs.Chains.{high_in}
+use Rattle.chain_search.specs.chain.Chains.{high_in}
 use Rattle.chain_search.proofs.FittedLaws.{over}
 use Rattle.chain_search.proofs.chain.Chain.high.Given as goal
 

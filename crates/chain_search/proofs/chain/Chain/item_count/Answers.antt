@@ -5,9 +5,9 @@ use Rattle.base_page.specs.declared.item.Item.{Item}
 use Rattle.base_page.specs.Pages.{Page}
 use Rattle.deltas.specs.declared.record.Record.{Record}
 use Rattle.deltas.specs.declared.record.Record.TheVariants.{Base}
-use Rattle.chain_search.specs.Chains.{IsItemsOf}
-use Rattle.chain_search.specs.Fitted.{IsFitted}
-use Rattle.chain_search.specs.Walks.{count_under}
+use Rattle.chain_search.specs.chain.Chains.{IsItemsOf}
+use Rattle.chain_search.specs.chain.Fitted.{IsFitted}
+use Rattle.chain_search.specs.chain.Walks.{count_under}
 use Rattle.chain_search.proofs.CountLaws.{count_all, from_place, rest_is, unchanged}
 use Rattle.chain_search.proofs.FittedLaws.{Makes-base, base_stands, fitted_from, over, page_of}
 use Rattle.chain_search.proofs.chain.Chain.item_count.Goals as goal

@@ -1,8 +1,8 @@
 use Rattle.std.proofs.Common.{◌≡◌, ◌≤◌, ◌+◌, ◌*◌, List, length, drop}
 use Rattle.std.specs.Prelude.{option_copied}
 use Rattle.base_page.specs.declared.item.Item.{Item}
-use Rattle.chain_search.specs.Chains.{IsItemsOf}
-use Rattle.chain_search.specs.Walks.{count_under}
+use Rattle.chain_search.specs.chain.Chains.{IsItemsOf}
+use Rattle.chain_search.specs.chain.Walks.{count_under}
 use Rattle.chain_search.proofs.FittedLaws.{over}
 use Rattle.chain_search.proofs.chain.Chain.item_count.Given as goal
 

@@ -1,5 +1,5 @@
 use Rattle.std.proofs.Common.{sym, ◌∙◌, ap}
-use Rattle.chain_search.specs.Chains.{low_in}
+use Rattle.chain_search.specs.chain.Chains.{low_in}
 use Rattle.chain_search.proofs.FittedLaws.{start_of_base}
 use Rattle.chain_search.proofs.chain.Chain.low.Goals as goal
 

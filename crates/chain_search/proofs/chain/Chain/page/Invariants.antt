@@ -1,5 +1,5 @@
 use Rattle.std.proofs.Common.{drop}
-use Rattle.chain_search.specs.Fitted.{Makes}
+use Rattle.chain_search.specs.chain.Fitted.{Makes}
 use Rattle.chain_search.proofs.FittedLaws.{over}
 use Rattle.chain_search.proofs.chain.Chain.page.Given as goal
 

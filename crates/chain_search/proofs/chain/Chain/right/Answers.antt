@@ -1,6 +1,6 @@
 use Rattle.std.proofs.Common.{List, sym, subst, ◌∙◌}
 use Rattle.deltas.specs.declared.record.Record.{Record}
-use Rattle.chain_search.specs.Fitted.{IsFitted}
+use Rattle.chain_search.specs.chain.Fitted.{IsFitted}
 use Rattle.chain_search.proofs.DeltaLaws.{no_split, no_merge}
 use Rattle.chain_search.proofs.FittedLaws.{over, end_past}
 use Rattle.chain_search.proofs.chain.Chain.right.Goals as goal

@@ -1,5 +1,5 @@
 use Rattle.std.proofs.Common.{◌≡◌, drop}
-use Rattle.chain_search.specs.Chains.{right_in}
+use Rattle.chain_search.specs.chain.Chains.{right_in}
 use Rattle.chain_search.proofs.FittedLaws.{over}
 use Rattle.chain_search.proofs.chain.Chain.right.Given as goal
 

@@ -1,6 +1,6 @@
 use Rattle.std.proofs.Common.{◌≡◌, ◌++◌, List, length, drop}
 use Rattle.deltas.specs.declared.record.Record.{Record}
-use Rattle.chain_search.specs.Chains.{chain_rows}
+use Rattle.chain_search.specs.chain.Chains.{chain_rows}
 use Rattle.chain_search.proofs.chain.Chain.rows.Given as goal
 
 abbrev pub invariant-loop-delta : goal.invariant-loop-delta

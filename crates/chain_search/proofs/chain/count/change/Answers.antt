@@ -8,10 +8,10 @@ use Rattle.deltas.specs.declared.record.Remove.{Remove}
 use Rattle.deltas.specs.declared.record.Split.{Split}
 use Rattle.chain_search.specs.declared.delta.Kept.{Kept}
 use Rattle.chain_search.specs.declared.delta.Kept.TheVariants as kept
-use Rattle.chain_search.specs.Chains.{IsItemsOf}
-use Rattle.chain_search.specs.Deltas.{kept_record}
-use Rattle.chain_search.specs.Fitted.{IsFitted}
-use Rattle.chain_search.specs.Walks.{bound_under, count_under}
+use Rattle.chain_search.specs.chain.Chains.{IsItemsOf}
+use Rattle.chain_search.specs.chain.Deltas.{kept_record}
+use Rattle.chain_search.specs.chain.Fitted.{IsFitted}
+use Rattle.chain_search.specs.chain.Walks.{bound_under, count_under}
 use Rattle.chain_search.proofs.CountLaws.{changed_by_merge, changed_by_split, unchanged}
 use Rattle.chain_search.proofs.FittedLaws.{first_fits}
 use Rattle.chain_search.proofs.chain.count.change.Goals as goal

@@ -1,6 +1,6 @@
 use Rattle.std.proofs.Common.{◌≡◌, ◌-◌, false, sym, ◌∙◌, arith}
 use Rattle.std.specs.Prelude.{slice_index_or}
-use Rattle.chain_search.specs.Walks.{is_named}
+use Rattle.chain_search.specs.chain.Walks.{is_named}
 use Rattle.chain_search.proofs.WalkLaws.{last_open, none_open}
 use Rattle.chain_search.proofs.chain.walk.last_open.Goals as goal
 

@@ -3,9 +3,9 @@ use Rattle.base_page.specs.declared.item.Content.TheVariants.{Value, Child}
 use Rattle.deltas.specs.declared.record.Record.{Record}
 use Rattle.deltas.specs.declared.record.Record.TheVariants as kind
 use Rattle.deltas.specs.Spellable.{IsSpellable}
-use Rattle.chain_search.specs.Chains.{content_in}
-use Rattle.chain_search.specs.Deltas.{kept_record}
-use Rattle.chain_search.specs.Walks.{is_open}
+use Rattle.chain_search.specs.chain.Chains.{content_in}
+use Rattle.chain_search.specs.chain.Deltas.{kept_record}
+use Rattle.chain_search.specs.chain.Walks.{is_open}
 use Rattle.chain_search.proofs.WalkLaws.{in_range, offers_items, offers_key}
 use Rattle.chain_search.proofs.chain.walk.offered.Goals as goal
 

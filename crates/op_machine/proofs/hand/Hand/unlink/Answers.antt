@@ -1,5 +1,5 @@
 use Rattle.std.proofs.Common.{ap}
-use Rattle.op_machine.specs.Hands.{Hand}
+use Rattle.op_machine.specs.machine.Hands.{Hand}
 use Rattle.op_machine.proofs.TakingOut.{gone, taken}
 use Rattle.op_machine.proofs.hand.Hand.unlink.Goals as goal
 

@@ -2,8 +2,8 @@ use Rattle.std.proofs.Common.{ap}
 use Rattle.std.specs.Option.{option_map}
 use Rattle.bw_model.specs.declared.step.Answer.TheVariants.{Content}
 use Rattle.rounds.specs.ReadRounds.{ended_read}
-use Rattle.op_machine.specs.Outcomes.{Read, read_out}
-use Rattle.op_machine.specs.Places.{state_of}
+use Rattle.op_machine.specs.machine.Outcomes.{Read, read_out}
+use Rattle.op_machine.specs.machine.Places.{state_of}
 use Rattle.op_machine.proofs.Going.{follows, goes_on}
 use Rattle.op_machine.proofs.InPlaces.{comes_to, reads_into, stands_reading}
 use Rattle.op_machine.proofs.operation.Operation.read_row.Goals as goal

@@ -1,7 +1,7 @@
 use Rattle.std.proofs.Common.{ap, sym, ◌∙◌}
 use Rattle.bw_model.specs.Answers.{answer_of}
-use Rattle.op_machine.specs.Ops.{Op}
-use Rattle.op_machine.specs.Places.{state_of}
+use Rattle.op_machine.specs.machine.Ops.{Op}
+use Rattle.op_machine.specs.machine.Places.{state_of}
 use Rattle.op_machine.proofs.SweepMoves.{begins_from, goes_on_from}
 use Rattle.op_machine.proofs.operation.Operation.sweep_on.Goals as goal
 use Rattle.op_machine.proofs.operation.Operation.sweep_on.Goals.{in-None, in-Some}

@@ -2,7 +2,7 @@ use Rattle.std.proofs.Common.{ap, refl}
 use Rattle.std.specs.Option.{option_map}
 use Rattle.bw_model.specs.declared.step.Answer.TheVariants.{Content}
 use Rattle.rounds.specs.WriteRounds.{ended_write}
-use Rattle.op_machine.specs.Outcomes.{Written, written_out}
+use Rattle.op_machine.specs.machine.Outcomes.{Written, written_out}
 use Rattle.op_machine.proofs.Going.{faced, follows, goes_on}
 use Rattle.op_machine.proofs.InPlaces.{stands_writing, writes_into}
 use Rattle.op_machine.proofs.operation.Operation.write_last_row.Goals as goal

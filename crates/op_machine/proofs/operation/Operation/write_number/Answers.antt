@@ -2,8 +2,8 @@ use Rattle.std.proofs.Common.{ap, ◌≤◌, arith}
 use Rattle.bw_model.specs.declared.step.Answer.TheVariants.{Number}
 use Rattle.descent.specs.WriteEnds.{Again}
 use Rattle.rounds.specs.WriteRounds.{again_if}
-use Rattle.op_machine.specs.Outcomes.{Written, written_out}
-use Rattle.op_machine.specs.Places.{state_of}
+use Rattle.op_machine.specs.machine.Outcomes.{Written, written_out}
+use Rattle.op_machine.specs.machine.Places.{state_of}
 use Rattle.op_machine.proofs.Going.{follows, goes_on}
 use Rattle.op_machine.proofs.InPlaces.{comes_to, stands_writing, writes_into}
 use Rattle.op_machine.proofs.operation.Operation.write_number.Goals as goal

@@ -1,7 +1,7 @@
 use Rattle.std.proofs.Common.{◌≡◌, ◌<◌, ◌∙◌, length, ap, sym, subst}
 use Rattle.descent.specs.WriteEnds as end
 use Rattle.rounds.specs.WriteRounds.{PlacedWrite}
-use Rattle.op_machine.specs.Outcomes.{FacesWritten}
+use Rattle.op_machine.specs.machine.Outcomes.{FacesWritten}
 use Rattle.op_machine.proofs.Plans.{long_chain, one_chain}
 use Rattle.op_machine.proofs.task.Task.begin_consolidation.Goals as goal
 

@@ -1,11 +1,11 @@
 use Rattle.std.proofs.Common.{◌≡◌, ◌<◌, ◌∙◌, Some, true, false, length, refl, sym, ap, is_some}
 use Rattle.bw_model.specs.Replies.{command_key, reply_of, update_of}
-use Rattle.chain_search.specs.Chains.{content_in}
-use Rattle.chain_search.specs.Discipline.{found}
+use Rattle.chain_search.specs.chain.Chains.{content_in}
+use Rattle.chain_search.specs.discipline.Discipline.{found}
 use Rattle.rounds.specs.WriteRounds.{PlacedWrite}
 use Rattle.smo.specs.declared.version.Version.{Version}
 use Rattle.smo.proofs.Places.{of_made}
-use Rattle.op_machine.specs.Brings.{update_over}
+use Rattle.op_machine.specs.machine.Brings.{update_over}
 use Rattle.op_machine.proofs.Commands.{change_is, over_fits, over_kept, over_links, over_useful, update_due, value_same}
 use Rattle.op_machine.proofs.Executing.{answers_there, within}
 use Rattle.op_machine.proofs.Tidying.{may_call}

@@ -1,7 +1,7 @@
 use Rattle.std.proofs.Common.{List, sym, ap, subst, ◌∙◌}
 use Rattle.deltas.specs.Spellable.{IsSpellable}
 use Rattle.deltas.specs.declared.record.Record.{Record}
-use Rattle.chain_search.specs.Fitted.{IsFitted}
+use Rattle.chain_search.specs.chain.Fitted.{IsFitted}
 use Rattle.chain_search.proofs.FittedLaws.{base_stands, fits_at, over}
 use Rattle.rounds.proofs.write_round.tests.show.Goals as goal
 

@@ -1,7 +1,7 @@
 use Rattle.std.proofs.Common.{◌≡◌, ◌+◌, suc, ◌<◌, List, length, get_or, sym, ap, subst, ◌∙◌, arith}
 use Rattle.deltas.specs.declared.record.Record.{Record}
-use Rattle.chain_search.specs.Deltas.{IsSmallDelta}
-use Rattle.chain_search.specs.Fitted.{IsPageChain}
+use Rattle.chain_search.specs.chain.Deltas.{IsSmallDelta}
+use Rattle.chain_search.specs.chain.Fitted.{IsPageChain}
 use Rattle.row_chain.proofs.Typing.{over_base, small_in}
 use Rattle.row_chain.proofs.chain.Chain.typed.Goals as goal
 

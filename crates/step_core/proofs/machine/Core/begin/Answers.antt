@@ -1,6 +1,6 @@
 use Rattle.std.proofs.Common.{ap, arith, refl}
-use Rattle.chain_search.specs.Knowledge.{knows}
-use Rattle.chain_search.specs.Recalled.{recalls}
+use Rattle.chain_search.specs.discipline.Knowledge.{knows}
+use Rattle.chain_search.specs.discipline.Recalled.{recalls}
 use Rattle.chain_search.specs.declared.trace.Entry.TheVariants.{Begin}
 use Rattle.step_core.proofs.Cored.{begin_goes, core_begins, core_begun, core_others}
 use Rattle.step_core.specs.declared.event.RunError.TheVariants.{Memory}

@@ -2,12 +2,12 @@ use Rattle.std.proofs.Common.{Some, ap, inl, refl, sym, subst, ◌∙◌, arith}
 use Rattle.std.specs.Prelude.{IsSome}
 use Rattle.bw_model.specs.declared.step.Answer.TheVariants.{Done}
 use Rattle.bw_model.specs.declared.step.Step.TheVariants.{Leave}
-use Rattle.actors.specs.Actors.{Actor}
+use Rattle.op_machine.specs.machine.Actors.{Actor}
 use Rattle.step_core.specs.Actors.{NeedsRoom}
 use Rattle.step_core.proofs.Replaced.{get_same}
-use Rattle.chain_search.specs.Steps.{memory_after}
-use Rattle.chain_search.specs.Knowledge.{knows}
-use Rattle.chain_search.specs.Recalled.{recalls}
+use Rattle.chain_search.specs.trace.Steps.{memory_after}
+use Rattle.chain_search.specs.discipline.Knowledge.{knows}
+use Rattle.chain_search.specs.discipline.Recalled.{recalls}
 use Rattle.chain_search.specs.declared.trace.Entry.TheVariants.{Step}
 use Rattle.step_core.proofs.Cored.{core_affords, core_asks, core_leaving, core_others, core_stepped, core_took, core_wants, step_goes}
 use Rattle.step_core.proofs.Lawful.{heads}

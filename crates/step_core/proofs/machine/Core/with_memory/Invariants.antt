@@ -1,7 +1,7 @@
 use Rattle.std.proofs.Common.{◌≡◌, ℕ, Some}
 use Rattle.std.specs.Prelude.{slice_get}
 use Rattle.std.specs.Vec.{vec_len}
-use Rattle.actors.specs.Actors.{Actor, idle_actor}
+use Rattle.op_machine.specs.machine.Actors.{Actor, idle_actor}
 use Rattle.step_core.proofs.machine.Core.with_memory.Given as goal
 
 abbrev pub invariant-loop : goal.invariant-loop

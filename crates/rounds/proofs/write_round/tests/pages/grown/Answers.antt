@@ -1,7 +1,7 @@
 use Rattle.std.proofs.Common.{List, sym, ap, subst, ◌∙◌}
 use Rattle.deltas.specs.declared.record.Record.{Record}
-use Rattle.chain_search.specs.Deltas.{IsSmallDelta}
-use Rattle.chain_search.specs.Fitted.{IsFitted}
+use Rattle.chain_search.specs.chain.Deltas.{IsSmallDelta}
+use Rattle.chain_search.specs.chain.Fitted.{IsFitted}
 use Rattle.chain_search.proofs.DeltaLaws.{small_at}
 use Rattle.chain_search.proofs.FittedLaws.{over}
 use Rattle.rounds.proofs.write_round.tests.pages.grown.Goals as goal

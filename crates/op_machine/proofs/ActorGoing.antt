@@ -1,0 +1,205 @@
+-- One step of an operation, from what `next` promises.
+use Rattle.std.proofs.Common.{◌≡◌, ◌≢◌, ◌<◌, ◌^◌, ℕ, Bool, Option, Some, None, is_some, true, false, sym, ap, ◌∙◌, subst, refl, arith}
+use Rattle.std.specs.Prelude.{IsSome}
+use Rattle.std.proofs.lemmas.Option.{same_Some}
+use Rattle.bw_model.specs.declared.command.Reply.{Reply}
+use Rattle.bw_model.specs.declared.limits.Limits.{Limits}
+use Rattle.bw_model.specs.declared.step.Answer.{Answer}
+use Rattle.bw_model.specs.declared.step.Answer.TheVariants as answer
+use Rattle.bw_model.specs.declared.step.Step.{Step as StepOf}
+use Rattle.bw_model.specs.declared.step.Step.TheVariants as step
+use Rattle.deltas.specs.declared.record.Record.{Record}
+use Rattle.chain_search.specs.discipline.Fitting.{Fits}
+use Rattle.chain_search.specs.discipline.Knowledge.{Knowledge}
+use Rattle.chain_search.specs.discipline.Recalled.{Recalled, blank}
+use Rattle.op_machine.specs.machine.Hands.{Hand}
+use Rattle.op_machine.specs.machine.Bounded.{IsSpentLast}
+use Rattle.op_machine.specs.machine.Spending.{Spends, steps_left}
+use Rattle.op_machine.specs.machine.InPlace.{IsOpShown, Takes, Wants}
+use Rattle.op_machine.specs.machine.Ops.{Goes, HoldsLimbo, IsAtRestWith, IsOver, IsToldOp, Obeys, Op, Shows, asked_by, wanted_of}
+use Rattle.op_machine.specs.machine.Outcomes.{HasLeft, is_leaving}
+use Rattle.op_machine.specs.machine.Shows.{FitsLast, learn_last, recall_last, wanted_at}
+use Rattle.op_machine.specs.machine.Tasks.{IsSameTask, Task}
+use Rattle.op_machine.specs.machine.Wants.{Step, Done}
+use Rattle.op_machine.specs.machine.States.{State, Begun, Epoch, Enter, Read, Write, Change, Leave}
+use Rattle.op_machine.specs.machine.UnderWay.{AsksIf, UnderWay, asking, running_at}
+use Rattle.epochs.specs.Limbo.{Limbo}
+use Rattle.installs.specs.Spares.{Spares}
+use Rattle.sweep.specs.Kept.{AreKept}
+use Rattle.sweep.specs.Sweeps.{Sweep}
+use Rattle.op_machine.specs.machine.Actors.{ActsOn, IsActorWith, IsGoing, IsRunning, at_work, command_at, wanted_by}
+use Rattle.op_machine.proofs.ActorSpending.{spends_last, spent_last}
+
+-- an actor without an operation, and one with an operation
+idle_of : (limits : Limits) (actor : ℕ) (k : Knowledge) (r : Recalled) (hand : Hand) (running : Option UnderWay) → command_at running ≡ None → IsActorWith limits actor k r hand running → IsAtRestWith limits actor hand k
+idle_of limits actor k r hand None e h = h
+idle_of limits actor k r hand (Some running) e h = cc
+
+pub idle_at : (limits : Limits) (actor : ℕ) (k : Knowledge) (r : Recalled) (hand : Hand) (running : Option UnderWay) → command_at running ≡ None → IsActorWith limits actor k r hand running → IsAtRestWith limits actor hand k
+idle_at limits actor k r hand running e h = idle_of limits actor k r hand running e h
+
+less : (m n o : ℕ) → m < n → n < o → m < o
+less m n o h i = omega arith
+
+-- the first step
+module _ (k : Knowledge) (had : Hand) (old : Op) (unswept : old.sweep ≡ None) (begun : old.state ≡ Begun) (shows : Shows old had k blank) where
+  none : wanted_of old had ≡ None
+  none = rw (unswept, begun) refl
+
+  fits_start : FitsLast old.task.limits k (wanted_of old had) answer.Start
+  fits_start = subst (λ w. FitsLast old.task.limits k w answer.Start) (sym none) refl
+
+  pub told_start : IsToldOp old had answer.Start
+  told_start = record { k = k; r = blank; shows = shows; fits = fits_start }
+
+  -- what is known then
+  pub shown_begun : (new : Op) (has : Hand) → Takes old had answer.Start new has → IsOpShown new has
+  shown_begun new has takes = (learn_last k (wanted_of old had) answer.Start, recall_last blank (wanted_of old had) answer.Start, takes.shows k blank shows fits_start)
+
+  pub begun_left : (limits : Limits) (actor : ℕ) (new : Op) (has : Hand) → old.task.limits ≡ limits → old.task.actor ≡ actor → (asked : StepOf Record) → Obeys old had answer.Start new has (Step asked) → IsSameTask old.task new.task
+      → IsRunning limits actor k blank has (record { op = new; wanted = asked })
+  begun_left limits actor new has own_limits own_actor asked o same = record {
+    own_limits = same.limits ∙ own_limits;
+    own_actor = same.actor ∙ own_actor;
+    goes = subst (λ w. Goes (learn_last k w answer.Start) (recall_last blank w answer.Start) new has asked) none (o k blank shows fits_start);
+  }
+
+  pub begun_few : (new : Op) (has : Hand) (asked : StepOf Record) → Spends old had answer.Start new has (Step asked) → ((r : Recalled) (hand : Hand) → steps_left r old hand < 2 ^ 18) → steps_left blank new has < 2 ^ 18
+  begun_few new has asked spends few = less (steps_left blank new has) (steps_left blank old had) (2 ^ 18) (subst (λ w. IsSpentLast blank w answer.Start (steps_left blank old had) (steps_left (recall_last blank w answer.Start) new has)) none (spends k blank shows fits_start)) (few blank had)
+
+-- an operation that wants another step than the leave isn't at its leave
+stays_in : (task : Task) (spares : Spares) (limbo : Limbo) (k : Knowledge) (sweep : Option Sweep) (state : State) → HoldsLimbo task state limbo k sweep → asked_by sweep (wanted_at spares state) ≢ Some step.Leave → is_leaving state ≡ false
+stays_in task spares limbo k None (Leave reply) holds stays = absurd (stays refl)
+stays_in task spares limbo k (Some sweep) (Leave reply) holds stays = let first = holds.first in cc
+stays_in task spares limbo k sweep Begun holds stays = refl
+stays_in task spares limbo k sweep Epoch holds stays = refl
+stays_in task spares limbo k sweep (Enter epoch) holds stays = refl
+stays_in task spares limbo k sweep (Read round) holds stays = refl
+stays_in task spares limbo k sweep (Write round) holds stays = refl
+stays_in task spares limbo k sweep (Change now then) holds stays = refl
+
+-- a step with its answer
+module _ (limits : Limits) (actor : ℕ) (k : Knowledge) (r : Recalled) (had has : Hand) (old : UnderWay) (new : Op) (a : Answer Record) (running : IsRunning limits actor k r had old) (fits : Fits limits k old.wanted a) where
+  fits_last : FitsLast old.op.task.limits k (wanted_of old.op had) a
+  fits_last = rw (running.own_limits, running.goes.wanted) fits
+
+  pub told_with : IsToldOp old.op had a
+  told_with = record { k = k; r = r; shows = running.goes.shows; fits = fits_last }
+
+  -- what wants another step has another one wanted
+  pub wants_other : wanted_of old.op had ≢ Some step.Leave → old.wanted ≢ step.Leave
+  wants_other other e = other (running.goes.wanted ∙ ap Some e)
+
+  pub stays_at : old.wanted ≢ step.Leave → is_leaving old.op.state ≡ false
+  stays_at stays = stays_in old.op.task had.spares had.limbo k old.op.sweep old.op.state running.goes.shows.limbo (λ e. stays (same_Some old.wanted step.Leave (sym running.goes.wanted ∙ e)))
+
+  pub goes_on : (asked : StepOf Record) → old.wanted ≢ step.Leave → Obeys old.op had a new has (Step asked) → Spends old.op had a new has (Step asked) → IsSameTask old.op.task new.task
+      → ActsOn limits actor k r (at_work had old) old.wanted a None (at_work has (record { op = new; wanted = asked }))
+  goes_on asked other o spends same = record {
+    allowed = record { may = rw (← running.own_actor) running.goes.may.may; frees = rw (← running.own_limits, ← running.own_actor) running.goes.may.frees; replied = tt; ends = λ e. absurd (other e) };
+    useful = running.goes.may.useful;
+    shows = record {
+      own_limits = same.limits ∙ running.own_limits;
+      own_actor = same.actor ∙ running.own_actor;
+      goes = subst (λ w. Goes (learn_last k w a) (recall_last r w a) new has asked) running.goes.wanted (o k r running.goes.shows fits_last);
+    };
+    spends = spent_last r (wanted_of old.op had) old.wanted a (steps_left r old.op had) (λ q. steps_left q new has) running.goes.wanted (spends k r running.goes.shows fits_last);
+  }
+
+  pub is_done : (reply : Reply) → Obeys old.op had a new has (Done reply) → ActsOn limits actor k r (at_work had old) old.wanted a (Some reply) (record { hand = has; running = None })
+  is_done reply o = record {
+    allowed = record { may = rw (← running.own_actor) running.goes.may.may; frees = rw (← running.own_limits, ← running.own_actor) running.goes.may.frees; replied = (last, rw (← running.own_limits, ← running.own_actor) ends.may); ends = λ e. refl };
+    useful = running.goes.may.useful;
+    shows = record {
+      spares = rw (← running.own_limits) (rw last ends.rests);
+      limbo = rw (← running.own_limits, ← running.own_actor) (subst (λ w. AreKept old.op.task.limits old.op.task.actor has.limbo (learn_last k w a).limbo) running.goes.wanted over.limbo);
+    };
+    spends = spends_last r had has old a ends.is_last;
+  }
+    where
+      over : IsOver old.op.task k (wanted_of old.op had) a has reply
+      over = o k r running.goes.shows fits_last
+
+      ends : HasLeft old.op.task k (wanted_of old.op had) a has.spares reply
+      ends = over.left
+
+      last : old.wanted ≡ step.Leave
+      last = same_Some old.wanted step.Leave (sym running.goes.wanted ∙ ends.is_last)
+
+-- what is under way in the place of an operation
+asking_is : (op : Op) (hand : Hand) (running : UnderWay) (wanted : Option (StepOf Record)) → wanted_of op hand ≡ wanted → asking op wanted ≡ Some running → (running.op ≡ op) × (wanted_of op hand ≡ Some running.wanted)
+asking_is op hand running None is e = cc
+asking_is op hand running (Some asked) is e =
+    let same : running ≡ record { op = op; wanted = asked } = same_Some running (record { op = op; wanted = asked }) (sym e) in
+    (ap (λ (q : UnderWay). q.op) same, is ∙ ap Some (sym (ap (λ (q : UnderWay). q.wanted) same)))
+
+running_is : (on : Bool) (op : Op) (hand : Hand) (running : UnderWay) → running_at on op hand ≡ Some running → (on ≡ true) × (running.op ≡ op) × (wanted_of op hand ≡ Some running.wanted)
+running_is false op hand running e = cc
+running_is true op hand running e = let is = asking_is op hand running (wanted_of op hand) refl e in (refl, is.0, is.1)
+
+pub is_asking : (op : Op) (hand : Hand) (asked : StepOf Record) → wanted_of op hand ≡ Some asked → running_at true op hand ≡ Some (record { op = op; wanted = asked })
+is_asking op hand asked e = ap (asking op) e
+
+asking_some : (op : Op) (wanted : Option (StepOf Record)) → IsSome wanted → command_at (asking op wanted) ≡ Some op.task.command
+asking_some op None some = cc
+asking_some op (Some asked) some = refl
+
+-- whether there is an operation, and its command
+pub command_is : (op : Op) (hand : Hand) → AsksIf true op hand → command_at (running_at true op hand) ≡ Some op.task.command
+command_is op hand asks = asking_some op (wanted_of op hand) asks
+
+pub is_busy : (on : Bool) (op : Op) (hand : Hand) → AsksIf on op hand → on ≡ is_some (command_at (running_at on op hand))
+is_busy false op hand asks = refl
+is_busy true op hand asks = sym (ap is_some (command_is op hand asks))
+
+pub is_on : (on : Bool) (op : Op) (hand : Hand) → is_some (command_at (running_at on op hand)) ≡ true → on ≡ true
+is_on false op hand busy = cc
+is_on true op hand busy = refl
+
+pub same_command : (on : Bool) (op new : Op) (had has : Hand) → AsksIf on op had → IsSome (wanted_of new has) → new.task.command ≡ op.task.command → command_at (running_at on new has) ≡ command_at (running_at on op had)
+same_command false op new had has asks then same = refl
+same_command true op new had has asks then same = command_is new has then ∙ ap Some same ∙ sym (command_is op had asks)
+
+pub asks_then : (on : Bool) (new : Op) (has : Hand) → IsSome (wanted_of new has) → AsksIf on new has
+asks_then false new has some = tt
+asks_then true new has some = some
+
+-- what an actor shows, its operation shows
+shown_with : (limits : Limits) (actor : ℕ) (k : Knowledge) (r : Recalled) (op : Op) (hand : Hand) (wanted : Option (StepOf Record)) → wanted_of op hand ≡ wanted → IsSome wanted → IsActorWith limits actor k r hand (asking op wanted) → Shows op hand k r
+shown_with limits actor k r op hand None is some h = cc
+shown_with limits actor k r op hand (Some asked) is some h = h.goes.shows
+
+pub shown_at : (limits : Limits) (actor : ℕ) (k : Knowledge) (r : Recalled) (op : Op) (hand : Hand) → AsksIf true op hand → IsActorWith limits actor k r hand (running_at true op hand) → Shows op hand k r
+shown_at limits actor k r op hand asks h = shown_with limits actor k r op hand (wanted_of op hand) refl asks h
+
+-- the answer that an operation takes in its place, and what it goes on to
+module _ (limits : Limits) (actor : ℕ) (k : Knowledge) (r : Recalled) (on : Bool) (op : Op) (had : Hand) (a : Answer Record) (going : IsGoing limits actor k r (record { hand = had; running = running_at on op had }) a) where
+  found : (on ≡ true) × (going.running.op ≡ op) × (wanted_of op had ≡ Some going.running.wanted)
+  found = running_is on op had going.running going.is
+
+  pub told_here : IsToldOp op had a
+  told_here = subst (λ o. IsToldOp o had a) found.1 (told_with limits actor k r had had going.running going.running.op a going.shows going.fits)
+
+  pub stays_here : wanted_by (running_at on op had) ≢ Some step.Leave → is_leaving op.state ≡ false
+  stays_here stays = subst (λ (o : Op). is_leaving o.state ≡ false) found.1 (stays_at limits actor k r had had going.running going.running.op a going.shows going.fits (λ e. stays (ap wanted_by going.is ∙ ap Some e)))
+
+  module _ (new : Op) (has : Hand) (takes : Takes op had a new has) where
+    pub shown_then : IsOpShown new has
+    shown_then = (learn_last told_here.k (wanted_of op had) a, recall_last told_here.r (wanted_of op had) a, takes.shows told_here.k told_here.r told_here.shows told_here.fits)
+
+    pub goes_here : (asked : StepOf Record) → wanted_by (running_at on op had) ≢ Some step.Leave → Wants new has asked
+        → ActsOn limits actor k r (record { hand = had; running = running_at on op had }) going.running.wanted a None (record { hand = has; running = running_at on new has })
+    goes_here asked stays wants =
+        let from : Takes going.running.op had a new has = subst (λ o. Takes o had a new has) (sym found.1) takes in
+        let went : ActsOn limits actor k r (at_work had going.running) going.running.wanted a None (at_work has (record { op = new; wanted = asked })) =
+        goes_on limits actor k r had has going.running new a going.shows going.fits asked (λ e. stays (ap wanted_by going.is ∙ ap Some e)) (from.obeys asked wants) (from.spends asked) from.same in
+        let is : running_at on new has ≡ Some (record { op = new; wanted = asked }) = rw found.0 (is_asking new has asked (wants shown_then.0 shown_then.1 shown_then.2).wanted) in
+        subst (λ (o : Option UnderWay). ActsOn limits actor k r (record { hand = had; running = o }) going.running.wanted a None (record { hand = has; running = running_at on new has })) (sym going.is)
+        (subst (λ (o : Option UnderWay). ActsOn limits actor k r (at_work had going.running) going.running.wanted a None (record { hand = has; running = o })) (sym is) went)
+
+  -- it leaves
+  pub done_here : (reply : Reply) → ((hand : Hand) (told : Answer Record) → Obeys op hand told op hand (Done reply)) → ActsOn limits actor k r (record { hand = had; running = running_at on op had }) going.running.wanted a (Some reply) (record { hand = had; running = None })
+  done_here reply obeys =
+      let from : Obeys going.running.op had a op had (Done reply) = subst (λ o. Obeys o had a op had (Done reply)) (sym found.1) (obeys had a) in
+      subst (λ (o : Option UnderWay). ActsOn limits actor k r (record { hand = had; running = o }) going.running.wanted a (Some reply) (record { hand = had; running = None })) (sym going.is)
+      (is_done limits actor k r had had going.running op a going.shows going.fits reply from)

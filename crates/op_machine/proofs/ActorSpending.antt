@@ -1,0 +1,57 @@
+-- One step of an operation: how many steps it has left.
+use Rattle.std.proofs.Common.{◌≡◌, ◌<◌, ◌+◌, ◌*◌, ℕ, length, Option, Some, None, inl, subst, arith}
+use Rattle.bw_model.specs.declared.step.Answer.{Answer}
+use Rattle.bw_model.specs.declared.step.Step.{Step as StepOf}
+use Rattle.bw_model.specs.declared.step.Step.TheVariants as step
+use Rattle.deltas.specs.declared.record.Record.{Record}
+use Rattle.chain_search.specs.discipline.Recalled.{IsStepSpent, Recalled, recall}
+use Rattle.epochs.specs.declared.item.Reuse.{Reuse}
+use Rattle.epochs.specs.declared.item.Reuse.TheVariants.{Rows, Pids}
+use Rattle.installs.specs.Spares.{Spares}
+use Rattle.op_machine.specs.machine.Hands.{Hand}
+use Rattle.op_machine.specs.machine.Bounded.{IsSpentLast, left_at, one_round}
+use Rattle.op_machine.specs.machine.Ops.{asked_by, wanted_of}
+use Rattle.op_machine.specs.machine.Shows.{recall_last, wanted_at}
+use Rattle.op_machine.specs.machine.Spending.{sweep_left}
+use Rattle.op_machine.specs.machine.States.{State, Begun, Epoch, Enter, Read, Write, Change, Leave}
+use Rattle.sweep.specs.Sweeps.{Sweep, step_of, wanted_at as wanted_at_sweep}
+use Rattle.sweep.specs.declared.sweep.State as sweeping
+use Rattle.sweep.specs.declared.sweep.State.TheVariants as at_sweep
+use Rattle.op_machine.specs.machine.UnderWay.{UnderWay}
+use Rattle.op_machine.specs.machine.UnderWay.{IsSpentBy}
+
+-- what an answer leaves, where the step that was wanted is known
+pub spent_last : (r : Recalled) (last : Option (StepOf Record)) (asked : StepOf Record) (a : Answer Record) (left : ℕ) (rest : Recalled → ℕ) → last ≡ Some asked → IsSpentLast r last a left (rest (recall_last r last a)) → IsStepSpent r asked a left (rest (recall r asked a))
+spent_last r last asked a left rest e spent = subst (λ w. IsSpentLast r w a left (rest (recall_last r w a))) e spent
+
+-- a state that has asked for Leave has a step left
+leaves : (r : Recalled) (spares : Spares) (state : State) → wanted_at spares state ≡ Some step.Leave → 0 < left_at r spares state
+leaves r spares (Leave reply) e = omega arith
+leaves r spares (Read round) e = omega arith
+leaves r spares (Write round) e = omega arith
+leaves r spares (Change now then) e = omega arith
+leaves r spares Begun e = cc
+leaves r spares Epoch e = cc
+leaves r spares (Enter epoch) e = cc
+
+-- and so has a sweep, which asks for none
+stays : (r : Recalled) (spares : Spares) (sweep : Option Sweep) (state : State) → asked_by sweep (wanted_at spares state) ≡ Some step.Leave → 0 < sweep_left sweep state + left_at r spares state
+stays r spares None state e = let some = leaves r spares state e in omega (arith, some)
+stays r spares (Some sweep) state e = absurd (sweeps_on sweep.actor sweep.state e)
+  where
+    reuses : (reuse : Reuse) → Some (step_of reuse) ≡ Some step.Leave → ⊥
+    reuses (Rows word bits) e = cc
+    reuses (Pids word bits) e = cc
+
+    sweeps_on : (actor : ℕ) (state : sweeping.State) → Some (wanted_at_sweep actor state) ≡ Some step.Leave → ⊥
+    sweeps_on actor at_sweep.Epoch e = cc
+    sweeps_on actor (at_sweep.Retire epoch) e = cc
+    sweeps_on actor (at_sweep.Announce announces) e = cc
+    sweeps_on actor (at_sweep.Reuse reuse) e = reuses reuse e
+
+more : (n m : ℕ) → 0 < n → 0 < n + m
+more n m some = omega arith
+
+-- it is done
+pub spends_last : (r : Recalled) (had has : Hand) (old : UnderWay) (a : Answer Record) → wanted_of old.op had ≡ Some step.Leave → IsSpentBy r had (Some old) old.wanted a has None
+spends_last r had has old a e = inl (more (sweep_left old.op.sweep old.op.state + left_at r had.spares old.op.state) (one_round * length old.op.task.errands) (stays r had.spares old.op.sweep old.op.state e))

@@ -1,0 +1,102 @@
+-- What an actor keeps, and what an answer makes of it.
+use Rattle.std.specs.Prelude.{◌≡◌, ℕ, List, [], Option, Some, None}
+use Rattle.bw_model.specs.declared.command.Command.{Command}
+use Rattle.bw_model.specs.declared.command.Reply.{Reply}
+use Rattle.bw_model.specs.declared.limits.Limits.{Limits}
+use Rattle.bw_model.specs.declared.step.Answer.{Answer}
+use Rattle.bw_model.specs.declared.step.Step.{Step as StepOf}
+use Rattle.deltas.specs.declared.record.Record.{Record}
+use Rattle.chain_search.specs.discipline.Discipline.{IsAllowed}
+use Rattle.chain_search.specs.discipline.Fitting.{Fits}
+use Rattle.chain_search.specs.discipline.Knowledge.{Knowledge, learn, finished}
+use Rattle.chain_search.specs.discipline.Recalled.{Recalled, recall}
+use Rattle.chain_search.specs.discipline.Useful.{IsUseful}
+use Rattle.op_machine.specs.machine.Hands.{Hand, empty_hand}
+use Rattle.op_machine.specs.machine.Ops.{Goes, IsAtRestWith}
+use Rattle.op_machine.specs.machine.UnderWay.{UnderWay}
+use Rattle.op_machine.specs.machine.UnderWay.{IsSpentBy}
+
+-- what an actor keeps between operations, and the operation that it is at
+pub record Actor : Type 0 where
+  pub hand : Hand
+  pub running : Option UnderWay
+
+abbrev pub idle_actor : Limits → Actor
+idle_actor limits = record { hand = empty_hand limits; running = None }
+
+-- it is at an operation
+abbrev pub at_work : Hand → UnderWay → Actor
+at_work hand running = record { hand = hand; running = Some running }
+
+-- An operation that is under way, with the step that it wants, which its actor may take by what it knows.
+pub record IsRunning (limits : Limits) (actor : ℕ) (k : Knowledge) (r : Recalled) (hand : Hand) (running : UnderWay) : Type 0 where
+  pub own_limits : running.op.task.limits ≡ limits
+  pub own_actor : running.op.task.actor ≡ actor
+  pub goes : Goes k r running.op hand running.wanted
+
+-- An actor without an operation rests.
+abbrev pub IsActorWith : Limits → ℕ → Knowledge → Recalled → Hand → Option UnderWay → Type 0
+IsActorWith limits actor k r hand None = IsAtRestWith limits actor hand k
+IsActorWith limits actor k r hand (Some running) = IsRunning limits actor k r hand running
+
+-- What the actor keeps shows what it knows and recalls. What its entries show as taken and not linked, rows and pages, is
+-- exactly its spares, and what they show as taken out of the tree and not freed is exactly its limbo.
+abbrev pub IsActor : Limits → ℕ → Knowledge → Recalled → Actor → Type 0
+IsActor limits actor k r at = IsActorWith limits actor k r at.hand at.running
+
+-- what the actor knows after its step
+abbrev pub knows_then : Knowledge → StepOf Record → Answer Record → Option Reply → Knowledge
+knows_then k step answer reply = finished (learn k step answer) reply
+
+abbrev pub command_at : Option UnderWay → Option Command
+command_at None = None
+command_at (Some running) = Some running.op.task.command
+
+-- the command of its operation, if it has one
+abbrev pub running_command : Actor → Option Command
+running_command at = command_at at.running
+
+abbrev pub errands_at : Option UnderWay → List (List ℕ)
+errands_at None = []
+errands_at (Some running) = running.op.task.errands
+
+-- the separators that its operation is still to visit, the newest last
+abbrev pub errands_of : Actor → List (List ℕ)
+errands_of at = errands_at at.running
+
+-- the step that its operation wants, if it has one
+abbrev pub wanted_by : Option UnderWay → Option (StepOf Record)
+wanted_by None = None
+wanted_by (Some running) = Some running.wanted
+
+-- the command that is left after a step with the reply
+abbrev pub command_left : Option Reply → Option Command → Option Command
+command_left None command = command
+command_left (Some reply) command = None
+
+-- An operation is under way that shows what is known, and the answer to the step that it wants fits that.
+pub record IsGoing (limits : Limits) (actor : ℕ) (k : Knowledge) (r : Recalled) (at : Actor) (answer : Answer Record) : Type 0 where
+  pub running : UnderWay
+  pub is : at.running ≡ Some running
+  pub shows : IsRunning limits actor k r at.hand running
+  pub fits : Fits limits k running.wanted answer
+
+-- Something is known that the actor shows.
+abbrev pub IsActorShown : Actor → Type 0
+IsActorShown at = (limits : Limits) × (actor : ℕ) × (k : Knowledge) × (r : Recalled) × IsActor limits actor k r at
+
+-- Something is known that it shows, and that the answer fits.
+pub record IsToldActor (at : Actor) (answer : Answer Record) : Type 0 where
+  pub limits : Limits
+  pub actor : ℕ
+  pub k : Knowledge
+  pub r : Recalled
+  pub going : IsGoing limits actor k r at answer
+
+-- The actor might take the step, with the reply; what it keeps then shows what it knows and recalls, and of the steps that were
+-- left it has spent one, or a cause paid for more.
+pub record ActsOn (limits : Limits) (actor : ℕ) (k : Knowledge) (r : Recalled) (old : Actor) (step : StepOf Record) (answer : Answer Record) (reply : Option Reply) (new : Actor) : Type 0 where
+  pub allowed : IsAllowed limits actor k step reply
+  pub useful : IsUseful k step
+  pub shows : IsActor limits actor (knows_then k step answer reply) (recall r step answer) new
+  pub spends : IsSpentBy r old.hand old.running step answer new.hand new.running

@@ -1,0 +1,30 @@
+-- For which key an operation's rounds look, and what is due there.
+use Rattle.std.specs.Prelude.{◌∷◌, [], ◌++◌, ◌-◌, ℕ, List, Bool, false, length, nat_lt, if◌then◌else◌, slice_get, unwrap_or}
+use Rattle.bw_model.specs.declared.command.Command.{Command}
+use Rattle.bw_model.specs.declared.command.Command.TheVariants.{Delete, Get, Insert, Page, Swap, Tidy, Upsert}
+use Rattle.bw_model.specs.Replies.{command_key}
+use Rattle.op_machine.specs.machine.Upkeep.{tidies}
+
+-- at most 16 errands are kept
+abbrev pub with_errand : List ℕ → List (List ℕ) → List (List ℕ)
+with_errand key errands = if nat_lt (length errands) 16 then errands ++ key ∷ [] else errands
+
+-- the newest errand's key, or the command's
+abbrev pub way_key : List (List ℕ) → Command → List ℕ
+way_key errands command = unwrap_or (slice_get errands (length errands - 1)) (command_key command)
+
+-- At how many deltas a round consolidates the leaf that it looks for: at the leaf of its own key a tidying does at one.
+abbrev pub due_of : List (List ℕ) → Command → ℕ
+due_of [] (Tidy key) = 1
+due_of [] (Get key) = 8
+due_of [] (Insert key value) = 8
+due_of [] (Upsert key value) = 8
+due_of [] (Delete key) = 8
+due_of [] (Swap key expected value) = 8
+due_of [] (Page key) = 8
+due_of (key ∷ errands) command = 8
+
+-- Whether a round holds and removes small pages of level 1 on its way: that of a deletion or a tidying for its own key does.
+abbrev pub tends_of : List (List ℕ) → Command → Bool
+tends_of [] command = tidies command
+tends_of (key ∷ errands) command = false

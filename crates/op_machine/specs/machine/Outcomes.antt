@@ -1,0 +1,181 @@
+-- What an operation faces where it goes from one state to another.
+use Rattle.std.specs.Prelude.{◌≡◌, ◌<◌, ◌≤◌, ◌||◌, ℕ, List, [], length, Bool, Option, None, Some, IfSome, IsSome, IsTrue, ⊤, true, false}
+use Rattle.bw_model.specs.declared.command.Reply.{Reply as ReplyOf}
+use Rattle.bw_model.specs.declared.step.Step.{Step as StepOf}
+use Rattle.bw_model.specs.declared.step.Step.TheVariants as step
+use Rattle.bw_model.specs.declared.step.Answer.{Answer}
+use Rattle.deltas.specs.declared.record.Record.{Record}
+use Rattle.chain_search.specs.chain.Chains.{IsChainFrom, covers, level_in}
+use Rattle.chain_search.specs.discipline.Discipline.{LacksRoom, MayReply, WasStanding}
+use Rattle.chain_search.specs.discipline.Knowledge.{Knowledge, Limbos, finished, learn}
+use Rattle.bw_model.specs.declared.limits.Limits.{Limits}
+use Rattle.chain_search.specs.discipline.Recalled.{Recalled}
+use Rattle.descent.specs.ReadRounds as read
+use Rattle.descent.specs.Versions.{IsAlive}
+use Rattle.descent.specs.WriteRounds as write
+use Rattle.descent.specs.ReadEnds.{ReadEnd}
+use Rattle.descent.specs.Courses.{Seek}
+use Rattle.descent.specs.WriteEnds.{WriteEnd}
+use Rattle.descent.specs.WriteEnds as write_end
+use Rattle.installs.specs.declared.change.End.{End}
+use Rattle.installs.specs.declared.change.End.TheVariants.{Won, Lost, Full}
+use Rattle.installs.specs.Spares.{Spares}
+use Rattle.smo.specs.Sizes.{HasFewItems}
+use Rattle.smo.specs.declared.version.Version.{Version}
+use Rattle.bw_model.specs.Replies.{command_key, is_writer}
+use Rattle.op_machine.specs.machine.Errands.{due_of, way_key}
+use Rattle.op_machine.specs.machine.Hands.{Unlinks}
+use Rattle.op_machine.specs.machine.Shows.{FitsLast, IsRoundOf, ShowsState, learn_last, recall_last, wanted_at}
+use Rattle.op_machine.specs.machine.Tasks.{IsBetweenChanges, IsAtRest, Seeks, Task, Waits}
+use Rattle.op_machine.specs.machine.States.{State, Change, Leave}
+use Rattle.op_machine.specs.machine.States as at
+use Rattle.op_machine.specs.declared.then.Then.{Then}
+use Rattle.op_machine.specs.declared.then.Then.TheVariants.{Round, Limbo, Errand, Reply}
+
+-- what an operation has come to, where it goes from one state to another: it begins, has read the epoch, has entered, or
+-- a round or a change has ended
+pub data Outcome : Type 0 where
+  Begun : Outcome
+  Epoch : (epoch : ℕ) → Outcome
+  Entered : Outcome
+  Read : (end : ReadEnd) → Outcome
+  Written : (end : WriteEnd) → Outcome
+  Changed : (end : End) (then : Then) → Outcome
+
+-- A reader's round has ended.
+pub record FacesRead (task : Task) (spares : Spares) (k : Knowledge) (r : Recalled) (end : ReadEnd) : Type 0 where
+  pub seeks : Seeks task spares k
+  pub reader : is_writer task.command ≡ false
+  pub round : read.ReadRound
+  pub limits : round.limits ≡ task.limits
+  pub key : round.key ≡ way_key [] task.command
+  pub ends : read.EndsRead round k r end
+
+-- A reader has read the chain of a leaf that has its key and stood.
+pub record StandsForReader (task : Task) (spares : Spares) (k : Knowledge) (head : ℕ) (leaf : List Record) : Type 0 where
+  pub seeks : Seeks task spares k
+  pub reader : is_writer task.command ≡ false
+  pub read : IsChainFrom k.read.seen head leaf
+  pub level : level_in leaf ≡ 0
+  pub covered : IsTrue (covers leaf (command_key task.command))
+  pub standing : WasStanding k head leaf
+
+-- A round that ends at the leaf of a key has gone to that leaf.
+abbrev pub HasSought : write.WriteRound → WriteEnd → Type 0
+HasSought round (write_end.Leaf parent leaf) = round.goal ≡ Seek
+HasSought round end = ⊤
+
+-- A writer's round has ended.
+pub record FacesWritten (task : Task) (spares : Spares) (k : Knowledge) (r : Recalled) (end : WriteEnd) : Type 0 where
+  pub seeks : Seeks task spares k
+  pub writer : is_writer task.command ≡ true
+  pub round : write.WriteRound
+  pub round_of : IsRoundOf task round
+  pub sought : HasSought round end
+  pub ends : write.EndsWrite round k r end
+
+-- A writer is at the leaf that its round looked for, where nothing else is due.
+pub record IsAtLeaf (task : Task) (spares : Spares) (k : Knowledge) (r : Recalled) (leaf : Version) : Type 0 where
+  pub seeks : Seeks task spares k
+  pub writer : is_writer task.command ≡ true
+  pub page : IsAlive task.limits k r leaf
+  pub level : level_in leaf.chain ≡ 0
+  pub covered : IsTrue (covers leaf.chain (way_key task.errands task.command))
+  pub short : length leaf.chain ≤ 8
+  pub early : length leaf.chain ≤ due_of task.errands task.command
+  pub few : HasFewItems leaf.chain
+
+-- The same, and the page above it, where one was read before it, which has its term.
+pub record IsAtLeafBelow (task : Task) (spares : Spares) (k : Knowledge) (r : Recalled) (parent : Option Version) (leaf : Version) : Type 0 where
+  pub at : IsAtLeaf task spares k r leaf
+  pub above : IfSome parent (write.IsUpper task.limits k r leaf)
+  pub termed : write.IsTermed leaf parent
+
+-- A change has ended: an update was linked, and justifies the reply; or no update was linked, and, where it is full, nothing
+-- is free.
+abbrev pub FacesChanged : Task → Spares → Knowledge → End → Then → Type 0
+FacesChanged task spares k Won (Reply answered) = IsBetweenChanges task spares k × MayReply task.limits task.actor k answered
+FacesChanged task spares k Won Round = Seeks task spares k × (is_writer task.command ≡ true)
+FacesChanged task spares k Won (Limbo unlinked) = Seeks task spares k × (is_writer task.command ≡ true)
+FacesChanged task spares k Won (Errand key) = Seeks task spares k × (is_writer task.command ≡ true)
+FacesChanged task spares k Lost then = Seeks task spares k × (is_writer task.command ≡ true)
+FacesChanged task spares k Full then = Seeks task spares k × (is_writer task.command ≡ true) × LacksRoom task.limits k
+
+abbrev pub Faces : Task → Spares → Knowledge → Recalled → Outcome → Type 0
+Faces task spares k r Begun = Waits task spares k
+Faces task spares k r (Epoch epoch) = Waits task spares k × (0 < epoch) × (k.limbo.epoch ≡ Some epoch)
+Faces task spares k r Entered = Seeks task spares k
+Faces task spares k r (Read end) = FacesRead task spares k r end
+Faces task spares k r (Written end) = FacesWritten task spares k r end
+Faces task spares k r (Changed end then) = FacesChanged task spares k end then
+
+-- Something is known that the state shows, and the answer fits it.
+pub record IsToldAt (state : State) (spares : Spares) (told : Answer Record) : Type 0 where
+  pub task : Task
+  pub k : Knowledge
+  pub r : Recalled
+  pub stands : ShowsState task spares k r state
+  pub fits : FitsLast task.limits k (wanted_at spares state) told
+
+-- Something is known that the outcome faces.
+pub record IsFaced (task : Task) (spares : Spares) (outcome : Outcome) : Type 0 where
+  pub k : Knowledge
+  pub r : Recalled
+  pub faces : Faces task spares k r outcome
+
+-- whether the first step was asked for
+abbrev pub has_begun : State → Bool
+has_begun at.Begun = false
+has_begun state = true
+
+-- whether a change is under way
+abbrev pub is_changing : State → Bool
+is_changing (Change now then) = true
+is_changing state = false
+
+-- whether a reader's round is under way, and a writer's
+abbrev pub is_reading : State → Bool
+is_reading (at.Read round) = true
+is_reading state = false
+
+abbrev pub is_writing : State → Bool
+is_writing (at.Write round) = true
+is_writing state = false
+
+-- whether the state has a machine of its own
+abbrev pub has_machine : State → Bool
+has_machine state = is_reading state || is_writing state || is_changing state
+
+-- whether the last step was asked for
+abbrev pub is_leaving : State → Bool
+is_leaving (Leave reply) = true
+is_leaving state = false
+
+-- what is known to be in limbo after a change's step
+abbrev pub UnlinksAfter : Limits → Knowledge → Option (End × Then) → Limbos → Type 0
+UnlinksAfter limits k None after = after ≡ k.limbo
+UnlinksAfter limits k (Some ended) after = Unlinks limits k ended.0 ended.1 after
+
+-- what the operation has come to at the end of a round, and of a change, once it has come
+abbrev pub read_out : Option ReadEnd → Option Outcome
+read_out None = None
+read_out (Some end) = Some (Read end)
+
+abbrev pub written_out : Option WriteEnd → Option Outcome
+written_out None = None
+written_out (Some end) = Some (Written end)
+
+abbrev pub changed : Option (End × Then) → Option Outcome
+changed None = None
+changed (Some ended) = Some (Changed ended.0 ended.1)
+
+-- The last step was Leave, its actor may reply so with it, and rests after it.
+pub record HasLeft (task : Task) (k : Knowledge) (last : Option (StepOf Record)) (told : Answer Record) (spares : Spares) (reply : ReplyOf) : Type 0 where
+  pub is_last : last ≡ Some step.Leave
+  pub may : MayReply task.limits task.actor k reply
+  pub rests : IsAtRest task.limits spares (finished (learn k step.Leave told) (Some reply))
+
+-- what comes of an answer: the same state goes on, or the operation faces what comes next
+abbrev pub Comes : Task → Knowledge → Recalled → Option (StepOf Record) → Answer Record → State → Spares → Option Outcome → Type 0
+Comes task k r last told new has None = ShowsState task has (learn_last k last told) (recall_last r last told) new × IsSome (wanted_at has new)
+Comes task k r last told new has (Some outcome) = Faces task has (learn_last k last told) (recall_last r last told) outcome

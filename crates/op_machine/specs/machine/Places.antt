@@ -1,0 +1,82 @@
+-- The places of an operation: the state that they are, by where the operation stands.
+use Rattle.std.specs.Prelude.{◌≡◌, false, Option, Some, None}
+use Rattle.bw_model.specs.declared.command.Reply.{Reply as ReplyOf}
+use Rattle.bw_model.specs.declared.limits.Limits.{Limits}
+use Rattle.bw_model.specs.declared.step.Answer.{Answer}
+use Rattle.deltas.specs.declared.record.Record.{Record}
+use Rattle.chain_search.specs.chain.Chains.{level_in, low_in}
+use Rattle.descent.specs.Courses as course
+use Rattle.descent.specs.ReadRounds as read
+use Rattle.descent.specs.Rounds.{Responds}
+use Rattle.descent.specs.WriteResponses as response
+use Rattle.descent.specs.WriteRounds as write
+use Rattle.descent.specs.Descents.{Root}
+use Rattle.descent.specs.ReadEnds.{ReadEnd}
+use Rattle.descent.specs.WriteEnds.{WriteEnd}
+use Rattle.installs.specs.Changes.{Change as ChangeOf}
+use Rattle.installs.specs.declared.change.End.{End}
+use Rattle.rounds.specs.ReadRounds.{PlacedRead}
+use Rattle.rounds.specs.WriteRounds.{PlacedWrite}
+use Rattle.op_machine.specs.declared.places.Stand.{Stand}
+use Rattle.op_machine.specs.declared.places.Stand.TheVariants.{Begun, Epoch, Enter, Read, Write, Change, Leave}
+use Rattle.op_machine.specs.machine.States.{State}
+use Rattle.op_machine.specs.machine.States as at
+use Rattle.op_machine.specs.declared.then.Then.{Then}
+
+-- Where the operation stands, the rounds and the change, what comes after the change, and the reply, each in its place.
+pub record OpPlaces : Type 0 where
+  pub stand : Stand
+  pub reader : PlacedRead
+  pub writer : PlacedWrite
+  pub change : ChangeOf
+  pub then : Then
+  pub reply : ReplyOf
+
+abbrev pub state_at : Stand → read.ReadRound → write.WriteRound → ChangeOf → Then → ReplyOf → State
+state_at Begun reader writer change then reply = at.Begun
+state_at Epoch reader writer change then reply = at.Epoch
+state_at (Enter epoch) reader writer change then reply = at.Enter epoch
+state_at Read reader writer change then reply = at.Read reader
+state_at Write reader writer change then reply = at.Write writer
+state_at Change reader writer change then reply = at.Change change then
+state_at Leave reader writer change then reply = at.Leave reply
+
+-- the state that the places are
+abbrev pub state_of : OpPlaces → State
+state_of places = state_at places.stand places.reader.round places.writer.round places.change places.then places.reply
+
+-- Both rounds have these limits.
+pub record HaveLimits (limits : Limits) (places : OpPlaces) : Type 0 where
+  pub reader : places.reader.round.limits ≡ limits
+  pub writer : places.writer.round.limits ≡ limits
+
+-- a writer's round to the left of the page in the hand of one
+abbrev pub left_round_of : PlacedWrite → write.WriteRound
+left_round_of writer = record {
+  limits = writer.round.limits;
+  key = low_in writer.page.chain;
+  due = 8;
+  tends = false;
+  floor = level_in writer.page.chain;
+  goal = course.Left writer.page.pid;
+  parent = None;
+  left = None;
+  state = Root;
+}
+
+-- The reader's round has taken the answer, and nothing else has changed.
+pub record ReadsOn (old : OpPlaces) (told : Answer Record) (new : OpPlaces) (result : Option ReadEnd) : Type 0 where
+  pub responds : Responds read.reading old.reader.round told new.reader.round result
+  pub same : read.IsSame old.reader.round new.reader.round
+  pub only : new ≡ record old { reader = new.reader }
+
+-- The same of the writer's round.
+pub record WritesOn (old : OpPlaces) (told : Answer Record) (new : OpPlaces) (result : Option WriteEnd) : Type 0 where
+  pub responds : Responds response.writing old.writer.round told new.writer.round result
+  pub same : write.IsSame old.writer.round new.writer.round
+  pub only : new ≡ record old { writer = new.writer }
+
+-- the end of a change, with what comes then
+abbrev pub ended_with : Then → Option End → Option (End × Then)
+ended_with then None = None
+ended_with then (Some end) = Some (end, then)

@@ -1,0 +1,13 @@
+pub mod Links
+pub mod Operations
+pub mod Points
+pub mod Answered
+pub mod Quiet
+pub mod Faithful
+pub mod Phases
+pub mod Index
+pub mod Reuse
+pub mod Direct
+pub mod Linearized
+pub mod Examples
+pub mod Updates

@@ -1,0 +1,37 @@
+-- What the theorem says of a run.
+use Rattle.std.specs.Prelude.{List, Bool}
+use Rattle.bw_model.specs.declared.limits.Limits.{Limits}
+use Rattle.chain_search.specs.declared.trace.Entry.{Entry}
+use Rattle.chain_search.specs.declared.trace.Turn.{Turn}
+use Rattle.chain_search.specs.trace.Run.{IsRunOf}
+use Rattle.op_machine.specs.theorem.Operations.{EndAtLeaves}
+use Rattle.op_machine.specs.theorem.Points.{HasPoints}
+use Rattle.op_machine.specs.theorem.Answered.{IsAnswered}
+use Rattle.op_machine.specs.theorem.Quiet.{IsQuiet}
+use Rattle.op_machine.specs.theorem.Faithful.{IsFaithful}
+use Rattle.op_machine.specs.theorem.Updates.{UpdatesAtLinks}
+use Rattle.op_machine.specs.theorem.Phases.{KeepsPhases}
+use Rattle.op_machine.specs.theorem.Index.{IsExactIndex}
+use Rattle.op_machine.specs.theorem.Direct.{IsDirect}
+use Rattle.op_machine.specs.theorem.Reuse.{IsFreedByRule}
+
+-- The entries are a run of the turns, in which each operation ends with its only Leave, with linearization points: each finished
+-- operation replies what one ordered map replies at its point, or Tidied or Full, which have none and tell what it found; that map
+-- is updated where a put or a delete is linked and by no other step; and each record that is read is the one whose row's name was
+-- learnt.
+pub record IsLinearized (limits : Limits) (turns : List Turn) (entries : List Entry) : Type 0 where
+  pub run : IsRunOf limits turns entries
+  pub ends : EndAtLeaves entries
+  pub points : List Bool
+  pub pointed : HasPoints entries points
+  pub answered : IsAnswered limits entries points
+  pub updates : UpdatesAtLinks limits entries points
+  pub quiet : IsQuiet limits entries points
+  pub faithful : IsFaithful limits entries
+
+-- What stands beside it: the life of each page, the terms of each level, bounded steps, and the rule by which rows and PIDs are used again.
+pub record IsOrderly (limits : Limits) (entries : List Entry) : Type 0 where
+  pub phases : KeepsPhases limits entries
+  pub index : IsExactIndex limits entries
+  pub direct : IsDirect limits entries
+  pub freed : IsFreedByRule limits entries

@@ -1,0 +1,165 @@
+//! One actor.
+ghost use Rattle.std.specs.Prelude.{◌≡◌, ◌≢◌, ◌<◌, ◌^◌, ℕ, IfErr, IfOk, IsSome, MatchBool, None, Some, is_some, option_copied};
+ghost use Rattle.op_machine.specs.machine.Actors.{ActsOn, IsActor, IsGoing, IsActorShown, IsToldActor, errands_of, idle_actor, running_command, wanted_by};
+ghost use Rattle.op_machine.specs.machine.UnderWay.{steps_due};
+ghost use Rattle.bw_model.specs.Answers.{answer_of};
+ghost use Rattle.bw_model.specs.Lent.{lent};
+ghost use Rattle.bw_model.specs.declared.limits.Limits.{Limits as LimitsSeen};
+ghost use Rattle.bw_model.specs.declared.step.Answer.TheVariants.{Content, Done};
+ghost use Rattle.chain_search.specs.discipline.Knowledge.{Knowledge, begun, nothing};
+ghost use Rattle.chain_search.specs.discipline.Recalled.{Recalled, blank};
+
+use crate::{Hand, Operation};
+use bw_model::{Command, Key, Limits, OpenError, Reply, Step, Told};
+use deltas::Record;
+use row_chain::HeldRow;
+use std::alloc::{Allocator, Global};
+use std::marker::Model;
+
+/// What an actor keeps between operations, and the operation that it is at, or the room for the next one.
+#[derive(Drop)]
+pub struct Actor<A: Allocator = Global> {
+    hand: Hand<A>,
+    operation: Operation<A>,
+    is_running: bool,
+}
+
+impl<A: Allocator> Model for Actor<A> {
+    ghost use Rattle.op_machine.specs.machine.Actors.{Actor};
+    ghost use Rattle.op_machine.specs.machine.UnderWay.{AsksIf, running_at};
+
+    ghost Value = { Actor };
+
+    ghost view = { λ a. record { hand = a.hand; running = running_at a.is_running a.operation a.hand } };
+
+    ghost invariant = { λ a. AsksIf a.is_running a.operation a.hand };
+}
+
+/// An actor that holds nothing and has no operation keeps what shows that nothing is known.
+pub fn idle_actors_rest()
+    ensures { (limits : LimitsSeen) (number : ℕ) (r : Recalled) → IsActor limits number nothing r (idle_actor limits) }
+{}
+
+impl<A: Allocator + Copy> Actor<A> {
+    /// An actor that holds nothing and has no operation. Takes the memory for its limbo and for the pages of its operations' rounds,
+    /// and is refused for want of it alone. No later call takes memory.
+    pub fn idle(alloc: A, limits: &Limits) -> Result<Actor<A>, OpenError>
+        ensures ok { IfOk result (λ actor. actor ≡ idle_actor limits.now) }
+        ensures err { IfErr result (λ error. error ≡ OpenError.Memory) }
+    {
+        let hand = Hand::<A>::new(alloc, limits)?;
+        match Operation::<A>::new(alloc, limits) {
+            Ok(operation) => Ok(Actor {
+                hand,
+                operation,
+                is_running: false,
+            }),
+            Err(_) => Err(OpenError::Memory),
+        }
+    }
+}
+
+impl<A: Allocator> Actor<A> {
+    /// Whether it has an operation.
+    pub fn is_running(&self) -> bool
+        ensures { result ≡ is_some (running_command self.now) }
+    {
+        self.is_running
+    }
+
+    /// The command of its operation, if it has one.
+    pub fn command(&self) -> Option<&Command>
+        ensures { option_copied result ≡ running_command self.now }
+    {
+        if self.is_running {
+            Some(self.operation.command())
+        } else {
+            None
+        }
+    }
+
+    /// What it keeps between operations.
+    pub fn hand(&self) -> &Hand<A>
+        ensures { result.now ≡ self.now.hand }
+    {
+        &self.hand
+    }
+
+    /// The separators of splits that its operation has linked and is still to visit, the newest last; none without an operation.
+    pub fn errands(&self) -> &[Key]
+        ensures { result.now ≡ errands_of self.now }
+    {
+        if self.is_running {
+            self.operation.errands()
+        } else {
+            &[]
+        }
+    }
+
+    /// The step that its operation wants, with the record that is to be placed lent from where it lies.
+    pub fn wanted(&self) -> Step<&Record>
+        requires shown { IsActorShown self.now }
+        requires running { IsSome (running_command self.now) }
+        ensures { wanted_by self.now.running ≡ Some (lent result) }
+    {
+        self.operation.wanted(&self.hand)
+    }
+
+    /// Whether the step that its operation wants is the leave, which alone ends it.
+    pub fn is_leaving(&self) -> bool
+        requires shown { IsActorShown self.now }
+        requires running { IsSome (running_command self.now) }
+        ensures { MatchBool result (wanted_by self.now.running ≡ Some Step.Leave) (wanted_by self.now.running ≢ Some Step.Leave) }
+    {
+        matches!(self.wanted(), Step::Leave)
+    }
+
+    /// Begins an operation, in the place of the last one.
+    pub fn begin(&mut self, command: Command, number: u8, limits: &Limits)
+        requires shows { (k : Knowledge) × (r : Recalled) × IsActor limits.now number k r self.old }
+        requires idle { running_command self.old ≡ None }
+        requires there { number < limits.now.actors }
+        ensures shows { (k : Knowledge) (r : Recalled) → IsActor limits.now number k r self.old → IsActor limits.now number (begun k command) blank self.new }
+        ensures command { running_command self.new ≡ Some command }
+        ensures bounded { steps_due blank self.new.hand self.new.running < 2 ^ 18 }
+    {
+        self.operation.begin(command, number, limits);
+        self.operation.go_on(&mut self.hand, Told::Start);
+        self.is_running = true;
+        let _ = self.operation.wanted(&self.hand);
+    }
+
+    /// Takes the answer to the step that its operation wants, which isn't the leave and reads no row, so that the operation goes on.
+    pub fn go_on(&mut self, told: Told)
+        requires told { IsToldActor self.old (answer_of told) }
+        requires stays { wanted_by self.old.running ≢ Some Step.Leave }
+        ensures goes { (limits : LimitsSeen) (number : ℕ) (k : Knowledge) (r : Recalled) (going : IsGoing limits number k r self.old (answer_of told)) → ActsOn limits number k r self.old going.running.wanted (answer_of told) None self.new }
+        ensures command { running_command self.new ≡ running_command self.old }
+    {
+        self.operation.go_on(&mut self.hand, told);
+        let _ = self.operation.wanted(&self.hand);
+    }
+
+    /// Takes the row that its operation wanted to read, and gives another one in its place.
+    pub fn take_row(&mut self, row: &mut HeldRow<A>)
+        requires told { IsToldActor self.old (Content row.old) }
+        requires stays { wanted_by self.old.running ≢ Some Step.Leave }
+        ensures goes { (limits : LimitsSeen) (number : ℕ) (k : Knowledge) (r : Recalled) (going : IsGoing limits number k r self.old (Content row.old)) → ActsOn limits number k r self.old going.running.wanted (Content row.old) None self.new }
+        ensures command { running_command self.new ≡ running_command self.old }
+    {
+        self.operation.take_row(&mut self.hand, row);
+        let _ = self.operation.wanted(&self.hand);
+    }
+
+    /// Takes the leave that its operation wants, and answers the reply: the operation is done.
+    #[inline(never)]
+    pub fn leave(&mut self) -> Reply
+        requires told { IsToldActor self.old Done }
+        requires leaves { wanted_by self.old.running ≡ Some Step.Leave }
+        ensures goes { (limits : LimitsSeen) (number : ℕ) (k : Knowledge) (r : Recalled) (going : IsGoing limits number k r self.old Done) → ActsOn limits number k r self.old going.running.wanted Done (Some result) self.new }
+        ensures command { running_command self.new ≡ None }
+    {
+        self.is_running = false;
+        self.operation.leave()
+    }
+}
