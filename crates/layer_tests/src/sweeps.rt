@@ -1,5 +1,6 @@
 //! Sweeps step by step: what they ask for, in which order, and what is left in limbo.
 ghost use Rattle.std.specs.Prelude.{◌≡◌, ◌<◌, ◌≤◌, ◌^◌};
+ghost use Rattle.bw_model.specs.Answers.{answer_of};
 ghost use Rattle.bw_model.specs.declared.limits.Limits.{Limits as LimitsSeen};
 ghost use Rattle.chain_search.specs.discipline.Fitting.{Fits};
 ghost use Rattle.chain_search.specs.discipline.Knowledge.{nothing};
@@ -7,7 +8,7 @@ ghost use Rattle.sweep.specs.Kept.{IsLimboOf, empty_limbo};
 ghost use Rattle.sweep.specs.Sweeps.{IsOfSweep};
 
 use arrayvec::ArrayString;
-use bw_model::{Answer, Limits, Step};
+use bw_model::{Limits, Step, Told};
 use deltas::Record;
 use epochs::{Item, Limbo};
 use std::alloc::Global;
@@ -22,20 +23,20 @@ type Case = (&'static [Item], u64, &'static [u64], &'static str, bool);
 type Log = ArrayString<256>;
 
 /// The answer to a step of a sweep, where this is the epoch, and the actors announce these.
-fn told(epoch: u64, announced: &[u64], step: &Step<Record>) -> Answer<Record>
+fn told(epoch: u64, announced: &[u64], step: &Step<Record>) -> Told
     requires some { 0 < epoch }
     requires small { epoch ≤ 2 ^ 62 }
     requires only { IsOfSweep step.now }
-    ensures fits { (limits : LimitsSeen) → Fits limits nothing step.now result }
+    ensures fits { (limits : LimitsSeen) → Fits limits nothing step.now (answer_of result) }
 {
     match step {
-        Step::Epoch => Answer::Number(epoch),
+        Step::Epoch => Told::Number(epoch),
         Step::Announce(other) => {
             let read = announced.get(usize::from(*other)).copied().unwrap_or(0);
-            Answer::Number(read.min(1 << 62))
+            Told::Number(read.min(1 << 62))
         }
-        Step::Retire(_) => Answer::Whether(true),
-        Step::ReuseRows(_, _) | Step::ReusePids(_, _) => Answer::Done,
+        Step::Retire(_) => Told::Whether(true),
+        Step::ReuseRows(_, _) | Step::ReusePids(_, _) => Told::Done,
         _ => unreachable!(),
     }
 }
@@ -67,7 +68,7 @@ fn drive(limits: &Limits, actor: u8, limbo: &mut Limbo, epoch: u64, announced: &
     for _ in 0..24 {
         let step = sweep.step();
         show(&mut log, &step);
-        if !sweep.next(limbo, &told(epoch, announced, &step)) {
+        if !sweep.next(limbo, told(epoch, announced, &step)) {
             return log;
         }
     }

@@ -11,7 +11,7 @@ use Rattle.descent.specs.Descents.{Descent, Responds, Root, Page, descending}
 use Rattle.descent.specs.Machines.{IsTold}
 use Rattle.descent.specs.Visits as page
 use Rattle.descent.specs.Visits.{Empty, Whole, VisitState, Slot, Row}
-use Rattle.descent.proofs.Visiting.{row_below}
+use Rattle.descent.proofs.Visiting.{row_below, whole_chain}
 
 -- a descent at a page
 abbrev pub visiting : Limits → ℕ → List Record → VisitState → Descent

@@ -1,5 +1,6 @@
 //! The sweep of an actor's limbo, one step at a time.
 ghost use Rattle.std.specs.Prelude.{◌≡◌, ◌<◌, ◌≤◌, ◌+◌, ◌↔◌, IsNone, IsTrue, None, Some, MatchOption, IfSome};
+ghost use Rattle.bw_model.specs.Answers.{answer_of};
 ghost use Rattle.chain_search.specs.discipline.Discipline.{May, MayFree};
 ghost use Rattle.chain_search.specs.discipline.Fitting.{Fits};
 ghost use Rattle.chain_search.specs.discipline.Knowledge.{Knowledge, learn};
@@ -12,7 +13,7 @@ ghost use Rattle.sweep.specs.Moves.{BeginsSweep, Compares, Frees, IsEmpty, Moves
 ghost use Rattle.sweep.specs.Sweeps.{Follows, IsOfSweep, IsSame, IsSoundSweep, FitsSweep, IsKeptOutside, Shows, other_at, wanted};
 
 use crate::announces::Announces;
-use bw_model::{Answer, Limits, Step};
+use bw_model::{Limits, Step, Told};
 use deltas::Record;
 use epochs::{Limbo, Reuse};
 use std::alloc::Allocator;
@@ -91,19 +92,19 @@ impl Sweep {
     }
 
     /// Takes the answer to the step wanted last, and tells whether the sweep goes on.
-    pub fn next<A: Allocator>(&mut self, limbo: &mut Limbo<A>, answer: &Answer<Record>) -> bool
+    pub fn next<A: Allocator>(&mut self, limbo: &mut Limbo<A>, told: Told) -> bool
         requires sound { IsSoundSweep self.old limbo.old }
-        requires told { FitsSweep self.old answer.now }
-        ensures moves { Moves self.old.limits self.old.state limbo.old answer.now (state_if result self.new.state) limbo.new }
+        requires told { FitsSweep self.old (answer_of told) }
+        ensures moves { Moves self.old.limits self.old.state limbo.old (answer_of told) (state_if result self.new.state) limbo.new }
         ensures same { IsSame self.old self.new }
-        ensures follows { (k : Knowledge) → Shows self.old limbo.old k → Fits self.old.limits k (wanted self.old) answer.now → Follows k (learn k (wanted self.old) answer.now) self.new limbo.new result }
+        ensures follows { (k : Knowledge) → Shows self.old limbo.old k → Fits self.old.limits k (wanted self.old) (answer_of told) → Follows k (learn k (wanted self.old) (answer_of told)) self.new limbo.new result }
         ensures sound { IsTrue result → IsSoundSweep self.new limbo.new }
         ensures lists { IsLimboOf self.old.limits limbo.new }
         ensures spends { Spends result self.old.state self.new.state }
     {
         let _ = &self.limits;
         limbo.has_each_once();
-        match self.move_on(limbo, answer) {
+        match self.move_on(limbo, told) {
             Some(state) => {
                 self.state = state;
                 true
@@ -113,20 +114,16 @@ impl Sweep {
     }
 
     /// The state that follows, if the sweep goes on.
-    fn move_on<A: Allocator>(
-        &mut self,
-        limbo: &mut Limbo<A>,
-        answer: &Answer<Record>,
-    ) -> Option<State>
-        requires told { FitsSweep self.old answer.now }
-        ensures moves { Moves self.old.limits self.old.state limbo.old answer.now result limbo.new }
+    fn move_on<A: Allocator>(&mut self, limbo: &mut Limbo<A>, told: Told) -> Option<State>
+        requires told { FitsSweep self.old (answer_of told) }
+        ensures moves { Moves self.old.limits self.old.state limbo.old (answer_of told) result limbo.new }
         ensures same { IsSame self.old self.new }
     {
         match mem::replace(&mut self.state, State::Epoch) {
-            State::Epoch => stamp(&self.limits, limbo, answer.number()),
+            State::Epoch => stamp(&self.limits, limbo, told.number()),
             State::Retire { .. } => compare(&self.limits, limbo, Announces::new()),
             State::Announce { announces } => {
-                compare(&self.limits, limbo, announces.with(answer.number()))
+                compare(&self.limits, limbo, announces.with(told.number()))
             }
             State::Reuse { .. } => free(limbo),
         }
