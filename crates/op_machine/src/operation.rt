@@ -31,7 +31,7 @@ ghost use Rattle.chain_search.specs.discipline.Fitting.{Fits};
 use crate::hand::Hand;
 use crate::places::{Places, Stand};
 use crate::task::Task;
-use bw_model::{Answer, Command, Key, Limits, Reply, Step, Told};
+use bw_model::{Command, Key, Limits, Reply, Step, Told};
 use deltas::Record;
 use epochs::Limbo;
 use installs::{End, Spares};
@@ -179,7 +179,7 @@ impl<A: Allocator> Operation<A> {
     {
         self.sweep = match self.sweep.take() {
             None => self.task.sweep(limbo),
-            Some(sweep) => swept(sweep, limbo, &told.answer()),
+            Some(sweep) => swept(sweep, limbo, told),
         };
         self.sweep.is_some()
     }
@@ -350,16 +350,16 @@ fn sweeping<'a>(sweep: &Sweep) -> Step<&'a Record>
 }
 
 /// The sweep after an answer, if it goes on.
-fn swept<A: Allocator>(sweep: Sweep, limbo: &mut Limbo<A>, answer: &Answer<Record>) -> Option<Sweep>
+fn swept<A: Allocator>(sweep: Sweep, limbo: &mut Limbo<A>, told: Told) -> Option<Sweep>
     requires sound { IsSoundSweep sweep limbo.old }
-    requires told { IsToldSweepAlone sweep answer.now }
-    ensures follows { (k : Knowledge) → ShowsSweep sweep limbo.old k → Fits sweep.limits k (sweep_wants sweep) answer.now → FollowsSweep k (learn k (sweep_wants sweep) answer.now) sweep result limbo.new }
+    requires told { IsToldSweepAlone sweep (answer_of told) }
+    ensures follows { (k : Knowledge) → ShowsSweep sweep limbo.old k → Fits sweep.limits k (sweep_wants sweep) (answer_of told) → FollowsSweep k (learn k (sweep_wants sweep) (answer_of told)) sweep result limbo.new }
     ensures sound { IfSome result (λ next. IsSoundSweep next limbo.new) }
     ensures few { IfSome result (λ next. steps_of next.state < steps_of sweep.state) }
     ensures same { IfSome result (λ next. (next.limits ≡ sweep.limits) × (next.actor ≡ sweep.actor)) }
 {
     let mut sweep = sweep;
-    if sweep.next(limbo, answer) {
+    if sweep.next(limbo, told) {
         Some(sweep)
     } else {
         None
