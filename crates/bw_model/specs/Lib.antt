@@ -6,5 +6,6 @@ pub mod Limits
 pub mod Log
 pub mod Pairs
 pub mod Replies
+pub mod Room
 pub mod Schedules
 pub mod Words

@@ -7,6 +7,7 @@ mod examples;
 mod key;
 mod limits;
 mod pairs;
+mod room;
 mod schedule;
 mod short_bytes;
 mod step;

@@ -4,6 +4,12 @@ ghost use Rattle.bw_model.specs.Limits.{AreLimits};
 
 use thiserror::Error;
 
+/// How many actors there are at most.
+pub(crate) const MAX_ACTORS: u64 = 16;
+
+/// How many PIDs there are at most.
+pub(crate) const MAX_PIDS: u64 = 4096;
+
 /// A number is outside the range that is stated for it.
 #[derive(Clone, Copy, Debug, PartialEq, Eq, Error)]
 #[error("a limit is outside its range")]
@@ -42,8 +48,8 @@ impl Limits {
         ensures rows { IfOk result (λ limits. limits.rows ≡ rows) }
         ensures epoch { IfOk result (λ limits. limits.epoch ≡ epoch) }
     {
-        let allowed = (1..=16).contains(&actors)
-            && (64..=4096).contains(&pids)
+        let allowed = (1..=MAX_ACTORS).contains(&actors)
+            && (64..=MAX_PIDS).contains(&pids)
             && pids % 64 == 0
             && (64..=16384).contains(&rows)
             && rows % 64 == 0

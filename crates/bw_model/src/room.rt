@@ -1,0 +1,86 @@
+//! Limits by the number of keys. specs/Room.antt has the rule in one place, and docs/DECISIONS.md the reasons.
+ghost use Rattle.std.specs.Prelude.{◌≡◌, ◌≤◌, ◌^◌, ◌↔◌, IsOk, IfOk};
+ghost use Rattle.bw_model.specs.Limits.{AreLimits};
+ghost use Rattle.bw_model.specs.Room.{in_whole_words, pages_for, pids_for, rows_for};
+
+use crate::limits::{BadLimits, Limits, MAX_ACTORS, MAX_PIDS};
+
+/// The bits of a word of free PIDs or rows.
+const WORD_BITS: u64 = 64;
+
+/// As many keys as a split leaves on both sides at least.
+const LEAF_KEYS: u64 = 8;
+
+/// How many leaves there are for each page above them at least, but for the root.
+const LEAVES_BELOW: u64 = 6;
+
+/// The rows of the longest chain: a base under as many deltas as make a consolidation due.
+const CHAIN_ROWS: u64 = 9;
+
+/// How many PIDs a seat may hold back: a spare one, and those of three pages in limbo.
+const SEAT_PIDS: u64 = 4;
+
+/// How many rows a seat may hold back beside those of removed pages: two spare ones, and those of eight chains in limbo.
+const SEAT_ROWS: u64 = 74;
+
+/// The epoch that opens.
+const FIRST_EPOCH: u64 = 1;
+
+impl Limits {
+    /// Limits of a tree that holds so many different keys, in whatever order they come and go: all keys count that the tree has or
+    /// ever had. They have enough PIDs for the pages that these keys can make, and enough rows for the longest chain of each page, with room for what each seat may hold
+    /// back. Refused exactly where that is more than limits may have: for one actor above 12,247 keys, for 16 above 10,959.
+    ///
+    /// It is a proposal, by a rule that docs/DECISIONS.md explains, and no promise that `Full` never comes: a seat that is stopped inside an
+    /// operation holds back all that the others take out meanwhile.
+    pub fn for_keys(actors: u64, keys: u64) -> Result<Limits, BadLimits>
+        ensures allowed { IsOk result ↔ AreLimits actors (pids_for actors keys) (rows_for actors (pids_for actors keys)) 1 }
+        ensures actors { IfOk result (λ limits. limits.actors ≡ actors) }
+        ensures pids { IfOk result (λ limits. limits.pids ≡ pids_for actors keys) }
+        ensures rows { IfOk result (λ limits. limits.rows ≡ rows_for actors (pids_for actors keys)) }
+        ensures epoch { IfOk result (λ limits. limits.epoch ≡ 1) }
+    {
+        if actors > MAX_ACTORS {
+            return Err(BadLimits);
+        }
+        let pids = pids_for(actors, keys);
+        if pids > MAX_PIDS {
+            return Err(BadLimits);
+        }
+        Limits::new(actors, pids, rows_for(actors, pids), FIRST_EPOCH)
+    }
+}
+
+/// The PIDs that so many keys can take.
+fn pids_for(actors: u64, keys: u64) -> u64
+    requires few { actors ≤ 16 }
+    ensures { result ≡ pids_for actors keys }
+{
+    in_whole_words(1 + pages_for(keys) + SEAT_PIDS * actors)
+}
+
+/// The pages that so many keys can make.
+fn pages_for(keys: u64) -> u64
+    ensures pages { result ≡ pages_for keys }
+    ensures few { result ≤ 2 ^ 62 }
+{
+    let leaves = keys / LEAF_KEYS + 1;
+    leaves + leaves / LEAVES_BELOW + 1
+}
+
+/// The rows that so many PIDs can take.
+fn rows_for(actors: u64, pids: u64) -> u64
+    requires actors { actors ≤ 16 }
+    requires pids { pids ≤ 4096 }
+    ensures { result ≡ rows_for actors pids }
+{
+    in_whole_words(CHAIN_ROWS * pids + SEAT_ROWS * actors)
+}
+
+/// As many, up to the end of the last word.
+fn in_whole_words(count: u64) -> u64
+    requires { count ≤ 2 ^ 63 }
+    ensures { result ≡ in_whole_words count }
+{
+    count.div_ceil(WORD_BITS) * WORD_BITS
+}
