@@ -243,8 +243,8 @@ pub spends_from : (old new : ReadRound) (told : Answer Record) (result : Option 
 spends_from old new told result responds = by_step reading (λ round. refl) (λ o x n e. Pays n e o x) old new told result responds
     (λ root reserve kept k r h f. inl (omega arith))
     (λ visit next b reserve kept k r h f.
-      let s = sought old.limits old.key old.goal k r visit old.leg h in
-      still (with_walk reserve) r (page.wanted visit) told _ _ (read_round_kept kept old.goal) (spent_on reserve old.limits s.way s.beyond k r visit s.level s.low s.earlier told s.seeks f next b))
+    let s = sought old.limits old.key old.goal k r visit old.leg h in
+    still (with_walk reserve) r (page.wanted visit) told _ _ (read_round_kept kept old.goal) (spent_on reserve old.limits s.way s.beyond k r visit s.level s.low s.earlier told s.seeks f next b))
     (λ visit next sight b sees. paid old new told visit next sight result b sees)
 
 -- what the round shows, its descent does

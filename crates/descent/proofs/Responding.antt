@@ -28,5 +28,5 @@ module _ {Round End : Type 0} (rounds : Rounds Round End) (stays : (round : Roun
       | inr b ↦ back old (λ o x. P o x new result) (Page b.visit) told told b.asked refl (rw (way.none, way.same ∙ ap (λ (d : Descent). rounds.at old d.state) b.goes) (visits b.visit b.next b.responds))
     ]
     | inr from ↦ back old (λ o x. P o x new result) (Page from.finds.visit) told told from.finds.asked refl
-      (finds from.finds.visit from.finds.next from.sight from.finds.responds (subst (λ (o : Round). Sees rounds o from.sight new result) (gone_to old (Page from.finds.visit) from.finds.asked) from.sees))
+        (finds from.finds.visit from.finds.next from.sight from.finds.responds (subst (λ (o : Round). Sees rounds o from.sight new result) (gone_to old (Page from.finds.visit) from.finds.asked) from.sees))
   ]

@@ -161,7 +161,7 @@ pub spends_from : (old new : WriteRound) (told : Answer Record) (result : Option
 spends_from old new told result responds = by_step writing (λ round. refl) (λ o x n e. Pays n e o x) old new told result responds
     (λ pid reserve kept k r h f. inl (omega arith))
     (λ visit next b reserve kept k r h f.
-      still (with_walk reserve) r (page.wanted visit) told _ _ (write_round_kept kept old.goal) (spent_on reserve old.limits (write_way old.goal old.key) (is_cutting old.goal) k r visit h.level h.low h.earlier told h.seeks f next b))
+    still (with_walk reserve) r (page.wanted visit) told _ _ (write_round_kept kept old.goal) (spent_on reserve old.limits (write_way old.goal old.key) (is_cutting old.goal) k r visit h.level h.low h.earlier told h.seeks f next b))
     (λ visit next sight b sees. paid old new told visit next sight result b sees)
 
 -- what the round shows, its descent does

@@ -7,9 +7,9 @@ ghost use Rattle.chain_search.specs.trace.Tables.{memory_in};
 ghost use Rattle.chain_search.specs.trace.Trace.{command_of, memory_of};
 ghost use Rattle.tree_law.specs.LevelPages.{HasAllLevels};
 
-use op_machine::Actor;
 use super::Core;
 use chain_search::Table;
+use op_machine::Actor;
 use std::alloc::Allocator;
 use tree_law::levels_stand;
 
