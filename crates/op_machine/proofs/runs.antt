@@ -1,3 +1,4 @@
+pub mod Kinds
 pub mod Lookup
 pub mod InsertAndLookup
 pub mod PageLife

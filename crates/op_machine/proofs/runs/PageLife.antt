@@ -1,18 +1,15 @@
 -- The life of a page: split off, indexed by a new root, held, removed, merged, taken out of the index, and its slot emptied.
 use Rattle.std.specs.Prelude.{codes}
-use Rattle.std.proofs.Common.{◌≡◌, ◌<◌, ℕ, List, [], ◌∷◌, Bool, true, false, None, Option, refl, subst, arith, inl, inr, lit<}
+use Rattle.std.proofs.Common.{◌≡◌, ◌<◌, ◌∙◌, ℕ, List, [], ◌∷◌, Bool, true, false, None, Some, Option, refl, sym, subst, arith, lit<}
 use Rattle.std.specs.Prelude.{not, take, if◌then◌else◌}
-use Rattle.bw_model.specs.declared.command.Reply.{Reply}
-use Rattle.bw_model.specs.declared.step.Step.{Step as StepOf}
 use Rattle.bw_model.specs.declared.step.Step.TheVariants.{Exchange}
-use Rattle.bw_model.specs.declared.step.Answer.{Answer}
 use Rattle.bw_model.specs.declared.step.Answer.TheVariants.{Whether}
 use Rattle.deltas.specs.declared.record.Record.TheVariants.{Base}
 use Rattle.deltas.specs.declared.record.Record.{Record}
 use Rattle.chain_search.specs.declared.trace.Entry.TheVariants.{Step}
 use Rattle.chain_search.specs.chain.Chains.{IsChainOf}
 use Rattle.chain_search.specs.trace.Run.{IsRun, MayPlace}
-use Rattle.chain_search.specs.trace.Trace.{memory_at, memory_of, TakesStep}
+use Rattle.chain_search.specs.trace.Trace.{memory_at, memory_of}
 use Rattle.chain_search.proofs.RunLaws.{IsRun-from_steps}
 use Rattle.op_machine.specs.theorem.Points.{log_at}
 use Rattle.op_machine.specs.theorem.Quiet.{IsQuiet, HasMapOf}
@@ -20,7 +17,8 @@ use Rattle.std.specs.Prelude.{replicate}
 use Rattle.std.proofs.Common.{ap}
 use Rattle.chain_search.specs.chain.Chains.{low_in, high_in, right_in}
 use Rattle.op_machine.specs.theorem.Examples.{small, opening_leaf, new_leaf, split_away, root_page, root, remove_leaf, merge_leaf, index_above, page_life}
-use Rattle.op_machine.proofs.Listed.{EachAt-get, slice_get-from_take, UpTo-at}
+use Rattle.op_machine.proofs.Listed.{UpTo, UpTo-at, UpTo-parts, all_at, behind}
+use Rattle.op_machine.proofs.runs.Kinds.{is_of, leaf_at, may_place}
 use Rattle.bw_model.specs.Bytes.{is_below, is_in_range}
 use Rattle.base_page.specs.declared.item.Content.{Content as ContentOf}
 use Rattle.chain_search.specs.chain.SideChain.{IsWhole}
@@ -28,23 +26,14 @@ use Rattle.chain_search.specs.chain.Chains.{content_in, level_in}
 use Rattle.op_machine.specs.theorem.Phases.{MakesRoot, MovesAt, free, owned, fresh, indexed, held, removed, merged, cleared, takes, splits, becomes_root, under_root, holds, removes, merges, unterms}
 use Rattle.op_machine.specs.theorem.Index.{IsLevel, IsRootLevel, IsPageOfLevel, HasTerm}
 use Rattle.op_machine.proofs.MapLaws.{no_values}
-use Rattle.chain_search.proofs.ChainLaws.{unplaced, IsChainOf-unique}
+use Rattle.chain_search.proofs.ChainLaws.{IsChainOf-unique}
 
--- each step is actor 0's
-alone : (k n actor : ℕ) (step : StepOf Record) (answer : Answer Record) → TakesStep (take k page_life) n actor step answer → actor ≡ 0
-alone k n actor step answer h = EachAt-get (λ j entry. (a : ℕ) (s : StepOf Record) (b : Answer Record) (r : Option Reply) → entry ≡ Step a s b r → a ≡ 0) page_life
-    (λ a s b r e. cc, (λ a s b r e. cc, (λ a s b r e. cc, (λ a s b r e. cc, (λ a s b r e. cc, (λ a s b r e. cc, (λ a s b r e. cc, (λ a s b r e. cc, (λ a s b r e. cc, (λ a s b r e. cc, (λ a s b r e. cc, (λ a s b r e. cc, (λ a s b r e. cc, (λ a s b r e. cc, (λ a s b r e. cc, (λ a s b r e. cc, (λ a s b r e. cc, (λ a s b r e. cc, (λ a s b r e. cc, (λ a s b r e. cc, (λ a s b r e. cc, (λ a s b r e. cc, (λ a s b r e. cc, (λ a s b r e. cc, (λ a s b r e. cc, (λ a s b r e. cc, tt)))))))))))))))))))))))))) n _ (slice_get-from_take k page_life n _ h.1) actor step answer h.0 refl
-
-place : (k row : ℕ) → (memory_of small (take k page_life)).free_rows row ≡ false → (memory_of small (take k page_life)).rows row ≡ None → MayPlace small (take k page_life) 0 row
-place k row taken empty = record {
-  taken = taken;
-  unlinked = unplaced (memory_of small (take k page_life)) row empty;
-  unlearnt = λ other differs learnt. differs (elim learnt.1 [ inl shown ↦ alone k learnt.0 other _ _ shown.2 | inr shown ↦ alone k learnt.0 other _ _ shown.2 ]);
-}
+place : (k row : ℕ) → all_at (λ n. is_of 0) (take k page_life) ≡ true → (memory_of small (take k page_life)).free_rows row ≡ false → (memory_of small (take k page_life)).rows row ≡ None → MayPlace small (take k page_life) 0 row
+place k row = may_place (take k page_life) row
 
 pub is_run : IsRun small page_life
 is_run = IsRun-from_steps small page_life
-    ((lit< tt, refl), ((refl, tt, refl), ((refl, tt, refl), ((refl, tt, refl), ((refl, tt, refl), ((refl, tt, refl), ((refl, tt, refl), ((refl, tt, refl), ((refl, tt, refl), ((refl, tt, refl), ((refl, place 10 2 refl refl, refl), ((refl, tt, refl), ((refl, place 12 3 refl refl, refl), ((refl, tt, refl), ((refl, place 14 4 refl refl, refl), ((refl, tt, refl), ((refl, tt, refl), ((refl, place 17 5 refl refl, refl), ((refl, tt, refl), ((refl, place 19 6 refl refl, refl), ((refl, tt, refl), ((refl, place 21 7 refl refl, refl), ((refl, tt, refl), ((refl, place 23 8 refl refl, refl), ((refl, tt, refl), ((refl, tt, refl), tt))))))))))))))))))))))))))
+    ((lit< tt, refl), ((refl, tt, refl), ((refl, tt, refl), ((refl, tt, refl), ((refl, tt, refl), ((refl, tt, refl), ((refl, tt, refl), ((refl, tt, refl), ((refl, tt, refl), ((refl, tt, refl), ((refl, place 10 2 refl refl refl, refl), ((refl, tt, refl), ((refl, place 12 3 refl refl refl, refl), ((refl, tt, refl), ((refl, place 14 4 refl refl refl, refl), ((refl, tt, refl), ((refl, tt, refl), ((refl, place 17 5 refl refl refl, refl), ((refl, tt, refl), ((refl, place 19 6 refl refl refl, refl), ((refl, tt, refl), ((refl, place 21 7 refl refl refl, refl), ((refl, tt, refl), ((refl, place 23 8 refl refl refl, refl), ((refl, tt, refl), ((refl, tt, refl), tt))))))))))))))))))))))))))
 
 pub taken_2 : MovesAt small page_life 1 2 free owned
 taken_2 = record { entry = _; at = refl; holds = takes 0 (None, refl) }
@@ -84,34 +73,75 @@ both key = by_cases (is_in_range (codes "m") None key) (not (is_below key (codes
     by_cases true b = refl
     by_cases false b = absent_or_absent b
 
+-- the left page, once the right one is split off it
+split_at : (k : ℕ) → (memory_at small page_life k).slots 1 ≡ 3 → (memory_at small page_life k).rows 3 ≡ Some split_away → (memory_at small page_life k).rows 1 ≡ Some opening_leaf → IsChainOf (memory_at small page_life k) 1 (split_away ∷ opening_leaf ∷ [])
+split_at k slot split leaf = record { page = lit< tt; linked = rw slot (lit< tt); records = rw slot (split, (leaf, refl)) }
+
 pub is_quiet : IsQuiet small page_life (replicate 26 false)
 is_quiet = record {
-  at_each = UpTo-at (λ k. HasMapOf (memory_at small page_life k) (log_at page_life (replicate 26 false) k)) 26
-      (alone_leaf 0 (record { page = lit< tt; linked = lit< tt; records = (refl, refl) }), (alone_leaf 1 (record { page = lit< tt; linked = lit< tt; records = (refl, refl) }), (alone_leaf 2 (record { page = lit< tt; linked = lit< tt; records = (refl, refl) }), (alone_leaf 3 (record { page = lit< tt; linked = lit< tt; records = (refl, refl) }), (alone_leaf 4 (record { page = lit< tt; linked = lit< tt; records = (refl, refl) }), (alone_leaf 5 (record { page = lit< tt; linked = lit< tt; records = (refl, refl) }), (alone_leaf 6 (record { page = lit< tt; linked = lit< tt; records = (refl, refl) }), (alone_leaf 7 (record { page = lit< tt; linked = lit< tt; records = (refl, refl) }), (alone_leaf 8 (record { page = lit< tt; linked = lit< tt; records = (refl, refl) }), (alone_leaf 9 (record { page = lit< tt; linked = lit< tt; records = (refl, refl) }), (alone_leaf 10 (record { page = lit< tt; linked = lit< tt; records = (refl, refl) }), (alone_leaf 11 (record { page = lit< tt; linked = lit< tt; records = (refl, refl) }), (alone_leaf 12 (record { page = lit< tt; linked = lit< tt; records = (refl, refl) }), (alone_leaf 13 (record { page = lit< tt; linked = lit< tt; records = (refl, refl) }), (two_leaves 14 (new_leaf ∷ []) (record { page = lit< tt; linked = lit< tt; records = (refl, (refl, refl)) }) (record { page = lit< tt; linked = lit< tt; records = (refl, refl) }) refl refl (λ key. refl), (two_leaves 15 (new_leaf ∷ []) (record { page = lit< tt; linked = lit< tt; records = (refl, (refl, refl)) }) (record { page = lit< tt; linked = lit< tt; records = (refl, refl) }) refl refl (λ key. refl), (two_leaves 16 (new_leaf ∷ []) (record { page = lit< tt; linked = lit< tt; records = (refl, (refl, refl)) }) (record { page = lit< tt; linked = lit< tt; records = (refl, refl) }) refl refl (λ key. refl), (two_leaves 17 (new_leaf ∷ []) (record { page = lit< tt; linked = lit< tt; records = (refl, (refl, refl)) }) (record { page = lit< tt; linked = lit< tt; records = (refl, refl) }) refl refl (λ key. refl), (two_leaves 18 (new_leaf ∷ []) (record { page = lit< tt; linked = lit< tt; records = (refl, (refl, refl)) }) (record { page = lit< tt; linked = lit< tt; records = (refl, refl) }) refl refl (λ key. refl), (two_leaves 19 (new_leaf ∷ []) (record { page = lit< tt; linked = lit< tt; records = (refl, (refl, refl)) }) (record { page = lit< tt; linked = lit< tt; records = (refl, refl) }) refl refl (λ key. refl), (two_leaves 20 (new_leaf ∷ []) (record { page = lit< tt; linked = lit< tt; records = (refl, (refl, refl)) }) (record { page = lit< tt; linked = lit< tt; records = (refl, refl) }) refl refl (λ key. refl), (two_leaves 21 (remove_leaf ∷ new_leaf ∷ []) (record { page = lit< tt; linked = lit< tt; records = (refl, (refl, refl)) }) (record { page = lit< tt; linked = lit< tt; records = (refl, (refl, refl)) }) refl refl (λ key. refl), (two_leaves 22 (remove_leaf ∷ new_leaf ∷ []) (record { page = lit< tt; linked = lit< tt; records = (refl, (refl, refl)) }) (record { page = lit< tt; linked = lit< tt; records = (refl, (refl, refl)) }) refl refl (λ key. refl), (merged_leaf 23 (record { page = lit< tt; linked = lit< tt; records = (refl, (refl, (refl, refl))) }), (merged_leaf 24 (record { page = lit< tt; linked = lit< tt; records = (refl, (refl, (refl, refl))) }), (merged_leaf 25 (record { page = lit< tt; linked = lit< tt; records = (refl, (refl, (refl, refl))) }), merged_leaf 26 (record { page = lit< tt; linked = lit< tt; records = (refl, (refl, (refl, refl))) })))))))))))))))))))))))))));
+  at_each = UpTo-at Empty 26 (UpTo-parts Empty 13 12 alone (UpTo-parts (behind 13 Empty) 8 3 beside merged));
 }
   where
-    alone_leaf : (k : ℕ) → IsChainOf (memory_at small page_life k) 1 (opening_leaf ∷ []) → HasMapOf (memory_at small page_life k) []
-    alone_leaf k is = no_values (memory_at small page_life k) (record { pid = 1; chain = opening_leaf ∷ [] } ∷ []) (refl, is, refl) (refl, refl) (λ key. refl, tt)
+    Empty : ℕ → Type 0
+    Empty k = HasMapOf (memory_at small page_life k) (log_at page_life (replicate 26 false) k)
+
+    alone_leaf : (k : ℕ) → (memory_at small page_life k).slots 1 ≡ 1 → (memory_at small page_life k).rows 1 ≡ Some opening_leaf → HasMapOf (memory_at small page_life k) []
+    alone_leaf k slot row = no_values (memory_at small page_life k) (record { pid = 1; chain = opening_leaf ∷ [] } ∷ []) (refl, leaf_at page_life k slot row, refl) (refl, refl) (λ key. refl, tt)
 
     two_leaves : (k : ℕ) (right : List Record) → IsChainOf (memory_at small page_life k) 1 (split_away ∷ opening_leaf ∷ []) → IsChainOf (memory_at small page_life k) 2 right
         → ◌≡◌ {A = List ℕ × Option (List ℕ)} (low_in right, high_in right) (codes "m", None) → right_in right ≡ None → ((key : List ℕ) → content_in right key ≡ None) → HasMapOf (memory_at small page_life k) []
     two_leaves k right is other range last empty = no_values (memory_at small page_life k) (record { pid = 1; chain = split_away ∷ opening_leaf ∷ [] } ∷ record { pid = 2; chain = right } ∷ [])
         (refl, is, (refl, other, rw last refl)) (refl, (ap (λ r. r.0) range, let none : high_in right ≡ None = ap (λ r. r.1) range in rw none refl)) (λ key. absent_or_absent (not (is_below key (codes "m"))), (empty, tt))
 
+    -- the right page stands
+    new_right : (k : ℕ) → (memory_at small page_life k).slots 1 ≡ 3 → (memory_at small page_life k).rows 3 ≡ Some split_away → (memory_at small page_life k).rows 1 ≡ Some opening_leaf
+        → (memory_at small page_life k).slots 2 ≡ 2 → (memory_at small page_life k).rows 2 ≡ Some new_leaf → HasMapOf (memory_at small page_life k) []
+    new_right k slot split leaf other right = two_leaves k (new_leaf ∷ []) (split_at k slot split leaf) (record { page = lit< tt; linked = rw other (lit< tt); records = rw other (right, refl) }) refl refl (λ key. refl)
+
+    -- it is removed
+    gone_right : (k : ℕ) → IsChainOf (memory_at small page_life k) 1 (split_away ∷ opening_leaf ∷ []) → IsChainOf (memory_at small page_life k) 2 (remove_leaf ∷ new_leaf ∷ []) → HasMapOf (memory_at small page_life k) []
+    gone_right k is other = two_leaves k (remove_leaf ∷ new_leaf ∷ []) is other refl refl (λ key. refl)
+
     merged_leaf : (k : ℕ) → IsChainOf (memory_at small page_life k) 1 (merge_leaf ∷ split_away ∷ opening_leaf ∷ []) → HasMapOf (memory_at small page_life k) []
     merged_leaf k is = no_values (memory_at small page_life k) (record { pid = 1; chain = merge_leaf ∷ split_away ∷ opening_leaf ∷ [] } ∷ []) (refl, is, refl) (refl, refl) (λ key. both key, tt)
 
-pub not_yet : (earlier : ℕ) → earlier < 17 → ¬ IsRootLevel (memory_at small page_life earlier) 1
-not_yet earlier h = UpTo-at (λ k. ¬ IsRootLevel (memory_at small page_life k) 1) 16
-    (leaf_root 0 (record { page = lit< tt; linked = lit< tt; records = (refl, refl) }), (leaf_root 1 (record { page = lit< tt; linked = lit< tt; records = (refl, refl) }), (leaf_root 2 (record { page = lit< tt; linked = lit< tt; records = (refl, refl) }), (leaf_root 3 (record { page = lit< tt; linked = lit< tt; records = (refl, refl) }), (leaf_root 4 (record { page = lit< tt; linked = lit< tt; records = (refl, refl) }), (leaf_root 5 (record { page = lit< tt; linked = lit< tt; records = (refl, refl) }), (leaf_root 6 (record { page = lit< tt; linked = lit< tt; records = (refl, refl) }), (leaf_root 7 (record { page = lit< tt; linked = lit< tt; records = (refl, refl) }), (leaf_root 8 (record { page = lit< tt; linked = lit< tt; records = (refl, refl) }), (leaf_root 9 (record { page = lit< tt; linked = lit< tt; records = (refl, refl) }), (leaf_root 10 (record { page = lit< tt; linked = lit< tt; records = (refl, refl) }), (leaf_root 11 (record { page = lit< tt; linked = lit< tt; records = (refl, refl) }), (leaf_root 12 (record { page = lit< tt; linked = lit< tt; records = (refl, refl) }), (leaf_root 13 (record { page = lit< tt; linked = lit< tt; records = (refl, refl) }), (split_root 14 (record { page = lit< tt; linked = lit< tt; records = (refl, (refl, refl)) }), (split_root 15 (record { page = lit< tt; linked = lit< tt; records = (refl, (refl, refl)) }), split_root 16 (record { page = lit< tt; linked = lit< tt; records = (refl, (refl, refl)) }))))))))))))))))) earlier (omega arith)
-  where
-    leaf_root : (k : ℕ) → IsChainOf (memory_at small page_life k) 1 (opening_leaf ∷ []) → IsPageOfLevel (memory_at small page_life k) 1 1 → ⊥
-    leaf_root k is (chain, other, level) = let same : chain ≡ opening_leaf ∷ [] = IsChainOf-unique (memory_at small page_life k) 1 chain (opening_leaf ∷ []) other is in
-        let odd : ◌≡◌ {A = ℕ} 0 1 = subst (λ c. level_in c ≡ 1) same level in cc
+    alone : UpTo Empty 13
+    alone = (alone_leaf 0 refl refl, (alone_leaf 1 refl refl, (alone_leaf 2 refl refl, (alone_leaf 3 refl refl, (alone_leaf 4 refl refl, (alone_leaf 5 refl refl, (alone_leaf 6 refl refl, (alone_leaf 7 refl refl, (alone_leaf 8 refl refl, (alone_leaf 9 refl refl, (alone_leaf 10 refl refl, (alone_leaf 11 refl refl, (alone_leaf 12 refl refl, alone_leaf 13 refl refl)))))))))))))
 
-    split_root : (k : ℕ) → IsChainOf (memory_at small page_life k) 1 (split_away ∷ opening_leaf ∷ []) → IsPageOfLevel (memory_at small page_life k) 1 1 → ⊥
-    split_root k is (chain, other, level) = let same : chain ≡ split_away ∷ opening_leaf ∷ [] = IsChainOf-unique (memory_at small page_life k) 1 chain (split_away ∷ opening_leaf ∷ []) other is in
-        let odd : ◌≡◌ {A = ℕ} 0 1 = subst (λ c. level_in c ≡ 1) same level in cc
+    standing : UpTo (behind 13 Empty) 6
+    standing = (new_right 14 refl refl refl refl refl, (new_right 15 refl refl refl refl refl, (new_right 16 refl refl refl refl refl, (new_right 17 refl refl refl refl refl, (new_right 18 refl refl refl refl refl, (new_right 19 refl refl refl refl refl, new_right 20 refl refl refl refl refl))))))
+
+    removed_right : UpTo (behind 6 (behind 13 Empty)) 1
+    removed_right = (gone_right 21 (record { page = lit< tt; linked = lit< tt; records = (refl, (refl, refl)) }) (record { page = lit< tt; linked = lit< tt; records = (refl, (refl, refl)) }), gone_right 22 (record { page = lit< tt; linked = lit< tt; records = (refl, (refl, refl)) }) (record { page = lit< tt; linked = lit< tt; records = (refl, (refl, refl)) }))
+
+    beside : UpTo (behind 13 Empty) 8
+    beside = UpTo-parts (behind 13 Empty) 6 1 standing removed_right
+
+    merged : UpTo (behind 8 (behind 13 Empty)) 3
+    merged = (merged_leaf 23 (record { page = lit< tt; linked = lit< tt; records = (refl, (refl, (refl, refl))) }), (merged_leaf 24 (record { page = lit< tt; linked = lit< tt; records = (refl, (refl, (refl, refl))) }), (merged_leaf 25 (record { page = lit< tt; linked = lit< tt; records = (refl, (refl, (refl, refl))) }), merged_leaf 26 (record { page = lit< tt; linked = lit< tt; records = (refl, (refl, (refl, refl))) }))))
+
+pub not_yet : (earlier : ℕ) → earlier < 17 → ¬ IsRootLevel (memory_at small page_life earlier) 1
+not_yet earlier h = UpTo-at NoRoot 16 (UpTo-parts NoRoot 13 2 alone split) earlier (omega arith)
+  where
+    NoRoot : ℕ → Type 0
+    NoRoot k = ¬ IsRootLevel (memory_at small page_life k) 1
+
+    no_root : (k : ℕ) (chain : List Record) → IsChainOf (memory_at small page_life k) 1 chain → level_in chain ≡ 0 → IsPageOfLevel (memory_at small page_life k) 1 1 → ⊥
+    no_root k chain is leaf (found, other, level) =
+        let same : found ≡ chain = IsChainOf-unique (memory_at small page_life k) 1 found chain other is in
+        let odd : ◌≡◌ {A = ℕ} 0 1 = sym leaf ∙ subst (λ c. level_in c ≡ 1) same level in cc
+
+    leaf_root : (k : ℕ) → (memory_at small page_life k).slots 1 ≡ 1 → (memory_at small page_life k).rows 1 ≡ Some opening_leaf → IsPageOfLevel (memory_at small page_life k) 1 1 → ⊥
+    leaf_root k slot row = no_root k (opening_leaf ∷ []) (leaf_at page_life k slot row) refl
+
+    split_root : (k : ℕ) → (memory_at small page_life k).slots 1 ≡ 3 → (memory_at small page_life k).rows 3 ≡ Some split_away → (memory_at small page_life k).rows 1 ≡ Some opening_leaf → IsPageOfLevel (memory_at small page_life k) 1 1 → ⊥
+    split_root k slot split leaf = no_root k (split_away ∷ opening_leaf ∷ []) (split_at k slot split leaf) refl
+
+    alone : UpTo NoRoot 13
+    alone = (leaf_root 0 refl refl, (leaf_root 1 refl refl, (leaf_root 2 refl refl, (leaf_root 3 refl refl, (leaf_root 4 refl refl, (leaf_root 5 refl refl, (leaf_root 6 refl refl, (leaf_root 7 refl refl, (leaf_root 8 refl refl, (leaf_root 9 refl refl, (leaf_root 10 refl refl, (leaf_root 11 refl refl, (leaf_root 12 refl refl, leaf_root 13 refl refl)))))))))))))
+
+    split : UpTo (behind 13 NoRoot) 2
+    split = (split_root 14 refl refl refl, (split_root 15 refl refl refl, split_root 16 refl refl refl))
 
 pub index_level : IsLevel small page_life 19 1 (index_above ∷ [])
 index_level = (
