@@ -14,7 +14,6 @@ use Rattle.bw_model.specs.declared.step.Answer.TheVariants.{Done}
 use Rattle.deltas.specs.Memory.{Memory}
 use Rattle.chain_search.specs.declared.trace.Entry.{Entry}
 use Rattle.chain_search.specs.declared.trace.Entry.TheVariants.{Begin, Step}
-use Rattle.chain_search.specs.chain.Chains.{IsChainOf}
 use Rattle.chain_search.specs.chain.SideChain.{Spells}
 use Rattle.chain_search.specs.trace.Run.{IsRun}
 use Rattle.chain_search.specs.trace.Trace.{memory_at, turn_of}
@@ -26,7 +25,8 @@ use Rattle.op_machine.specs.theorem.Answered.{IsAnswered, IsTrueReply, RepliesAt
 use Rattle.op_machine.specs.theorem.Quiet.{IsQuiet, HasMapOf}
 use Rattle.op_machine.specs.theorem.Linearized.{IsLinearized}
 use Rattle.op_machine.specs.theorem.Examples.{small, opening_leaf, claimed_insert}
-use Rattle.op_machine.proofs.Listed.{EachAt-get, UpTo-at}
+use Rattle.op_machine.proofs.Listed.{EachAt-get, UpTo-at, stands_at}
+use Rattle.op_machine.proofs.runs.Kinds.{is_begin, leaf_at}
 use Rattle.op_machine.proofs.LogLaws.{log_at-step}
 use Rattle.op_machine.proofs.MapLaws.{one_leaf}
 
@@ -41,8 +41,7 @@ abbrev the_insert : Operation
 the_insert = record { start = 0; actor = 0; command = insert }
 
 first_only : (later : ℕ) (command : Command) → 0 < later → slice_get claimed_insert later ≡ Some (Begin 0 command) → ⊥
-first_only later command after e = EachAt-get (λ k entry. 0 < k → (c : Command) → entry ≡ Begin 0 c → ⊥) claimed_insert
-    (λ h c e. absurd (omega arith), (λ h c e. cc, (λ h c e. cc, (λ h c e. cc, (λ h c e. cc, (λ h c e. cc, (λ h c e. cc, tt))))))) later _ e after command refl
+first_only later command after e = let first : later ≡ 0 = stands_at is_begin claimed_insert later _ e refl in omega arith
 
 finishes : Finishes claimed_insert the_insert 6 reply.Inserted
 finishes = (Leave, Done, record { begun = lit< tt; entry = refl; not_ended = λ later command low high e. first_only later command low e })
@@ -63,10 +62,10 @@ updates n entry e low = EachAt-get (λ k x. 0 < k → (log : List Update) → up
 
 empty : (n : ℕ) → n ≤ 7 → HasMapOf (memory_at small claimed_insert n) []
 empty n h = UpTo-at (λ k. HasMapOf (memory_at small claimed_insert k) []) 7
-    (one 0 (record { page = lit< tt; linked = lit< tt; records = (refl, refl) }), (one 1 (record { page = lit< tt; linked = lit< tt; records = (refl, refl) }), (one 2 (record { page = lit< tt; linked = lit< tt; records = (refl, refl) }), (one 3 (record { page = lit< tt; linked = lit< tt; records = (refl, refl) }), (one 4 (record { page = lit< tt; linked = lit< tt; records = (refl, refl) }), (one 5 (record { page = lit< tt; linked = lit< tt; records = (refl, refl) }), (one 6 (record { page = lit< tt; linked = lit< tt; records = (refl, refl) }), one 7 (record { page = lit< tt; linked = lit< tt; records = (refl, refl) })))))))) n h
+    (one 0 refl refl, (one 1 refl refl, (one 2 refl refl, (one 3 refl refl, (one 4 refl refl, (one 5 refl refl, (one 6 refl refl, one 7 refl refl))))))) n h
   where
-    one : (k : ℕ) → IsChainOf (memory_at small claimed_insert k) 1 (opening_leaf ∷ []) → HasMapOf (memory_at small claimed_insert k) []
-    one k is = one_leaf (memory_at small claimed_insert k) [] (opening_leaf ∷ []) is refl refl refl (λ key. refl)
+    one : (k : ℕ) → (memory_at small claimed_insert k).slots 1 ≡ 1 → (memory_at small claimed_insert k).rows 1 ≡ Some opening_leaf → HasMapOf (memory_at small claimed_insert k) []
+    one k slot row = one_leaf (memory_at small claimed_insert k) [] (opening_leaf ∷ []) (leaf_at claimed_insert k slot row) refl refl refl (λ key. refl)
 
 no_map : (n : ℕ) → n ≤ 7 → (log : List Update) → logged_value log (codes "a") ≡ Some (codes "1") → HasMapOf (memory_at small claimed_insert n) log → ⊥
 no_map n h log has map_of =

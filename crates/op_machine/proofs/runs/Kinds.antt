@@ -2,6 +2,8 @@
 use Rattle.std.proofs.Common.{◌≡◌, ◌<◌, ◌==◌, ◌||◌, ℕ, List, [], ◌∷◌, Bool, true, false, Some, None, Option, refl, inl, inr, lit<}
 use Rattle.std.specs.Prelude.{not}
 use Rattle.std.proofs.lemmas.Bool.{eqb-true}
+use Rattle.bw_model.specs.declared.command.Command.{Command}
+use Rattle.bw_model.specs.declared.command.Reply.{Reply}
 use Rattle.bw_model.specs.declared.step.Step.{Step as StepOf}
 use Rattle.bw_model.specs.declared.step.Step.TheVariants.{Row, Exchange, Announce, ReusePids, ReuseRows}
 use Rattle.bw_model.specs.declared.step.Answer.{Answer}
@@ -78,3 +80,17 @@ outside entries all n actor step answer h none = by_test ((memory_at small entri
     by_test : (announced : ℕ) (touches : Bool) → announced ≡ 0 → (not (announced == 0) || not touches) ≡ true → touches ≡ false
     by_test announced false none passes = refl
     by_test announced true none passes = let odd : (not (0 == 0) || not true) ≡ true = rw none at passes in cc
+
+-- two entries that are one
+
+pub one_begin : {a b : ℕ} {c d : Command} → Some (Begin a c) ≡ Some (Begin b d) → (b ≡ a) × (d ≡ c)
+one_begin e = (cc, cc)
+
+pub one_reply : {a b : ℕ} {s t : StepOf Record} {x y : Answer Record} {r u : Reply} → Some (Step a s x (Some r)) ≡ Some (Step b t y (Some u)) → u ≡ r
+one_reply e = cc
+
+pub one_row : {a b row other : ℕ} {x y : Answer Record} {r u : Option Reply} → Some (Step a (Row row) x r) ≡ Some (Step b (Row other) y u) → (b ≡ a) × (other ≡ row)
+one_row e = (cc, cc)
+
+pub one_reuse : {a b word other bits more : ℕ} {x y : Answer Record} {r u : Option Reply} → Some (Step a (ReuseRows word bits) x r) ≡ Some (Step b (ReuseRows other more) y u) → (b ≡ a) × (other ≡ word) × (more ≡ bits)
+one_reuse e = (cc, cc, cc)

@@ -1,13 +1,13 @@
 -- An actor looks a key up in the opening tree, and finds none: a run with its point, answered, quiet and faithful.
 use Rattle.std.specs.Prelude.{codes}
-use Rattle.std.proofs.Common.{◌≡◌, ◌<◌, ◌≤◌, ℕ, suc, List, [], ◌∷◌, ◌++◌, Bool, true, false, Some, None, Option, refl, sym, subst, ap, arith, inl, lit<, lit≤, ◌+◌, ◌*◌, ◌^◌, ◌∙◌}
+use Rattle.std.proofs.Common.{◌≡◌, ◌<◌, ◌≤◌, ℕ, suc, List, [], ◌∷◌, ◌++◌, Bool, true, false, Some, None, refl, sym, subst, ap, arith, inl, lit<, lit≤, ◌+◌, ◌*◌, ◌^◌, ◌∙◌}
 use Rattle.std.specs.Prelude.{slice_get}
 use Rattle.bw_model.specs.declared.command.Command.{Command}
 use Rattle.bw_model.specs.declared.command.Command.TheVariants.{Get}
 use Rattle.bw_model.specs.declared.command.Reply.{Reply}
 use Rattle.bw_model.specs.declared.command.Reply.TheVariants as reply
 use Rattle.bw_model.specs.declared.step.Step.{Step as StepOf}
-use Rattle.bw_model.specs.declared.step.Step.TheVariants.{Slot, Row, Epoch, Enter, Leave, Place, Exchange, TakePid, TakeRow, ReusePids, ReuseRows}
+use Rattle.bw_model.specs.declared.step.Step.TheVariants.{Slot, Row, Place, Exchange, TakePid, TakeRow, ReusePids, ReuseRows}
 use Rattle.bw_model.specs.declared.step.Answer.{Answer}
 use Rattle.bw_model.specs.declared.step.Answer.TheVariants.{Number}
 use Rattle.deltas.specs.declared.record.Record.{Record}
@@ -31,14 +31,15 @@ use Rattle.chain_search.specs.chain.Chains.{IsChainOf, level_in}
 use Rattle.chain_search.proofs.ChainLaws.{IsChainOf-unique}
 use Rattle.chain_search.proofs.Pushes.{slice_get_below}
 use Rattle.op_machine.specs.theorem.Direct.{IsDirect, is_step_of}
-use Rattle.op_machine.specs.theorem.Faithful.{IsFaithful, KnowsRow, touches_pages}
+use Rattle.op_machine.specs.theorem.Faithful.{IsFaithful, KnowsRow}
 use Rattle.op_machine.specs.theorem.Index.{IsExactIndex, IsPageOfLevel, IsRootLevel}
 use Rattle.op_machine.specs.theorem.Phases.{Phase, MovesPhase, KeepsPhases, takes, splits, becomes_root, terms, under_root, holds, removes, merges, unterms, reuses}
 use Rattle.op_machine.specs.theorem.Reuse.{IsFreedByRule}
 use Rattle.op_machine.specs.theorem.Examples.{small, opening_leaf, lookup}
 use Rattle.op_machine.specs.theorem.Linearized.{IsLinearized, IsOrderly}
 use Rattle.op_machine.specs.theorem.Updates.{UpdatesAtLinks}
-use Rattle.op_machine.proofs.Listed.{EachAt-get, UpTo-at, same_operation}
+use Rattle.op_machine.proofs.Listed.{EachAt-get, UpTo-at, passes_at, same_operation, stands_at}
+use Rattle.op_machine.proofs.runs.Kinds.{is_begin, is_done, leaf_at, one_begin, one_reply, one_row, outside, reads_row}
 use Rattle.op_machine.proofs.MapLaws.{one_leaf}
 
 -- the point is the read of the leaf's slot
@@ -79,8 +80,9 @@ abbrev the_operation : Operation
 the_operation = record { start = 0; actor = 0; command = Get (codes "a") }
 
 begins : (n actor : ℕ) (command : Command) → slice_get lookup n ≡ Some (Begin actor command) → (n ≡ 0) × (actor ≡ 0) × (command ≡ Get (codes "a"))
-begins n actor command e = EachAt-get (λ k entry. (a : ℕ) (c : Command) → entry ≡ Begin a c → (k ≡ 0) × (a ≡ 0) × (c ≡ Get (codes "a"))) lookup
-    (λ a c e. (refl, cc, cc), (λ a c e. cc, (λ a c e. cc, (λ a c e. cc, (λ a c e. cc, (λ a c e. cc, (λ a c e. cc, tt))))))) n _ e actor command refl
+begins n actor command e =
+    let first : n ≡ 0 = stands_at is_begin lookup n _ e refl in
+    let one = one_begin (subst (λ k. slice_get lookup k ≡ Some (Begin actor command)) first e) in (first, one.0, one.1)
 
 only : (operation : Operation) → IsOperation lookup operation → operation ≡ the_operation
 only operation h = let b = begins operation.start operation.actor operation.command h in same_operation operation the_operation b.0 b.1 b.2
@@ -93,12 +95,12 @@ own_point : IsOwnStep lookup the_operation 4
 own_point = (Slot 1, Number 1, (None, record { begun = lit< tt; entry = refl; not_ended = λ later command after before e. none_later later command after e }))
 
 only_point : (n : ℕ) → IsPoint points n → n ≡ 4
-only_point n e = EachAt-get (λ k marked. marked ≡ true → k ≡ 4) points
-    (λ e. cc, (λ e. cc, (λ e. cc, (λ e. cc, (λ e. refl, (λ e. cc, (λ e. cc, tt))))))) n true e refl
+only_point n e = stands_at (λ mark. mark) points n true e refl
 
 only_reply : (n actor : ℕ) (step : StepOf Record) (answer : Answer Record) (answered : Reply) → slice_get lookup n ≡ Some (Step actor step answer (Some answered)) → answered ≡ reply.None
-only_reply n actor step answer answered e = EachAt-get (λ k entry. (a : ℕ) (s : StepOf Record) (b : Answer Record) (r : Reply) → entry ≡ Step a s b (Some r) → r ≡ reply.None) lookup
-    (λ a s b r e. cc, (λ a s b r e. cc, (λ a s b r e. cc, (λ a s b r e. cc, (λ a s b r e. cc, (λ a s b r e. cc, (λ a s b r e. cc, tt))))))) n _ e actor step answer answered refl
+only_reply n actor step answer answered e =
+    let last : n ≡ 6 = stands_at is_done lookup n _ e refl in
+    one_reply (subst (λ k. slice_get lookup k ≡ Some (Step actor step answer (Some answered))) last e)
 
 finished : (operation : Operation) (n : ℕ) (answered : Reply) → Finishes lookup operation n answered → answered ≡ reply.None
 finished operation n answered h = only_reply n operation.actor h.0 h.1 answered h.2.entry
@@ -132,13 +134,13 @@ only_looks (ReusePids word bits) = false
 only_looks (ReuseRows word bits) = false
 only_looks _ = true
 
+only_looks_at : Entry → Bool
+only_looks_at (Begin actor command) = true
+only_looks_at (Step actor step answer reply) = only_looks step
+
 looks : (n : ℕ) (entry : Entry) → slice_get lookup n ≡ Some entry → (actor : ℕ) (step : StepOf Record) (answer : Answer Record) → IsStep entry actor step answer → only_looks step ≡ true
-unfolding only_looks
-looks n entry at actor step answer is = EachAt-get (λ k e. (a : ℕ) (s : StepOf Record) (b : Answer Record) (r : Option Reply) → e ≡ Step a s b r → only_looks s ≡ true) lookup
-    (λ a s b r e. cc, (λ a s b r e. look Epoch s refl cc, (λ a s b r e. look (Enter 1) s refl cc, (λ a s b r e. look (Slot 0) s refl cc, (λ a s b r e. look (Slot 1) s refl cc, (λ a s b r e. look (Row 1) s refl cc, (λ a s b r e. look Leave s refl cc, tt))))))) n entry at actor step answer is.0 is.1
-  where
-    look : (s t : StepOf Record) → only_looks s ≡ true → t ≡ s → only_looks t ≡ true
-    look s t h e = rw e h
+unfolding only_looks only_looks_at
+looks n entry at actor step answer is = subst (λ e. only_looks_at e ≡ true) is.1 (passes_at (λ k. only_looks_at) lookup refl n entry at)
 
 updates_at_links : UpdatesAtLinks small lookup points
 unfolding only_looks
@@ -189,12 +191,13 @@ is_freed_by_rule = record {
 is_faithful : IsFaithful small lookup
 is_faithful = record {
   known = λ n actor row answer is. let which = read n actor row answer is in rw (which.0, which.1, which.2) known_row;
-  outside = λ n actor step answer is announced. inside n actor step answer is announced;
+  outside = outside lookup refl;
 }
   where
     read : (n actor row : ℕ) (answer : Answer Record) → TakesStep lookup n actor (Row row) answer → (n ≡ 5) × (actor ≡ 0) × (row ≡ 1)
-    read n actor row answer is = EachAt-get (λ k e. (a r : ℕ) (b : Answer Record) (t : Option Reply) → e ≡ Step a (Row r) b t → (k ≡ 5) × (a ≡ 0) × (r ≡ 1)) lookup
-        (λ a r b t e. cc, (λ a r b t e. cc, (λ a r b t e. cc, (λ a r b t e. cc, (λ a r b t e. cc, (λ a r b t e. (refl, cc, cc), (λ a r b t e. cc, tt))))))) n _ is.1 actor row answer is.0 refl
+    read n actor row answer is =
+        let fifth : n ≡ 5 = stands_at reads_row lookup n _ is.1 refl in
+        let one = one_row (subst (λ k. slice_get lookup k ≡ Some (Step actor (Row row) answer is.0)) fifth is.1) in (fifth, one.0, one.1)
 
     known_row : KnowsRow lookup 5 0 1
     known_row = record {
@@ -204,16 +207,6 @@ is_faithful = record {
       inside = λ later epoch answer low high. absurd (omega arith);
       undisturbed = λ later other step answer low high. absurd (omega arith);
     }
-
-    inside : (n actor : ℕ) (step : StepOf Record) (answer : Answer Record) → TakesStep lookup n actor step answer → (memory_at small lookup n).announced actor ≡ 0 → touches_pages step ≡ false
-    inside n actor step answer is = EachAt-get (λ k e. (a : ℕ) (s : StepOf Record) (b : Answer Record) (t : Option Reply) → e ≡ Step a s b t → (memory_at small lookup k).announced a ≡ 0 → touches_pages s ≡ false) lookup
-        (λ a s b t e z. cc, (λ a s b t e z. plain Epoch s refl cc, (λ a s b t e z. plain (Enter 1) s refl cc, (λ a s b t e z. entered 3 a (cc) refl z, (λ a s b t e z. entered 4 a (cc) refl z, (λ a s b t e z. entered 5 a (cc) refl z, (λ a s b t e z. plain Leave s refl cc, tt))))))) n _ is.1 actor step answer is.0 refl
-      where
-        plain : (s t : StepOf Record) → touches_pages s ≡ false → t ≡ s → touches_pages t ≡ false
-        plain s t h e = rw e h
-
-        entered : {C : Type 0} (k a : ℕ) → a ≡ 0 → (memory_at small lookup k).announced 0 ≡ 1 → (memory_at small lookup k).announced a ≡ 0 → C
-        entered k a same one none = let odd : ◌≡◌ {A = ℕ} 1 0 = sym one ∙ subst (λ x. (memory_at small lookup k).announced x ≡ 0) same none in cc
 
 is_direct : IsDirect small lookup
 unfolding only_looks
@@ -234,20 +227,20 @@ is_direct = record {
 
 is_exact_index : IsExactIndex small lookup
 is_exact_index = record {
-  rooted = λ n h. (0, UpTo-at (λ k. IsRootLevel (memory_at small lookup k) 0) 7 (leafy 0 (record { page = lit< tt; linked = lit< tt; records = (refl, refl) }), (leafy 1 (record { page = lit< tt; linked = lit< tt; records = (refl, refl) }), (leafy 2 (record { page = lit< tt; linked = lit< tt; records = (refl, refl) }), (leafy 3 (record { page = lit< tt; linked = lit< tt; records = (refl, refl) }), (leafy 4 (record { page = lit< tt; linked = lit< tt; records = (refl, refl) }), (leafy 5 (record { page = lit< tt; linked = lit< tt; records = (refl, refl) }), (leafy 6 (record { page = lit< tt; linked = lit< tt; records = (refl, refl) }), leafy 7 (record { page = lit< tt; linked = lit< tt; records = (refl, refl) })))))))) n h);
+  rooted = λ n h. (0, UpTo-at (λ k. IsRootLevel (memory_at small lookup k) 0) 7 (leafy 0 refl refl, (leafy 1 refl refl, (leafy 2 refl refl, (leafy 3 refl refl, (leafy 4 refl refl, (leafy 5 refl refl, (leafy 6 refl refl, leafy 7 refl refl))))))) n h);
   each = λ n level top h root below. absurd (too_low n top h root below);
 }
   where
-    leafy : (k : ℕ) → IsChainOf (memory_at small lookup k) 1 (opening_leaf ∷ []) → IsPageOfLevel (memory_at small lookup k) 0 1
-    leafy k is = (opening_leaf ∷ [], is, refl)
+    leafy : (k : ℕ) → (memory_at small lookup k).slots 1 ≡ 1 → (memory_at small lookup k).rows 1 ≡ Some opening_leaf → IsPageOfLevel (memory_at small lookup k) 0 1
+    leafy k slot row = (opening_leaf ∷ [], leaf_at lookup k slot row, refl)
 
-    leaf : (k : ℕ) → (memory_at small lookup k).slots 0 ≡ 1 → IsChainOf (memory_at small lookup k) 1 (opening_leaf ∷ []) → (top : ℕ) → IsRootLevel (memory_at small lookup k) top → top ≡ 0
-    leaf k slot is top (chain, other, level) = let other_1 : IsChainOf (memory_at small lookup k) 1 chain = subst (λ p. IsChainOf (memory_at small lookup k) p chain) slot other in
-        let same : chain ≡ opening_leaf ∷ [] = IsChainOf-unique (memory_at small lookup k) 1 chain (opening_leaf ∷ []) other_1 is in sym level ∙ ap level_in same
+    leaf : (k : ℕ) → (memory_at small lookup k).slots 0 ≡ 1 → (memory_at small lookup k).slots 1 ≡ 1 → (memory_at small lookup k).rows 1 ≡ Some opening_leaf → (top : ℕ) → IsRootLevel (memory_at small lookup k) top → top ≡ 0
+    leaf k root slot row top (chain, other, level) = let other_1 : IsChainOf (memory_at small lookup k) 1 chain = subst (λ p. IsChainOf (memory_at small lookup k) p chain) root other in
+        let same : chain ≡ opening_leaf ∷ [] = IsChainOf-unique (memory_at small lookup k) 1 chain (opening_leaf ∷ []) other_1 (leaf_at lookup k slot row) in sym level ∙ ap level_in same
 
     too_low : {level : ℕ} (n top : ℕ) → n ≤ 7 → IsRootLevel (memory_at small lookup n) top → level < top → ⊥
     too_low n top h root below = let zero_top : top ≡ 0 = UpTo-at (λ k. (t : ℕ) → IsRootLevel (memory_at small lookup k) t → t ≡ 0) 7
-        (leaf 0 refl (record { page = lit< tt; linked = lit< tt; records = (refl, refl) }), (leaf 1 refl (record { page = lit< tt; linked = lit< tt; records = (refl, refl) }), (leaf 2 refl (record { page = lit< tt; linked = lit< tt; records = (refl, refl) }), (leaf 3 refl (record { page = lit< tt; linked = lit< tt; records = (refl, refl) }), (leaf 4 refl (record { page = lit< tt; linked = lit< tt; records = (refl, refl) }), (leaf 5 refl (record { page = lit< tt; linked = lit< tt; records = (refl, refl) }), (leaf 6 refl (record { page = lit< tt; linked = lit< tt; records = (refl, refl) }), leaf 7 refl (record { page = lit< tt; linked = lit< tt; records = (refl, refl) })))))))) n h top root in omega arith
+        (leaf 0 refl refl refl, (leaf 1 refl refl refl, (leaf 2 refl refl refl, (leaf 3 refl refl refl, (leaf 4 refl refl refl, (leaf 5 refl refl refl, (leaf 6 refl refl refl, leaf 7 refl refl refl))))))) n h top root in omega arith
 
 ends_at_leaves : EndAtLeaves lookup
 ends_at_leaves = record { each = EachAt-get (λ n entry. RepliesAtLeave entry) lookup (tt, (refl, (refl, (refl, (refl, (refl, (refl, tt))))))) }

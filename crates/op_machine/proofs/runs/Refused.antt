@@ -1,6 +1,6 @@
 -- Traces that the definitions refuse.
 use Rattle.std.specs.Prelude.{codes, slice_get}
-use Rattle.std.proofs.Common.{◌≡◌, ◌<◌, ℕ, List, [], ◌∷◌, Some, None, Option, refl, arith, inl, inr, lit<}
+use Rattle.std.proofs.Common.{◌≡◌, ◌<◌, ℕ, [], ◌∷◌, Some, None, Option, refl, arith, inl, inr, lit<}
 use Rattle.bw_model.specs.declared.command.Command.{Command}
 use Rattle.bw_model.specs.declared.command.Command.TheVariants.{Insert}
 use Rattle.bw_model.specs.declared.command.Reply.{Reply}
@@ -8,14 +8,14 @@ use Rattle.bw_model.specs.declared.step.Step.TheVariants.{Slot, Row}
 use Rattle.bw_model.specs.declared.step.Answer.TheVariants.{Number, Content}
 use Rattle.bw_model.specs.declared.step.Link.TheVariants as link
 use Rattle.deltas.specs.declared.record.Record.{Record}
-use Rattle.chain_search.specs.declared.trace.Entry.{Entry}
 use Rattle.chain_search.specs.declared.trace.Entry.TheVariants.{Begin, Step}
 use Rattle.chain_search.specs.trace.Trace.{TakesStep}
 use Rattle.op_machine.specs.theorem.Direct.{IsDirect}
 use Rattle.op_machine.specs.theorem.Faithful.{IsFaithful}
 use Rattle.op_machine.specs.theorem.Operations.{Operation}
 use Rattle.op_machine.specs.theorem.Examples.{small, opening_leaf, unnamed_read, two_puts, needless_base}
-use Rattle.op_machine.proofs.Listed.{EachAt, EachAt-get}
+use Rattle.op_machine.proofs.Listed.{EachAt-get, stands_at}
+use Rattle.op_machine.proofs.runs.Kinds.{is_begin}
 
 abbrev operation : Operation
 operation = record { start = 0; actor = 0; command = Insert (codes "a") (codes "1") }
@@ -35,20 +35,17 @@ not_faithful faithful = let knows = faithful.known 3 0 1 (Content (opening_leaf)
     no_record n row content h is = EachAt-get (λ k e. (p : ℕ) (c : Record) (r : Option Reply) → k < 3 → e ≡ Step 0 (Row p) (Content c) r → ⊥) unnamed_read
         (λ p c r h e. cc, (λ p c r h e. cc, (λ p c r h e. cc, (λ p c r h e. omega arith, tt)))) n _ is.1 row content is.0 h refl
 
-first_only : (entries : List Entry) → EachAt (λ k e. 0 < k → (c : Command) → e ≡ Begin 0 c → ⊥) entries → (later : ℕ) (command : Command) → 0 < later → slice_get entries later ≡ Some (Begin 0 command) → ⊥
-first_only entries all later command after e = EachAt-get (λ k e. 0 < k → (c : Command) → e ≡ Begin 0 c → ⊥) entries all later _ e after command refl
-
 pub not_direct : ¬ IsDirect small two_puts
 not_direct direct = let same : ◌≡◌ {A = ℕ} 4 6 = direct.once operation 4 6 link.Put link.Put refl
     (1, 1, 2, (None, record { begun = lit< tt; entry = refl; not_ended = λ later command low high e. begun_once later command low e }), refl)
     (1, 2, 3, (None, record { begun = lit< tt; entry = refl; not_ended = λ later command low high e. begun_once later command low e }), refl) (inl refl) (inl refl) in omega arith
   where
     begun_once : (later : ℕ) (command : Command) → 0 < later → slice_get two_puts later ≡ Some (Begin 0 command) → ⊥
-    begun_once = first_only two_puts (λ h c e. omega arith, (λ h c e. cc, (λ h c e. cc, (λ h c e. cc, (λ h c e. cc, (λ h c e. cc, (λ h c e. cc, tt)))))))
+    begun_once later command after e = let first : later ≡ 0 = stands_at is_begin two_puts later _ e refl in omega arith
 
 pub not_useful : ¬ IsDirect small needless_base
 not_useful direct = let long : 1 < 1 = direct.useful operation 3 1 1 2 (opening_leaf ∷ []) refl
     (None, record { begun = lit< tt; entry = refl; not_ended = λ later command low high e. begun_once later command low e }) refl (record { page = lit< tt; linked = lit< tt; records = (refl, refl) }) in omega arith
   where
     begun_once : (later : ℕ) (command : Command) → 0 < later → slice_get needless_base later ≡ Some (Begin 0 command) → ⊥
-    begun_once = first_only needless_base (λ h c e. omega arith, (λ h c e. cc, (λ h c e. cc, (λ h c e. cc, tt))))
+    begun_once later command after e = let first : later ≡ 0 = stands_at is_begin needless_base later _ e refl in omega arith

@@ -4,38 +4,29 @@ use Rattle.std.specs.Int.{bit_at}
 use Rattle.std.specs.List.{Contains}
 use Rattle.std.proofs.lemmas.Bool.{eqb-true, eq-eqb, ne_eqb}
 use Rattle.std.proofs.lemmas.Bool.Decides.{nat_tests}
-use Rattle.std.proofs.Common.{◌≡◌, ◌<◌, ℕ, zero, suc, List, [], ◌∷◌, Bool, true, false, None, Option, refl, subst, arith, inl, inr, lit<}
+use Rattle.std.specs.Prelude.{slice_get}
+use Rattle.std.proofs.Common.{Some, ◌≡◌, ◌<◌, ℕ, zero, suc, List, [], ◌∷◌, Bool, true, false, None, Option, refl, subst, arith, inl, lit<}
 use Rattle.bw_model.specs.declared.command.Reply.{Reply}
 use Rattle.bw_model.specs.declared.step.Step.{Step as StepOf}
 use Rattle.bw_model.specs.declared.step.Step.TheVariants.{Epoch, Announce, Leave, Retire, ReuseRows, ReusePids}
 use Rattle.bw_model.specs.declared.step.Answer.{Answer}
-use Rattle.bw_model.specs.declared.step.Answer.TheVariants.{Number, Done}
+use Rattle.bw_model.specs.declared.step.Answer.TheVariants.{Done}
 use Rattle.deltas.specs.declared.record.Record.{Record}
 use Rattle.chain_search.specs.declared.trace.Entry.TheVariants.{Step}
 use Rattle.chain_search.specs.chain.Chains.{IsChainFrom, IsOnChain, chain_rows}
 use Rattle.bw_model.specs.Words.{is_among}
-use Rattle.chain_search.specs.trace.Run.{IsRun, MayPlace}
-use Rattle.chain_search.specs.trace.Trace.{memory_at, memory_of, TakesStep}
-use Rattle.chain_search.proofs.ChainLaws.{IsChainFrom-unique, unplaced}
+use Rattle.chain_search.specs.trace.Run.{IsRun}
+use Rattle.chain_search.specs.trace.Trace.{memory_at, TakesStep}
+use Rattle.chain_search.proofs.ChainLaws.{IsChainFrom-unique}
 use Rattle.chain_search.proofs.RunLaws.{IsRun-from_steps}
 use Rattle.op_machine.specs.theorem.Reuse.{IsFreed, IsFreedByRule, UnlinksRow, HandsRow}
 use Rattle.op_machine.specs.theorem.Examples.{small, opening_leaf, row_reuse, hurried_reuse}
-use Rattle.op_machine.proofs.Listed.{EachAt-get, slice_get-from_take, all_below-at, and_left, and_right}
-
-alone : (n actor : ℕ) (step : StepOf Record) (answer : Answer Record) → TakesStep (take 6 row_reuse) n actor step answer → actor ≡ 0
-alone n actor step answer h = EachAt-get (λ j entry. (a : ℕ) (s : StepOf Record) (b : Answer Record) (r : Option Reply) → entry ≡ Step a s b r → a ≡ 0) row_reuse
-    (λ a s b r e. cc, (λ a s b r e. cc, (λ a s b r e. cc, (λ a s b r e. cc, (λ a s b r e. cc, (λ a s b r e. cc, (λ a s b r e. cc, (λ a s b r e. cc, (λ a s b r e. cc, (λ a s b r e. cc, (λ a s b r e. cc, (λ a s b r e. cc, (λ a s b r e. cc, tt))))))))))))) n _ (slice_get-from_take 6 row_reuse n _ h.1) actor step answer h.0 refl
-
-place : MayPlace small (take 6 row_reuse) 0 2
-place = record {
-  taken = refl;
-  unlinked = unplaced (memory_of small (take 6 row_reuse)) 2 refl;
-  unlearnt = λ other differs learnt. differs (elim learnt.1 [ inl shown ↦ alone learnt.0 other _ _ shown.2 | inr shown ↦ alone learnt.0 other _ _ shown.2 ]);
-}
+use Rattle.op_machine.proofs.Listed.{EachAt-get, all_below-at, and_left, and_right, stands_at}
+use Rattle.op_machine.proofs.runs.Kinds.{frees_pids, frees_rows, may_place, one_reuse, reads_announced}
 
 pub is_run : IsRun small row_reuse
 is_run = IsRun-from_steps small row_reuse
-    ((lit< tt, refl), ((refl, tt, refl), ((refl, tt, refl), ((refl, tt, refl), ((refl, tt, (opening_leaf, refl, refl)), ((refl, tt, refl), ((refl, place, refl), ((refl, tt, refl), ((refl, tt, refl), ((refl, tt, refl), ((refl, tt, refl), ((refl, tt, refl), ((refl, tt, refl), tt)))))))))))))
+    ((lit< tt, refl), ((refl, tt, refl), ((refl, tt, refl), ((refl, tt, refl), ((refl, tt, (opening_leaf, refl, refl)), ((refl, tt, refl), ((refl, may_place (take 6 row_reuse) 2 refl refl refl, refl), ((refl, tt, refl), ((refl, tt, refl), ((refl, tt, refl), ((refl, tt, refl), ((refl, tt, refl), ((refl, tt, refl), tt)))))))))))))
 
 -- after the exchange PID 1 alone has a chain, from row 2
 linked : (pid : ℕ) → 0 < pid → 0 < (memory_at small row_reuse 8).slots pid → (memory_at small row_reuse 8).slots pid ≡ 2
@@ -82,8 +73,9 @@ row_one row e =
     only k h e = eqb-true k 1 (implied (bit_at 2 k == 1) (k == 1) (all_below-at (λ j. not (bit_at 2 j == 1) || (j == 1)) 64 refl k h) (eq-eqb (bit_at 2 k) 1 e))
 
 frees : (n actor word bits : ℕ) (answer : Answer Record) → TakesStep row_reuse n actor (ReuseRows word bits) answer → (n ≡ 12) × (actor ≡ 0) × (word ≡ 0) × (bits ≡ 2)
-frees n actor word bits answer is = EachAt-get (λ k e. (a w b : ℕ) (s : Answer Record) (r : Option Reply) → e ≡ Step a (ReuseRows w b) s r → (k ≡ 12) × (a ≡ 0) × (w ≡ 0) × (b ≡ 2)) row_reuse
-    (λ a w b s r e. cc, (λ a w b s r e. cc, (λ a w b s r e. cc, (λ a w b s r e. cc, (λ a w b s r e. cc, (λ a w b s r e. cc, (λ a w b s r e. cc, (λ a w b s r e. cc, (λ a w b s r e. cc, (λ a w b s r e. cc, (λ a w b s r e. cc, (λ a w b s r e. cc, (λ a w b s r e. (refl, cc, cc, cc), tt))))))))))))) n _ is.1 actor word bits answer is.0 refl
+frees n actor word bits answer is =
+    let last : n ≡ 12 = stands_at frees_rows row_reuse n _ is.1 refl in
+    let one = one_reuse (subst (λ k. slice_get row_reuse k ≡ Some (Step actor (ReuseRows word bits) answer is.0)) last is.1) in (last, one.0, one.1, one.2)
 
 kept : (between other : ℕ) (step : StepOf Record) (answer : Answer Record) → 7 < between → between < 12 → TakesStep row_reuse between other step answer → ¬ HandsRow 1 step answer
 kept between other step answer low high is = EachAt-get (λ k e. 7 < k → k < 12 → (a : ℕ) (s : StepOf Record) (b : Answer Record) (r : Option Reply) → e ≡ Step a s b r → ¬ HandsRow 1 s b) row_reuse
@@ -114,12 +106,10 @@ is_freed_by_rule = record {
 }
   where
     no_pids : (n actor word bits : ℕ) (answer : Answer Record) → TakesStep row_reuse n actor (ReusePids word bits) answer → ⊥
-    no_pids n actor word bits answer is = EachAt-get (λ k e. (a w b : ℕ) (s : Answer Record) (r : Option Reply) → e ≡ Step a (ReusePids w b) s r → ⊥) row_reuse
-        (λ a w b s r e. cc, (λ a w b s r e. cc, (λ a w b s r e. cc, (λ a w b s r e. cc, (λ a w b s r e. cc, (λ a w b s r e. cc, (λ a w b s r e. cc, (λ a w b s r e. cc, (λ a w b s r e. cc, (λ a w b s r e. cc, (λ a w b s r e. cc, (λ a w b s r e. cc, (λ a w b s r e. cc, tt))))))))))))) n _ is.1 actor word bits answer is.0 refl
+    no_pids n actor word bits answer is = stands_at frees_pids row_reuse n _ is.1 refl
 
 -- without the look at actor 1's announced epoch the row is not freed by the rule
 pub unruly : ¬ IsFreedByRule small hurried_reuse
 unruly rule = let freed = rule.rows 11 0 0 2 1 Done (None, refl) refl in
     let other = freed.passed 1 (lit< tt) (λ e. cc) in
-    EachAt-get (λ k e. (a o : ℕ) (b : Answer Record) (r : Option Reply) → e ≡ Step a (Announce o) b r → ⊥) hurried_reuse
-    (λ a o b r e. cc, (λ a o b r e. cc, (λ a o b r e. cc, (λ a o b r e. cc, (λ a o b r e. cc, (λ a o b r e. cc, (λ a o b r e. cc, (λ a o b r e. cc, (λ a o b r e. cc, (λ a o b r e. cc, (λ a o b r e. cc, (λ a o b r e. cc, tt)))))))))))) other.0 _ other.4.1 0 1 (Number other.1) other.4.0 refl
+    stands_at reads_announced hurried_reuse other.0 _ other.4.1 refl
