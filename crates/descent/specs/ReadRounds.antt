@@ -353,9 +353,9 @@ reading = record {
   way = λ round. record { limits = round.limits; state = round.state };
   at = at;
   Shows = Shows;
-  Ends = EndsRead;
-  CanTreat = CanTreatRead;
-  Treats = TreatsRead;
+  EndsRead = EndsRead;
+  CanTreatRead = CanTreatRead;
+  TreatsRead = TreatsRead;
   again = Again;
 }
 

@@ -227,7 +227,7 @@ writing = record {
   at = at;
   Shows = Shows;
   Ends = EndsWrite;
-  CanTreat = CanTreatWrite;
-  Treats = TreatsWrite;
+  CanTreatWrite = CanTreatWrite;
+  TreatsWrite = TreatsWrite;
   again = end.Again;
 }

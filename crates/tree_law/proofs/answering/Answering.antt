@@ -1,7 +1,6 @@
 -- A reply that an actor may give is its command's by a log of its operation.
-use Rattle.tree_law.proofs.Words.{false, ◌⊎◌, ap, Option, None, List, inl, inr, subst, ℕ, ◌≡◌, ◌∙◌, Some, ⊎_elim, IsFalse, Update, logged_value, update_of, command_key, reply_of, Command, Reply}
-use Rattle.tree_law.proofs.Words.{content_in, is_removed, found, value_of, MayAnswer, WasStanding, Knowledge, Key, Owners, LinkFits, HeadFits, OrderFits, InOrder, SpellsLog, leaf_map, IsRepliedAt}
-use Rattle.tree_law.proofs.Words.{Shared, IsTree}
+use Rattle.tree_law.proofs.Words.{false, ◌⊎◌, ap, Option, None, List, inl, inr, ℕ, ◌≡◌, ◌∙◌, Some, ⊎_elim, IsFalse, Update, logged_value, update_of, command_key, Command, Reply, content_in}
+use Rattle.tree_law.proofs.Words.{is_removed, found, value_of, MayAnswer, WasStanding, Knowledge, Owners, InOrder, SpellsLog, leaf_map, IsRepliedAt, Shared, IsTree}
 use Rattle.tree_law.specs.Owners.{Among}
 use Rattle.tree_law.proofs.shape.{covers_from, chain_stands, chain_decides}
 use Rattle.tree_law.proofs.links.Updating.{value_of_map}
@@ -14,11 +13,8 @@ module _ {m : Shared} {log : List Update} {o : Owners} {knows : ℕ → Knowledg
       let value : found h.chain (command_key command) ≡ logged_value l (command_key command) = ap value_of decides ∙ value_of_map (logged_value l (command_key command)) in
       record {
         at = l;
-        same = subst (λ (v : Option Key). reply_of command v ≡ Some reply) value h.is;
-        own = ⊎_elim
-            (λ (u : point a ≡ Some l). inl u)
-            (λ (u : (point a ≡ None) × (update_of a command (found h.chain (command_key command)) ≡ None) × Among l (logs a)). inr (u.0, subst (λ (v : Option Key). update_of a command v ≡ None) value u.1, u.2))
-            own;
+        same = rw value at h.is;
+        own = elim own [ inl u ↦ inl u | inr u ↦ inr (u.0, rw value at u.1, u.2) ];
       }
 
   pub answers : (command : Command) (reply : Reply) → MayAnswer a (knows a) command reply → IsRepliedAt a command reply (point a) (logs a)
@@ -31,17 +27,17 @@ module _ {m : Shared} {log : List Update} {o : Owners} {knows : ℕ → Knowledg
       Changeless = update_of a command (found h.chain (command_key command)) ≡ None
 
       none : (knows a).asked.linked ≡ None → point a ≡ None
-      none e = subst (λ (v : Option (Option ℕ)). LinkFits o m (point a) v) e (g.sound a).linked_fits
+      none e = rw e at (g.sound a).linked_fits
 
       by_link : ((knows a).asked.linked ≡ Some (Some h.row)) × IsFalse (is_removed h.chain) → IsRepliedAt a command reply (point a) (logs a)
-      by_link u = let i = subst (λ (v : Option (Option ℕ)). LinkFits o m (point a) v) u.0 (g.sound a).linked_fits in replied command reply h i.0 (decides u.1 i.0 i.2) (inl i.1)
+      by_link u = let i = rw u.0 at (g.sound a).linked_fits in replied command reply h i.0 (decides u.1 i.0 i.2) (inl i.1)
 
       by_stand : (knows a).asked.linked ≡ None → Changeless → WasStanding (knows a) h.row h.chain → IsRepliedAt a command reply (point a) (logs a)
       by_stand unlinked changeless (inl u) =
-          let i = subst (λ (v : Option ℕ). HeadFits o m (logs a) u.0.0 v) u.0.1 ((g.sound a).heads_fit u.0.0) in
+          let i = rw u.0.1 at ((g.sound a).heads_fit u.0.0) in
           replied command reply h i.0 (decides u.1 i.0 i.2) (inr (none unlinked, changeless, i.1))
       by_stand unlinked changeless (inr u) =
           let b = u.0 in
-          let e : InOrder o m (logs a) b.left b.head b.other h.row = subst (λ (v : Option ℕ). OrderFits o m (logs a) b.left b.other (Some b.head) v) b.order (subst (λ (v : Option ℕ). OrderFits o m (logs a) b.left b.other v ((knows a).read.before b.left b.other)) b.basis.head ((g.sound a).orders_fit b.left b.other)) in
+          let e : InOrder o m (logs a) b.left b.head b.other h.row = rw b.order at (rw b.basis.head at ((g.sound a).orders_fit b.left b.other)) in
           let i = e.spelled h.chain b.basis.chain (chain_stands o m (knows a).read.seen (g.sound a).seen_fits h.chain (Some h.row) h.read) (chain_stands o m (knows a).read.seen (g.sound a).seen_fits b.basis.chain (Some b.head) b.basis.read) u.1 b.basis.alive h.leaf b.right in
           replied command reply h i.0 (i.2 (command_key command) (covers_from h.chain (command_key command) h.covers)) (inr (none unlinked, changeless, i.1))

@@ -1,9 +1,9 @@
 -- What a state's memory answers fits what each actor knows.
-use Rattle.tree_law.proofs.Words.{false, ◌⊎◌, [], ap, refl, Option, suc, None, List, true, inl, ◌≤◌, inr, ◌∷◌, subst, sym, ℕ, ◌≡◌, Bool, zero, ◌∙◌, ◌<◌, arith, Some, ◌+◌, ⊎_elim, ◌==◌, ◌*◌, eqb-true}
+use Rattle.tree_law.proofs.Words.{false, ◌⊎◌, ap, refl, Option, suc, None, List, true, inl, ◌≤◌, inr, ◌∷◌, subst, sym, ℕ, ◌≡◌, Bool, zero, ◌∙◌, ◌<◌, arith, Some, ◌+◌, ◌==◌, ◌*◌, eqb-true}
 use Rattle.tree_law.proofs.Words.{same_Some, bit_at, IfSome, if◌then◌else◌, Limits, Answer, Whether, Number, StepOf, TakePid, Row, TakeRow, Slot, Epoch, PidBits, Exchange, RowBits, Announce, Memory}
 use Rattle.tree_law.proofs.Words.{next_row, IsSpellable, Record, low_in, level_in, May, MayExchange, Fits, knows, Knowledge, Foreign, Empty, OwnPage, Taken, Other, Gone, Written, OwnRow, LimboMark}
-use Rattle.tree_law.proofs.Words.{Absent, IsAnswer, IsWordOf, memory_of, Entry, Key, Free, Linked, Reached, IsOut, OwnFits, HeadFits, PageFits, SeenFits, Nobody, Placed, Indexed, PageOwner, Keeps}
-use Rattle.tree_law.proofs.Words.{Fresh, shared, slot_in, row_in, IsState, phase_of, IsInTree, LimboFits, Outing}
+use Rattle.tree_law.proofs.Words.{Absent, IsAnswer, IsWordOf, memory_of, Entry, Key, Free, Linked, Reached, OwnFits, HeadFits, PageFits, SeenFits, Nobody, Placed, Indexed, PageOwner, Keeps}
+use Rattle.tree_law.proofs.Words.{Fresh, shared, slot_in, row_in, IsState, phase_of, IsInTree, LimboFits, Outing, []}
 use Rattle.tree_law.proofs.links.Merging.{frozen_as}
 use Rattle.chain_search.specs.discipline.Fitting.{FitsWord, ReadsRemoved}
 use Rattle.chain_search.specs.discipline.Fitting.{FitsRow, FitsTaken, FitsTakenPid, AreOutOfLimbo, FitsExchange}
@@ -11,7 +11,7 @@ use Rattle.chain_search.proofs.FittedLaws.{first_spellable}
 use Rattle.op_machine.specs.theorem.Phases as phase
 use Rattle.tree_law.proofs.epochs.Exchanging.{on_walk, slot_linked}
 use Rattle.tree_law.proofs.links.Keeping.{slot_of, met_placed}
-use Rattle.tree_law.proofs.shape.{is_indexed, below_top, placed_reached, slot_some, by_test, next_linked, none_if, false_if}
+use Rattle.tree_law.proofs.shape.{is_indexed, below_top, placed_reached, slot_some, by_equal, next_linked, none_if, false_if}
 use Rattle.tree_law.proofs.trace.Names.{slot_none}
 use Rattle.tree_law.proofs.links.Relinking.{not_own, found, place_of}
 use Rattle.tree_law.proofs.trace.Slots.{reached_in_tree}
@@ -35,7 +35,7 @@ module _ (limits : Limits) (entries : List Entry) (state : IsState limits entrie
   k = knows entries a
 
   stands : (r : ℕ) (w : Record) → k.read.seen r ≡ Some w → m.rows r ≡ Some w
-  stands r w e = (subst (λ (o : Option Record). SeenFits (state.owners.row r) (m.rows r) o) e ((state.is_tree.sound a).seen_fits r)).1
+  stands r w e = (rw e at ((state.is_tree.sound a).seen_fits r)).1
 
   -- a linked row is a row
   linked_some : (r : ℕ) → state.owners.row r ≡ Linked → (0 < r) × (r < limits.rows)
@@ -82,7 +82,7 @@ module _ (limits : Limits) (entries : List Entry) (state : IsState limits entrie
   -- what is not out is in no limbo
   not_in_limbo : (out : Option Outing) → out ≡ None → (l : LimboMark) → LimboFits a (λ c. (knows entries c).inside) state.times.entered out l → l ≡ Absent
   not_in_limbo out e Absent h = refl
-  not_in_limbo out e l h = absurd (let i = sym e ∙ h.1 in cc)
+  not_in_limbo out e l h = absurd (cc h.1)
 
   fits_taken : (q : ℕ) → m.free_rows q ≡ true → FitsTaken limits k q
   fits_taken q e =
@@ -131,18 +131,18 @@ module _ (limits : Limits) (entries : List Entry) (state : IsState limits entrie
 
   -- a page that was read removed is as it was, or its slot is empty
   stays : (p head : ℕ) → ReadsRemoved k (suc p) head → (m.slots (suc p) ≡ head) ⊎ (m.slots (suc p) ≡ 0)
-  stays p head h = ⊎_elim
-      (λ (u : slot_in m.slots (suc p) ≡ Some head). inl (slot_some m.slots (suc p) head u).1)
-      (λ (u : IsOut (state.owners.page (suc p)) (slot_in m.slots (suc p))). inr (slot_none m.slots (suc p) (omega arith) u.0))
-      (frozen_as state.is_tree a (suc p) head h.head h.chain h.read h.gone)
+  stays p head h = elim (frozen_as state.is_tree a (suc p) head h.head h.chain h.read h.gone) [
+    | inl u ↦ inl (slot_some m.slots (suc p) head u).1
+    | inr u ↦ inr (slot_none m.slots (suc p) (omega arith) u.0)
+  ]
 
   -- a page in the tree is none that an actor took and has not set
   unowned : (p l : ℕ) (s : Key) → Reached 0 l s (state.owners.page (suc p)) → k.own.pages (suc p) ≡ Empty → ⊥
-  unowned p l s here e = subst (Reached 0 l s) (subst (λ (v : OwnPage). PageFits a (state.owners.page (suc p)) (slot_in m.slots (suc p)) v) e (state.is_tree.owns_pages a (suc p))).0 here
+  unowned p l s here e = subst (Reached 0 l s) (rw e at (state.is_tree.owns_pages a (suc p))).0 here
 
   fits_slot : (p : ℕ) → May a k (Slot p) → Fits limits k (Slot p) (Number (m.slots p))
   fits_slot zero may = elim (state.named.pid_below (m.slots 0)) [
-    | inl f ↦ absurd (let e = ap phase_of state.is_tree.tree.exact.is_root in cc)
+    | inl f ↦ absurd (cc state.is_tree.tree.exact.is_root)
     | inr below ↦ (
       below.0,
       below.1,
@@ -152,7 +152,7 @@ module _ (limits : Limits) (entries : List Entry) (state : IsState limits entrie
   ]
   fits_slot (suc p) may = let here = met_placed state.is_tree a (suc p) may.1 in elim (slot_of state.is_tree a (suc p) here.0 here.1 here.2) [
     | inl none ↦ let z : m.slots (suc p) ≡ 0 = slot_none m.slots (suc p) (omega arith) none in let some : 64 ≤ limits.rows = limits.allowed.some_rows in (omega arith, λ root. root_linked (suc p) root, λ head h. inr z, unowned p here.0 here.1 here.2)
-    | inr found ↦ let at : m.slots (suc p) ≡ found.0 = (slot_some m.slots (suc p) found.0 found.1).1 in let some = linked_some found.0 found.2.linked in (subst (λ n. n < limits.rows) (sym at) some.1, λ root. subst (λ n. 0 < n) (sym at) some.0, λ head h. stays p head h, unowned p here.0 here.1 here.2)
+    | inr found ↦ let at : m.slots (suc p) ≡ found.0 = (slot_some m.slots (suc p) found.0 found.1).1 in let some = linked_some found.0 found.2.linked in (rw at some.1, λ root. rw at some.0, λ head h. stays p head h, unowned p here.0 here.1 here.2)
   ]
 
   fits_take : (q : ℕ) (t : Bool) → m.free_rows q ≡ t → Fits limits k (TakeRow q) (Whether t)
@@ -174,7 +174,7 @@ module _ (limits : Limits) (entries : List Entry) (state : IsState limits entrie
   -- a page whose term the actor took out is in no limbo, nor is its chain
   gone_out_of_limbo : (p x : ℕ) → k.own.pages p ≡ Gone → slot_in m.slots p ≡ Some x → (k.limbo.pids p ≡ Absent) × AreOutOfLimbo limits k x
   gone_out_of_limbo p x gone held =
-      let was = subst (λ (v : OwnPage). PageFits a (state.owners.page p) (slot_in m.slots p) v) gone (state.is_tree.owns_pages a p) in
+      let was = rw gone at (state.is_tree.owns_pages a p) in
       let reached = subst (λ (v : PageOwner). Reached 0 was.0 was.1 v) (sym was.2) (refl, refl) in (
         not_in_limbo (state.times.page_out p) (state.timed.gone_pages a p gone) (k.limbo.pids p) (state.timed.limbo_pids a p),
         walk_out_of_limbo p x was.0 was.1 reached held,
@@ -184,18 +184,18 @@ module _ (limits : Limits) (entries : List Entry) (state : IsState limits entrie
   fits_exchange zero x y t may e = tt
   fits_exchange (suc p) zero zero t may e = absurd may
   fits_exchange (suc p) zero (suc y) t may e =
-      let own = subst (λ (v : OwnPage). PageFits a (state.owners.page (suc p)) (slot_in m.slots (suc p)) v) may.0 (state.is_tree.owns_pages a (suc p)) in
+      let own = rw may.0 at (state.is_tree.owns_pages a (suc p)) in
       sym e ∙ rw (slot_none m.slots (suc p) (omega arith) own.1) refl
   fits_exchange (suc p) (suc x) zero t may e =
-      let wins : m.slots (suc p) ≡ suc x → t ≡ true = λ at. sym e ∙ rw at (by_test (suc x) (suc x) (λ t. t ≡ true) (λ i. refl) (λ ne. absurd (ne refl))) in (
+      let wins : m.slots (suc p) ≡ suc x → t ≡ true = λ at. sym e ∙ rw at (by_equal (suc x) (suc x) (λ i t. rw t) (λ ne t. rw t (absurd (ne refl)))) in (
         λ ready.
-            wins (slot_some m.slots (suc p) (suc x) (subst (λ (v : OwnPage). PageFits a (state.owners.page (suc p)) (slot_in m.slots (suc p)) v) ready (state.is_tree.owns_pages a (suc p))).1).1,
+            wins (slot_some m.slots (suc p) (suc x) (rw ready at (state.is_tree.owns_pages a (suc p))).1).1,
         λ gone h.
-            let own = subst (λ (v : OwnPage). PageFits a (state.owners.page (suc p)) (slot_in m.slots (suc p)) v) gone (state.is_tree.owns_pages a (suc p)) in
-            ⊎_elim
-            (λ (u : slot_in m.slots (suc p) ≡ Some (suc x)). wins (slot_some m.slots (suc p) (suc x) u).1)
-            (λ (u : IsOut (state.owners.page (suc p)) (slot_in m.slots (suc p))). absurd (let f = u.0 in let g = own.3 in cc))
-            (frozen_as state.is_tree a (suc p) (suc x) h.head h.chain h.read h.gone),
+            let own = rw gone at (state.is_tree.owns_pages a (suc p)) in
+            elim (frozen_as state.is_tree a (suc p) (suc x) h.head h.chain h.read h.gone) [
+              | inl u ↦ wins (slot_some m.slots (suc p) (suc x) u).1
+              | inr u ↦ absurd (cc (u.0, own.3))
+            ],
         λ won gone. gone_out_of_limbo (suc p) (suc x) gone (ap row_in (eqb-true (m.slots (suc p)) (suc x) (e ∙ won))),
       )
   fits_exchange (suc p) (suc x) (suc y) t may e = λ won.

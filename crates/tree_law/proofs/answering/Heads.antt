@@ -1,6 +1,5 @@
 -- The row in a page's slot has a record.
-use Rattle.tree_law.proofs.Words.{refl, suc, List, inl, inr, subst, sym, ℕ, ◌≡◌, zero, ◌∙◌, ◌<◌, arith, Some, same_Some, Limits, Memory, Record, Base, memory_of, Entry, Linked, slot_in, row_in}
-use Rattle.tree_law.proofs.Words.{IsState}
+use Rattle.tree_law.proofs.Words.{refl, suc, List, inl, inr, sym, ℕ, ◌≡◌, zero, ◌∙◌, ◌<◌, arith, Some, same_Some, Limits, Memory, Record, Base, memory_of, Entry, Linked, slot_in, row_in, IsState}
 use Rattle.tree_law.proofs.links.Keeping.{slot_of}
 use Rattle.tree_law.proofs.trace.Names.{placed_at}
 
@@ -25,7 +24,7 @@ module _ (limits : Limits) (entries : List Entry) (state : IsState limits entrie
       elim (state.named.in_slots page (m.slots page) held) [
         | inl in_tree ↦ let here = placed_at (state.owners.page page) in_tree in elim (slot_of state.is_tree 0 page here.0 here.1 here.2) [
           | inl none ↦ absurd (cc)
-          | inr at ↦ linked_stands (let same : at.0 ≡ m.slots page = same_Some at.0 (m.slots page) (sym at.1 ∙ held) in subst (λ row. state.owners.row row ≡ Linked) same at.2.linked)
+          | inr at ↦ linked_stands (let same : at.0 ≡ m.slots page = same_Some at.0 (m.slots page) (sym at.1 ∙ held) in rw same at at.2.linked)
         ]
         | inr ready ↦ (Base ready.base, ready.stands)
       ]

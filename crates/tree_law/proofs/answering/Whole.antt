@@ -1,6 +1,6 @@
 -- What an actor may count on of a chain while it reads it, and once it has read it whole.
 use Rattle.tree_law.proofs.Words.{false, ◌⊎◌, [], ap, refl, Option, None, List, inl, length, ◌++◌, inr, ◌∷◌, subst, sym, ℕ, ◌≡◌, ◌∙◌, ◌<◌, arith, Some, ◌+◌, Update, Limits, Child, next_row, Record}
-use Rattle.tree_law.proofs.Words.{IsChainFrom-unique, IsChainFrom, right_in, low_in, is_removed, level_in, IsFront, NamesChild, Knowledge, AreFitted, Key, Linked, Owners, Reached, HeadFits, SeenFits}
+use Rattle.tree_law.proofs.Words.{IsChainFrom-unique, IsChainFrom, right_in, low_in, is_removed, level_in, IsFront, NamesChild, Knowledge, AreFitted, Key, Linked, Owners, Reached}
 use Rattle.tree_law.proofs.Words.{ChainNames, Placed, PageOwner, Cleared, rank_of, Shared, IsTree}
 use Rattle.std.proofs.lemmas.List.{length-append}
 use Rattle.chain_search.specs.discipline.Fitting.{SaysOf, IsReadWhole}
@@ -28,11 +28,11 @@ module _ {m : Shared} {log : List Update} {o : Owners} {knows : ℕ → Knowledg
 
   head_chain : (page head : ℕ) → (knows a).read.heads page ≡ Some head → HeadChain page head
   head_chain page head e =
-      let f = subst (λ (v : Option ℕ). HeadFits o m (logs a) page v) e ((g.sound a).heads_fit page) in
+      let f = rw e at ((g.sound a).heads_fit page) in
       record { chain = f.2.chain; linked = f.2.linked; stands = f.2.is_chain; reached = f.3; names = f.5 }
 
   seen_stands : (r : ℕ) (w : Record) → (knows a).read.seen r ≡ Some w → m.rows r ≡ Some w
-  seen_stands r w e = (subst (λ (v : Option Record). SeenFits (o.row r) (m.rows r) v) e ((g.sound a).seen_fits r)).1
+  seen_stands r w e = (rw e at ((g.sound a).seen_fits r)).1
 
   -- what a linked chain says of a page is so of the page's chain
   says_of : (naming : List Record) → ChainNames o naming → (page : ℕ) (c : List Record) → Reached 0 (level_in c) (low_in c) (o.page page) → SaysOf naming page c
@@ -49,7 +49,7 @@ module _ {m : Shared} {log : List Update} {o : Owners} {knows : ℕ → Knowledg
   read_reached page head c e h =
       let w = head_chain page head e in
       let same = IsChainFrom-unique m.rows head w.chain c w.stands (chain_stands o m (knows a).read.seen (g.sound a).seen_fits c (Some head) h) in
-      subst (λ (d : List Record). Reached 0 (level_in d) (low_in d) (o.page page)) same w.reached
+      rw same at w.reached
 
   -- the chain of a slot that was read is whole, where the pages of the tree are below the limit
   is_whole : (limits : Limits) → ((r p l : ℕ) (s : Key) → Reached r l s (o.page p) → (0 < p) × (p < limits.pids)) → (page head : ℕ) → (knows a).read.heads page ≡ Some head → (w : HeadChain page head) → IsReadWhole limits (knows a) page w.chain

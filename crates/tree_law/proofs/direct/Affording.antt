@@ -1,11 +1,11 @@
 -- A begin keeps a trace direct, and so does a step that its operation can afford.
-use Rattle.tree_law.proofs.Words.{false, [], ap, refl, cond, Option, List, true, inl, ◌≢◌, length, ◌++◌, ◌≤◌, inr, ◌∷◌, subst, sym, ℕ, ◌≡◌, ◌∙◌, ◌<◌, arith, Some, ◌^◌, ◌==◌, eqb_tells, same_Some}
-use Rattle.tree_law.proofs.Words.{IsSome, Command, Reply, Limits, Answer, Whether, Content, Link, StepOf, Row, Exchange, replaced_at, Record, May, Fits, begun, knows, Knowledge, finished, Ready}
+use Rattle.tree_law.proofs.Words.{false, ap, refl, Option, List, true, inl, ◌≢◌, length, ◌++◌, ◌≤◌, inr, ◌∷◌, subst, sym, ℕ, ◌≡◌, ◌∙◌, ◌<◌, arith, Some, ◌^◌, ◌==◌, eqb_tells, same_Some}
+use Rattle.tree_law.proofs.Words.{IsSome, Command, Reply, Limits, Answer, Whether, Content, Link, StepOf, Row, Exchange, replaced_at, Record, May, begun, knows, Knowledge, finished, Ready}
 use Rattle.tree_law.proofs.Words.{learn, recall, Recalled, blank, recalls, IsAnswer, memory_of, IsUseful, Entry, Begin, Step, is_step_of, Links, IsExchangeOf, Operation, IsUpdateLink, Accounts}
-use Rattle.tree_law.proofs.Words.{IsLast, Affords, IsDirectState, Recollects, Walks, StaysDirect, IsState, Opens}
+use Rattle.tree_law.proofs.Words.{IsLast, Affords, IsDirectState, Recollects, Walks, StaysDirect, IsState, Opens, []}
 use Rattle.chain_search.specs.discipline.Recalled.{IsStepSpent}
 use Rattle.tree_law.proofs.answering.Fitted.{fits}
-use Rattle.tree_law.proofs.shape.Puts.{at_place, by_test}
+use Rattle.tree_law.proofs.shape.Puts.{at_place, by_equal}
 use Rattle.tree_law.proofs.direct.Appended.{knows-push, last_begun, last_cases, recalls-push, takes_below}
 use Rattle.tree_law.proofs.direct.Causes.{LinksLast, links_cases}
 use Rattle.tree_law.proofs.direct.Counting.{affords_begun, affords_cause, affords_kept, affords_less}
@@ -22,10 +22,10 @@ not_step_of actor other s x reply ne = elim (eqb_tells other actor) [ inl same �
 pub opens : Opens IsDirectState
 opens limits = record {
   direct = record { few = λ op n begun own. absurd (cc); once = λ op m n first second begun one two is_one is_two. absurd (cc); useful = λ op n slot old new chain begun took is is_chain. absurd (cc) };
-  recollects = λ op latest. absurd (let e = latest.begun in cc);
-  walks = λ op latest. absurd (let e = latest.begun in cc);
+  recollects = λ op latest. absurd (cc latest.begun);
+  walks = λ op latest. absurd (cc latest.begun);
   foreign = λ actor page head base e f. absurd (cc);
-  linked = λ op n kind latest. absurd (let e = latest.begun in cc);
+  linked = λ op n kind latest. absurd (cc latest.begun);
 }
 
 -- no slot that is recalled is that of a page which its actor has made ready
@@ -40,15 +40,14 @@ module _ (limits : Limits) (entries : List Entry) (a : ℕ) (c : Command) (kept 
   longer = entries ++ Begin a c ∷ []
 
   recollects_begun : (op : Operation) → IsLast longer op → Recollects limits longer op (recalls longer op.actor)
-  recollects_begun op latest = subst (λ (rs : ℕ → Recalled). Recollects limits longer op (rs op.actor)) (sym (recalls-push entries last))
-      (at_place (Recollects limits longer op) a blank (recalls entries) op.actor (λ same. recollects_blank limits entries last op)
+  recollects_begun op latest = rw (recalls-push entries last) (at_place (Recollects limits longer op) a blank (recalls entries) op.actor (λ same. recollects_blank limits entries last op)
       (λ ne. elim (last_cases entries last op latest) [
         | inl before ↦ recollects_other limits entries last op (recalls entries op.actor) (λ step answer reply is. cc) (kept.recollects op before)
         | inr at ↦ absurd (ne (let e = at.1 in cc))
       ]))
 
   linked_begun : (op : Operation) (n : ℕ) (kind : Link) → IsLast longer op → Links limits longer op n kind → IsUpdateLink kind → IsSome (knows longer op.actor).asked.linked
-  linked_begun op n kind latest links is = subst (λ (ks : ℕ → Knowledge). IsSome (ks op.actor).asked.linked) (sym (knows-push entries last)) (elim (links_cases limits entries last op n kind links) [
+  linked_begun op n kind latest links is = rw (knows-push entries last) (elim (links_cases limits entries last op n kind links) [
     | inl old ↦
         let below : n < length entries = takes_below entries last op n _ _ old.3 in
         let start : op.start < n = old.3.1.begun in
@@ -60,18 +59,15 @@ module _ (limits : Limits) (entries : List Entry) (a : ℕ) (c : Command) (kept 
 
   walks_begun : (op : Operation) → IsLast longer op → (recalls longer op.actor).walk.rooted ≡ true → Walks limits longer op (knows longer op.actor).read.seen (recalls longer op.actor).walk
   walks_begun op latest =
-      subst (λ (rs : ℕ → Recalled). (rs op.actor).walk.rooted ≡ true → Walks limits longer op (knows longer op.actor).read.seen (rs op.actor).walk) (sym (recalls-push entries last))
-      (subst (λ (ks : ℕ → Knowledge). (replaced_at a blank (recalls entries) op.actor).walk.rooted ≡ true → Walks limits longer op (ks op.actor).read.seen (replaced_at a blank (recalls entries) op.actor).walk) (sym (knows-push entries last))
-      (by_test op.actor a (λ t. (cond t blank (recalls entries op.actor)).walk.rooted ≡ true → Walks limits longer op (cond t (begun (knows entries a) c) (knows entries op.actor)).read.seen (cond t blank (recalls entries op.actor)).walk)
-      (λ same rooted. absurd (cc))
-      (λ ne rooted. elim (last_cases entries last op latest) [
+      rw (recalls-push entries last) (rw (knows-push entries last) (by_equal op.actor a
+      (λ same t. rw t λ rooted. absurd (cc))
+      (λ ne t. rw t λ rooted. elim (last_cases entries last op latest) [
         | inl before ↦ walks_kept limits entries last op (knows entries op.actor).read.seen (recalls entries op.actor).walk (λ step answer reply is. cc) (kept.walks op before rooted)
         | inr at ↦ absurd (ne (let e = at.1 in cc))
       ])))
 
   foreign_begun : (actor : ℕ) → AreForeign (recalls longer actor) (knows longer actor)
-  foreign_begun actor = subst (λ (rs : ℕ → Recalled). AreForeign (rs actor) (knows longer actor)) (sym (recalls-push entries last)) (subst (λ (ks : ℕ → Knowledge). AreForeign (replaced_at a blank (recalls entries) actor) (ks actor)) (sym (knows-push entries last))
-      (by_test actor a (λ t. AreForeign (cond t blank (recalls entries actor)) (cond t (begun (knows entries a) c) (knows entries actor))) (λ same page head base e f. absurd (cc)) (λ ne. kept.foreign actor)))
+  foreign_begun actor = rw (recalls-push entries last) (rw (knows-push entries last) (by_equal actor a (λ same t. rw t λ page head base e f. absurd (cc)) (λ ne t. rw t (kept.foreign actor))))
 
   pub begins : (left : ℕ) → left ≤ 2 ^ 18 → StaysDirect limits entries (Begin a c) a left
   begins left few = record {
@@ -90,7 +86,7 @@ module _ (limits : Limits) (entries : List Entry) (a : ℕ) (c : Command) (kept 
   }
 
 same_number : (j k : ℕ) → ◌≡◌ {A = Answer Record} (Whether true) (Whether (j == k)) → j ≡ k
-same_number j k e = elim (eqb_tells j k) [ inl same ↦ same.1 | inr apart ↦ absurd (let f = apart.0 in cc) ]
+same_number j k e = elim (eqb_tells j k) [ inl same ↦ same.1 | inr apart ↦ absurd (cc apart.0) ]
 
 module _ (limits : Limits) (entries : List Entry) (a : ℕ) (s : StepOf Record) (x : Answer Record) (reply : Option Reply) (state : IsState limits entries) (may : May a (knows entries a) s) (useful : IsUseful (knows entries a) s)
     (is_answer : IsAnswer (memory_of limits entries) s x) (kept : IsDirectState limits entries) where
@@ -116,8 +112,7 @@ module _ (limits : Limits) (entries : List Entry) (a : ℕ) (s : StepOf Record) 
 
   recollects_stepped : (op : Operation) → IsLast grown op → Recollects limits grown op (recalls grown op.actor)
   recollects_stepped op latest = elim (last_cases entries next op latest) [
-    | inl before ↦ subst (λ (rs : ℕ → Recalled). Recollects limits grown op (rs op.actor)) (sym (recalls-push entries next))
-        (at_place (Recollects limits grown op) a (recall (recalls entries a) s x) (recalls entries) op.actor
+    | inl before ↦ rw (recalls-push entries next) (at_place (Recollects limits grown op) a (recall (recalls entries a) s x) (recalls entries) op.actor
         (λ same. recollects_own limits entries next op s x reply before (of_actor op same) (recalls entries a) (subst (λ b. Recollects limits entries op (recalls entries b)) same (kept.recollects op before)))
         (λ ne. recollects_other limits entries next op (recalls entries op.actor) (λ step answer r is. ne (let e : op.actor ≡ a = cc in e)) (kept.recollects op before)))
     | inr at ↦ let e = at.1 in absurd (cc)
@@ -128,12 +123,10 @@ module _ (limits : Limits) (entries : List Entry) (a : ℕ) (s : StepOf Record) 
       let mine : Recalled = recall (recalls entries a) s x in
       elim (last_cases entries next op latest) [
         | inl before ↦
-            subst (λ (rs : ℕ → Recalled). (rs op.actor).walk.rooted ≡ true → Walks limits grown op (knows grown op.actor).read.seen (rs op.actor).walk) (sym (recalls-push entries next))
-            (subst (λ (ks : ℕ → Knowledge). (replaced_at a mine (recalls entries) op.actor).walk.rooted ≡ true → Walks limits grown op (ks op.actor).read.seen (replaced_at a mine (recalls entries) op.actor).walk) (sym (knows-push entries next))
-            (by_test op.actor a (λ t. (cond t mine (recalls entries op.actor)).walk.rooted ≡ true → Walks limits grown op (cond t (finished (learn (knows entries a) s x) reply) (knows entries op.actor)).read.seen (cond t mine (recalls entries op.actor)).walk)
-            (λ same. walks_own limits entries next op s x reply before (of_actor op same) (knows entries a) (recalls entries a) (memory_of limits entries) is_answer
-            (subst (λ b. (recalls entries b).walk.rooted ≡ true → Walks limits entries op (knows entries b).read.seen (recalls entries b).walk) same (kept.walks op before)))
-            (λ ne rooted. walks_kept limits entries next op (knows entries op.actor).read.seen (recalls entries op.actor).walk (λ step answer r is. absurd (ne (let e : op.actor ≡ a = cc in e))) (kept.walks op before rooted))))
+            rw (recalls-push entries next) (rw (knows-push entries next) (by_equal op.actor a
+            (λ same t. rw t (walks_own limits entries next op s x reply before (of_actor op same) (knows entries a) (recalls entries a) (memory_of limits entries) is_answer
+            (subst (λ b. (recalls entries b).walk.rooted ≡ true → Walks limits entries op (knows entries b).read.seen (recalls entries b).walk) same (kept.walks op before))))
+            (λ ne t. rw t λ rooted. walks_kept limits entries next op (knows entries op.actor).read.seen (recalls entries op.actor).walk (λ step answer r is. absurd (ne (let e : op.actor ≡ a = cc in e))) (kept.walks op before rooted))))
         | inr at ↦ let e = at.1 in absurd (cc)
       ]
 
@@ -143,17 +136,16 @@ module _ (limits : Limits) (entries : List Entry) (a : ℕ) (s : StepOf Record) 
         | inl now ↦ never_read limits entries state a page base (subst (May a (knows entries a)) now.0 may) (was_ready page base (knows entries a) s x (λ i. subst (IsExchangeOf page) now.0 i) f)
         | inr old ↦ kept.foreign a page head base old.0 (was_ready page base (knows entries a) s x old.1 f)
       ] in
-      subst (λ (rs : ℕ → Recalled). AreForeign (rs actor) (knows grown actor)) (sym (recalls-push entries next)) (subst (λ (ks : ℕ → Knowledge). AreForeign (replaced_at a (recall (recalls entries a) s x) (recalls entries) actor) (ks actor)) (sym (knows-push entries next))
-      (by_test actor a (λ t. AreForeign (cond t (recall (recalls entries a) s x) (recalls entries actor)) (cond t (finished (learn (knows entries a) s x) reply) (knows entries actor))) (λ same. own) (λ ne. kept.foreign actor)))
+      rw (recalls-push entries next) (rw (knows-push entries next) (by_equal actor a (λ same t. rw t own) (λ ne t. rw t (kept.foreign actor))))
 
   linked_stepped : (op : Operation) (n : ℕ) (kind : Link) → IsLast grown op → Links limits grown op n kind → IsUpdateLink kind → IsSome (knows grown op.actor).asked.linked
   linked_stepped op n kind latest links is = elim (last_cases entries next op latest) [
     | inr at ↦ let e = at.1 in absurd (cc)
-    | inl before ↦ subst (λ (ks : ℕ → Knowledge). IsSome (ks op.actor).asked.linked) (sym (knows-push entries next)) (elim (links_cases limits entries next op n kind links) [
+    | inl before ↦ rw (knows-push entries next) (elim (links_cases limits entries next op n kind links) [
       | inl old ↦
           let some : IsSome (knows entries op.actor).asked.linked = kept.linked op n kind before old is in
           at_place (λ (k : Knowledge). IsSome k.asked.linked) a (finished (learn (knows entries a) s x) reply) (knows entries) op.actor
-          (λ same. linked_kept (knows entries a) s x (subst (λ b. IsSome (knows entries b).asked.linked) same some))
+          (λ same. linked_kept (knows entries a) s x (rw same at some))
           (λ ne. some)
       | inr at ↦ now op kind at.1 is
     ])
@@ -174,7 +166,7 @@ module _ (limits : Limits) (entries : List Entry) (a : ℕ) (s : StepOf Record) 
   -- a record that is read again is the one that was read before
   read_again : (row : ℕ) (content before : Record) → s ≡ Row row → x ≡ Content content → (knows entries a).read.seen row ≡ Some before → content ≡ before
   read_again row content before i j e =
-      (subst (λ y. Fits limits (knows entries a) (Row row) y) j (subst (λ t. Fits limits (knows entries a) t x) i (fits limits entries state a s x may is_answer))).same before e
+      (rw j at (rw i at (fits limits entries state a s x may is_answer))).same before e
 
   module _ (left rest : ℕ) (accounts : Accounts limits entries a left) (spent : IsStepSpent (recalls entries a) s x left rest) where
     afford : (op : Operation) → IsLast entries op → op.actor ≡ a → Affords limits grown op rest
@@ -183,7 +175,7 @@ module _ (limits : Limits) (entries : List Entry) (a : ℕ) (s : StepOf Record) 
       | inr h ↦ affords_cause limits entries next op left rest latest.begun (accounts op latest same)
           (paid limits entries next op latest reply s x (recalls entries a) (knows entries a).read.seen (of_actor op same)
           (λ slot old new is_step is_won. (changes op.actor slot old new reply (λ i. Step (same' same i) (is_step i) (is_won i) reply)).0)
-          (λ page head base e f. kept.foreign a page head base e (subst (λ b. (knows entries b).own.pages page ≡ Ready base) same f))
+          (λ page head base e f. kept.foreign a page head base e (rw same at f))
           read_again
           (subst (λ b. Recollects limits entries op (recalls entries b)) same (kept.recollects op latest))
           (subst (λ b. (recalls entries b).walk.rooted ≡ true → Walks limits entries op (knows entries b).read.seen (recalls entries b).walk) same (kept.walks op latest))

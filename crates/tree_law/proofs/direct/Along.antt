@@ -1,10 +1,10 @@
 -- A trace is direct where each actor obeys its discipline and each operation says how many steps it has left.
-use Rattle.tree_law.proofs.Words.{[], cond, List, ◌++◌, ◌∷◌, subst, sym, ℕ, append_assoc, append-nil, Limits, replaced_at, IsDisciplinedFrom, Entry, Begin, Step, IsDirect, Accounts, IsDirectState}
-use Rattle.tree_law.proofs.Words.{StaysDirect, IsState}
+use Rattle.tree_law.proofs.Words.{List, ◌++◌, ◌∷◌, subst, ℕ, append_assoc, append-nil, Limits, replaced_at, IsDisciplinedFrom, Entry, Begin, Step, IsDirect, Accounts, IsDirectState}
+use Rattle.tree_law.proofs.Words.{StaysDirect, IsState, []}
 use Rattle.tree_law.specs.Direct.{DirectRuns, SpendsFrom}
 use Rattle.tree_law.proofs.trace.Beginning as beginning
 use Rattle.tree_law.proofs.trace.Steps as growth
-use Rattle.tree_law.proofs.shape.Puts.{by_test}
+use Rattle.tree_law.proofs.shape.Puts.{by_equal}
 use Rattle.tree_law.proofs.direct.Affording.{begins, opens, steps}
 
 -- each actor can afford the steps that it says to have left
@@ -12,9 +12,9 @@ abbrev AllAfford : Limits → List Entry → (ℕ → ℕ) → Type 0
 AllAfford limits entries left = (actor : ℕ) → Accounts limits entries actor (left actor)
 
 afford_after : (limits : Limits) (before : List Entry) (entry : Entry) (actor rest : ℕ) (left : ℕ → ℕ) → AllAfford limits before left → StaysDirect limits before entry actor rest → AllAfford limits (before ++ entry ∷ []) (replaced_at actor rest left)
-afford_after limits before entry actor rest left each stays b = by_test b actor (λ t. Accounts limits (before ++ entry ∷ []) b (cond t rest (left b)))
-    (λ same. subst (λ n. Accounts limits (before ++ entry ∷ []) n rest) (sym same) stays.account)
-    (λ ne. stays.others b (left b) ne (each b))
+afford_after limits before entry actor rest left each stays b = by_equal b actor
+    (λ same t. rw (t, same) stays.account)
+    (λ ne t. rw t (stays.others b (left b) ne (each b)))
 
 along : (limits : Limits) (before entries : List Entry) (left : ℕ → ℕ) → IsState limits before → IsDirectState limits before → AllAfford limits before left → IsDisciplinedFrom limits before entries → SpendsFrom left before entries → IsDirect limits (before ++ entries)
 along limits before [] left state kept each h spends = rw (append-nil before) kept.direct
@@ -28,4 +28,4 @@ along limits before (Step actor step answer reply ∷ entries) left state kept e
     (along limits (before ++ Step actor step answer reply ∷ []) entries (replaced_at actor rest left) (growth.steps limits before actor step answer reply state h.0.0 h.0.1 h.0.2) stays.state (afford_after limits before (Step actor step answer reply) actor rest left each stays) h.1 more)
 
 pub direct_runs : DirectRuns
-direct_runs limits entries h spends = along limits [] entries (λ actor. 0) (beginning.opens limits) (opens limits) (λ actor op latest same. absurd (let e = latest.begun in cc)) h spends
+direct_runs limits entries h spends = along limits [] entries (λ actor. 0) (beginning.opens limits) (opens limits) (λ actor op latest same. absurd (cc latest.begun)) h spends

@@ -1,6 +1,6 @@
 -- A direct trace stays direct with one entry more, where its operation can afford it.
 use Rattle.tree_law.proofs.Words.{[], ap, Option, suc, None, List, true, inl, length, ◌++◌, ◌≤◌, inr, ◌∷◌, subst, sym, ℕ, ◌≡◌, ◌∙◌, ◌<◌, arith, Some, take, ◌+◌, ◌^◌, drop, ◌*◌, ◌-◌, All-weaker}
-use Rattle.tree_law.proofs.Words.{same_Some, All, count_by, IsStrictlyIncreasing, IsSome, slice_range, Reply, Limits, Answer, Whether, Link, StepOf, Exchange, Memory, Record, IsChainOf, knows}
+use Rattle.tree_law.proofs.Words.{same_Some, All, count_by, IsStrictlyIncreasing, IsSome, slice_range, Reply, Limits, Answer, Whether, Link, StepOf, Exchange, Record, IsChainOf, knows}
 use Rattle.tree_law.proofs.Words.{memory_at, memory_of, IsUseful, Entry, Step, is_step_of, Links, IsCause, IsDirect, link_of, IsOperation, Operation, IsOwnStep, TakesOwnStep, IsUpdateLink, IsLast}
 use Rattle.tree_law.proofs.Words.{Affords, IsDirectState}
 use Rattle.std.proofs.lemmas.List.{take_rest}
@@ -42,7 +42,7 @@ module _ (limits : Limits) (entries : List Entry) (last : Entry) (kept : IsDirec
         h.0,
         h.1,
         All-weaker (λ cause. (cause ≤ n) × IsCause limits entries op cause) (λ cause. (cause ≤ n) × IsCause limits longer op cause) (λ cause g. (g.0, cause_kept limits entries last op cause g.1)) h.0 h.2,
-        subst (λ part. count_by (is_step_of op.actor) part ≤ 2 ^ 18 * (length h.0 + 1)) (sym (range_kept entries last op.start (suc n) (omega arith) (omega arith))) h.3,
+        rw (range_kept entries last op.start (suc n) (omega arith) (omega arith)) h.3,
       )
 
   module _ (afford : (op : Operation) (s : StepOf Record) (x : Answer Record) (reply : Option Reply) → IsLast entries op → last ≡ Step op.actor s x reply → (rest : ℕ) × Affords limits longer op rest)
@@ -88,12 +88,12 @@ module _ (limits : Limits) (entries : List Entry) (last : Entry) (kept : IsDirec
           | inl own ↦
               let below : n < length entries = takes_below entries last op n _ _ own in
               let same : memory_at limits longer n ≡ memory_at limits entries n = memory_kept entries last limits n (omega arith) in
-              kept.direct.useful op n slot old new chain before own (subst (λ (m : Memory). link_of m slot old new ≡ Some link.Base) same is) (subst (λ (m : Memory). IsChainOf m slot chain) same is_chain)
+              kept.direct.useful op n slot old new chain before own (rw same at is) (rw same at is_chain)
           | inr at ↦
               let made = change op.actor slot old new at.1.0 at.1.1 in
               let same : memory_at limits longer n ≡ memory_of limits entries = ap (memory_at limits longer) at.0 ∙ memory_last entries last limits in
-              let kind : made.0.kind ≡ link.Base = same_Some _ _ (sym made.0.is ∙ subst (λ (m : Memory). link_of m slot old new ≡ Some link.Base) same is) in
-              made.0.useful made.1 kind chain (subst (λ (m : Memory). IsChainOf m slot chain) same is_chain)
+              let kind : made.0.kind ≡ link.Base = same_Some _ _ (sym made.0.is ∙ (rw same at is)) in
+              made.0.useful made.1 kind chain (rw same at is_chain)
         ]
 
     pub direct : IsDirect limits longer

@@ -1,8 +1,8 @@
 -- What an exchange that won has linked, by what its actor knew: an update, once in an operation; a base over a chain that was read.
-use Rattle.tree_law.proofs.Words.{false, ◌⊎◌, [], ap, refl, Option, suc, None, List, true, inl, ◌≢◌, length, inr, ◌∷◌, subst, sym, ℕ, ◌≡◌, zero, ◌∙◌, ◌<◌, arith, Some, same_Some, option_map, IsSome}
+use Rattle.tree_law.proofs.Words.{◌⊎◌, [], ap, refl, Option, suc, None, List, true, inl, ◌≢◌, length, inr, ◌∷◌, subst, sym, ℕ, ◌≡◌, zero, ◌∙◌, ◌<◌, arith, Some, same_Some, option_map, IsSome}
 use Rattle.tree_law.proofs.Words.{Limits, Answer, Whether, Link, StepOf, Exchange, Page, record_link, Memory, Record, Remove, Base, Hold, Split, Put, Delete, Merge, Term, Unterm, IsChainFrom-unique}
-use Rattle.tree_law.proofs.Words.{IsChainOf, IsChainFrom, is_removed, MayExchange, IsFitted, knows, Knowledge, Ready, learn, OwnPage, Gone, Written, exchanged, forgotten, memory_of, IsUseful, Entry}
-use Rattle.tree_law.proofs.Words.{link_without, link_of, IsUpdateLink, PageFits, slot_in, row_in, IsState, IsInTree}
+use Rattle.tree_law.proofs.Words.{IsChainOf, IsChainFrom, is_removed, MayExchange, IsFitted, knows, Knowledge, Ready, learn, Gone, Written, exchanged, forgotten, memory_of, IsUseful, Entry}
+use Rattle.tree_law.proofs.Words.{link_without, link_of, IsUpdateLink, row_in, IsState, IsInTree}
 use Rattle.bw_model.specs.declared.step.Link.TheVariants as link
 use Rattle.tree_law.proofs.trace.Phasing.{link_empty, link_front, link_ready}
 use Rattle.tree_law.proofs.links.Relinking.{found, placed_row}
@@ -23,14 +23,14 @@ not_base w e = cc
 newest_removes : (w : Record) (under : List Record) → IsFitted (w ∷ under) → is_removed (w ∷ under) ≡ true → link_without w ≡ link.Clear
 newest_removes (Remove remove) under h gone = refl
 newest_removes (Base page) under h gone = absurd (cc)
-newest_removes (Put put) (older ∷ under) h gone = absurd (let e : false ≡ true = sym h.0.fits.alive ∙ h.0.makes.removed ∙ gone in cc)
-newest_removes (Delete delete) (older ∷ under) h gone = absurd (let e : false ≡ true = sym h.0.fits.alive ∙ h.0.makes.removed ∙ gone in cc)
-newest_removes (Split split) (older ∷ under) h gone = absurd (let e : false ≡ true = sym h.0.fits.alive ∙ h.0.makes.removed ∙ gone in cc)
-newest_removes (Term term) (older ∷ under) h gone = absurd (let e : false ≡ true = sym h.0.fits.alive ∙ h.0.makes.removed ∙ gone in cc)
-newest_removes (Hold hold) (older ∷ under) h gone = absurd (let e : false ≡ true = sym h.0.fits.alive ∙ h.0.makes.removed ∙ gone in cc)
-newest_removes (Merge merge) (older ∷ under) h gone = absurd (let e : false ≡ true = sym h.0.fits.alive ∙ h.0.makes.removed ∙ gone in cc)
-newest_removes (Unterm unterm) (older ∷ under) h gone = absurd (let e : false ≡ true = sym h.0.fits.alive ∙ h.0.makes.removed ∙ gone in cc)
-newest_removes w under h gone = absurd (let e = h.1 in cc)
+newest_removes (Put put) (older ∷ under) h gone = absurd (cc (h.0.fits.alive, h.0.makes.removed))
+newest_removes (Delete delete) (older ∷ under) h gone = absurd (cc (h.0.fits.alive, h.0.makes.removed))
+newest_removes (Split split) (older ∷ under) h gone = absurd (cc (h.0.fits.alive, h.0.makes.removed))
+newest_removes (Term term) (older ∷ under) h gone = absurd (cc (h.0.fits.alive, h.0.makes.removed))
+newest_removes (Hold hold) (older ∷ under) h gone = absurd (cc (h.0.fits.alive, h.0.makes.removed))
+newest_removes (Merge merge) (older ∷ under) h gone = absurd (cc (h.0.fits.alive, h.0.makes.removed))
+newest_removes (Unterm unterm) (older ∷ under) h gone = absurd (cc (h.0.fits.alive, h.0.makes.removed))
+newest_removes w under h gone = absurd (cc h.1)
 
 removed_newest : (rows : ℕ → Option Record) (row : ℕ) (chain : List Record) → IsChainFrom rows row chain → IsFitted chain → is_removed chain ≡ true → (w : Record) × (rows row ≡ Some w) × (link_without w ≡ link.Clear)
 removed_newest rows row [] h fitted gone = absurd h
@@ -77,15 +77,15 @@ module _ (limits : Limits) (entries : List Entry) (a : ℕ) where
     emptying : (p x : ℕ) → m.slots (suc p) ≡ suc x → (k.own.pages (suc p) ≡ Ready (suc x)) ⊎ (k.own.pages (suc p) ≡ Gone)
         → (w : Record) × (m.rows (suc x) ≡ Some w) × (((base : ℕ) → k.own.pages (suc p) ≡ Ready base → ⊥) → link_without w ≡ link.Clear)
     emptying p x at (inl ready) =
-        let own = subst (λ (v : OwnPage). PageFits a (state.owners.page (suc p)) (slot_in m.slots (suc p)) v) ready (state.is_tree.owns_pages a (suc p)) in
+        let own = rw ready at (state.is_tree.owns_pages a (suc p)) in
         elim (state.named.in_slots (suc p) (suc x) (ap row_in at)) [
           | inl tree ↦ absurd (subst IsInTree own.0 tree)
           | inr held ↦ (Base held.base, held.stands, λ never. absurd (never (suc x) ready))
         ]
     emptying p x at (inr gone) =
-        let own = subst (λ (v : OwnPage). PageFits a (state.owners.page (suc p)) (slot_in m.slots (suc p)) v) gone (state.is_tree.owns_pages a (suc p)) in
+        let own = rw gone at (state.is_tree.owns_pages a (suc p)) in
         elim (state.is_tree.tree.off (suc p) own.0 own.1 (inr (a, own.2))) [
-          | inl out ↦ absurd (let e : Some (suc x) ≡ None = sym (ap row_in at) ∙ out.0 in cc)
+          | inl out ↦ absurd (cc out.0)
           | inr off ↦
               let newest = removed_newest m.rows off.row off.chain off.is_chain (state.fitted off.row off.linked off.chain off.is_chain).fitted off.flagged in
               (newest.0, subst (λ r. m.rows r ≡ Some newest.0) (same_Some off.row (suc x) (sym off.head ∙ ap row_in at)) newest.1, λ never. newest.2)
@@ -117,7 +117,7 @@ module _ (limits : Limits) (entries : List Entry) (a : ℕ) where
     change (suc p) (suc x) zero may at =
         let h = emptying p x at may in
         change_as (suc p) (suc x) zero (link_without h.0) may at (link_empty m p x ∙ ap (option_map link_without) h.1)
-        (λ some never. let clear = h.2 never in (λ e. absurd (let f : link.Clear ≡ link.Ready = sym clear ∙ e in cc), λ e. absurd (let f : link.Clear ≡ link.Undo = sym clear ∙ e in cc)))
+        (λ some never. let clear = h.2 never in (λ e. absurd (cc), λ e. absurd (cc)))
         (λ is_tree e. absurd (not_base h.0 e))
     change (suc p) (suc x) (suc y) may at =
         change_as (suc p) (suc x) (suc y) (record_link may.content) may at (link_front m p x y ∙ ap (option_map record_link) (placed_row state.is_tree a (suc y) may.content may.placed))
@@ -125,5 +125,5 @@ module _ (limits : Limits) (entries : List Entry) (a : ℕ) where
         (λ is_tree e chain is_chain.
         let base = base_is may.content e in
         let stands : IsChainFrom m.rows (suc x) may.basis.chain = (found state.is_tree a (suc p) (suc x) may.basis).stands in
-        let same : may.basis.chain ≡ chain = IsChainFrom-unique m.rows (suc x) may.basis.chain chain stands (subst (λ r. IsChainFrom m.rows r chain) at is_chain.records) in
-        subst (λ c. 1 < length c) same (is_tree may.basis base.0 (may.placed ∙ ap Written base.1)))
+        let same : may.basis.chain ≡ chain = IsChainFrom-unique m.rows (suc x) may.basis.chain chain stands (rw at at is_chain.records) in
+        rw same at (is_tree may.basis base.0 (may.placed ∙ ap Written base.1)))

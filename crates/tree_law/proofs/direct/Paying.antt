@@ -1,7 +1,7 @@
 -- A step that is paid for is a cause of its operation.
 use Rattle.tree_law.proofs.Words.{false, [], ap, refl, Option, suc, List, true, inl, length, ◌++◌, inr, ◌∷◌, subst, sym, ℕ, ◌≡◌, zero, ◌∙◌, ◌<◌, arith, Some, Reply, Limits, Answer, Whether, Content}
 use Rattle.tree_law.proofs.Words.{Number, StepOf, TakePid, Row, TakeRow, Slot, Exchange, Memory, Record, Remove, knows, Ready, Recalled, is_removal, Entry, Step, IsExchangeOf, IsCause, TakesNone}
-use Rattle.tree_law.proofs.Words.{IsTheStep, IsTake, link_of, Operation, TakesOwnStep, IsLast, Recollects, Walks}
+use Rattle.tree_law.proofs.Words.{IsTheStep, IsTake, link_of, Operation, IsLast, Recollects, Walks}
 use Rattle.deltas.specs.declared.record.Remove.{Remove as Removal}
 use Rattle.chain_search.specs.discipline.Recalled.{AnyNames, IsPaid, IsUnread}
 use Rattle.tree_law.proofs.trace.Searches.{takes_kept}
@@ -21,7 +21,7 @@ module _ (limits : Limits) (entries : List Entry) (last : Entry) (op : Operation
       → Walks limits entries op seen r.walk → r.walk.removed ≡ false → IsCause limits longer op (length entries)
   removal row remove r seen is same w fresh =
       let first : TakesNone limits entries op w.at (length entries) (IsTheStep limits entries op (Row row)) = λ between step answer low high own kind.
-      let was = w.rows between row answer low (subst (λ t. TakesOwnStep entries op between t answer) kind own) in
+      let was = w.rows between row answer low (rw kind at own) in
       let f : true ≡ false = sym (was.2 (subst (λ content. is_removal content ≡ true) (same was.0 was.1) refl)) ∙ fresh in
       cc in
       inr (inr (inr (

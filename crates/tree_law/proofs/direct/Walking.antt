@@ -1,11 +1,11 @@
 -- What an actor recalls of its reads since it last read slot 0, its last operation has read since then.
-use Rattle.tree_law.proofs.Words.{false, [], ap, refl, cond, Option, suc, List, true, inl, ◌≢◌, length, ◌++◌, inr, ◌∷◌, subst, sym, ℕ, ◌≡◌, Bool, zero, ◌∙◌, ◌<◌, arith, Some, ◌||◌, Reply, Limits}
+use Rattle.tree_law.proofs.Words.{false, ap, refl, Option, suc, List, true, inl, ◌≢◌, length, ◌++◌, inr, ◌∷◌, subst, sym, ℕ, ◌≡◌, Bool, zero, ◌∙◌, ◌<◌, arith, Some, ◌||◌, Reply, Limits}
 use Rattle.tree_law.proofs.Words.{Answer, Content, Number, StepOf, Leave, Row, Slot, PidBits, RowBits, Memory, replaced_at, Record, Knowledge, learn, recall, Recalled, is_removal, IsAnswer, Entry}
-use Rattle.tree_law.proofs.Words.{Step, TakesNone, IsTheStep, Operation, TakesOwnStep, IsLast, Walks}
+use Rattle.tree_law.proofs.Words.{Step, TakesNone, IsTheStep, Operation, TakesOwnStep, IsLast, Walks, []}
 use Rattle.chain_search.specs.discipline.Recalled.{Walk, note, visit}
 use Rattle.tree_law.proofs.links.Exchanged.{exchanged_alike}
 use Rattle.tree_law.proofs.trace.Owned.{pushed_length}
-use Rattle.tree_law.proofs.shape.Puts.{by_test}
+use Rattle.tree_law.proofs.shape.Puts.{by_equal}
 use Rattle.tree_law.proofs.trace.Searches.{takes_kept}
 use Rattle.tree_law.proofs.direct.Appended.{takes_below, takes_cases, takes_last}
 use Rattle.tree_law.proofs.links.Learning.{learning, at_row, wins, leaves}
@@ -114,7 +114,7 @@ module _ (limits : Limits) (entries : List Entry) (last : Entry) (op : Operation
       slots = λ page fresh new. none_longer h.at (IsTheStep limits entries op (Slot page)) (λ step answer other own kind. new.0 (let e : Slot page ≡ Slot (suc p) = sym kind ∙ (is_step step answer other own).0 ∙ i in cc)) (h.slots page fresh (rw fresh at new.1));
       rows = λ m row answer low own. elim (takes_cases entries last op m (Row row) answer own) [
         | inl before ↦ h.rows m row answer low before
-        | inr now ↦ absurd (let e : Row row ≡ Slot (suc p) = (is_step (Row row) answer now.1.0 now.1.1).0 ∙ i in cc)
+        | inr now ↦ absurd (cc (is_step (Row row) answer now.1.0 now.1.1).0)
       ];
       named = λ page names. let f = h.named page names in (f.0, f.1, f.2, f.3, takes_kept entries last op f.0 _ _ f.4, f.5);
     }
@@ -130,12 +130,12 @@ module _ (limits : Limits) (entries : List Entry) (last : Entry) (op : Operation
           begins = takes_kept entries last op h.at _ _ h.begins;
           last = none_longer h.at (IsTheStep limits entries op (Slot 0)) (λ step answer other own kind. let e : Slot 0 ≡ Row q = sym kind ∙ (is_step step answer other own).0 ∙ i in cc) h.last;
           slots = λ page fresh new. none_longer h.at (IsTheStep limits entries op (Slot page)) (λ step answer other own kind. let e : Slot page ≡ Row q = sym kind ∙ (is_step step answer other own).0 ∙ i in cc) (h.slots page (or_none (is_removal w) walk.removed fresh) new);
-          rows = λ m row answer after own. by_test row q (λ t. (content : Record) × (cond t (Some w) (seen row) ≡ Some content) × (is_removal content ≡ true → (is_removal w || walk.removed) ≡ true))
-              (λ same. (w, refl, or_left (is_removal w) walk.removed))
-              (λ ne. elim (takes_cases entries last op m (Row row) answer own) [
+          rows = λ m row answer after own. by_equal row q
+              (λ same t. rw t (w, refl, or_left (is_removal w) walk.removed))
+              (λ ne t. rw t (elim (takes_cases entries last op m (Row row) answer own) [
                 | inl before ↦ let f = h.rows m row answer after before in (f.0, f.1, λ e. or_right (is_removal w) walk.removed (f.2 e))
                 | inr now ↦ absurd (ne (let e : Row row ≡ Row q = (is_step (Row row) answer now.1.0 now.1.1).0 ∙ i in cc))
-              ]);
+              ]));
           named = λ page names. elim names [
             | inl here ↦ (length entries, q, w, low, took, here)
             | inr old ↦ let f = h.named page old in (f.0, f.1, f.2, f.3, takes_kept entries last op f.0 _ _ f.4, f.5)
@@ -149,17 +149,16 @@ module _ (limits : Limits) (entries : List Entry) (last : Entry) (op : Operation
         let kept : Walks limits longer op k.read.seen r.walk = walks_kept k.read.seen r.walk
         (λ step answer other own. (λ page e. subst IsStill (sym (is_step step answer other own).0 ∙ e) rests, λ row e. subst IsStill (sym (is_step step answer other own).0 ∙ e) rests))
         (h (ap (λ (walk : Walk). walk.rooted) (sym same) ∙ rooted)) in
-        subst (λ (seen : ℕ → Option Record). Walks limits longer op seen (recall r s x).walk) (sym (seen_kept k s x (still_seen s rests))) (subst (λ (walk : Walk). Walks limits longer op k.read.seen walk) (sym same) kept)
+        rw (seen_kept k s x (still_seen s rests)) (rw same kept)
 
   pub walks_own : (s : StepOf Record) (x : Answer Record) (reply : Option Reply) (latest : IsLast entries op) (is : last ≡ Step op.actor s x reply) (k : Knowledge) (r : Recalled) (memory : Memory) → IsAnswer memory s x
       → (r.walk.rooted ≡ true → Walks limits entries op k.read.seen r.walk) → (recall r s x).walk.rooted ≡ true → Walks limits longer op (learn k s x).read.seen (recall r s x).walk
-  walks_own (Slot zero) x reply latest is k r memory says h rooted = subst (λ y. Walks limits longer op (learn k (Slot zero) y).read.seen (recall r (Slot zero) y).walk) (sym says) (begun (Slot zero) x reply latest is (memory.slots 0) k.read.seen r.walk refl says)
+  walks_own (Slot zero) x reply latest is k r memory says h rooted = rw says (begun (Slot zero) x reply latest is (memory.slots 0) k.read.seen r.walk refl says)
   walks_own (Slot (suc p)) x reply latest is k r memory says h rooted =
-      let was : r.walk.rooted ≡ true = subst (λ y. (recall r (Slot (suc p)) y).walk.rooted ≡ true) says rooted in
-      subst (λ y. Walks limits longer op (learn k (Slot (suc p)) y).read.seen (recall r (Slot (suc p)) y).walk) (sym says)
-      (subst (λ (seen : ℕ → Option Record). Walks limits longer op seen (visit (suc p) r.walk)) (sym (seen_kept k (Slot (suc p)) (Number (memory.slots (suc p))) tt)) (visited (Slot (suc p)) x reply latest is p (memory.slots (suc p)) k.read.seen r.walk refl says (h was)))
+      let was : r.walk.rooted ≡ true = rw says at rooted in
+      rw says (rw (seen_kept k (Slot (suc p)) (Number (memory.slots (suc p))) tt) (visited (Slot (suc p)) x reply latest is p (memory.slots (suc p)) k.read.seen r.walk refl says (h was)))
   walks_own (Row q) x reply latest is k r memory says h rooted =
-      let was : r.walk.rooted ≡ true = subst (λ y. (recall r (Row q) y).walk.rooted ≡ true) says.2 rooted in
-      subst (λ y. Walks limits longer op (learn k (Row q) y).read.seen (recall r (Row q) y).walk) (sym says.2) (noted (Row q) x reply latest is q says.0 k.read.seen r.walk refl says.2 (h was))
+      let was : r.walk.rooted ≡ true = rw says.2 at rooted in
+      rw says.2 (noted (Row q) x reply latest is q says.0 k.read.seen r.walk refl says.2 (h was))
   walks_own Leave x reply latest is k r memory says h rooted = absurd (cc)
   walks_own s x reply latest is k r memory says h rooted = still s x reply latest is k r tt h rooted

@@ -1,11 +1,11 @@
 -- An exchange of a page's slot to 0, and one of slot 0: what they take out of the tree, and what actors hold afterwards.
-use Rattle.tree_law.proofs.Words.{false, ◌⊎◌, ap, refl, cond, Option, suc, None, List, true, inl, inr, subst, sym, ℕ, ◌≡◌, Bool, ◌∙◌, arith, Some, eqb, ⊎_elim, and-false, same_Some, IfSome, ◌&&◌}
-use Rattle.tree_law.proofs.Words.{Update, Reply, Limits, Exchange, Memory, replaced_at, next_row, Record, Base, IsOwn, IsOwnBase, Knowledge, finished, Ready, Foreign, Empty, OwnPage, Other, Gone}
-use Rattle.tree_law.proofs.Words.{OwnRow, Unstamped, handed_page, is_on_walk, set_page, Key, IsHomed, Linked, Owners, Reached, Spare, PageFits, PageOwner, Cleared, Keeps, put, shared, slot_in, Times}
-use Rattle.tree_law.proofs.Words.{Timed, times_after, LimboFits, Outing, out_after, is_linked, is_cleared, IsTree}
+use Rattle.tree_law.proofs.Words.{false, ◌⊎◌, ap, refl, cond, Option, suc, None, List, true, inl, inr, subst, sym, ℕ, ◌≡◌, Bool, ◌∙◌, arith, Some, eqb, and-false, same_Some, ◌&&◌}
+use Rattle.tree_law.proofs.Words.{Update, Reply, Limits, Exchange, Memory, replaced_at, next_row, Record, Base, IsOwn, IsOwnBase, Knowledge, finished, Ready, Foreign, Empty, Other, Gone}
+use Rattle.tree_law.proofs.Words.{Unstamped, handed_page, is_on_walk, set_page, Key, IsHomed, Linked, Owners, Reached, Spare, PageFits, PageOwner, Cleared, Keeps, put, shared, slot_in, Times}
+use Rattle.tree_law.proofs.Words.{Timed, times_after, LimboFits, Outing, is_linked, is_cleared, IsTree}
 use Rattle.bw_model.specs.declared.step.Answer.TheVariants as answer
 use Rattle.chain_search.specs.discipline.Knowledge.{cleared}
-use Rattle.tree_law.proofs.shape.{by_test, eqb_same, eqb_true, eqb_apart, put_other, put_all, next_linked, own_base}
+use Rattle.tree_law.proofs.shape.{by_equal, eqb_same, eqb_true, eqb_apart, put_other, put_was, put_all, next_linked, own_base}
 use Rattle.tree_law.proofs.links.Stepping.{slot_put, root_apart}
 use Rattle.tree_law.proofs.epochs.Timing.{Turn, limbo_row, limbo_pid, held_later, announced_still, put_timed}
 use Rattle.tree_law.proofs.epochs.Timely.{linked}
@@ -33,23 +33,22 @@ module _ {limits : Limits} {m : Memory} {log : List Update} {o : Owners} {knows 
 
     module _ (o' : Owners) (k' : Knowledge) (inside : k'.inside ≡ (knows a).inside) (f : Emptying o') where
       page_cases : (q : ℕ) (w : Outing) → t2.page_out q ≡ Some w → ((l : ℕ) × (s : Key) × (o'.page q ≡ Cleared w.who l s))
-      page_cases q w e = ⊎_elim
-          (λ (u : t.page_out q ≡ Some w). let v = (T.pages q w u).0 in (v.0, v.1, ap (λ (h : ℕ → PageOwner). h q) f.pages ∙ v.2))
-          (λ (u : (t.page_out q ≡ None) × ((eqb q (suc p) && is_cleared (o.page q)) ≡ true) × (w ≡ out_now g T a)).
-          let b = both_true (eqb q (suc p)) (is_cleared (o.page q)) u.1 in
-          let c = tested_cleared (o.page q) b.1 in
-          (c.1, c.2, ap (λ (h : ℕ → PageOwner). h q) f.pages ∙ c.3 ∙ ap (λ n. Cleared n c.1 c.2) ((f.whose c.0 c.1 c.2 (ap o.page (sym (eqb_true q (suc p) b.0)) ∙ c.3)) ∙ sym (ap (λ v. v.who) u.2))))
-          (out_cases g T a (t.page_out q) (eqb q (suc p) && is_cleared (o.page q)) w e)
+      page_cases q w e = elim (out_cases g T a (t.page_out q) (eqb q (suc p) && is_cleared (o.page q)) w e) [
+        | inl u ↦ let v = (T.pages q w u).0 in (v.0, v.1, ap (λ (h : ℕ → PageOwner). h q) f.pages ∙ v.2)
+        | inr u ↦ let b = both_true (eqb q (suc p)) (is_cleared (o.page q)) u.1 in
+            let c = tested_cleared (o.page q) b.1 in
+            (c.1, c.2, ap (λ (h : ℕ → PageOwner). h q) f.pages ∙ c.3 ∙ ap (λ n. Cleared n c.1 c.2) ((f.whose c.0 c.1 c.2 (ap o.page (sym (eqb_true q (suc p) b.0)) ∙ c.3)) ∙ sym (ap (λ v. v.who) u.2)))
+      ]
 
       slot_out : (q : ℕ) (w : Outing) → t2.page_out q ≡ Some w → put (slot_in m.slots) (suc p) None q ≡ None
-      slot_out q w = by_test q (suc p) (λ z. out_after (t.page_out q) (z && is_cleared (o.page q)) (out_now g T a) ≡ Some w → cond z None (slot_in m.slots q) ≡ None)
-          (λ i e. refl)
-          (λ ne e. ⊎_elim (λ (u : t.page_out q ≡ Some w). (T.pages q w u).1) (λ (u : (t.page_out q ≡ None) × (false ≡ true) × (w ≡ out_now g T a)). absurd (let v = u.1 in cc)) (out_cases g T a (t.page_out q) false w e))
+      slot_out q w = by_equal q (suc p)
+          (λ i is. rw is λ e. refl)
+          (λ ne is. rw is λ e. elim (out_cases g T a (t.page_out q) false w e) [ inl u ↦ (T.pages q w u).1 | inr u ↦ absurd (cc u.1) ])
 
       slots_after : (q z l : ℕ) (s : Key) → Reached 0 l s (o'.page q) → put (slot_in m.slots) (suc p) None q ≡ Some z → (t2.home z ≡ q) × (t2.row_out z ≡ None)
-      slots_after q z l s r = by_test q (suc p) (λ v. cond v None (slot_in m.slots q) ≡ Some z → (t2.home z ≡ q) × (t2.row_out z ≡ None))
-          (λ i e. absurd (cc))
-          (λ ne e. let old : Reached 0 l s (o.page q) = subst (λ (h : ℕ → PageOwner). Reached 0 l s (h q)) f.pages r in
+      slots_after q z l s r = by_equal q (suc p)
+          (λ i is. rw is λ e. absurd (cc))
+          (λ ne is. rw is λ e. let old : Reached 0 l s (o.page q) = rw f.pages at r in
           let b = T.slots q z l s old e in
           (b.0, rw (b.1, eqb_apart (t.home z) (suc p) (λ i. ne (sym b.0 ∙ i)), and-false (is_linked (o.row z))) refl))
 
@@ -57,7 +56,7 @@ module _ {limits : Limits} {m : Memory} {log : List Update} {o : Owners} {knows 
       together_after r n w l e i =
           let was = f.back r l in
           let c = T.together r n w was e i in
-          (c.0, rw ((subst (λ v. IfSome v (λ j. o.row j ≡ Linked)) i (next_linked o (shared m) g.closed r w was e)), was, c.0, c.1) refl)
+          (c.0, rw ((rw i at (next_linked o (shared m) g.closed r w was e)), was, c.0, c.1) refl)
 
       pub emptying_turn : Turn T (linked g T a) a m2 o' k' t2
       emptying_turn = record {
@@ -70,36 +69,36 @@ module _ {limits : Limits} {m : Memory} {log : List Update} {o : Owners} {knows 
         passes = λ u lt h i. h (sym inside ∙ i);
         slots = λ q z l s r e. slots_after q z l s r (sym (ap (λ v. v q) (slot_put m.slots p 0)) ∙ e);
         together = together_after;
-        rows = λ r w e. ⊎_elim
-            (λ (u : t.row_out r ≡ Some w). ⊎_elim (λ (v : o.row r ≡ Linked). inl (f.stay r v)) (λ (v : o.row r ≡ Spare w.who). inr (f.spare r w.who v)) (T.rows r w u).0)
-            (λ (u : (t.row_out r ≡ None) × ((is_linked (o.row r) && eqb (t.home r) (suc p)) ≡ true) × (w ≡ out_now g T a)). inl (f.stay r (tested_linked (o.row r) (both_true (is_linked (o.row r)) (eqb (t.home r) (suc p)) u.1).0)))
-            (out_cases g T a (t.row_out r) (is_linked (o.row r) && eqb (t.home r) (suc p)) w e);
+        rows = λ r w e. elim (out_cases g T a (t.row_out r) (is_linked (o.row r) && eqb (t.home r) (suc p)) w e) [
+          | inl u ↦ elim (T.rows r w u).0 [ inl v ↦ inl (f.stay r v) | inr v ↦ inr (f.spare r w.who v) ]
+          | inr u ↦ inl (f.stay r (tested_linked (o.row r) (both_true (is_linked (o.row r)) (eqb (t.home r) (suc p)) u.1).0))
+        ];
         pages = λ q w e. (page_cases q w e, ap (λ v. v q) (slot_put m.slots p 0) ∙ slot_out q w e);
         own_rows = λ b r ne i. own_in b r i;
-        gone_pages = λ b q ne i. by_test q (suc p) (λ z. out_after (t.page_out q) (z && is_cleared (o.page q)) (out_now g T a) ≡ None)
-            (λ e. let own : PageFits b (o.page q) (slot_in m.slots q) Gone = subst (λ (v : OwnPage). PageFits b (o.page q) (slot_in m.slots q) v) i (g.owns_pages b q) in absurd (ne (f.whose b own.0 own.1 (ap o.page (sym e) ∙ own.2))))
-            (λ nq. rw (T.gone_pages b q i) refl);
+        gone_pages = λ b q ne i. by_equal q (suc p)
+            (λ e t. rw t (let own : PageFits b (o.page q) (slot_in m.slots q) Gone = rw i at (g.owns_pages b q) in absurd (ne (f.whose b own.0 own.1 (ap o.page (sym e) ∙ own.2)))))
+            (λ nq t. rw t (rw (T.gone_pages b q i) refl));
       }
 
     -- the exchange leaves the actor this knowledge
-    pub emptied_timed : (o' : Owners) (f : Emptying o') (k' : Knowledge) → k'.inside ≡ (knows a).inside → k'.read.seen ≡ (knows a).read.seen → k'.read.learnt ≡ (knows a).read.learnt → k'.read.roots ≡ (knows a).read.roots → k'.read.heads ≡ (knows a).read.heads → k'.read.before ≡ (knows a).read.before → k'.asked.linked ≡ (knows a).asked.linked → k'.limbo.epoch ≡ (knows a).limbo.epoch → k'.own.rows ≡ (knows a).own.rows
+    pub emptied_timed : (o' : Owners) (f : Emptying o') (k' : Knowledge) → k'.inside ≡ (knows a).inside → k'.read ≡ (knows a).read → k'.asked.linked ≡ (knows a).asked.linked → k'.limbo.epoch ≡ (knows a).limbo.epoch → k'.own.rows ≡ (knows a).own.rows
         → ((q : ℕ) → k'.own.pages q ≡ Gone → t2.page_out q ≡ None)
         → ((n : Turn T (linked g T a) a m2 o' k' t2) (r : ℕ) → LimboFits a (λ c. (put knows a k' c).inside) t.entered (t2.row_out r) (k'.limbo.rows r))
         → ((n : Turn T (linked g T a) a m2 o' k' t2) (q : ℕ) → LimboFits a (λ c. (put knows a k' c).inside) t.entered (t2.page_out q) (k'.limbo.pids q))
         → ((q r : ℕ) → k'.own.pages q ≡ Ready r → (knows a).own.pages q ≡ Ready r)
         → Timed limits m2 o' (put knows a k') (suc now) t2
-    emptied_timed o' f k' e0 e1 e2 e3 e4 e5 e6 e7 e8 gone rows pids was =
-        let n = emptying_turn o' k' e0 f in
-        put_timed T (linked g T a) a m2 o' k' t2 n (record {
-          within = λ i. T.within a (sym e0 ∙ i);
-          holds = rw (e0, e1, e2, e3, e4, e5, e6) (held_later T (linked g T a) a m2 o' k' t2 n a);
-          announced = λ i. announced_still T (linked g T a) a m2 o' k' t2 n a refl (sym e0 ∙ i);
-          epochs = λ e i. T.epochs a e (sym e7 ∙ i);
-          own_rows = λ r i. own_in a r (subst (λ (h : ℕ → OwnRow). IsOwn (h r)) e8 i);
+    emptied_timed o' f k' inside read over epoch own gone rows pids was =
+        let n = emptying_turn o' k' inside f in
+        put_timed n (record {
+          within = λ i. T.within a (sym inside ∙ i);
+          holds = rw (inside, read, over) (held_later n a);
+          announced = λ i. announced_still n a refl (sym inside ∙ i);
+          epochs = λ e i. T.epochs a e (sym epoch ∙ i);
+          own_rows = rw own (own_in a);
           gone_pages = gone;
           limbo_rows = rows n;
           limbo_pids = pids n;
-          ready = λ q r i. subst (λ (h : ℕ → OwnRow). IsOwnBase (h r)) (sym e8) (T.ready a q r (was q r i));
+          ready = rw own λ q r i. T.ready a q r (was q r i);
           apart = λ q s r i j. T.apart a q s r (was q r i) (was s r j);
         })
 
@@ -107,26 +106,26 @@ module _ {limits : Limits} {m : Memory} {log : List Update} {o : Owners} {knows 
     pub undone_timed : (o' : Owners) (f : Emptying o') → (l : o.page (suc p) ≡ Keeps a) (r : Option Reply) → Timed limits m2 o' (put knows a (finished (set_page (suc p) Empty (knows a)) r)) (suc now) t2
     undone_timed o' f own r =
         let k' : Knowledge = finished (set_page (suc p) Empty (knows a)) r in
-        emptied_timed o' f k' refl refl refl refl refl refl refl refl refl
-        (λ q. by_test q (suc p) (λ z. cond z Empty ((knows a).own.pages q) ≡ Gone → out_after (t.page_out q) (z && is_cleared (o.page q)) (out_now g T a) ≡ None) (λ e i. absurd (cc)) (λ ne i. rw (T.gone_pages a q i) refl))
-        (λ n. limbo_row T (linked g T a) a m2 o' k' t2 n a)
-        (λ n. limbo_pid T (linked g T a) a m2 o' k' t2 n a)
-        (λ q j. by_test q (suc p) (λ z. cond z Empty ((knows a).own.pages q) ≡ Ready j → (knows a).own.pages q ≡ Ready j) (λ e i. absurd (cc)) (λ ne i. i))
+        emptied_timed o' f k' refl refl refl refl refl
+        (λ q. by_equal q (suc p) (λ e t. rw t λ i. absurd (cc)) (λ ne t. rw t λ i. rw (T.gone_pages a q i) refl))
+        (λ n. limbo_row n a)
+        (λ n. limbo_pid n a)
+        (λ q j. put_was (knows a).own.pages (suc p) Empty q (λ e. cc))
 
     -- a page whose term the actor took out is out of the tree, with its chain
     pub cleared_timed : (o' : Owners) (f : Emptying o') → (own : (knows a).own.pages (suc p) ≡ Gone) (r : Option Reply)
         → Timed limits m2 o' (put knows a (finished (cleared (suc p) x (knows a)) r)) (suc now) t2
-    cleared_timed o' f own r = emptied_timed o' f k' refl refl refl refl refl refl refl refl refl
-        (λ q. by_test q (suc p) (λ z. cond z Other ((knows a).own.pages q) ≡ Gone → out_after (t.page_out q) (z && is_cleared (o.page q)) (out_now g T a) ≡ None) (λ e i. absurd (cc)) (λ ne i. rw (T.gone_pages a q i) refl))
+    cleared_timed o' f own r = emptied_timed o' f k' refl refl refl refl refl
+        (λ q. by_equal q (suc p) (λ e t. rw t λ i. absurd (cc)) (λ ne t. rw t λ i. rw (T.gone_pages a q i) refl))
         (λ n j. rows n j (is_on_walk 13 (knows a).read.seen (Some x) j) refl)
         (λ n q. pids n q)
-        (λ q j. by_test q (suc p) (λ z. cond z Other ((knows a).own.pages q) ≡ Ready j → (knows a).own.pages q ≡ Ready j) (λ e i. absurd (cc)) (λ ne i. i))
+        (λ q j. put_was (knows a).own.pages (suc p) Other q (λ e. cc))
       where
         k' : Knowledge
         k' = finished (cleared (suc p) x (knows a)) r
 
         was : PageFits a (o.page (suc p)) (slot_in m.slots (suc p)) Gone
-        was = subst (λ (v : OwnPage). PageFits a (o.page (suc p)) (slot_in m.slots (suc p)) v) own (g.owns_pages a (suc p))
+        was = rw own at (g.owns_pages a (suc p))
 
         reached : Reached 0 was.0 was.1 (o.page (suc p))
         reached = subst (λ (v : PageOwner). Reached 0 was.0 was.1 v) (sym was.2) (refl, refl)
@@ -136,12 +135,12 @@ module _ {limits : Limits} {m : Memory} {log : List Update} {o : Owners} {knows 
 
         rows : (n : Turn T (linked g T a) a m2 o' k' t2) (j : ℕ) (z : Bool) → is_on_walk 13 (knows a).read.seen (Some x) j ≡ z → LimboFits a (λ c. (put knows a k' c).inside) t.entered (t2.row_out j) (cond z Unstamped ((knows a).limbo.rows j))
         rows n j true e = let w = on_walk g T a (suc p) 13 (Some x) j old e in (out_now g T a, rw (w.2, w.0, w.1, eqb_same (suc p)) refl, refl)
-        rows n j false e = limbo_row T (linked g T a) a m2 o' k' t2 n a j
+        rows n j false e = limbo_row n a j
 
         pids : (n : Turn T (linked g T a) a m2 o' k' t2) (q : ℕ) → LimboFits a (λ c. (put knows a k' c).inside) t.entered (t2.page_out q) (put (knows a).limbo.pids (suc p) Unstamped q)
         pids n = put_all (λ q l. LimboFits a (λ c. (put knows a k' c).inside) t.entered (t2.page_out q) l) (knows a).limbo.pids (suc p) Unstamped
             (out_now g T a, rw (T.gone_pages a (suc p) own, eqb_same (suc p), was.2) refl, refl)
-            (λ q ne. limbo_pid T (linked g T a) a m2 o' k' t2 n a q)
+            (λ q ne. limbo_pid n a q)
 
   -- Slot 0 goes from x to y.
   module _ (x y : ℕ) where
@@ -165,23 +164,23 @@ module _ {limits : Limits} {m : Memory} {log : List Update} {o : Owners} {knows 
       own = own_base ((knows a).own.rows f.base) (T.ready a y f.base f.ready)
 
       held : slot_in m.slots y ≡ Some f.base
-      held = (subst (λ (v : OwnPage). PageFits a (o.page y) (slot_in m.slots y) v) f.ready (g.owns_pages a y)).1
+      held = (rw f.ready at (g.owns_pages a y)).1
 
       k3 : Knowledge
       k3 = finished (handed_page y Other f.base (knows a)) r
 
       slots_rooted : (q z l : ℕ) (s : Key) → Reached 0 l s (o'.page q) → slot_in m.slots q ≡ Some z → (t3.home z ≡ q) × (t3.row_out z ≡ None)
-      slots_rooted q z l s h e = ⊎_elim
-          (λ (old : Reached 0 l s (o.page q)). let b = T.slots q z l s old e in (rw (slot_linked g T a q z l s old e) b.0, b.1))
-          (λ (i : q ≡ y). let same : f.base ≡ z = same_Some f.base z (sym held ∙ ap (slot_in m.slots) (sym i) ∙ e) in
-          subst (λ j. (t3.home j ≡ q) × (t3.row_out j ≡ None)) same (rw (spare_of g T a a f.base own) (sym i), T.own_rows a f.base own))
-          (f.reached q l s h)
+      slots_rooted q z l s h e = elim (f.reached q l s h) [
+        | inl old ↦ let b = T.slots q z l s old e in (rw (slot_linked g T a q z l s old e) b.0, b.1)
+        | inr i ↦ let same : f.base ≡ z = same_Some f.base z (sym held ∙ ap (slot_in m.slots) (sym i) ∙ e) in
+            subst (λ j. (t3.home j ≡ q) × (t3.row_out j ≡ None)) same (rw (spare_of g T a a f.base own) (sym i), T.own_rows a f.base own)
+      ]
 
       together_rooted : (j n : ℕ) (w : Record) → o'.row j ≡ Linked → m.rows j ≡ Some w → next_row w ≡ Some n → (t3.home n ≡ t3.home j) × (t3.row_out n ≡ t3.row_out j)
-      together_rooted j n w l e i = ⊎_elim
-          (λ (was : o.row j ≡ Linked). let ln : o.row n ≡ Linked = subst (λ v. IfSome v (λ i. o.row i ≡ Linked)) i (next_linked o (shared m) g.closed j w was e) in let c = T.together j n w was e i in (rw (ln, was) c.0, c.1))
-          (λ (h : IsHomed (shared m) (Exchange 0 x y) (answer.Whether true) j). absurd (let v = same_Some (Base h.0) w (sym h.2 ∙ e) in let z : next_row (Base h.0) ≡ Some n = ap next_row v ∙ i in cc))
-          (f.homed j l)
+      together_rooted j n w l e i = elim (f.homed j l) [
+        | inl was ↦ let ln : o.row n ≡ Linked = rw i at (next_linked o (shared m) g.closed j w was e) in let c = T.together j n w was e i in (rw (ln, was) c.0, c.1)
+        | inr h ↦ absurd (let v = same_Some (Base h.0) w (sym h.2 ∙ e) in let z : next_row (Base h.0) ≡ Some n = ap next_row v ∙ i in cc)
+      ]
 
       turn3 : Turn T (linked g T a) a m3 o' k3 t3
       unfolding k3
@@ -195,7 +194,7 @@ module _ {limits : Limits} {m : Memory} {log : List Update} {o : Owners} {knows 
         passes = λ u lt h i. h i;
         slots = λ q z l s h e. slots_rooted q z l s h (sym (ap (λ v. v q) (root_apart m.slots y)) ∙ e);
         together = together_rooted;
-        rows = λ j w e. ⊎_elim (λ (v : o.row j ≡ Linked). inl (f.stay j v)) (λ (v : o.row j ≡ Spare w.who). ⊎_elim (λ (z : o'.row j ≡ Spare w.who). inr z) (λ (z : o'.row j ≡ Linked). inl z) (f.spare j w.who v)) (T.rows j w e).0;
+        rows = λ j w e. elim (T.rows j w e).0 [ inl v ↦ inl (f.stay j v) | inr v ↦ elim (f.spare j w.who v) [ inl z ↦ inr z | inr z ↦ inl z ] ];
         pages = λ q w e. let v = T.pages q w e in ((v.0.0, v.0.1, f.cleared q w.who v.0.0 v.0.1 v.0.2), ap (λ v. v q) (root_apart m.slots y) ∙ v.1);
         own_rows = λ b j ne. T.own_rows b j;
         gone_pages = λ b q ne. T.gone_pages b q;
@@ -203,18 +202,18 @@ module _ {limits : Limits} {m : Memory} {log : List Update} {o : Owners} {knows 
 
       pub rooted_timed : Timed limits m3 o' (put knows a (finished (handed_page y Other f.base (knows a)) r)) (suc now) t3
       unfolding k3
-      rooted_timed = put_timed T (linked g T a) a m3 o' k3 t3 turn3 (record {
+      rooted_timed = put_timed turn3 (record {
         within = T.within a;
-        holds = held_later T (linked g T a) a m3 o' k3 t3 turn3 a;
-        announced = announced_still T (linked g T a) a m3 o' k3 t3 turn3 a refl;
+        holds = held_later turn3 a;
+        announced = announced_still turn3 a refl;
         epochs = T.epochs a;
-        own_rows = λ j. by_test j f.base (λ z. IsOwn (cond z Foreign ((knows a).own.rows j)) → t.row_out j ≡ None) (λ e i. absurd i) (λ ne. T.own_rows a j);
-        gone_pages = λ q. by_test q y (λ z. cond z Other ((knows a).own.pages q) ≡ Gone → t.page_out q ≡ None) (λ e i. absurd (cc)) (λ ne. T.gone_pages a q);
-        limbo_rows = limbo_row T (linked g T a) a m3 o' k3 t3 turn3 a;
-        limbo_pids = limbo_pid T (linked g T a) a m3 o' k3 t3 turn3 a;
-        ready = λ q j. by_test q y (λ z. cond z Other ((knows a).own.pages q) ≡ Ready j → IsOwnBase (put (knows a).own.rows f.base Foreign j)) (λ e i. absurd (cc)) (λ ne e. subst IsOwnBase (sym (put_other (knows a).own.rows f.base Foreign j (λ i. ne (T.apart a q y j e (f.ready ∙ ap Ready (sym i)))))) (T.ready a q j e));
+        own_rows = λ j. by_equal j f.base (λ e t. rw t λ i. absurd i) (λ ne t. rw t (T.own_rows a j));
+        gone_pages = λ q i. T.gone_pages a q (put_was (knows a).own.pages y Other q (λ e. cc) i);
+        limbo_rows = limbo_row turn3 a;
+        limbo_pids = limbo_pid turn3 a;
+        ready = λ q j. by_equal q y (λ e t. rw t λ i. absurd (cc)) (λ ne t. rw t λ e. subst IsOwnBase (sym (put_other (knows a).own.rows f.base Foreign j (λ i. ne (T.apart a q y j e (f.ready ∙ ap Ready (sym i)))))) (T.ready a q j e));
         apart = λ q s j e i. T.apart a q s j (was q j e) (was s j i);
       })
         where
           was : (q j : ℕ) → put (knows a).own.pages y Other q ≡ Ready j → (knows a).own.pages q ≡ Ready j
-          was q j = by_test q y (λ z. cond z Other ((knows a).own.pages q) ≡ Ready j → (knows a).own.pages q ≡ Ready j) (λ e i. absurd (cc)) (λ ne i. i)
+          was q j = put_was (knows a).own.pages y Other q (λ e. cc)

@@ -1,11 +1,11 @@
 -- An exchange of a page's slot to a row: what it takes out of the tree, and what actors hold afterwards.
-use Rattle.tree_law.proofs.Words.{false, ◌⊎◌, ap, refl, cond, Option, suc, None, List, true, inl, ◌≢◌, inr, subst, sym, ℕ, ◌≡◌, Bool, ◌∙◌, arith, Some, eqb, ⊎_elim, and-false, same_Some, IfSome, ◌||◌}
+use Rattle.tree_law.proofs.Words.{false, ◌⊎◌, ap, refl, Option, suc, None, List, true, inl, ◌≢◌, inr, subst, sym, ℕ, ◌≡◌, Bool, ◌∙◌, arith, Some, eqb, ⊎_elim, and-false, same_Some, IfSome}
 use Rattle.tree_law.proofs.Words.{◌&&◌, Update, Limits, Exchange, Memory, replaced_at, next_row, Record, Base, IsOwn, Knowledge, is_on_walk, taken_out, next_seen, Key, IsHomed, Linked, Owners}
 use Rattle.tree_law.proofs.Words.{Reached, Spare, Owner, SeenFits, PageOwner, Cleared, put, shared, slot_in, Times, Timed, times_after, LimboFits, Outing, out_after, is_linked, is_cleared, is_base}
 use Rattle.tree_law.proofs.Words.{split_page, IsTree}
 use Rattle.bw_model.specs.declared.step.Answer.TheVariants as answer
 use Rattle.tree_law.proofs.links.Keeping.{slot_of}
-use Rattle.tree_law.proofs.shape.{by_test, eqb_same, eqb_apart, put_other, decided, next_linked, own_spare}
+use Rattle.tree_law.proofs.shape.{by_equal, eqb_same, eqb_apart, put_other, decided, next_linked, own_spare}
 use Rattle.tree_law.proofs.links.Stepping.{slot_put}
 use Rattle.tree_law.proofs.epochs.Timing.{IsLater, Turn, limbo_row}
 use Rattle.tree_law.proofs.epochs.Timely.{linked}
@@ -47,15 +47,15 @@ module _ {limits : Limits} {m : Memory} {log : List Update} {o : Owners} {knows 
   -- the row in the slot of a page of the tree is linked
   pub slot_linked : (q z l : ℕ) (s : Key) → Reached 0 l s (o.page q) → slot_in m.slots q ≡ Some z → o.row z ≡ Linked
   slot_linked q z l s r e = elim (slot_of g a q l s r) [
-    | inl n ↦ absurd (let f = sym n ∙ e in cc)
-    | inr v ↦ subst (λ j. o.row j ≡ Linked) (same_Some v.0 z (sym v.1 ∙ e)) v.2.linked
+    | inl n ↦ absurd (cc)
+    | inr v ↦ rw (same_Some v.0 z (sym v.1 ∙ e)) at v.2.linked
   ]
 
   -- the rows of a chain as far as it was read are linked, and where its first one is
   pub on_walk : (h n : ℕ) (start : Option ℕ) (r : ℕ) → IfSome start (λ s. (o.row s ≡ Linked) × (t.home s ≡ h) × (t.row_out s ≡ None)) → is_on_walk n (knows a).read.seen start r ≡ true → (o.row r ≡ Linked) × (t.home r ≡ h) × (t.row_out r ≡ None)
-  on_walk h (suc n) (Some s) r f e = by_test r s (λ z. (z || is_on_walk n (knows a).read.seen (next_seen ((knows a).read.seen s)) r) ≡ true → (o.row r ≡ Linked) × (t.home r ≡ h) × (t.row_out r ≡ None))
-      (λ i v. subst (λ j. (o.row j ≡ Linked) × (t.home j ≡ h) × (t.row_out j ≡ None)) (sym i) f)
-      (λ ne v. on_walk h n (next_seen ((knows a).read.seen s)) r (under ((knows a).read.seen s) ((g.sound a).seen_fits s)) v) e
+  on_walk h (suc n) (Some s) r f e = by_equal r s
+      (λ i is. rw i f)
+      (λ ne is. let v = rw is at e in on_walk h n (next_seen ((knows a).read.seen s)) r (under ((knows a).read.seen s) ((g.sound a).seen_fits s)) v)
     where
       at : (w : Record) → m.rows s ≡ Some w → (v : Option ℕ) → next_row w ≡ v → IfSome v (λ j. o.row j ≡ Linked) → IfSome v (λ j. (o.row j ≡ Linked) × (t.home j ≡ h) × (t.row_out j ≡ None))
       at w stands None i l = tt
@@ -102,18 +102,18 @@ module _ {limits : Limits} {m : Memory} {log : List Update} {o : Owners} {knows 
       home_split z i ne = rw (spare_of a z i, eqb_apart z (suc y) ne) refl
 
       slots_after : (q z l : ℕ) (s : Key) → Reached 0 l s (o'.page q) → put (slot_in m.slots) (suc p) (Some (suc y)) q ≡ Some z → (t1.home z ≡ q) × (t1.row_out z ≡ None)
-      slots_after q z l s r = by_test q (suc p) (λ v. cond v (Some (suc y)) (slot_in m.slots q) ≡ Some z → (t1.home z ≡ q) × (t1.row_out z ≡ None))
-          (λ i e. subst (λ j. (t1.home j ≡ q) × (t1.row_out j ≡ None)) (same_Some (suc y) z e) (home_new ∙ sym i, in_own a (suc y) f.own))
-          (λ ne e. ⊎_elim
-          (λ (old : Reached 0 l s (o.page q)). let b = T.slots q z l s old e in (home_linked z (slot_linked q z l s old e) ∙ b.0, in_beside z b.1 (λ i. ne (sym b.0 ∙ i))))
-          (λ (new : (z : ℕ) → slot_in m.slots q ≡ Some z → IsOwn ((knows a).own.rows z) × (z ≢ suc y) × (q ≡ split_page (m.rows (suc y)))). let b = new z e in (home_split z b.0 b.1 ∙ sym b.2, in_own a z b.0))
-          (f.reached q l s r))
+      slots_after q z l s r = by_equal q (suc p)
+          (λ i t. rw t λ e. subst (λ j. (t1.home j ≡ q) × (t1.row_out j ≡ None)) (same_Some (suc y) z e) (home_new ∙ sym i, in_own a (suc y) f.own))
+          (λ ne t. rw t λ e. elim (f.reached q l s r) [
+            | inl old ↦ let b = T.slots q z l s old e in (home_linked z (slot_linked q z l s old e) ∙ b.0, in_beside z b.1 (λ i. ne (sym b.0 ∙ i)))
+            | inr new ↦ let b = new z e in (home_split z b.0 b.1 ∙ sym b.2, in_own a z b.0)
+          ])
 
       together_after : (r n : ℕ) (w : Record) → o'.row r ≡ Linked → m.rows r ≡ Some w → next_row w ≡ Some n → (t1.home n ≡ t1.home r) × (t1.row_out n ≡ t1.row_out r)
       together_after r n w l e i =
           let old : o.row r ≡ Linked → (t1.home n ≡ t1.home r) × (t1.row_out n ≡ t1.row_out r) = λ was.
           let c = T.together r n w was e i in
-          rw ((subst (λ v. IfSome v (λ j. o.row j ≡ Linked)) i (next_linked o (shared m) g.closed r w was e)), was, c.0, c.1) (refl, refl) in
+          rw ((rw i at (next_linked o (shared m) g.closed r w was e)), was, c.0, c.1) (refl, refl) in
           ⊎_elim old new (f.homed r l)
         where
           new : IsHomed (shared m) (Exchange (suc p) x (suc y)) (answer.Whether true) r → (t1.home n ≡ t1.home r) × (t1.row_out n ≡ t1.row_out r)
@@ -137,11 +137,11 @@ module _ {limits : Limits} {m : Memory} {log : List Update} {o : Owners} {knows 
         passes = λ u lt h i. h (sym inside ∙ i);
         slots = λ q z l s r e. slots_after q z l s r (sym (ap (λ v. v q) (slot_put m.slots p (suc y))) ∙ e);
         together = together_after;
-        rows = λ r w e. ⊎_elim
-            (λ (u : t.row_out r ≡ Some w). ⊎_elim (λ (v : o.row r ≡ Linked). inl (f.stay r v)) (λ (v : o.row r ≡ Spare w.who). ⊎_elim (λ (z : o'.row r ≡ Spare w.who). inr z) (λ (z : o'.row r ≡ Linked). inl z) (f.spare r w.who v)) (T.rows r w u).0)
-            (λ (u : (t.row_out r ≡ None) × ((is_base (m.rows (suc y)) && (is_linked (o.row r) && eqb (t.home r) (suc p))) ≡ true) × (w ≡ out_now)). inl (f.stay r (tested_linked (o.row r) (both_true (is_linked (o.row r)) (eqb (t.home r) (suc p)) (both_true (is_base (m.rows (suc y))) (is_linked (o.row r) && eqb (t.home r) (suc p)) u.1).1).0)))
-            (out_cases (t.row_out r) (is_base (m.rows (suc y)) && (is_linked (o.row r) && eqb (t.home r) (suc p))) w e);
-        pages = λ q w e. let v = T.pages q w e in ((v.0.0, v.0.1, f.cleared q w.who v.0.0 v.0.1 v.0.2), ap (λ v. v q) (slot_put m.slots p (suc y)) ∙ put_other (slot_in m.slots) (suc p) (Some (suc y)) q (λ i. absurd (let z = sym f.page_in ∙ ap t.page_out (sym i) ∙ e in cc)) ∙ v.1);
+        rows = λ r w e. elim (out_cases (t.row_out r) (is_base (m.rows (suc y)) && (is_linked (o.row r) && eqb (t.home r) (suc p))) w e) [
+          | inl u ↦ elim (T.rows r w u).0 [ inl v ↦ inl (f.stay r v) | inr v ↦ elim (f.spare r w.who v) [ inl z ↦ inr z | inr z ↦ inl z ] ]
+          | inr u ↦ inl (f.stay r (tested_linked (o.row r) (both_true (is_linked (o.row r)) (eqb (t.home r) (suc p)) (both_true (is_base (m.rows (suc y))) (is_linked (o.row r) && eqb (t.home r) (suc p)) u.1).1).0))
+        ];
+        pages = λ q w e. let v = T.pages q w e in ((v.0.0, v.0.1, f.cleared q w.who v.0.0 v.0.1 v.0.2), ap (λ v. v q) (slot_put m.slots p (suc y)) ∙ put_other (slot_in m.slots) (suc p) (Some (suc y)) q (λ i. absurd (cc f.page_in)) ∙ v.1);
         own_rows = λ b r ne i. in_own b r i;
         gone_pages = λ b q ne. T.gone_pages b q;
       }
@@ -150,5 +150,5 @@ module _ {limits : Limits} {m : Memory} {log : List Update} {o : Owners} {knows 
       pub base_limbo : is_base (m.rows (suc y)) ≡ true → (h : (o.row x ≡ Linked) × (t.home x ≡ suc p) × (t.row_out x ≡ None)) → (r : ℕ) → LimboFits a (λ c. (put knows a k' c).inside) t1.entered (t1.row_out r) (taken_out (knows a).read.seen x (knows a).limbo.rows r)
       base_limbo is h r = elim (decided (is_on_walk 13 (knows a).read.seen (Some x) r)) [
         | inl e ↦ let w = on_walk (suc p) 13 (Some x) r h e in rw e (out_now, rw (w.2, is, w.0, w.1, eqb_same (suc p)) refl, refl)
-        | inr e ↦ rw e (limbo_row T (linked g T a) a m1 o' k' t1 filling_turn a r)
+        | inr e ↦ rw e (limbo_row filling_turn a r)
       ]

@@ -1,10 +1,10 @@
 -- A reuse frees what nobody can hold: the invariant and what actors hold stay.
-use Rattle.tree_law.proofs.Words.{false, ◌⊎◌, ap, refl, cond, ltb, Option, suc, None, List, true, inl, ◌≢◌, ◌≤◌, inr, ◌∷◌, subst, sym, ℕ, ◌≡◌, Bool, zero, ◌∙◌, ◌<◌, arith, Some, ⊎_elim, ltb-true}
+use Rattle.tree_law.proofs.Words.{false, ◌⊎◌, ap, refl, cond, ltb, Option, suc, None, List, true, inl, ◌≢◌, ◌≤◌, inr, ◌∷◌, subst, sym, ℕ, ◌≡◌, Bool, zero, ◌∙◌, ◌<◌, arith, Some, ltb-true}
 use Rattle.tree_law.proofs.Words.{same_Some, ◌||◌, Update, is_among, Reply, Limits, Answer, ReuseRows, ReusePids, ContentOf, Memory, next_row, Record, content_in, right_in, is_removed, level_in}
-use Rattle.tree_law.proofs.Words.{IsOwn, IsOwnBase, IsPassed, Knowledge, finished, Ready, learn, Gone, LimboMark, Absent, memory_after, Key, Covers, After, Free, Linked, Owners, Reached, Spare, Owner}
-use Rattle.tree_law.proofs.Words.{IsChain, IsCleared, Nobody, PageOwner, child_of, put, shared, slot_in, Times, Timed, LimboFits, Outing, NamesSince, IsSince, HeldHead, IsTree, HoldsBy}
+use Rattle.tree_law.proofs.Words.{IsPassed, Knowledge, finished, learn, LimboMark, Absent, memory_after, Key, Covers, After, Free, Linked, Owners, Reached, Spare, Owner}
+use Rattle.tree_law.proofs.Words.{IsChain, IsCleared, Nobody, PageOwner, child_of, put, shared, slot_in, Times, Timed, LimboFits, Outing, IsSince, HeldHead, IsTree, HoldsBy}
 use Rattle.std.proofs.lemmas.Bool.{ltb-false, le-ltb}
-use Rattle.tree_law.proofs.shape.{chain_unique, by_test, decided, false_if}
+use Rattle.tree_law.proofs.shape.{chain_unique, by_equal, decided, false_if}
 use Rattle.tree_law.proofs.links.Keeping.{quiet, mine}
 use Rattle.tree_law.proofs.epochs.Reusing.{Learnt, AreLoose, AreSame, lets_rows, frees_pages}
 use Rattle.tree_law.proofs.epochs.Timing.{holds_later, limbo_later}
@@ -20,7 +20,7 @@ older : (n : ℕ) (inside : ℕ → Bool) (entered : ℕ → ℕ) (now : ℕ) �
 older n inside entered now rest = go (inside n) (ltb (entered n) rest.at) refl refl
   where
     at_most : (x : ℕ) → x ≤ rest.at → (inside n ≡ true → x ≤ entered n) → (b : ℕ) → b < suc n → inside b ≡ true → x ≤ entered b
-    at_most x le f b lt i = by_test b n (λ z. x ≤ entered b) (λ e. subst (λ j. x ≤ entered j) (sym e) (f (subst (λ j. inside j ≡ true) e i))) (λ ne. let h = rest.first b (omega arith) i in omega arith)
+    at_most x le f b lt i = by_equal b n (λ e t. rw e (f (rw e at i))) (λ ne t. let h = rest.first b (omega arith) i in omega arith)
 
     wider : (b : ℕ) → b < n → b < suc n
     wider b l = omega arith
@@ -51,7 +51,7 @@ row_linked first false Linked (Some w) e = (refl, refl, λ v i. subst (λ j. fir
 row_linked first z v out e = absurd (cc)
 
 row_of : (first : ℕ) (v : Owner) (w : Outing) → (v ≡ Linked) ⊎ (v ≡ Spare w.who) → (row_after first false v (Some w) ≡ Linked) ⊎ (row_after first false v (Some w) ≡ Spare w.who)
-row_of first v w (inl e) = subst (λ j. (row_after first false j (Some w) ≡ Linked) ⊎ (row_after first false j (Some w) ≡ Spare w.who)) (sym e) (elim (decided (ltb w.at first)) [ inl t ↦ inr (rw t refl) | inr f ↦ inl (rw f refl) ])
+row_of first v w (inl e) = rw e (elim (decided (ltb w.at first)) [ inl t ↦ inr (rw t refl) | inr f ↦ inl (rw f refl) ])
 row_of first v w (inr e) = inr (rw e refl)
 
 freed_out : (z : Bool) (out : Option Outing) (w : Outing) → cond z None out ≡ Some w → (z ≡ false) × (out ≡ Some w)
@@ -72,7 +72,7 @@ or_cases false y e = inr e
 
 module _ {limits : Limits} {m : Memory} {log : List Update} {o : Owners} {knows : ℕ → Knowledge} {point : ℕ → Option (List Update)} {logs : ℕ → List (List Update)} {now : ℕ} {t : Times} (g : IsTree (shared m) log o knows point logs) (T : Timed limits m o knows now t) (a : ℕ) (outside : (knows a).inside ≡ false) where
   other_inside : (b : ℕ) → (knows b).inside ≡ true → b ≢ a
-  other_inside b i e = absurd (let f = ap (λ n. (knows n).inside) e in cc)
+  other_inside b i e = absurd (cc (ap (λ n. (knows n).inside) e))
 
   -- what may be freed is out since a time before each actor that is inside has entered
   pub record Freed (out : Option Outing) : Type 0 where
@@ -83,7 +83,7 @@ module _ {limits : Limits} {m : Memory} {log : List Update} {o : Owners} {knows 
 
   freed_of : (out : Option Outing) (l : LimboMark) → LimboFits a (λ c. (knows c).inside) t.entered out l → IsPassed limits a l → Freed out
   freed_of out l h p =
-      let f = subst (λ (v : LimboMark). LimboFits a (λ c. (knows c).inside) t.entered out v) p.stamped h in
+      let f = rw p.stamped at h in
       record { outing = f.0; is = f.1; who = f.2; old = λ b i. f.4 b (p.all b (T.within b i) (other_inside b i)) i }
 
   -- an actor that is inside can hold nothing that may be freed
@@ -97,7 +97,7 @@ module _ {limits : Limits} {m : Memory} {log : List Update} {o : Owners} {knows 
     -- after the actor, which is outside, freed those among the word's bits and knows this
     module _ (k : Knowledge) (stays_outside : k.inside ≡ (knows a).inside) where
       same_inside : (b : ℕ) → (put knows a k b).inside ≡ true → (knows b).inside ≡ true
-      same_inside b = by_test b a (λ z. (cond z k (knows b)).inside ≡ true → (knows b).inside ≡ true) (λ e i. absurd (let f = outside in let l = stays_outside in cc)) (λ ne i. i)
+      same_inside b = by_equal b a (λ e t. rw t λ i. absurd (cc)) (λ ne t. rw t λ i. i)
 
       -- of rows or pages: what the limbos show of those that are out
       module _ (outs : ℕ → Option Outing) (past : (n : ℕ) (w : Outing) → outs n ≡ Some w → w.at < now) where
@@ -166,7 +166,7 @@ module _ {limits : Limits} {m : Memory} {log : List Update} {o : Owners} {knows 
       stays r h = row_same first.at (is_among word bits r) (o.row r) (t.row_out r) (not_among r h) h
 
       pub in_tree : (r : ℕ) → t.row_out r ≡ None → (w : Outing) → t.row_out r ≡ Some w → first.at ≤ w.at
-      in_tree r e w i = absurd (let f = sym e ∙ i in cc)
+      in_tree r e w i = absurd (cc)
 
       pub held : (b r : ℕ) → (knows b).read.learnt r ≡ true → (w : Outing) → t.row_out r ≡ Some w → first.at ≤ w.at
       held b r e w i =
@@ -187,7 +187,10 @@ module _ {limits : Limits} {m : Memory} {log : List Update} {o : Owners} {knows 
         slots = λ p r l s h e. stays r (in_tree r (T.slots p r l s h e).1);
         next = λ r n w l e i. stays n (under r n w l e i);
         own = λ b r i. stays r (in_tree r (T.own_rows b r i));
-        freed = λ r e. ⊎_elim (λ (u : m.free_rows r ≡ true). let f = g.frees.row r u in free_after (is_among word bits r) (o.row r) (t.row_out r) f) (λ (u : is_among word bits r ≡ true). rw u refl) (or_cases (m.free_rows r) (is_among word bits r) e);
+        freed = λ r e. elim (or_cases (m.free_rows r) (is_among word bits r) e) [
+          | inl u ↦ let f = g.frees.row r u in free_after (is_among word bits r) (o.row r) (t.row_out r) f
+          | inr u ↦ rw u refl
+        ];
       }
         where
           free_after : (z : Bool) (v : Owner) (out : Option Outing) → v ≡ Free → row_after first.at z v out ≡ Free
@@ -223,23 +226,22 @@ module _ {limits : Limits} {m : Memory} {log : List Update} {o : Owners} {knows 
           λ b p. limbo_still k1 refl t.page_out (λ q w e. (T.pages q w e).2) b p ((knows b).limbo.pids p) (T.limbo_pids b p) in
           record {
             within = λ b i. T.within b (same_inside k1 refl b i);
-            holds = λ b. by_test b a (λ z. HoldsBy m.rows t1.row_out t.page_out (t.entered b) (cond z k1 (knows b)))
-                (λ e. subst (λ j. HoldsBy m.rows t1.row_out t.page_out (t.entered j) (knows a)) (sym e) (holds a)) (λ ne. holds b);
+            holds = λ b. by_equal b a (λ e is. rw (is, e) (holds a)) (λ ne is. rw is (holds b));
             announced = λ b i. let h = T.announced b (same_inside k1 refl b i) in record { some = h.some; old = h.old; past = (let p = h.past in omega arith); rows = λ r w e. h.rows r w (freed_out (is_among word bits r) (t.row_out r) w e).1; pages = h.pages };
-            epochs = λ b e. by_test b a (λ z. (cond z k1 (knows b)).limbo.epoch ≡ Some e → e ≤ m.epoch) (λ i. T.epochs a e) (λ ne. T.epochs b e);
+            epochs = λ b e. by_equal b a (λ i t. rw t (T.epochs a e)) (λ ne t. rw t (T.epochs b e));
             slots = λ p q l s h e. let v = T.slots p q l s h e in (v.0, freed_none (is_among word bits q) (t.row_out q) v.1);
             together = λ r n w l e i.
                 let h = row_linked first.at (is_among word bits r) (o.row r) (t.row_out r) l in
                 let c = T.together r n w h.1 e i in
                 (c.0, rw (h.0, not_among n (under r n w l e i)) c.1);
-            rows = λ r w e. let v = freed_out (is_among word bits r) (t.row_out r) w e in let u = T.rows r w v.1 in (rw (v.0, v.1) (row_of first.at (o.row r) w u.0), (let z = u.1 in let y : w.at < suc now = omega arith in y), u.2);
-            pages = λ p w e. let v = T.pages p w e in (v.0, v.1, (let z = v.2 in let y : w.at < suc now = omega arith in y), v.3);
-            own_rows = λ b r. by_test b a (λ z. IsOwn ((cond z k1 (knows b)).own.rows r) → t1.row_out r ≡ None) (λ i h. freed_none (is_among word bits r) (t.row_out r) (T.own_rows a r h)) (λ ne h. freed_none (is_among word bits r) (t.row_out r) (T.own_rows b r h));
-            gone_pages = λ b p. by_test b a (λ z. (cond z k1 (knows b)).own.pages p ≡ Gone → t.page_out p ≡ None) (λ i. T.gone_pages a p) (λ ne. T.gone_pages b p);
-            limbo_rows = λ b r. by_test b a (λ z. LimboFits b (λ c. (put knows a k1 c).inside) t.entered (t1.row_out r) ((cond z k1 (knows b)).limbo.rows r)) (λ i. subst (λ j. LimboFits j (λ c. (put knows a k1 c).inside) t.entered (t1.row_out r) (cond (is_among word bits r) Absent ((knows a).limbo.rows r))) (sym i) (own_limbo k1 refl t.row_out rows_past r ((knows a).limbo.rows r) (is_among word bits r) refl (T.limbo_rows a r))) (λ ne. others_limbo k1 refl t.row_out rows_past freed b r ne ((knows b).limbo.rows r) (T.limbo_rows b r));
-            limbo_pids = λ b p. by_test b a (λ z. LimboFits b (λ c. (put knows a k1 c).inside) t.entered (t.page_out p) ((cond z k1 (knows b)).limbo.pids p)) (λ i. subst (λ j. LimboFits j (λ c. (put knows a k1 c).inside) t.entered (t.page_out p) ((knows a).limbo.pids p)) (sym i) (pids_still a p)) (λ ne. pids_still b p);
-            ready = λ b p r. by_test b a (λ z. (cond z k1 (knows b)).own.pages p ≡ Ready r → IsOwnBase ((cond z k1 (knows b)).own.rows r)) (λ i. T.ready a p r) (λ ne. T.ready b p r);
-            apart = λ b p q r. by_test b a (λ z. (cond z k1 (knows b)).own.pages p ≡ Ready r → (cond z k1 (knows b)).own.pages q ≡ Ready r → p ≡ q) (λ i. T.apart a p q r) (λ ne. T.apart b p q r);
+            rows = λ r w e. let v = freed_out (is_among word bits r) (t.row_out r) w e in let u = T.rows r w v.1 in (rw (v.0, v.1) (row_of first.at (o.row r) w u.0), (let z = u.1 in omega arith), u.2);
+            pages = λ p w e. let v = T.pages p w e in (v.0, v.1, (let z = v.2 in omega arith), v.3);
+            own_rows = λ b r. by_equal b a (λ i is. rw is λ h. freed_none (is_among word bits r) (t.row_out r) (T.own_rows a r h)) (λ ne is. rw is λ h. freed_none (is_among word bits r) (t.row_out r) (T.own_rows b r h));
+            gone_pages = λ b p. by_equal b a (λ i t. rw t (T.gone_pages a p)) (λ ne t. rw t (T.gone_pages b p));
+            limbo_rows = λ b r. by_equal b a (λ i is. rw (is, i) (own_limbo k1 refl t.row_out rows_past r ((knows a).limbo.rows r) (is_among word bits r) refl (T.limbo_rows a r))) (λ ne is. rw is (others_limbo k1 refl t.row_out rows_past freed b r ne ((knows b).limbo.rows r) (T.limbo_rows b r)));
+            limbo_pids = λ b p. by_equal b a (λ i is. rw (is, i) (pids_still a p)) (λ ne is. rw is (pids_still b p));
+            ready = λ b p r. by_equal b a (λ i t. rw t (T.ready a p r)) (λ ne t. rw t (T.ready b p r));
+            apart = λ b p q r. by_equal b a (λ i t. rw t (T.apart a p q r)) (λ ne t. rw t (T.apart b p q r));
           }
 
     module _ (may : (p : ℕ) → is_among word bits p ≡ true → IsPassed limits a ((knows a).limbo.pids p)) (r0 : Option Reply) (x : Answer Record) where
@@ -265,7 +267,7 @@ module _ {limits : Limits} {m : Memory} {log : List Update} {o : Owners} {knows 
       same_page p f = elim (decided (is_among word bits p)) [ inl e ↦ absurd (f e) | inr e ↦ rw e refl ]
 
       page_in : (p : ℕ) → t.page_out p ≡ None → page2 p ≡ o.page p
-      page_in p e = same_page p (λ i. let f = freed_page p i in absurd (let z = sym e ∙ f.is in cc))
+      page_in p e = same_page p (λ i. let f = freed_page p i in absurd (cc f.is))
 
       page_held : (b p : ℕ) → (knows b).inside ≡ true → IsSince (t.entered b) (t.page_out p) → page2 p ≡ o.page p
       page_held b p i s = same_page p (λ e. unheld b (t.page_out p) i s (freed_page p e))
@@ -276,12 +278,12 @@ module _ {limits : Limits} {m : Memory} {log : List Update} {o : Owners} {knows 
       head_items : (b p x : ℕ) (h : HeldHead m.rows t.page_out (t.entered b) (knows b).read.learnt p x) (l : ℕ) (s : Key) (i : ContentOf) (c : List Record) → IsChain m.rows c (Some x) → is_removed c ≡ false → level_in c ≡ suc l → Covers c s → content_in c s ≡ Some i → page2 (child_of i) ≡ o.page (child_of i)
       head_items b p x h l s i c is alive at v d =
           let same : h.chain ≡ c = chain_unique m.rows h.chain c (Some x) h.is_chain is in
-          page_held b (child_of i) (head_inside b p x h) ((subst (λ (e : List Record). NamesSince t.page_out (t.entered b) e) same (h.names (ap is_removed same ∙ alive))).items l s i at v d)
+          page_held b (child_of i) (head_inside b p x h) ((rw same at (h.names (ap is_removed same ∙ alive))).items l s i at v d)
 
       head_right : (b p x : ℕ) (h : HeldHead m.rows t.page_out (t.entered b) (knows b).read.learnt p x) (q : ℕ) (c : List Record) → IsChain m.rows c (Some x) → is_removed c ≡ false → right_in c ≡ Some q → page2 q ≡ o.page q
       head_right b p x h q c is alive e =
           let same : h.chain ≡ c = chain_unique m.rows h.chain c (Some x) h.is_chain is in
-          page_held b q (head_inside b p x h) ((subst (λ (e : List Record). NamesSince t.page_out (t.entered b) e) same (h.names (ap is_removed same ∙ alive))).right q e)
+          page_held b q (head_inside b p x h) ((rw same at (h.names (ap is_removed same ∙ alive))).right q e)
 
       gone : (q : ℕ) → (page2 q ≡ o.page q) ⊎ ((page2 q ≡ Nobody) × IsCleared (o.page q))
       gone q = elim (decided (is_among word bits q)) [
@@ -290,17 +292,17 @@ module _ {limits : Limits} {m : Memory} {log : List Update} {o : Owners} {knows 
       ]
 
       frees : (q : ℕ) → m2.free_pids q ≡ true → (page2 q ≡ Nobody) × (slot_in m.slots q ≡ None)
-      frees q e = ⊎_elim
-          (λ (u : m.free_pids q ≡ true). let f = g.frees.page q u in (elim (decided (is_among word bits q)) [ inl i ↦ rw i refl | inr i ↦ rw i f.0 ], f.1))
-          (λ (u : is_among word bits q ≡ true). let f = freed_page q u in (rw u refl, (T.pages q f.outing f.is).1))
-          (or_cases (m.free_pids q) (is_among word bits q) e)
+      frees q e = elim (or_cases (m.free_pids q) (is_among word bits q) e) [
+        | inl u ↦ let f = g.frees.page q u in (elim (decided (is_among word bits q)) [ inl i ↦ rw i refl | inr i ↦ rw i f.0 ], f.1)
+        | inr u ↦ let f = freed_page q u in (rw u refl, (T.pages q f.outing f.is).1)
+      ]
 
       beyond_held : (b p f y x : ℕ) (c d : List Record) → (knows b).read.heads p ≡ Some y → (knows b).read.before p f ≡ Some x → IsChain m.rows c (Some x) → IsChain m.rows d (Some y) → is_removed c ≡ true → is_removed d ≡ false → right_in d ≡ Some f → AreSame page2 o.page c
       beyond_held b p f y x c d i j ic id rc nd e =
           let h = (T.holds b).beside_since p f y x i j in
           let above : h.chain ≡ c = chain_unique m.rows h.chain c (Some x) h.is_chain ic in
           let below : h.left ≡ d = chain_unique m.rows h.left d (Some y) h.is_left id in
-          let n = subst (λ (e : List Record). NamesSince t.page_out (t.entered b) e) above (h.since (ap is_removed above ∙ rc) (ap is_removed below ∙ nd) (ap right_in below ∙ e)) in
+          let n = rw above at (h.since (ap is_removed above ∙ rc) (ap is_removed below ∙ nd) (ap right_in below ∙ e)) in
           let inside = head_inside b f x ((T.holds b).before_since p f x j) in
           record {
             right = λ q z. page_held b q inside (n.right q z);
@@ -344,20 +346,19 @@ module _ {limits : Limits} {m : Memory} {log : List Update} {o : Owners} {knows 
           λ b r. limbo_still k2 refl t.row_out (λ q w e. (T.rows q w e).1) b r ((knows b).limbo.rows r) (T.limbo_rows b r) in
           record {
             within = λ b i. T.within b (same_inside k2 refl b i);
-            holds = λ b. by_test b a (λ z. HoldsBy m.rows t.row_out t2.page_out (t.entered b) (cond z k2 (knows b)))
-                (λ e. subst (λ j. HoldsBy m.rows t.row_out t2.page_out (t.entered j) (knows a)) (sym e) (holds a)) (λ ne. holds b);
+            holds = λ b. by_equal b a (λ e is. rw (is, e) (holds a)) (λ ne is. rw is (holds b));
             announced = λ b i. let h = T.announced b (same_inside k2 refl b i) in record { some = h.some; old = h.old; past = (let p = h.past in omega arith); rows = h.rows; pages = λ p w e. h.pages p w (freed_out (is_among word bits p) (t.page_out p) w e).1 };
-            epochs = λ b e. by_test b a (λ z. (cond z k2 (knows b)).limbo.epoch ≡ Some e → e ≤ m.epoch) (λ i. T.epochs a e) (λ ne. T.epochs b e);
+            epochs = λ b e. by_equal b a (λ i t. rw t (T.epochs a e)) (λ ne t. rw t (T.epochs b e));
             slots = λ p q l s h e. T.slots p q l s (reached p l s (is_among word bits p) h) e;
             together = T.together;
-            rows = λ r w e. let v = T.rows r w e in (v.0, (let z = v.1 in let y : w.at < suc now = omega arith in y), v.2);
-            pages = λ p w e. let v = freed_out (is_among word bits p) (t.page_out p) w e in let u = T.pages p w v.1 in ((u.0.0, u.0.1, same_page p (λ i. absurd (let z = v.0 in cc)) ∙ u.0.2), u.1, (let z = u.2 in let y : w.at < suc now = omega arith in y), u.3);
-            own_rows = λ b r. by_test b a (λ z. IsOwn ((cond z k2 (knows b)).own.rows r) → t.row_out r ≡ None) (λ i. T.own_rows a r) (λ ne. T.own_rows b r);
-            gone_pages = λ b p. by_test b a (λ z. (cond z k2 (knows b)).own.pages p ≡ Gone → t2.page_out p ≡ None) (λ i h. freed_none (is_among word bits p) (t.page_out p) (T.gone_pages a p h)) (λ ne h. freed_none (is_among word bits p) (t.page_out p) (T.gone_pages b p h));
-            limbo_rows = λ b r. by_test b a (λ z. LimboFits b (λ c. (put knows a k2 c).inside) t.entered (t.row_out r) ((cond z k2 (knows b)).limbo.rows r)) (λ i. subst (λ j. LimboFits j (λ c. (put knows a k2 c).inside) t.entered (t.row_out r) ((knows a).limbo.rows r)) (sym i) (rows_still a r)) (λ ne. rows_still b r);
-            limbo_pids = λ b p. by_test b a (λ z. LimboFits b (λ c. (put knows a k2 c).inside) t.entered (t2.page_out p) ((cond z k2 (knows b)).limbo.pids p)) (λ i. subst (λ j. LimboFits j (λ c. (put knows a k2 c).inside) t.entered (t2.page_out p) (cond (is_among word bits p) Absent ((knows a).limbo.pids p))) (sym i) (own_limbo k2 refl t.page_out pages_past p ((knows a).limbo.pids p) (is_among word bits p) refl (T.limbo_pids a p))) (λ ne. others_limbo k2 refl t.page_out pages_past freed_page b p ne ((knows b).limbo.pids p) (T.limbo_pids b p));
-            ready = λ b p r. by_test b a (λ z. (cond z k2 (knows b)).own.pages p ≡ Ready r → IsOwnBase ((cond z k2 (knows b)).own.rows r)) (λ i. T.ready a p r) (λ ne. T.ready b p r);
-            apart = λ b p q r. by_test b a (λ z. (cond z k2 (knows b)).own.pages p ≡ Ready r → (cond z k2 (knows b)).own.pages q ≡ Ready r → p ≡ q) (λ i. T.apart a p q r) (λ ne. T.apart b p q r);
+            rows = λ r w e. let v = T.rows r w e in (v.0, (let z = v.1 in omega arith), v.2);
+            pages = λ p w e. let v = freed_out (is_among word bits p) (t.page_out p) w e in let u = T.pages p w v.1 in ((u.0.0, u.0.1, same_page p (λ i. absurd (cc v.0)) ∙ u.0.2), u.1, (let z = u.2 in omega arith), u.3);
+            own_rows = λ b r. by_equal b a (λ i t. rw t (T.own_rows a r)) (λ ne t. rw t (T.own_rows b r));
+            gone_pages = λ b p. by_equal b a (λ i is. rw is λ h. freed_none (is_among word bits p) (t.page_out p) (T.gone_pages a p h)) (λ ne is. rw is λ h. freed_none (is_among word bits p) (t.page_out p) (T.gone_pages b p h));
+            limbo_rows = λ b r. by_equal b a (λ i is. rw (is, i) (rows_still a r)) (λ ne is. rw is (rows_still b r));
+            limbo_pids = λ b p. by_equal b a (λ i is. rw (is, i) (own_limbo k2 refl t.page_out pages_past p ((knows a).limbo.pids p) (is_among word bits p) refl (T.limbo_pids a p))) (λ ne is. rw is (others_limbo k2 refl t.page_out pages_past freed_page b p ne ((knows b).limbo.pids p) (T.limbo_pids b p)));
+            ready = λ b p r. by_equal b a (λ i t. rw t (T.ready a p r)) (λ ne t. rw t (T.ready b p r));
+            apart = λ b p q r. by_equal b a (λ i t. rw t (T.apart a p q r)) (λ ne t. rw t (T.apart b p q r));
           }
         where
           reached : (p l : ℕ) (s : Key) (z : Bool) → Reached 0 l s (cond z Nobody (o.page p)) → Reached 0 l s (o.page p)

@@ -1,18 +1,17 @@
 -- One more step: what the limbos show of it, and that what it frees is freed by the rule.
-use Rattle.tree_law.proofs.Words.{false, ◌⊎◌, [], ap, refl, cond, Option, suc, None, List, true, inl, length, ◌++◌, inr, ◌∷◌, subst, sym, ℕ, ◌≡◌, zero, ◌∙◌, ◌<◌, arith, Some, take, eqb, ⊎_elim}
-use Rattle.tree_law.proofs.Words.{eqb-true, same_Some, Contains, IfSome, MatchOption, unwrap_or, slice_index_or, Update, is_among, Reply, Limits, Answer, StepOf, ReuseRows, ReusePids, TakePid}
-use Rattle.tree_law.proofs.Words.{TakeRow, Exchange, Memory, next_row, Record, Base, slice_get_below, slice_get-push, take-push_whole, TakesStep-push_cases, memory_of-push, IsChainOf, IsOnChain}
-use Rattle.tree_law.proofs.Words.{chain_rows, IsChainFrom, low_in, level_in, May, MayExchange, IsAllowed, IsPassed, MayFree, knows, Knowledge, finished, learn, OwnPage, Other, Gone, Unstamped}
-use Rattle.tree_law.proofs.Words.{LimboMark, Absent, Stamped, passed_by, stamped, IsAnswer, memory_after, memory_at, memory_of, IsStep, Entry, Step, UnlinksPid, UnlinksRow, HandsPid, HandsRow, Key}
-use Rattle.tree_law.proofs.Words.{IsInLimbo, Free, Linked, Owners, Reached, Spare, HeadFits, PageFits, SeenFits, Nobody, PageOwner, put, shared, slot_in, IsReadyPage, IsState, IsInTree, Times, Timed}
-use Rattle.tree_law.proofs.Words.{LimboFits, Outing, IsTree}
+use Rattle.tree_law.proofs.Words.{false, ◌⊎◌, ap, refl, Option, suc, None, List, true, inl, length, ◌++◌, inr, ◌∷◌, subst, sym, ℕ, ◌≡◌, zero, ◌∙◌, ◌<◌, arith, Some, take, eqb, eqb-true, same_Some}
+use Rattle.tree_law.proofs.Words.{Contains, IfSome, MatchOption, unwrap_or, slice_index_or, Update, is_among, Reply, Limits, Answer, StepOf, ReuseRows, ReusePids, TakePid, TakeRow, Exchange, Memory}
+use Rattle.tree_law.proofs.Words.{next_row, Record, Base, slice_get_below, slice_get-push, take-push_whole, TakesStep-push_cases, memory_of-push, IsChainOf, IsOnChain, chain_rows, IsChainFrom, low_in}
+use Rattle.tree_law.proofs.Words.{level_in, May, MayExchange, IsAllowed, IsPassed, MayFree, knows, Knowledge, finished, learn, Other, Unstamped, LimboMark, Absent, Stamped, passed_by}
+use Rattle.tree_law.proofs.Words.{stamped, IsAnswer, memory_after, memory_at, memory_of, IsStep, Entry, Step, UnlinksPid, UnlinksRow, HandsPid, HandsRow, Key, IsInLimbo, Free, Linked, Owners, Reached}
+use Rattle.tree_law.proofs.Words.{Nobody, PageOwner, put, shared, slot_in, IsReadyPage, IsState, IsInTree, Times, Timed, LimboFits, Outing, IsTree, []}
 use Rattle.base_page.specs.Pages as pages
 use Rattle.chain_search.specs.trace.Trace.{TakesStep}
 use Rattle.op_machine.specs.theorem.Reuse.{IsFreedByRule}
 use Rattle.tree_law.proofs.links.Keeping.{slot_of}
 use Rattle.tree_law.proofs.epochs.Limbed.{LimboCase, as_it_was, is_stamped, is_passed, is_out, is_freed, RowOut, PageOut, FreesRows, FreesPids, limbo_case, walk_contained}
 use Rattle.tree_law.proofs.epochs.Limbos.{limbo_push, stamped_now, passed_now, freed_push, freed_now, pid_longer, row_longer}
-use Rattle.tree_law.proofs.shape.{slot_some, by_test, put_same, next_linked, own_base}
+use Rattle.tree_law.proofs.shape.{slot_some, by_equal, put_same, next_linked, own_base}
 use Rattle.tree_law.proofs.trace.Names.{placed_at, slot_none, whether_same}
 use Rattle.tree_law.proofs.trace.Owned.{pushed_length}
 
@@ -44,7 +43,7 @@ module _ {limits : Limits} {m : Memory} {log : List Update} {o : Owners} {knows 
       in_base : (x : ℕ) (base : pages.Page) (d : List Record) → IsChainFrom m.rows x d → Contains (chain_rows x d) row → m.rows x ≡ Some (Base base) → t.row_out x ≡ None → ⊥
       in_base x base [] ch am e n = ch
       in_base x base (v ∷ d) ch (suc k, lt, at) e n =
-          let none : d ≡ [] = subst (λ u. MatchOption (next_row u) (d ≡ []) (λ n. IsChainFrom m.rows n d)) (same_Some v (Base base) (sym ch.0 ∙ e)) ch.1 in
+          let none : d ≡ [] = rw (same_Some v (Base base) (sym ch.0 ∙ e)) at ch.1 in
           let short : length (chain_rows (unwrap_or (next_row v) 0) d) ≡ 0 = ap (λ z. length (chain_rows (unwrap_or (next_row v) 0) z)) none in
           absurd (omega arith)
       in_base x base (v ∷ d) ch (zero, lt, at) e n = let f = sym n ∙ ap t.row_out at ∙ out in cc
@@ -53,14 +52,14 @@ module _ {limits : Limits} {m : Memory} {log : List Update} {o : Owners} {knows 
       in_slot None e = let z : m.slots p ≡ 0 = slot_none m.slots p chain.page e in let above : 0 < m.slots p = chain.linked in omega arith
       in_slot (Some x) e =
           let at : m.slots p ≡ x = (slot_some m.slots p x e).1 in
-          let chain' : IsChainFrom m.rows x c = subst (λ n. IsChainFrom m.rows n c) at chain.records in
-          let among' : Contains (chain_rows x c) row = subst (λ n. Contains (chain_rows n c) row) at among in
+          let chain' : IsChainFrom m.rows x c = rw at at chain.records in
+          let among' : Contains (chain_rows x c) row = rw at at among in
           elim (held p x e) [
             | inl tree ↦
                 let here = placed_at (o.page p) tree in
                 elim (slot_of g 0 p here.0 here.1 here.2) [
                   | inl none ↦ (let f = sym none ∙ e in cc)
-                  | inr v ↦ (let l : o.row x ≡ Linked = subst (λ n. o.row n ≡ Linked) (same_Some v.0 x (sym v.1 ∙ e)) v.2.linked in let f = sym (in_chain x c l (T.slots p x here.0 here.1 here.2 e).1 chain' row among') ∙ out in cc)
+                  | inr v ↦ (let l : o.row x ≡ Linked = rw (same_Some v.0 x (sym v.1 ∙ e)) at v.2.linked in let f = sym (in_chain x c l (T.slots p x here.0 here.1 here.2 e).1 chain' row among') ∙ out in cc)
                 ]
             | inr ready ↦ in_base x ready.base c chain' among' ready.stands (T.own_rows ready.actor x (own_base ((knows ready.actor).own.rows x) (T.ready ready.actor p x ready.ready)))
           ]
@@ -68,6 +67,9 @@ module _ {limits : Limits} {m : Memory} {log : List Update} {o : Owners} {knows 
 module _ (limits : Limits) (entries : List Entry) (a : ℕ) (step : StepOf Record) (answer : Answer Record) (r : Option Reply) (state : IsState limits entries) (allowed : IsAllowed limits a (knows entries a) step r) (is : IsAnswer (memory_of limits entries) step answer) where
   abbrev last : Entry
   last = Step a step answer r
+
+  abbrev longer : List Entry
+  longer = entries ++ last ∷ []
 
   abbrev m : Memory
   m = memory_of limits entries
@@ -83,7 +85,7 @@ module _ (limits : Limits) (entries : List Entry) (a : ℕ) (step : StepOf Recor
 
   freed_who : (b : ℕ) (out : Option Outing) (w : Outing) → out ≡ Some w → w.who ≡ b → (l : LimboMark) → LimboFits a (λ c. (knows entries c).inside) state.times.entered out l → IsPassed limits a l → b ≡ a
   freed_who b out w e who l h p =
-      let f = subst (λ (v : LimboMark). LimboFits a (λ c. (knows entries c).inside) state.times.entered out v) p.stamped h in
+      let f = rw p.stamped at h in
       sym who ∙ ap (λ v. v.who) (same_Some w f.0 (sym e ∙ f.1)) ∙ f.2
 
   -- no step but its actor's own reuse hands on what is in a limbo
@@ -95,8 +97,8 @@ module _ (limits : Limits) (entries : List Entry) (a : ℕ) (step : StepOf Recor
 
       go : (s : StepOf Record) (y : Answer Record) → step ≡ s → IsAnswer m s y → MayFree limits a k s → HandsRow q s y → (b ≡ a) × ((word bits : ℕ) × (step ≡ ReuseRows word bits) × (is_among word bits q ≡ true))
       go (TakeRow taken) y i j f hands =
-          let free : state.owners.row q ≡ Free = subst (λ n. state.owners.row n ≡ Free) hands.1 (state.is_tree.frees.row taken (whether_same (m.free_rows taken) true y j hands.0)) in
-          absurd (⊎_elim (λ (l : state.owners.row q ≡ Linked). (let z = free in cc)) (λ (l : state.owners.row q ≡ Spare out.0.who). (let z = free in cc)) (state.timed.rows q out.0 out.1).0)
+          let free : state.owners.row q ≡ Free = rw hands.1 at (state.is_tree.frees.row taken (whether_same (m.free_rows taken) true y j hands.0)) in
+          absurd (elim (state.timed.rows q out.0 out.1).0 [ inl l ↦ (let z = free in cc) | inr l ↦ (let z = free in cc) ])
       go (ReuseRows word bits) y i j f hands = (freed_who b (state.times.row_out q) out.0 out.1 out.2 (k.limbo.rows q) (state.timed.limbo_rows a q) (f q hands), (word, bits, i, hands))
       go s y i j f hands = absurd hands
 
@@ -108,7 +110,7 @@ module _ (limits : Limits) (entries : List Entry) (a : ℕ) (step : StepOf Recor
 
       go : (s : StepOf Record) (y : Answer Record) → step ≡ s → IsAnswer m s y → MayFree limits a k s → HandsPid q s y → (b ≡ a) × ((word bits : ℕ) × (step ≡ ReusePids word bits) × (is_among word bits q ≡ true))
       go (TakePid taken) y i j f hands =
-          let free : state.owners.page q ≡ Nobody = subst (λ n. state.owners.page n ≡ Nobody) hands.1 (state.is_tree.frees.page taken (whether_same (m.free_pids taken) true y j hands.0)).0 in
+          let free : state.owners.page q ≡ Nobody = rw hands.1 at (state.is_tree.frees.page taken (whether_same (m.free_pids taken) true y j hands.0)).0 in
           absurd (let v = (state.timed.pages q out.0 out.1).0.2 in let z = sym free ∙ v in cc)
       go (ReusePids word bits) y i j f hands = (freed_who b (state.times.page_out q) out.0 out.1 out.2 (k.limbo.pids q) (state.timed.limbo_pids a q) (f q hands), (word, bits, i, hands))
       go s y i j f hands = absurd hands
@@ -121,7 +123,7 @@ module _ (limits : Limits) (entries : List Entry) (a : ℕ) (step : StepOf Recor
       → (l ≡ Absent → ⊥) → (other : ℕ) (s : StepOf Record) (x : Answer Record) → IsStep last other s x → H s x → ⊥
   calm H Reused l hands own some other s x at handed =
       let e = is_last other s x at in
-      some (own (hands some (subst (λ y. H step y) (sym e.1) (subst (λ u. H u x) (sym e.0) handed))))
+      some (own (hands some (rw e.1 (rw e.0 handed))))
 
   calm_row : (b q : ℕ) → ((b ≡ a) → (word bits : ℕ) → step ≡ ReuseRows word bits → is_among word bits q ≡ true → (knows entries b).limbo.rows q ≡ Absent) → ((knows entries b).limbo.rows q ≡ Absent → ⊥) → (other : ℕ) (s : StepOf Record) (x : Answer Record) → IsStep last other s x → HandsRow q s x → ⊥
   calm_row b q own = calm (HandsRow q) _ ((knows entries b).limbo.rows q) (hands_row b q) (λ h. own h.0 h.1.0 h.1.1 h.1.2 h.1.3)
@@ -129,31 +131,31 @@ module _ (limits : Limits) (entries : List Entry) (a : ℕ) (step : StepOf Recor
   calm_pid : (b q : ℕ) → ((b ≡ a) → (word bits : ℕ) → step ≡ ReusePids word bits → is_among word bits q ≡ true → (knows entries b).limbo.pids q ≡ Absent) → ((knows entries b).limbo.pids q ≡ Absent → ⊥) → (other : ℕ) (s : StepOf Record) (x : Answer Record) → IsStep last other s x → HandsPid q s x → ⊥
   calm_pid b q own = calm (HandsPid q) _ ((knows entries b).limbo.pids q) (hands_pid b q) (λ h. own h.0 h.1.0 h.1.1 h.1.2 h.1.3)
 
-  whole_before : memory_at limits (entries ++ last ∷ []) (length entries) ≡ m
+  whole_before : memory_at limits longer (length entries) ≡ m
   whole_before = ap (memory_of limits) (take-push_whole entries (last ∷ []))
 
   -- the reuse of a row that is among the freed ones takes it out of the limbo
   freed_row : (word bits q : ℕ) → step ≡ ReuseRows word bits → is_among word bits q ≡ true → (learn k step answer).limbo.rows q ≡ Absent
-  freed_row word bits q i e = subst (λ s. (learn k s answer).limbo.rows q ≡ Absent) (sym i) (rw e refl)
+  freed_row word bits q i e = rw i (rw e refl)
 
   freed_pid : (word bits q : ℕ) → step ≡ ReusePids word bits → is_among word bits q ≡ true → (learn k step answer).limbo.pids q ≡ Absent
-  freed_pid word bits q i e = subst (λ s. (learn k s answer).limbo.pids q ≡ Absent) (sym i) (rw e refl)
+  freed_pid word bits q i e = rw i (rw e refl)
 
   -- no step comes after the last one
-  none_after : (between other : ℕ) (s : StepOf Record) (x : Answer Record) → length entries < between → TakesStep (entries ++ last ∷ []) between other s x → ⊥
-  none_after between other s x lt h = let b = slice_get_below (entries ++ last ∷ []) between _ h.1 in let e = pushed_length entries last in omega arith
+  none_after : (between other : ℕ) (s : StepOf Record) (x : Answer Record) → length entries < between → TakesStep longer between other s x → ⊥
+  none_after between other s x lt h = let b = slice_get_below longer between _ h.1 in let e = pushed_length entries last in omega arith
 
   -- of a row or a page: what its limbo shows afterwards
-  module _ (U U' : ℕ → Type 0) (H : StepOf Record → Answer Record → Type 0) (longer : (n : ℕ) → n < length entries → U n → U' n) (old new : LimboMark) (Out Freed : Type 0)
+  module _ (U U' : ℕ → Type 0) (H : StepOf Record → Answer Record → Type 0) (lasting : (n : ℕ) → n < length entries → U n → U' n) (old new : LimboMark) (Out Freed : Type 0)
       (calm : (new ≡ Absent → old ≡ Absent) → (old ≡ Absent → ⊥) → (other : ℕ) (s : StepOf Record) (x : Answer Record) → IsStep last other s x → H s x → ⊥)
       (unlinks : new ≡ Unstamped → Out → U' (length entries)) (was : IsInLimbo entries a U H old) where
     abbrev Shows : LimboMark → Type 0
-    Shows l = IsInLimbo (entries ++ last ∷ []) a U' H l
+    Shows l = IsInLimbo longer a U' H l
 
     in_limbo : LimboCase step answer old new Out Freed → Shows new
-    in_limbo (as_it_was is) = subst Shows (sym is) (limbo_push entries last U U' H longer a old (calm (λ gone. sym is ∙ gone)) was)
-    in_limbo (is_stamped e i j is) = subst Shows (sym is) (stamped_now entries last U U' H longer a e r (λ d. Step a (i d) (j d) r) old (calm (λ gone. unstamped e old (sym is ∙ gone))) was)
-    in_limbo (is_passed c v i j is) = subst Shows (sym is) (passed_now entries last U U' H longer a c v r (λ d. Step a (i d) (j d) r) old (calm (λ gone. unpassed c v old (sym is ∙ gone))) was)
+    in_limbo (as_it_was is) = subst Shows (sym is) (limbo_push entries last U U' H lasting a old (calm (λ gone. sym is ∙ gone)) was)
+    in_limbo (is_stamped e i j is) = subst Shows (sym is) (stamped_now entries last U U' H lasting a e r (λ d. Step a (i d) (j d) r) old (calm (λ gone. unstamped e old (sym is ∙ gone))) was)
+    in_limbo (is_passed c v i j is) = subst Shows (sym is) (passed_now entries last U U' H lasting a c v r (λ d. Step a (i d) (j d) r) old (calm (λ gone. unpassed c v old (sym is ∙ gone))) was)
     in_limbo (is_out is h) = subst Shows (sym is) (record { at = length entries; below = (let e = pushed_length entries last in omega arith); unlinked = unlinks is h; kept = λ between other s x lt took hands. none_after between other s x lt took })
     in_limbo (is_freed is f) = subst Shows (sym is) tt
 
@@ -162,56 +164,59 @@ module _ (limits : Limits) (entries : List Entry) (a : ℕ) (step : StepOf Recor
       (T' : Timed limits (memory_after a step m) o' (put (knows entries) a (finished (learn k step answer) r)) (suc (length entries)) t')
       (held' : (p q : ℕ) → slot_in (memory_after a step m).slots p ≡ Some q → IsInTree (o'.page p) ⊎ IsReadyPage o' (memory_after a step m) (put (knows entries) a (finished (learn k step answer) r)) p q) where
     -- an exchange that took a row out
-    unlinks_row : (q : ℕ) → (learn k step answer).limbo.rows q ≡ Unstamped → RowOut k step answer q → UnlinksRow limits (entries ++ last ∷ []) a q (length entries)
+    unlinks_row : (q : ℕ) → (learn k step answer).limbo.rows q ≡ Unstamped → RowOut k step answer q → UnlinksRow limits longer a q (length entries)
     unlinks_row q new h =
         let stand : (r : ℕ) (w : Record) → k.read.seen r ≡ Some w → m.rows r ≡ Some w =
-        λ r w e. (subst (λ (v : Option Record). SeenFits (state.owners.row r) (m.rows r) v) e ((state.is_tree.sound a).seen_fits r)).1 in
-        let at : m.slots (suc h.page) ≡ h.old = eqb-true (m.slots (suc h.page)) h.old (whether_same (eqb (m.slots (suc h.page)) h.old) true answer (subst (λ s. IsAnswer m s answer) h.step is) h.won) in
+        λ r w e. (rw e at ((state.is_tree.sound a).seen_fits r)).1 in
+        let at : m.slots (suc h.page) ≡ h.old = eqb-true (m.slots (suc h.page)) h.old (whether_same (eqb (m.slots (suc h.page)) h.old) true answer (rw h.step at is) h.won) in
         let found : (c : List Record) × IsChainOf m (suc h.page) c = elim (slot_of state.is_tree a (suc h.page) reached.0 reached.1 reached.2) [
           | inl none ↦ absurd (let z : m.slots (suc h.page) ≡ 0 = slot_none m.slots (suc h.page) (omega arith) none in let s = some_old in let e = at in omega arith)
-          | inr v ↦ (let z = slot_some m.slots (suc h.page) v.0 v.1 in (v.2.chain, record { page = omega arith; linked = subst (λ n. 0 < n) (sym z.1) z.2; records = subst (λ n. IsChainFrom m.rows n v.2.chain) (sym z.1) v.2.is_chain }))
+          | inr v ↦ (let z = slot_some m.slots (suc h.page) v.0 v.1 in (v.2.chain, record { page = omega arith; linked = rw z.1 z.2; records = rw z.1 v.2.is_chain }))
         ] in (
           suc h.page,
           h.old,
           h.new,
           found.0,
           (r, slice_get-push entries last ∙ (λ d. Some (Step a (h.step d) (h.won d) r))),
-          subst (λ v. IsChainOf v (suc h.page) found.0) (sym whole_before) found.1,
-          walk_contained 13 k.read.seen m.rows stand h.old found.0 q (subst (λ n. IsChainFrom m.rows n found.0) at found.1.records) h.walk,
-          λ on. off_chain g' T' held' q out.0 out.1 (subst (λ v. IsOnChain v q) after on),
+          rw whole_before found.1,
+          walk_contained 13 k.read.seen m.rows stand h.old found.0 q (rw at at found.1.records) h.walk,
+          λ on. off_chain g' T' held' q out.0 out.1 (rw after at on),
         )
       where
         may : MayExchange a k (suc h.page) h.old h.new
         may = (subst (May a k) h.step allowed.may).1
 
         reached : (l : ℕ) × (s : Key) × Reached 0 l s (state.owners.page (suc h.page))
-        reached = ⊎_elim
-            (λ (u : (k.own.pages (suc h.page) ≡ Gone) × (h.new ≡ 0)). let w = subst (λ (v : OwnPage). PageFits a (state.owners.page (suc h.page)) (slot_in m.slots (suc h.page)) v) u.0 (state.is_tree.owns_pages a (suc h.page)) in (w.0, w.1, subst (λ (v : PageOwner). Reached 0 w.0 w.1 v) (sym w.2) (refl, refl)))
-            (λ (u : (k.own.pages (suc h.page) ≡ Other) × ((y : ℕ) × (h.new ≡ suc y))). by_link h.old u.1.0 u.0 (subst (λ n. MayExchange a k (suc h.page) h.old n) u.1.1 may)) h.whose
+        reached = elim h.whose [
+          | inl u ↦ let w = rw u.0 at (state.is_tree.owns_pages a (suc h.page)) in (w.0, w.1, subst (λ (v : PageOwner). Reached 0 w.0 w.1 v) (sym w.2) (refl, refl))
+          | inr u ↦ by_link h.old u.1.0 u.0 (rw u.1.1 at may)
+        ]
           where
             by_link : (x y : ℕ) → k.own.pages (suc h.page) ≡ Other → MayExchange a k (suc h.page) x (suc y) → (l : ℕ) × (s : Key) × Reached 0 l s (state.owners.page (suc h.page))
-            by_link zero y other v = absurd (let e = v.0 in cc)
+            by_link zero y other v = absurd (cc v.0)
             by_link (suc x) y other v =
-                let f = subst (λ (z : Option ℕ). HeadFits state.owners (shared m) (state.logs a) (suc h.page) z) v.basis.head ((state.is_tree.sound a).heads_fit (suc h.page)) in
+                let f = rw v.basis.head at ((state.is_tree.sound a).heads_fit (suc h.page)) in
                 (level_in f.2.chain, low_in f.2.chain, f.3)
 
         some_old : 0 < h.old
-        some_old = ⊎_elim (λ (u : (k.own.pages (suc h.page) ≡ Gone) × (h.new ≡ 0)). by_zero h.old (subst (λ n. MayExchange a k (suc h.page) h.old n) u.1 may)) (λ (u : (k.own.pages (suc h.page) ≡ Other) × ((y : ℕ) × (h.new ≡ suc y))). by_some h.old u.1.0 u.0 (subst (λ n. MayExchange a k (suc h.page) h.old n) u.1.1 may)) h.whose
+        some_old = elim h.whose [
+          | inl u ↦ by_zero h.old (rw u.1 at may)
+          | inr u ↦ by_some h.old u.1.0 u.0 (rw u.1.1 at may)
+        ]
           where
             by_zero : (x : ℕ) → MayExchange a k (suc h.page) x 0 → 0 < x
             by_zero zero v = absurd v
             by_zero (suc x) v = omega arith
 
             by_some : (x y : ℕ) → k.own.pages (suc h.page) ≡ Other → MayExchange a k (suc h.page) x (suc y) → 0 < x
-            by_some zero y other v = absurd (let e = v.0 in cc)
+            by_some zero y other v = absurd (cc v.0)
             by_some (suc x) y other v = omega arith
 
         out : (w : Outing) × (t'.row_out q ≡ Some w) × (w.who ≡ a)
-        out = subst (λ (l : LimboMark). LimboFits a (λ c. (put (knows entries) a (finished (learn k step answer) r) c).inside) t'.entered (t'.row_out q) l) new
-            (subst (λ (kk : Knowledge). LimboFits a (λ c. (put (knows entries) a (finished (learn k step answer) r) c).inside) t'.entered (t'.row_out q) (kk.limbo.rows q)) (put_same (knows entries) a (finished (learn k step answer) r)) (T'.limbo_rows a q))
+        out = rw new at (rw (put_same (knows entries) a (finished (learn k step answer) r)) at (T'.limbo_rows a q))
 
-        after : memory_at limits (entries ++ last ∷ []) (suc (length entries)) ≡ memory_after a step m
-        after = ap (memory_of limits) (whole_take (entries ++ last ∷ []) (suc (length entries)) (pushed_length entries last)) ∙ memory_of-push limits entries last
+        after : memory_at limits longer (suc (length entries)) ≡ memory_after a step m
+        after = ap (memory_of limits) (whole_take longer (suc (length entries)) (pushed_length entries last)) ∙ memory_of-push limits entries last
           where
             whole_take : (es : List Entry) (n : ℕ) → length es ≡ n → take n es ≡ es
             whole_take [] zero e = refl
@@ -219,17 +224,17 @@ module _ (limits : Limits) (entries : List Entry) (a : ℕ) (step : StepOf Recor
             whole_take es n e = absurd (omega arith)
 
     -- what the rows in limbos show afterwards
-    pub rows_in_limbo : (b q : ℕ) → IsInLimbo (entries ++ last ∷ []) b (UnlinksRow limits (entries ++ last ∷ []) b q) (HandsRow q) ((put (knows entries) a (finished (learn k step answer) r) b).limbo.rows q)
-    rows_in_limbo b q = by_test b a (λ z. IsInLimbo (entries ++ last ∷ []) b (UnlinksRow limits (entries ++ last ∷ []) b q) (HandsRow q) ((cond z (finished (learn k step answer) r) (knows entries b)).limbo.rows q))
-        (λ i. subst (λ n. IsInLimbo (entries ++ last ∷ []) n (UnlinksRow limits (entries ++ last ∷ []) n q) (HandsRow q) ((learn k step answer).limbo.rows q)) (sym i) own)
-        (λ ne. limbo_push entries last (UnlinksRow limits entries b q) (UnlinksRow limits (entries ++ last ∷ []) b q) (HandsRow q) (row_longer entries last limits b q) b ((knows entries b).limbo.rows q) (calm_row b q (λ i. absurd (ne i))) (state.limbo_rows b q))
+    pub rows_in_limbo : (b q : ℕ) → IsInLimbo longer b (UnlinksRow limits longer b q) (HandsRow q) ((put (knows entries) a (finished (learn k step answer) r) b).limbo.rows q)
+    rows_in_limbo b q = by_equal b a
+        (λ i t. rw (t, i) own)
+        (λ ne t. rw t (limbo_push entries last (UnlinksRow limits entries b q) (UnlinksRow limits longer b q) (HandsRow q) (row_longer entries last limits b q) b ((knows entries b).limbo.rows q) (calm_row b q (λ i. absurd (ne i))) (state.limbo_rows b q)))
       where
-        own : IsInLimbo (entries ++ last ∷ []) a (UnlinksRow limits (entries ++ last ∷ []) a q) (HandsRow q) ((learn k step answer).limbo.rows q)
-        own = in_limbo (UnlinksRow limits entries a q) (UnlinksRow limits (entries ++ last ∷ []) a q) (HandsRow q) (row_longer entries last limits a q) (k.limbo.rows q) ((learn k step answer).limbo.rows q) (RowOut k step answer q) (FreesRows step)
+        own : IsInLimbo longer a (UnlinksRow limits longer a q) (HandsRow q) ((learn k step answer).limbo.rows q)
+        own = in_limbo (UnlinksRow limits entries a q) (UnlinksRow limits longer a q) (HandsRow q) (row_longer entries last limits a q) (k.limbo.rows q) ((learn k step answer).limbo.rows q) (RowOut k step answer q) (FreesRows step)
             (λ back. calm_row a q (λ i word bits s among. back (freed_row word bits q s among))) (unlinks_row q) (state.limbo_rows a q) (limbo_case k false step answer q)
 
     -- an exchange that took a page out
-    unlinks_pid : (q : ℕ) → PageOut k step answer q → UnlinksPid limits (entries ++ last ∷ []) a q (length entries)
+    unlinks_pid : (q : ℕ) → PageOut k step answer q → UnlinksPid limits longer a q (length entries)
     unlinks_pid q h =
         let named : step ≡ Exchange q h.old 0 = h.step ∙ ap (λ n. Exchange n h.old 0) (sym h.is) in
         (h.old, by_zero h.old (subst (May a k) h.step allowed.may).1, (r, slice_get-push entries last ∙ (λ d. Some (Step a (named d) (h.won d) r))))
@@ -238,31 +243,31 @@ module _ (limits : Limits) (entries : List Entry) (a : ℕ) (step : StepOf Recor
         by_zero zero v = absurd v
         by_zero (suc x) v = omega arith
 
-    pub pids_in_limbo : (b q : ℕ) → IsInLimbo (entries ++ last ∷ []) b (UnlinksPid limits (entries ++ last ∷ []) b q) (HandsPid q) ((put (knows entries) a (finished (learn k step answer) r) b).limbo.pids q)
-    pids_in_limbo b q = by_test b a (λ z. IsInLimbo (entries ++ last ∷ []) b (UnlinksPid limits (entries ++ last ∷ []) b q) (HandsPid q) ((cond z (finished (learn k step answer) r) (knows entries b)).limbo.pids q))
-        (λ i. subst (λ n. IsInLimbo (entries ++ last ∷ []) n (UnlinksPid limits (entries ++ last ∷ []) n q) (HandsPid q) ((learn k step answer).limbo.pids q)) (sym i) own)
-        (λ ne. limbo_push entries last (UnlinksPid limits entries b q) (UnlinksPid limits (entries ++ last ∷ []) b q) (HandsPid q) (pid_longer entries last limits b q) b ((knows entries b).limbo.pids q) (calm_pid b q (λ i. absurd (ne i))) (state.limbo_pids b q))
+    pub pids_in_limbo : (b q : ℕ) → IsInLimbo longer b (UnlinksPid limits longer b q) (HandsPid q) ((put (knows entries) a (finished (learn k step answer) r) b).limbo.pids q)
+    pids_in_limbo b q = by_equal b a
+        (λ i t. rw (t, i) own)
+        (λ ne t. rw t (limbo_push entries last (UnlinksPid limits entries b q) (UnlinksPid limits longer b q) (HandsPid q) (pid_longer entries last limits b q) b ((knows entries b).limbo.pids q) (calm_pid b q (λ i. absurd (ne i))) (state.limbo_pids b q)))
       where
-        own : IsInLimbo (entries ++ last ∷ []) a (UnlinksPid limits (entries ++ last ∷ []) a q) (HandsPid q) ((learn k step answer).limbo.pids q)
-        own = in_limbo (UnlinksPid limits entries a q) (UnlinksPid limits (entries ++ last ∷ []) a q) (HandsPid q) (pid_longer entries last limits a q) (k.limbo.pids q) ((learn k step answer).limbo.pids q) (PageOut k step answer q) (FreesPids step)
+        own : IsInLimbo longer a (UnlinksPid limits longer a q) (HandsPid q) ((learn k step answer).limbo.pids q)
+        own = in_limbo (UnlinksPid limits entries a q) (UnlinksPid limits longer a q) (HandsPid q) (pid_longer entries last limits a q) (k.limbo.pids q) ((learn k step answer).limbo.pids q) (PageOut k step answer q) (FreesPids step)
             (λ back. calm_pid a q (λ i word bits s among. back (freed_pid word bits q s among))) (λ new. unlinks_pid q) (state.limbo_pids a q) (limbo_case k true step answer q)
 
   is_own : (other : ℕ) (s : StepOf Record) (x : Answer Record) → IsStep last other s x → a ≡ other
   is_own other s x h = let e = h.1 in cc
 
   -- what was freed, and what this step frees, is freed by the rule
-  pub freed_after : IsFreedByRule limits (entries ++ last ∷ [])
+  pub freed_after : IsFreedByRule limits longer
   freed_after = record {
     pids = λ n actor word bits pid y takes among. elim (TakesStep-push_cases entries last n actor (ReusePids word bits) y takes) [
-      | inl before ↦ freed_push entries last (UnlinksPid limits entries actor pid) (UnlinksPid limits (entries ++ last ∷ []) actor pid) (HandsPid pid) (pid_longer entries last limits actor pid) limits actor n (slice_get_below entries n _ before.1) (state.freed.pids n actor word bits pid y before among)
+      | inl before ↦ freed_push entries last (UnlinksPid limits entries actor pid) (UnlinksPid limits longer actor pid) (HandsPid pid) (pid_longer entries last limits actor pid) limits actor n (slice_get_below entries n _ before.1) (state.freed.pids n actor word bits pid y before among)
       | inr at ↦
           let e = is_last actor (ReusePids word bits) y at.1 in
-          rw (at.0, sym (is_own actor (ReusePids word bits) y at.1)) (freed_now entries last (UnlinksPid limits entries a pid) (UnlinksPid limits (entries ++ last ∷ []) a pid) (HandsPid pid) (pid_longer entries last limits a pid) limits a (k.limbo.pids pid) ((subst (MayFree limits a k) e.0 allowed.frees) pid among) (state.limbo_pids a pid))
+          rw (at.0, sym (is_own actor (ReusePids word bits) y at.1)) (freed_now entries last (UnlinksPid limits entries a pid) (UnlinksPid limits longer a pid) (HandsPid pid) (pid_longer entries last limits a pid) limits a (k.limbo.pids pid) ((subst (MayFree limits a k) e.0 allowed.frees) pid among) (state.limbo_pids a pid))
     ];
     rows = λ n actor word bits row y takes among. elim (TakesStep-push_cases entries last n actor (ReuseRows word bits) y takes) [
-      | inl before ↦ freed_push entries last (UnlinksRow limits entries actor row) (UnlinksRow limits (entries ++ last ∷ []) actor row) (HandsRow row) (row_longer entries last limits actor row) limits actor n (slice_get_below entries n _ before.1) (state.freed.rows n actor word bits row y before among)
+      | inl before ↦ freed_push entries last (UnlinksRow limits entries actor row) (UnlinksRow limits longer actor row) (HandsRow row) (row_longer entries last limits actor row) limits actor n (slice_get_below entries n _ before.1) (state.freed.rows n actor word bits row y before among)
       | inr at ↦
           let e = is_last actor (ReuseRows word bits) y at.1 in
-          rw (at.0, sym (is_own actor (ReuseRows word bits) y at.1)) (freed_now entries last (UnlinksRow limits entries a row) (UnlinksRow limits (entries ++ last ∷ []) a row) (HandsRow row) (row_longer entries last limits a row) limits a (k.limbo.rows row) ((subst (MayFree limits a k) e.0 allowed.frees) row among) (state.limbo_rows a row))
+          rw (at.0, sym (is_own actor (ReuseRows word bits) y at.1)) (freed_now entries last (UnlinksRow limits entries a row) (UnlinksRow limits longer a row) (HandsRow row) (row_longer entries last limits a row) limits a (k.limbo.rows row) ((subst (MayFree limits a k) e.0 allowed.frees) row among) (state.limbo_rows a row))
     ];
   }

@@ -1,9 +1,8 @@
 -- What a step makes of its actor's limbos.
-use Rattle.tree_law.proofs.Words.{false, ◌⊎◌, [], ap, refl, cond, Option, suc, None, List, true, inl, inr, ◌∷◌, subst, sym, ℕ, ◌≡◌, Bool, zero, ◌∙◌, arith, Some, same_Some, Contains, MatchOption}
-use Rattle.tree_law.proofs.Words.{unwrap_or, ◌||◌, is_among, Answer, Whether, Content, Number, StepOf, ReuseRows, ReusePids, TakePid, Row, TakeRow, Slot, Epoch, PidBits, Exchange, RowBits, Announce}
-use Rattle.tree_law.proofs.Words.{next_row, Record, chain_rows, IsChainFrom, Knowledge, learn, Other, Gone, exchanged, Unstamped, is_on_walk, LimboMark, Absent, passed_by, stamped, taken_out}
-use Rattle.tree_law.proofs.Words.{next_seen, Limbos}
-use Rattle.tree_law.proofs.shape.Puts.{by_test, decided}
+use Rattle.tree_law.proofs.Words.{false, ◌⊎◌, ap, refl, cond, Option, suc, None, List, true, inl, inr, ◌∷◌, sym, ℕ, ◌≡◌, Bool, zero, ◌∙◌, arith, Some, same_Some, Contains, MatchOption, unwrap_or}
+use Rattle.tree_law.proofs.Words.{is_among, Answer, Whether, Content, Number, StepOf, ReuseRows, ReusePids, TakePid, Row, TakeRow, Slot, Epoch, PidBits, Exchange, RowBits, Announce, next_row, Record}
+use Rattle.tree_law.proofs.Words.{chain_rows, IsChainFrom, Knowledge, learn, Other, Gone, exchanged, Unstamped, is_on_walk, LimboMark, Absent, passed_by, stamped, taken_out, next_seen, Limbos, []}
+use Rattle.tree_law.proofs.shape.Puts.{by_equal, decided}
 use Rattle.tree_law.proofs.links.Exchanged.{exchanging, clears, rebuilds}
 
 -- What becomes of an item of a limbo; Out: why it is there now.
@@ -64,8 +63,8 @@ module _ (k : Knowledge) where
 
   won_pids : (p x y q : ℕ) → LimboCase (Exchange p x y) (Whether true) (k.limbo.pids q) ((exchanged p x y k).limbo.pids q) (PageOut k (Exchange p x y) (Whether true) q) (FreesPids (Exchange p x y))
   won_pids p x y q = elim (exchanging p x y k) as (λ p x y k' v. LimboCase (Exchange p x y) (Whether true) (k.limbo.pids q) (k'.limbo.pids q) (PageOut k (Exchange p x y) (Whether true) q) (FreesPids (Exchange p x y))) [
-    | clears p x e ↦ by_test q (suc p) (λ z. LimboCase (Exchange (suc p) x 0) (Whether true) (k.limbo.pids q) (cond z Unstamped (k.limbo.pids q)) (PageOut k (Exchange (suc p) x 0) (Whether true) q) (FreesPids (Exchange (suc p) x 0)))
-        (λ i. is_out refl (record { at = p; old = x; is = i; step = refl; won = refl; gone = e })) (λ ne. as_it_was refl)
+    | clears p x e ↦ by_equal q (suc p)
+        (λ i t. rw t (is_out refl (record { at = p; old = x; is = i; step = refl; won = refl; gone = e }))) (λ ne t. rw t (as_it_was refl))
     | v ↦ as_it_was refl
   ]
 
@@ -101,7 +100,7 @@ under_contained seen rows stand x w c at under n row deeper none e = go (seen x)
     go : (v : Option Record) → seen x ≡ v → is_on_walk n seen (next_seen v) row ≡ true → Contains (chain_rows (unwrap_or (next_row w) 0) c) row
     go None i z = absurd (cc)
     go (Some u) i z =
-        below (next_row w) refl under (subst (λ (o : Option ℕ). is_on_walk n seen o row ≡ true) (ap next_row (same_Some u w (sym (stand x u i) ∙ at))) z)
+        below (next_row w) refl under (rw (ap next_row (same_Some u w (sym (stand x u i) ∙ at))) at z)
       where
         below : (o : Option ℕ) → next_row w ≡ o → MatchOption o (c ≡ []) (λ y. IsChainFrom rows y c) → is_on_walk n seen o row ≡ true → Contains (chain_rows (unwrap_or o 0) c) row
         below None j h k = absurd (cc)
@@ -114,6 +113,6 @@ no_walk (suc n) seen row = refl
 pub walk_contained : (n : ℕ) (seen rows : ℕ → Option Record) → ((r : ℕ) (w : Record) → seen r ≡ Some w → rows r ≡ Some w) → (x : ℕ) (c : List Record) (row : ℕ) → IsChainFrom rows x c → is_on_walk n seen (Some x) row ≡ true → Contains (chain_rows x c) row
 walk_contained zero seen rows stand x c row h e = absurd (cc)
 walk_contained (suc n) seen rows stand x [] row h e = absurd h
-walk_contained (suc n) seen rows stand x (w ∷ c) row h e = by_test row x (λ z. (z || is_on_walk n seen (next_seen (seen x)) row) ≡ true → Contains (chain_rows x (w ∷ c)) row)
-    (λ i v. (zero, (omega arith), sym i))
-    (λ ne v. let d = under_contained seen rows stand x w c h.0 h.1 n row (λ y hy ey. walk_contained n seen rows stand y c row hy ey) (no_walk n seen row) v in (suc d.0, (let lt = d.1 in omega arith), d.2)) e
+walk_contained (suc n) seen rows stand x (w ∷ c) row h e = by_equal row x
+    (λ i t. (zero, (omega arith), sym i))
+    (λ ne t. let v = rw t at e in let d = under_contained seen rows stand x w c h.0 h.1 n row (λ y hy ey. walk_contained n seen rows stand y c row hy ey) (no_walk n seen row) v in (suc d.0, (let lt = d.1 in omega arith), d.2))

@@ -1,17 +1,17 @@
 -- After a reuse: what numbers there are, and which slots hold rows.
-use Rattle.tree_law.proofs.Words.{false, ◌⊎◌, ap, refl, cond, Option, List, true, inl, inr, subst, sym, ℕ, ◌≡◌, Bool, ◌∙◌, ◌<◌, Some, ⊎_elim, Update, is_among, Reply, Limits, Answer, ReuseRows}
-use Rattle.tree_law.proofs.Words.{ReusePids, Memory, Record, IsOwn, IsOwnBase, IsPassed, Knowledge, finished, Ready, learn, Foreign, Taken, Written, OwnRow, IsAnswer, memory_after, Entry, Free}
-use Rattle.tree_law.proofs.Words.{Linked, Owners, Spare, Owner, OwnFits, put, shared, slot_in, IsReadyPage, phase_of, IsInTree, IsNamed, Times, Timed, Outing, IsTree}
+use Rattle.tree_law.proofs.Words.{false, ◌⊎◌, refl, Option, List, true, inl, inr, subst, sym, ℕ, ◌≡◌, Bool, ◌∙◌, ◌<◌, Some, ⊎_elim, Update, is_among, Reply, Limits, Answer, ReuseRows}
+use Rattle.tree_law.proofs.Words.{ReusePids, Memory, Record, IsOwn, IsOwnBase, IsPassed, Knowledge, finished, learn, Foreign, Taken, Written, OwnRow, IsAnswer, memory_after, Entry, Free}
+use Rattle.tree_law.proofs.Words.{Owners, Spare, Owner, OwnFits, put, shared, slot_in, IsReadyPage, IsInTree, IsNamed, Times, Timed, Outing, IsTree}
 use Rattle.op_machine.specs.theorem.Phases as phase
 use Rattle.tree_law.proofs.epochs.Freeing.{or_cases, row_after, freed, freed_page, held, in_tree, not_among, stays, same_page, o1, page2, o2}
 use Rattle.tree_law.proofs.trace.Names.{Numbers}
-use Rattle.tree_law.proofs.shape.Puts.{by_test, decided}
+use Rattle.tree_law.proofs.shape.Puts.{by_equal, decided}
 
 in_row_after : (first : ℕ) (z : Bool) (v : Owner) (out : Option Outing) → v ≡ Free → row_after first z v out ≡ Free
 in_row_after first true v out e = refl
 in_row_after first false v out e = rw e refl
 
-module _ (limits : Limits) (entries : List Entry) (o : Owners) (m : Memory) (knows : ℕ → Knowledge) (log : List Update) (point : ℕ → Option (List Update)) (logs : ℕ → List (List Update)) {now : ℕ} {t : Times}
+module _ {limits : Limits} {entries : List Entry} {o : Owners} {m : Memory} {knows : ℕ → Knowledge} {log : List Update} {point : ℕ → Option (List Update)} {logs : ℕ → List (List Update)} {now : ℕ} {t : Times}
     (g : IsTree (shared m) log o knows point logs) (T : Timed limits m o knows now t) (old : IsNamed limits entries o m knows) (a : ℕ) (outside : (knows a).inside ≡ false) (word bits : ℕ) (x : Answer Record) (r : Option Reply) where
   module _ (may : (q : ℕ) → is_among word bits q ≡ true → IsPassed limits a ((knows a).limbo.rows q)) (is : IsAnswer m (ReuseRows word bits) x) where
     abbrev pub rows_owners : Owners
@@ -21,18 +21,21 @@ module _ (limits : Limits) (entries : List Entry) (o : Owners) (m : Memory) (kno
     freed_below : (q : ℕ) → is_among word bits q ≡ true → q < limits.rows
     freed_below q e =
         let f = freed g T a outside word bits may r x q e in
-        ⊎_elim (λ (u : o.row q ≡ Free). absurd (⊎_elim (λ (l : o.row q ≡ Linked). (let z = u in cc)) (λ (l : o.row q ≡ Spare f.outing.who). (let z = u in cc)) (T.rows q f.outing f.is).0)) (λ (lt : q < limits.rows). lt) (old.row_below q)
+        elim (old.row_below q) [
+          | inl u ↦ absurd (elim (T.rows q f.outing f.is).0 [ inl l ↦ (let z = u in cc) | inr l ↦ (let z = u in cc) ])
+          | inr lt ↦ lt
+        ]
 
-    pub rows_numbers : Numbers limits entries o m knows log point logs g old a (ReuseRows word bits) x r outside is rows_owners
+    pub rows_numbers : Numbers g old a (ReuseRows word bits) x r outside is rows_owners
     rows_numbers = record {
-      undisturbed = λ b q e d. let z = not_among g T a outside word bits may r x q (held g T a outside word bits may r x b q e) in absurd (let y : is_among word bits q ≡ true = d in cc);
+      undisturbed = λ b q e d. let z = not_among g T a outside word bits may r x q (held g T a outside word bits may r x b q e) in absurd (cc);
       zero_free = in_row_after _ (is_among word bits 0) (o.row 0) (t.row_out 0) old.zero_free;
       zero_taken = elim (decided (is_among word bits 0)) [
-        | inl e ↦ absurd (let f = freed g T a outside word bits may r x 0 e in let u = old.zero_free in ⊎_elim (λ (l : o.row 0 ≡ Linked). (let z = u in cc)) (λ (l : o.row 0 ≡ Spare f.outing.who). (let z = u in cc)) (T.rows 0 f.outing f.is).0)
+        | inl e ↦ absurd (let f = freed g T a outside word bits may r x 0 e in let u = old.zero_free in elim (T.rows 0 f.outing f.is).0 [ inl l ↦ (let z = u in cc) | inr l ↦ (let z = u in cc) ])
         | inr e ↦ rw (old.zero_taken, e) refl
       ];
       free_row_below = λ q e. ⊎_elim (λ (u : m.free_rows q ≡ true). old.free_row_below q u) (freed_below q) (or_cases (m.free_rows q) (is_among word bits q) e);
-      row_below = λ q. ⊎_elim (λ (u : o.row q ≡ Free). inl (in_row_after _ (is_among word bits q) (o.row q) (t.row_out q) u)) (λ (lt : q < limits.rows). inr lt) (old.row_below q);
+      row_below = λ q. elim (old.row_below q) [ inl u ↦ inl (in_row_after _ (is_among word bits q) (o.row q) (t.row_out q) u) | inr lt ↦ inr lt ];
       free_pid_below = old.free_pid_below;
     }
 
@@ -43,41 +46,45 @@ module _ (limits : Limits) (entries : List Entry) (o : Owners) (m : Memory) (kno
 
     -- slots hold what they held
     pub rows_held : (p q : ℕ) → slot_in m.slots p ≡ Some q → IsInTree (o.page p) ⊎ IsReadyPage rows_owners (memory_after a (ReuseRows word bits) m) (put knows a (finished (learn (knows a) (ReuseRows word bits) x) r)) p q
-    rows_held p q e = ⊎_elim (λ (h : IsInTree (o.page p)). inl h) (λ (h : IsReadyPage o m knows p q). inr (
-        let own = own_of h.actor q ((knows h.actor).own.rows q) (g.owns h.actor q) (T.ready h.actor p q h.ready) in
-        record {
-          actor = h.actor;
-          ready = by_test h.actor a (λ z. (cond z (finished (learn (knows a) (ReuseRows word bits) x) r) (knows h.actor)).own.pages p ≡ Ready q) (λ i. subst (λ n. (knows n).own.pages p ≡ Ready q) i h.ready) (λ ne. h.ready);
-          owned = inr (stays g T a outside word bits may r x q (in_tree g T a outside word bits may r x q (T.own_rows h.actor q own.0)) ∙ own.1);
-          base = h.base;
-          stands = h.stands;
-        })) (old.in_slots p q e)
+    rows_held p q e = elim (old.in_slots p q e) [
+      | inl h ↦ inl h
+      | inr h ↦ inr (
+          let own = own_of h.actor q ((knows h.actor).own.rows q) (g.owns h.actor q) (T.ready h.actor p q h.ready) in
+          record {
+            actor = h.actor;
+            ready = by_equal h.actor a (λ i t. rw t (rw i at h.ready)) (λ ne t. rw t h.ready);
+            owned = inr (stays g T a outside word bits may r x q (in_tree g T a outside word bits may r x q (T.own_rows h.actor q own.0)) ∙ own.1);
+            base = h.base;
+            stands = h.stands;
+          })
+    ]
 
   module _ (may : (q : ℕ) → is_among word bits q ≡ true → IsPassed limits a ((knows a).limbo.pids q)) (is : IsAnswer m (ReusePids word bits) x) where
     abbrev pub pages_owners : Owners
     pages_owners = o2 g T a outside word bits may r x
 
-    pub pages_numbers : Numbers limits entries o m knows log point logs g old a (ReusePids word bits) x r outside is pages_owners
+    pub pages_numbers : Numbers g old a (ReusePids word bits) x r outside is pages_owners
     pages_numbers = record {
       undisturbed = λ b q e d. d;
       zero_free = old.zero_free;
       zero_taken = old.zero_taken;
       free_row_below = old.free_row_below;
       row_below = old.row_below;
-      free_pid_below = λ q e. ⊎_elim (λ (u : m.free_pids q ≡ true). old.free_pid_below q u)
-          (λ (u : is_among word bits q ≡ true). let f = freed_page g T a outside word bits may r x q u in let v = (T.pages q f.outing f.is).0 in
-          ⊎_elim (λ (z : phase_of (o.page q) ≡ phase.free). absurd (let y = sym (ap phase_of v.2) ∙ z in cc)) (λ (z : (0 < q) × (q < limits.pids)). z) (old.pid_below q))
-          (or_cases (m.free_pids q) (is_among word bits q) e);
+      free_pid_below = λ q e. elim (or_cases (m.free_pids q) (is_among word bits q) e) [
+        | inl u ↦ old.free_pid_below q u
+        | inr u ↦ let f = freed_page g T a outside word bits may r x q u in let v = (T.pages q f.outing f.is).0 in
+            elim (old.pid_below q) [ inl z ↦ absurd (cc v.2) | inr z ↦ z ]
+      ];
     }
 
     pub pages_held : (p q : ℕ) → slot_in m.slots p ≡ Some q → IsInTree (page2 g T a outside word bits may r x p) ⊎ IsReadyPage pages_owners (memory_after a (ReusePids word bits) m) (put knows a (finished (learn (knows a) (ReusePids word bits) x) r)) p q
-    pages_held p q e = ⊎_elim
-        (λ (h : IsInTree (o.page p)). inl (subst IsInTree (sym (same_page g T a outside word bits may r x p (λ i. let f = freed_page g T a outside word bits may r x p i in absurd (let z = sym e ∙ (T.pages p f.outing f.is).1 in cc)))) h))
-        (λ (h : IsReadyPage o m knows p q). inr (record {
-          actor = h.actor;
-          ready = by_test h.actor a (λ z. (cond z (finished (learn (knows a) (ReusePids word bits) x) r) (knows h.actor)).own.pages p ≡ Ready q) (λ i. subst (λ n. (knows n).own.pages p ≡ Ready q) i h.ready) (λ ne. h.ready);
-          owned = h.owned;
-          base = h.base;
-          stands = h.stands;
-        }))
-        (old.in_slots p q e)
+    pages_held p q e = elim (old.in_slots p q e) [
+      | inl h ↦ inl (subst IsInTree (sym (same_page g T a outside word bits may r x p (λ i. let f = freed_page g T a outside word bits may r x p i in absurd (cc (T.pages p f.outing f.is).1)))) h)
+      | inr h ↦ inr (record {
+        actor = h.actor;
+        ready = by_equal h.actor a (λ i t. rw t (rw i at h.ready)) (λ ne t. rw t h.ready);
+        owned = h.owned;
+        base = h.base;
+        stands = h.stands;
+      })
+    ]

@@ -1,8 +1,8 @@
 -- Rows and pages that nobody holds may be freed: the invariant stays.
-use Rattle.tree_law.proofs.Words.{false, ◌⊎◌, [], refl, Option, suc, None, List, true, inl, inr, ◌∷◌, subst, sym, ℕ, ◌≡◌, Bool, ◌∙◌, Some, ⊎_elim, IfSome, Update, ContentOf, Child, next_row, Record}
+use Rattle.tree_law.proofs.Words.{false, ◌⊎◌, [], refl, Option, suc, None, List, true, inl, inr, ◌∷◌, subst, sym, ℕ, ◌≡◌, Bool, ◌∙◌, Some, IfSome, Update, ContentOf, Child, next_row, Record}
 use Rattle.tree_law.proofs.Words.{content_in, right_in, low_in, is_removed, level_in, high_in, IsOwn, Knowledge, Foreign, OwnPage, Taken, Other, Gone, Written, OwnRow, Key, Covers, Free, Linked}
 use Rattle.tree_law.proofs.Words.{Owners, Reached, IsOut, Owner, OwnFits, LinkFits, HeadFits, OrderFits, PageFits, IsChain, IsCleared, SpellsLog, SeenFits, Nobody, Placed, Indexed, PageOwner, Cleared}
-use Rattle.tree_law.proofs.Words.{Keeps, Merged, Stage, rank_of, child_of, Shared, IsTree, spec, IsOff, Off, SidePage, InPlace, IsPart, Exact, KnowsBy}
+use Rattle.tree_law.proofs.Words.{Keeps, Merged, Stage, child_of, Shared, IsTree, spec, IsOff, Off, SidePage, InPlace, IsPart, Exact, KnowsBy}
 use Rattle.tree_law.proofs.shape.Kept.{placed_reached}
 
 -- What actors know, they know of rows whose names they have learnt.
@@ -26,6 +26,12 @@ pub record AreSame (page was : ℕ → PageOwner) (c : List Record) : Type 0 whe
   pub right : (q : ℕ) → right_in c ≡ Some q → page q ≡ was q
   pub items : (l : ℕ) (s : Key) (i : ContentOf) → level_in c ≡ suc l → Covers c s → content_in c s ≡ Some i → page (child_of i) ≡ was (child_of i)
 
+-- a part of a side chain each of whose pages stays in its place
+part_map : (o o' : Owners) (m m' : Shared) (lv : ℕ) (mp : Key → Option ContentOf) → ((p : SidePage) → InPlace o m lv mp p → InPlace o' m' lv mp p)
+    → (gs : List SidePage) (p : Option ℕ) (low : Option Key) (q : Option ℕ) (high : Option Key) → IsPart o m lv mp gs p low q high → IsPart o' m' lv mp gs p low q high
+part_map o o' m m' lv mp stays [] p low q high e = e
+part_map o o' m m' lv mp stays (x ∷ xs) p low q high e = (e.0, e.1, stays x e.2, part_map o o' m m' lv mp stays xs (right_in x.chain) (high_in x.chain) q high e.3)
+
 module _ {m : Shared} {log : List Update} {o : Owners} {knows : ℕ → Knowledge} {point : ℕ → Option (List Update)} {logs : ℕ → List (List Update)} (g : IsTree m log o knows point logs) where
   module _ (row : ℕ → Owner) (free : ℕ → Bool) (known : (b : ℕ) → Learnt (knows b)) (h : AreLoose o m knows row free) where
     abbrev pub o1 : Owners
@@ -41,12 +47,8 @@ module _ {m : Shared} {log : List Update} {o : Owners} {knows : ℕ → Knowledg
       on = e.on;
       flagged = e.flagged;
       linked = h.slots p.page p.row lv (low_in p.chain) (placed_reached lv (low_in p.chain) e.stage (o.page p.page) e.placed) e.is_page.head ∙ e.linked;
-      is_page = record { head = e.is_page.head; is_chain = e.is_page.is_chain; on_level = e.is_page.on_level; some = e.is_page.some; same = e.is_page.same };
+      is_page = e.is_page;
     }
-
-    part_loose : (lv : ℕ) (mp : Key → Option ContentOf) (gs : List SidePage) (p : Option ℕ) (low : Option Key) (q : Option ℕ) (high : Option Key) → IsPart o m lv mp gs p low q high → IsPart o1 m1 lv mp gs p low q high
-    part_loose lv mp [] p low q high e = e
-    part_loose lv mp (x ∷ xs) p low q high e = (e.0, e.1, place_loose lv mp x e.2, part_loose lv mp xs (right_in x.chain) (high_in x.chain) q high e.3)
 
     off_loose : (q l : ℕ) (s : Key) → IsOff (o.page q) l s → IsOut (o.page q) (m.slots q) ⊎ Off o m q l s → IsOut (o.page q) (m.slots q) ⊎ Off o1 m1 q l s
     off_loose q l s i (inl e) = inl e
@@ -81,7 +83,7 @@ module _ {m : Shared} {log : List Update} {o : Owners} {knows : ℕ → Knowledg
 
         head_at : (p : ℕ) (x : Option ℕ) → (knows b).read.heads p ≡ x → HeadFits o m (logs b) p x → HeadFits o1 m1 (logs b) p x
         head_at p None e f = tt
-        head_at p (Some x) e f = (f.0, f.1, spells_loose x f.0 (h.learnt b x ((known b).heads p x e)) f.2, f.3, f.4, λ i. let n = f.5 i in record { right = n.right; items = n.items })
+        head_at p (Some x) e f = (f.0, f.1, spells_loose x f.0 (h.learnt b x ((known b).heads p x e)) f.2, f.3, f.4, λ i. assumption (f.5 i))
 
         order_at : (p f : ℕ) (y x : Option ℕ) → (knows b).read.heads p ≡ y → (knows b).read.before p f ≡ x → OrderFits o m (logs b) p f y x → OrderFits o1 m1 (logs b) p f y x
         order_at p f (Some y) (Some x) e i v = record {
@@ -92,7 +94,7 @@ module _ {m : Shared} {log : List Update} {o : Owners} {knows : ℕ → Knowledg
           placed = v.placed;
           uncleared = v.uncleared;
           merged = v.merged;
-          beyond = λ c d ic id rc nd e. let n = v.beyond c d ic id rc nd e in record { right = n.right; items = n.items };
+          beyond = λ c d ic id rc nd e. assumption (v.beyond c d ic id rc nd e);
           spelled = v.spelled;
         }
         order_at p f y x e i v = tt
@@ -111,7 +113,7 @@ module _ {m : Shared} {log : List Update} {o : Owners} {knows : ℕ → Knowledg
         first = g.tree.first;
         leaf = g.tree.leaf;
         root = g.tree.root;
-        levels = λ l le. let v = g.tree.levels l le in record { side = v.side; whole = part_loose l (spec log o.index l) v.side (Some (g.tree.first l)) (Some []) None None v.whole; listed = v.listed };
+        levels = λ l le. let v = g.tree.levels l le in record { side = v.side; whole = part_map o o1 m m1 l (spec log o.index l) (place_loose l (spec log o.index l)) v.side (Some (g.tree.first l)) (Some []) None None v.whole; listed = v.listed };
         exact = g.tree.exact;
         off = λ q l s i. off_loose q l s i (g.tree.off q l s i);
       };
@@ -145,13 +147,13 @@ module _ {m : Shared} {log : List Update} {o : Owners} {knows : ℕ → Knowledg
 
     -- pages in the tree stay
     stays : (q l : ℕ) (s : Key) (st : Stage) → o.page q ≡ Placed st l s → page q ≡ Placed st l s
-    stays q l s st e = ⊎_elim (λ (u : page q ≡ o.page q). u ∙ e) (λ (u : (page q ≡ Nobody) × IsCleared (o.page q)). absurd (let f = sym e ∙ u.1.3 in cc)) (gone q)
+    stays q l s st e = elim (gone q) [ inl same ↦ same ∙ e | inr out ↦ absurd (cc out.1.3) ]
 
     was : (q l : ℕ) (s : Key) (st : Stage) → page q ≡ Placed st l s → o.page q ≡ Placed st l s
-    was q l s st e = ⊎_elim (λ (u : page q ≡ o.page q). sym u ∙ e) (λ (u : (page q ≡ Nobody) × IsCleared (o.page q)). absurd (let f = sym e ∙ u.0 in cc)) (gone q)
+    was q l s st e = elim (gone q) [ inl same ↦ sym same ∙ e | inr out ↦ absurd (cc out.0) ]
 
     was_cleared : (q b l : ℕ) (s : Key) → page q ≡ Cleared b l s → o.page q ≡ Cleared b l s
-    was_cleared q b l s e = ⊎_elim (λ (u : page q ≡ o.page q). sym u ∙ e) (λ (u : (page q ≡ Nobody) × IsCleared (o.page q)). absurd (let f = sym e ∙ u.0 in cc)) (gone q)
+    was_cleared q b l s e = elim (gone q) [ inl same ↦ sym same ∙ e | inr out ↦ absurd (cc out.0) ]
 
     place_free : (lv : ℕ) (mp : Key → Option ContentOf) (p : SidePage) → InPlace o m lv mp p → InPlace o2 m2 lv mp p
     place_free lv mp p e = record {
@@ -160,12 +162,8 @@ module _ {m : Shared} {log : List Update} {o : Owners} {knows : ℕ → Knowledg
       on = e.on;
       flagged = e.flagged;
       linked = e.linked;
-      is_page = record { head = e.is_page.head; is_chain = e.is_page.is_chain; on_level = e.is_page.on_level; some = e.is_page.some; same = e.is_page.same };
+      is_page = e.is_page;
     }
-
-    part_free : (lv : ℕ) (mp : Key → Option ContentOf) (gs : List SidePage) (p : Option ℕ) (low : Option Key) (q : Option ℕ) (high : Option Key) → IsPart o m lv mp gs p low q high → IsPart o2 m2 lv mp gs p low q high
-    part_free lv mp [] p low q high e = e
-    part_free lv mp (x ∷ xs) p low q high e = (e.0, e.1, place_free lv mp x e.2, part_free lv mp xs (right_in x.chain) (high_in x.chain) q high e.3)
 
     exact_free : Exact page o.index g.tree.top m.root
     exact_free = record {
@@ -185,7 +183,7 @@ module _ {m : Shared} {log : List Update} {o : Owners} {knows : ℕ → Knowledg
     off_free q l s i (inl e) = inl (e.0, cleared_off i e.1)
       where
         cleared_off : IsOff (page q) l s → IsCleared (o.page q) → IsCleared (page q)
-        cleared_off (inl j) c = absurd (let f = sym (was q l s Merged j) ∙ c.3 in cc)
+        cleared_off (inl j) c = absurd (cc (was q l s Merged j, c.3))
         cleared_off (inr j) c = (j.0, l, s, j.1)
     off_free q l s i (inr w) = inr (record { row = w.row; chain = w.chain; head = w.head; linked = w.linked; is_chain = w.is_chain; flagged = w.flagged; level = w.level; low = w.low })
 
@@ -198,7 +196,7 @@ module _ {m : Shared} {log : List Update} {o : Owners} {knows : ℕ → Knowledg
         record {
           seen_fits = s.seen_fits;
           learnt_fits = s.learnt_fits;
-          roots_fit = λ p e. let i = s.roots_fit p e in (i.0, subst (λ (w : PageOwner). Reached 0 i.0 [] w) (sym (roots b p e)) i.1);
+          roots_fit = λ p e. let i = s.roots_fit p e in (i.0, rw (roots b p e) i.1);
           heads_fit = λ p. head_at p ((knows b).read.heads p) refl (s.heads_fit p);
           orders_fit = λ p f. order_at p f ((knows b).read.heads p) ((knows b).read.before p f) refl refl (s.orders_fit p f);
           linked_fits = link_at ((knows b).asked.linked) s.linked_fits;
@@ -213,11 +211,11 @@ module _ {m : Shared} {log : List Update} {o : Owners} {knows : ℕ → Knowledg
           f.0,
           f.1,
           spells_free x f.0 f.2,
-          subst (λ (w : PageOwner). Reached 0 (level_in f.2.chain) (low_in f.2.chain) w) (sym (heads b p x e)) f.3,
-          λ i. ⊎_elim (λ (u : m.slots p ≡ Some x). inl u) (λ (u : IsOut (o.page p) (m.slots p)). inr (u.0, subst IsCleared (sym (heads b p x e)) u.1)) (f.4 i),
+          rw (heads b p x e) f.3,
+          λ i. elim (f.4 i) [ inl u ↦ inl u | inr u ↦ inr (u.0, subst IsCleared (sym (heads b p x e)) u.1) ],
           λ i. record {
-            right = λ q j. let n = (f.5 i).right q j in (n.0, n.1, subst (λ (w : PageOwner). Reached 0 (level_in f.2.chain) n.0 w) (sym (heads_right b p x q f.2.chain e f.2.is_chain i j)) n.2);
-            items = λ l k c j v d. subst (λ (w : PageOwner). Reached (rank_of c) l k w) (sym (heads_items b p x l k c f.2.chain e f.2.is_chain i j v d)) ((f.5 i).items l k c j v d);
+            right = λ q j. let n = (f.5 i).right q j in (n.0, n.1, rw (heads_right b p x q f.2.chain e f.2.is_chain i j) n.2);
+            items = λ l k c j v d. rw (heads_items b p x l k c f.2.chain e f.2.is_chain i j v d) ((f.5 i).items l k c j v d);
           },
         )
 
@@ -227,15 +225,15 @@ module _ {m : Shared} {log : List Update} {o : Owners} {knows : ℕ → Knowledg
           below = v.below;
           chain = v.chain;
           is_chain = v.is_chain;
-          placed = subst (λ (w : PageOwner). Reached 0 (level_in v.chain) (low_in v.chain) w) (sym (before b p f x i)) v.placed;
+          placed = rw (before b p f x i) v.placed;
           uncleared = λ c d ic id nc nd j u sx cl. v.uncleared c d ic id nc nd j u sx (cleared_was p cl);
-          merged = λ c d k q ic id nc nd j u fd lo hi ne. subst (λ (w : PageOwner). Reached 4 (level_in d) k w) (sym (before_items b p f x (level_in d) k (Child q true) c i ic nc j u fd)) (v.merged c d k q ic id nc nd j u fd lo hi ne);
+          merged = λ c d k q ic id nc nd j u fd lo hi ne. rw (before_items b p f x (level_in d) k (Child q true) c i ic nc j u fd) (v.merged c d k q ic id nc nd j u fd lo hi ne);
           beyond = λ c d ic id rc nd j.
               let n = v.beyond c d ic id rc nd j in
               let same = beyond b p f y x c d e i ic id rc nd j in
               record {
-                right = λ q z. let r = n.right q z in (r.0, r.1, subst (λ (w : PageOwner). Reached 0 (level_in c) r.0 w) (sym (same.right q z)) r.2);
-                items = λ l k h z u fd. subst (λ (w : PageOwner). Reached (rank_of h) l k w) (sym (same.items l k h z u fd)) (n.items l k h z u fd);
+                right = λ q z. let r = n.right q z in (r.0, r.1, rw (same.right q z) r.2);
+                items = λ l k h z u fd. rw (same.items l k h z u fd) (n.items l k h z u fd);
               };
           spelled = v.spelled;
         }
@@ -254,7 +252,7 @@ module _ {m : Shared} {log : List Update} {o : Owners} {knows : ℕ → Knowledg
         first = g.tree.first;
         leaf = g.tree.leaf;
         root = g.tree.root;
-        levels = λ l le. let v = g.tree.levels l le in record { side = v.side; whole = part_free l (spec log o.index l) v.side (Some (g.tree.first l)) (Some []) None None v.whole; listed = λ p s st e. v.listed p s st (was p l s st e) };
+        levels = λ l le. let v = g.tree.levels l le in record { side = v.side; whole = part_map o o2 m m2 l (spec log o.index l) (place_free l (spec log o.index l)) v.side (Some (g.tree.first l)) (Some []) None None v.whole; listed = λ p s st e. v.listed p s st (was p l s st e) };
         exact = exact_free;
         off = λ q l s i. off_free q l s i (g.tree.off q l s (off_was q l s i));
       };
@@ -264,7 +262,7 @@ module _ {m : Shared} {log : List Update} {o : Owners} {knows : ℕ → Knowledg
     }
       where
         kept : (b p : ℕ) → o.page p ≡ Keeps b → page p ≡ Keeps b
-        kept b p e = ⊎_elim (λ (u : page p ≡ o.page p). u ∙ e) (λ (u : (page p ≡ Nobody) × IsCleared (o.page p)). absurd (let f = sym e ∙ u.1.3 in cc)) (gone p)
+        kept b p e = elim (gone p) [ inl same ↦ same ∙ e | inr out ↦ absurd (cc out.1.3) ]
 
         own_at : (b p : ℕ) (v : OwnPage) → (knows b).own.pages p ≡ v → PageFits b (o.page p) (m.slots p) v → PageFits b (page p) (m.slots p) v
         own_at b p Other e f = tt

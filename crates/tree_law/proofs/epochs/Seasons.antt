@@ -1,10 +1,10 @@
 -- An actor enters and leaves, reads the epoch and announced epochs, takes and places: what actors hold stays so.
-use Rattle.tree_law.proofs.Words.{false, ◌⊎◌, ap, refl, cond, ltb, Option, suc, None, List, true, inl, ◌≤◌, inr, subst, sym, ℕ, ◌≡◌, Bool, ◌∙◌, ◌<◌, arith, Some, eqb, ⊎_elim, ltb-true, cases_lt}
+use Rattle.tree_law.proofs.Words.{false, ◌⊎◌, ap, refl, cond, ltb, Option, suc, None, List, true, inl, ◌≤◌, inr, subst, sym, ℕ, ◌≡◌, Bool, ◌∙◌, ◌<◌, arith, Some, eqb, ltb-true, cases_lt}
 use Rattle.tree_law.proofs.Words.{eqb-true, same_Some, ◌||◌, Update, Reply, Limits, Answer, Leave, TakePid, Place, TakeRow, Enter, Epoch, Announce, Memory, Record, IsOwn, IsOwnBase, IsUnset}
-use Rattle.tree_law.proofs.Words.{Knowledge, finished, Ready, learn, Empty, Taken, Gone, Written, forgotten, Unstamped, LimboMark, Absent, Stamped, passed_by, stamped, memory_after, Free, Linked}
-use Rattle.tree_law.proofs.Words.{Owners, Spare, put, shared, Times, Timed, LimboFits, Outing, Holds, IsTree, HoldsBy}
+use Rattle.tree_law.proofs.Words.{Knowledge, finished, Ready, learn, Empty, Taken, Written, forgotten, Unstamped, LimboMark, Absent, Stamped, passed_by, stamped, memory_after, Free}
+use Rattle.tree_law.proofs.Words.{Owners, put, shared, Times, Timed, LimboFits, Outing, Holds, IsTree, HoldsBy}
 use Rattle.bw_model.specs.declared.step.Answer.TheVariants as answer
-use Rattle.tree_law.proofs.shape.{by_test, put_same, put_other, own_spare, own_base, none_if}
+use Rattle.tree_law.proofs.shape.{by_equal, put_same, put_other, put_was, own_spare, own_base, none_if}
 use Rattle.tree_law.proofs.epochs.Timing.{Turn, limbo_row, limbo_pid, put_timed, held_later}
 use Rattle.tree_law.proofs.epochs.Timely.{linked, Calm, calm_turn, idle_timed}
 
@@ -23,10 +23,13 @@ passed_fits a b announced inside entered out (Stamped e p) f h = (h.0, h.1, h.2,
     late : inside b ≡ true → (announced ≡ 0) ⊎ (e < announced) → h.0.at < entered b
     late i past =
         let v = f h.0 h.1 i in
-        ⊎_elim (λ (u : h.0.at < entered b). u) (λ (u : entered b ≤ h.0.at). absurd (let x = v.1 u in let y = h.3 in let z = v.0 in ⊎_elim (λ (n : announced ≡ 0). omega arith) (λ (n : e < announced). omega arith) past)) (cases_lt h.0.at (entered b))
+        elim (cases_lt h.0.at (entered b)) [
+          | inl u ↦ u
+          | inr u ↦ absurd (let x = v.1 u in let y = h.3 in let z = v.0 in elim past [ inl n ↦ omega arith | inr n ↦ omega arith ])
+        ]
 
     on : ((announced ≡ 0) ⊎ (e < announced)) → (c : ℕ) → put p b true c ≡ true → inside c ≡ true → h.0.at < entered c
-    on past c = by_test c b (λ z. cond z true (p c) ≡ true → inside c ≡ true → h.0.at < entered c) (λ j i v. subst (λ n. h.0.at < entered n) (sym j) (late (subst (λ n. inside n ≡ true) j v) past)) (λ ne. h.4 c)
+    on past c = by_equal c b (λ j t. rw t λ i v. rw j (late (rw j at v) past)) (λ ne t. rw t (h.4 c))
 
     pass : (y z : Bool) → eqb announced 0 ≡ y → ltb e announced ≡ z → (c : ℕ) → cond (y || z) (put p b true) p c ≡ true → inside c ≡ true → h.0.at < entered c
     pass true z i j = on (inl (eqb-true announced 0 i))
@@ -66,29 +69,29 @@ module _ {limits : Limits} {m : Memory} {log : List Update} {o : Owners} {knows 
         epoch = omega arith;
         announced = λ b ne. put_other m.announced a e b ne;
         entered = λ b ne. put_other t.entered a now b ne;
-        passes = λ u lt f i. subst (λ n. u < n) (sym (put_same t.entered a now)) lt;
+        passes = λ u lt f i. rw (put_same t.entered a now) lt;
         slots = λ p z l s h e. T.slots p z l s (c.reached p l s h) e;
         together = λ q n w l e. T.together q n w (c.back q l) e;
-        rows = λ q w i. ⊎_elim (λ (u : o.row q ≡ Linked). inl (c.stay q u)) (λ (u : o.row q ≡ Spare w.who). inr (c.spare q w.who u)) (T.rows q w i).0;
+        rows = λ q w i. elim (T.rows q w i).0 [ inl u ↦ inl (c.stay q u) | inr u ↦ inr (c.spare q w.who u) ];
         pages = λ p w i. let v = T.pages p w i in ((v.0.0, v.0.1, c.cleared p w.who v.0.0 v.0.1 v.0.2), v.1);
         own_rows = λ b q ne. T.own_rows b q;
         gone_pages = λ b p ne. T.gone_pages b p;
       } in
-      put_timed T (linked g T a) a (memory_after a (Enter e) m) o' k' t' turn (record {
+      put_timed turn (record {
         within = λ i. actor;
         holds = blank_holds outside (t'.entered a);
         announced = λ i. record {
-          some = subst (λ n. 0 < n) (sym (put_same m.announced a e)) some;
-          old = subst (λ n. n ≤ m.epoch) (sym (put_same m.announced a e)) (T.epochs a e read);
-          past = subst (λ n. n < suc now) (sym (put_same t.entered a now)) (omega arith);
-          rows = λ q w i j. absurd (let l = (T.rows q w i).1 in let f : now ≤ w.at = subst (λ n. n ≤ w.at) (put_same t.entered a now) j in omega arith);
-          pages = λ q w i j. absurd (let l = (T.pages q w i).2 in let f : now ≤ w.at = subst (λ n. n ≤ w.at) (put_same t.entered a now) j in omega arith);
+          some = rw (put_same m.announced a e) some;
+          old = rw (put_same m.announced a e) (T.epochs a e read);
+          past = rw (put_same t.entered a now) (omega arith);
+          rows = λ q w i j. absurd (let l = (T.rows q w i).1 in let f : now ≤ w.at = rw (put_same t.entered a now) at j in omega arith);
+          pages = λ q w i j. absurd (let l = (T.pages q w i).2 in let f : now ≤ w.at = rw (put_same t.entered a now) at j in omega arith);
         };
         epochs = T.epochs a;
         own_rows = T.own_rows a;
         gone_pages = T.gone_pages a;
-        limbo_rows = limbo_row T (linked g T a) a (memory_after a (Enter e) m) o' k' t' turn a;
-        limbo_pids = limbo_pid T (linked g T a) a (memory_after a (Enter e) m) o' k' t' turn a;
+        limbo_rows = limbo_row turn a;
+        limbo_pids = limbo_pid turn a;
         ready = T.ready a;
         apart = T.apart a;
       })
@@ -101,15 +104,15 @@ module _ {limits : Limits} {m : Memory} {log : List Update} {o : Owners} {knows 
   leave_timed r o' c =
       let k' : Knowledge = finished (learn (knows a) Leave answer.Done) r in
       let turn : Turn T (linked g T a) a (memory_after a Leave m) o' k' t = calm_turn g T a (memory_after a Leave m) o' k' c (λ i. absurd (cc)) in
-      put_timed T (linked g T a) a (memory_after a Leave m) o' k' t turn (record {
+      put_timed turn (record {
         within = λ i. absurd (cc);
         holds = record { learnt_inside = λ q i. absurd (cc); learnt_since = λ q i. absurd (cc); seen_learnt = λ q w i. absurd (cc); roots_inside = λ p i. absurd (cc); roots_since = λ p i. absurd (cc); heads_since = λ p x i. absurd (cc); before_since = λ p f x i. absurd (cc); beside_since = λ p f y x i. absurd (cc); linked_learnt = λ x i. absurd (forgotten_none (knows a).asked.linked x i) };
         announced = λ i. absurd (cc);
         epochs = T.epochs a;
         own_rows = T.own_rows a;
         gone_pages = T.gone_pages a;
-        limbo_rows = limbo_row T (linked g T a) a (memory_after a Leave m) o' k' t turn a;
-        limbo_pids = limbo_pid T (linked g T a) a (memory_after a Leave m) o' k' t turn a;
+        limbo_rows = limbo_row turn a;
+        limbo_pids = limbo_pid turn a;
         ready = T.ready a;
         apart = T.apart a;
       })
@@ -118,11 +121,11 @@ module _ {limits : Limits} {m : Memory} {log : List Update} {o : Owners} {knows 
   pub epoch_timed : (r : Option Reply) (o' : Owners) → Calm g T a m o' → Timed limits m o' (put knows a (finished (learn (knows a) Epoch (answer.Number m.epoch)) r)) (suc now) t
   epoch_timed r o' c =
       let k' : Knowledge = finished (learn (knows a) Epoch (answer.Number m.epoch)) r in
-      idle_timed g T a m o' k' c refl refl (λ n. held_later T (linked g T a) a m o' k' t n a)
+      idle_timed g T a m o' k' c refl refl (λ n. held_later n a)
       (λ e i. let f = same_Some m.epoch e i in omega arith)
       (T.own_rows a) (T.gone_pages a)
-      (λ n q. stamped_fits a m.epoch (λ b. (put knows a k' b).inside) t.entered (t.row_out q) ((knows a).limbo.rows q) (λ w e. (T.rows q w e).2) (limbo_row T (linked g T a) a m o' k' t n a q))
-      (λ n p. stamped_fits a m.epoch (λ b. (put knows a k' b).inside) t.entered (t.page_out p) ((knows a).limbo.pids p) (λ w e. (T.pages p w e).3) (limbo_pid T (linked g T a) a m o' k' t n a p))
+      (λ n q. stamped_fits a m.epoch (λ b. (put knows a k' b).inside) t.entered (t.row_out q) ((knows a).limbo.rows q) (λ w e. (T.rows q w e).2) (limbo_row n a q))
+      (λ n p. stamped_fits a m.epoch (λ b. (put knows a k' b).inside) t.entered (t.page_out p) ((knows a).limbo.pids p) (λ w e. (T.pages p w e).3) (limbo_pid n a p))
       (T.ready a) (T.apart a)
 
   -- an announced epoch is read
@@ -130,12 +133,12 @@ module _ {limits : Limits} {m : Memory} {log : List Update} {o : Owners} {knows 
   announce_timed b r o' c =
       let k' : Knowledge = finished (learn (knows a) (Announce b) (answer.Number (m.announced b))) r in
       let was_inside : (put knows a k' b).inside ≡ true → (knows b).inside ≡ true =
-      by_test b a (λ z. (cond z k' (knows b)).inside ≡ true → (knows b).inside ≡ true) (λ e i. subst (λ n. (knows n).inside ≡ true) (sym e) i) (λ ne i. i) in
-      idle_timed g T a m o' k' c refl refl (λ n. held_later T (linked g T a) a m o' k' t n a)
+      by_equal b a (λ e t. rw (t, e) λ i. i) (λ ne t. rw t λ i. i) in
+      idle_timed g T a m o' k' c refl refl (λ n. held_later n a)
       (T.epochs a)
       (T.own_rows a) (T.gone_pages a)
-      (λ n q. passed_fits a b (m.announced b) (λ c. (put knows a k' c).inside) t.entered (t.row_out q) ((knows a).limbo.rows q) (λ w e i. let h = T.announced b (was_inside i) in (h.some, h.rows q w e)) (limbo_row T (linked g T a) a m o' k' t n a q))
-      (λ n p. passed_fits a b (m.announced b) (λ c. (put knows a k' c).inside) t.entered (t.page_out p) ((knows a).limbo.pids p) (λ w e i. let h = T.announced b (was_inside i) in (h.some, h.pages p w e)) (limbo_pid T (linked g T a) a m o' k' t n a p))
+      (λ n q. passed_fits a b (m.announced b) (λ c. (put knows a k' c).inside) t.entered (t.row_out q) ((knows a).limbo.rows q) (λ w e i. let h = T.announced b (was_inside i) in (h.some, h.rows q w e)) (limbo_row n a q))
+      (λ n p. passed_fits a b (m.announced b) (λ c. (put knows a k' c).inside) t.entered (t.page_out p) ((knows a).limbo.pids p) (λ w e i. let h = T.announced b (was_inside i) in (h.some, h.pages p w e)) (limbo_pid n a p))
       (T.ready a) (T.apart a)
 
   -- a record is placed in an own row that stands in no slot
@@ -143,13 +146,13 @@ module _ {limits : Limits} {m : Memory} {log : List Update} {o : Owners} {knows 
   place_timed q w r o' c own unset =
       let m' : Memory = memory_after a (Place q w) m in
       let k' : Knowledge = finished (learn (knows a) (Place q w) answer.Done) r in
-      idle_timed g T a m' o' k' c refl refl (λ n. held_later T (linked g T a) a m' o' k' t n a)
+      idle_timed g T a m' o' k' c refl refl (λ n. held_later n a)
       (T.epochs a)
-      (λ j. by_test j q (λ z. IsOwn (cond z (Written w) ((knows a).own.rows j)) → t.row_out j ≡ None) (λ e i. ap t.row_out e ∙ T.own_rows a q own) (λ ne. T.own_rows a j))
+      (λ j. by_equal j q (λ e is. rw is λ i. ap t.row_out e ∙ T.own_rows a q own) (λ ne is. rw is (T.own_rows a j)))
       (T.gone_pages a)
-      (λ n. limbo_row T (linked g T a) a m' o' k' t n a)
-      (λ n. limbo_pid T (linked g T a) a m' o' k' t n a)
-      (λ p j i. subst IsOwnBase (sym (put_other (knows a).own.rows q (Written w) j (λ e. unset p (subst (λ n. (knows a).own.pages p ≡ Ready n) e i)))) (T.ready a p j i))
+      (λ n. limbo_row n a)
+      (λ n. limbo_pid n a)
+      (λ p j i. subst IsOwnBase (sym (put_other (knows a).own.rows q (Written w) j (λ e. unset p (rw e at i)))) (T.ready a p j i))
       (T.apart a)
 
   -- a row that was free is taken
@@ -159,26 +162,26 @@ module _ {limits : Limits} {m : Memory} {log : List Update} {o : Owners} {knows 
       let was : o.row q ≡ Free = g.frees.row q f in
       let m' : Memory = memory_after a (TakeRow q) m in
       let k' : Knowledge = finished (learn (knows a) (TakeRow q) (answer.Whether true)) r in
-      idle_timed g T a m' o' k' c refl refl (λ n. held_later T (linked g T a) a m' o' k' t n a)
+      idle_timed g T a m' o' k' c refl refl (λ n. held_later n a)
       (T.epochs a)
-      (λ j. by_test j q (λ z. IsOwn (cond z Taken ((knows a).own.rows j)) → t.row_out j ≡ None) (λ e i. ap t.row_out e ∙ none_if (t.row_out q) (λ w d. ⊎_elim (λ (u : o.row q ≡ Linked). let v = was in cc) (λ (u : o.row q ≡ Spare w.who). let v = was in cc) (T.rows q w d).0)) (λ ne. T.own_rows a j))
+      (λ j. by_equal j q (λ e is. rw is λ i. ap t.row_out e ∙ none_if (t.row_out q) (λ w d. elim (T.rows q w d).0 [ inl u ↦ let v = was in cc | inr u ↦ let v = was in cc ])) (λ ne is. rw is (T.own_rows a j)))
       (T.gone_pages a)
-      (λ n. limbo_row T (linked g T a) a m' o' k' t n a)
-      (λ n. limbo_pid T (linked g T a) a m' o' k' t n a)
-      (λ p j i. subst IsOwnBase (sym (put_other (knows a).own.rows q Taken j (λ e. absurd (let h : o.row j ≡ Spare a = own_spare (m.rows j) ((knows a).own.rows j) (g.owns a j) (own_base ((knows a).own.rows j) (T.ready a p j i)) in let v = ap o.row e ∙ was in cc)))) (T.ready a p j i))
+      (λ n. limbo_row n a)
+      (λ n. limbo_pid n a)
+      (λ p j i. subst IsOwnBase (sym (put_other (knows a).own.rows q Taken j (λ e. absurd (cc (own_spare (m.rows j) ((knows a).own.rows j) (g.owns a j) (own_base ((knows a).own.rows j) (T.ready a p j i))))))) (T.ready a p j i))
       (T.apart a)
 
   -- a PID that was free is taken
   pub take_pid_timed : (q : ℕ) (r : Option Reply) (o' : Owners) → Calm g T a (memory_after a (TakePid q) m) o' → Timed limits (memory_after a (TakePid q) m) o' (put knows a (finished (learn (knows a) (TakePid q) (answer.Whether true)) r)) (suc now) t
   take_pid_timed q r o' c =
       let was : (p j : ℕ) → put (knows a).own.pages q Empty p ≡ Ready j → (knows a).own.pages p ≡ Ready j =
-      λ p j. by_test p q (λ z. cond z Empty ((knows a).own.pages p) ≡ Ready j → (knows a).own.pages p ≡ Ready j) (λ e i. absurd (cc)) (λ ne i. i) in
+      λ p j. put_was (knows a).own.pages q Empty p (λ e. cc) in
       let m' : Memory = memory_after a (TakePid q) m in
       let k' : Knowledge = finished (learn (knows a) (TakePid q) (answer.Whether true)) r in
-      idle_timed g T a m' o' k' c refl refl (λ n. held_later T (linked g T a) a m' o' k' t n a)
+      idle_timed g T a m' o' k' c refl refl (λ n. held_later n a)
       (T.epochs a) (T.own_rows a)
-      (λ p. by_test p q (λ z. cond z Empty ((knows a).own.pages p) ≡ Gone → t.page_out p ≡ None) (λ e i. absurd (cc)) (λ ne. T.gone_pages a p))
-      (λ n. limbo_row T (linked g T a) a m' o' k' t n a)
-      (λ n. limbo_pid T (linked g T a) a m' o' k' t n a)
+      (λ p i. T.gone_pages a p (put_was (knows a).own.pages q Empty p (λ e. cc) i))
+      (λ n. limbo_row n a)
+      (λ n. limbo_pid n a)
       (λ p j i. T.ready a p j (was p j i))
       (λ p s j e i. T.apart a p s j (was p j e) (was s j i))

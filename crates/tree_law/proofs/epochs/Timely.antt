@@ -1,11 +1,10 @@
 -- Steps that take nothing out of the tree and free nothing keep what actors hold.
-use Rattle.tree_law.proofs.Words.{[], ap, refl, cond, Option, suc, None, List, true, inl, ◌≢◌, ◌≤◌, inr, subst, sym, ℕ, ◌≡◌, Bool, ◌∙◌, arith, Some, ⊎_elim, same_Some, Update, Limits, Memory}
-use Rattle.tree_law.proofs.Words.{next_row, Record, low_in, level_in, IsOwn, IsOwnBase, Knowledge, Ready, learnt_next, OwnPage, Gone, OwnRow, LimboMark, Key, Linked, Owners, Reached, Spare, SpellsLog}
-use Rattle.tree_law.proofs.Words.{Placed, Indexed, Cleared, Stage, child_of, put, shared, slot_in, Times, Timed, LimboFits, Holds, NamesSince, IsSince, HeldHead, IsTree, spec, SidePage, InPlace}
-use Rattle.tree_law.proofs.Words.{HoldsBy}
+use Rattle.tree_law.proofs.Words.{ap, refl, Option, suc, None, List, true, inl, ◌≢◌, ◌≤◌, inr, subst, sym, ℕ, ◌≡◌, ◌∙◌, arith, Some, same_Some, Update, Limits, Memory, next_row, Record}
+use Rattle.tree_law.proofs.Words.{low_in, level_in, IsOwn, IsOwnBase, Knowledge, Ready, learnt_next, Gone, Limbos, Key, Linked, Owners, Reached, Spare, SpellsLog, Placed, Indexed, Cleared, Stage}
+use Rattle.tree_law.proofs.Words.{child_of, put, shared, slot_in, Times, Timed, LimboFits, Holds, NamesSince, IsSince, HeldHead, IsTree, spec, SidePage, InPlace, HoldsBy, []}
 use Rattle.tree_law.specs.Times.{HeldBeside}
 use Rattle.tree_law.proofs.links.Keeping.{alive_place, beyond_place}
-use Rattle.tree_law.proofs.shape.{by_test, put_same, rows_kept, right_page, none_if}
+use Rattle.tree_law.proofs.shape.{by_equal, put_same, put_true, rows_kept, right_page, none_if}
 use Rattle.tree_law.proofs.epochs.Timing.{none_since, head_more, Turn, limbo_row, limbo_pid, held_later, announced_still, put_timed}
 
 module _ {limits : Limits} {m : Memory} {log : List Update} {o : Owners} {knows : ℕ → Knowledge} {point : ℕ → Option (List Update)} {logs : ℕ → List (List Update)} {now : ℕ} {t : Times} (g : IsTree (shared m) log o knows point logs) (T : Timed limits m o knows now t) (a : ℕ) where
@@ -37,7 +36,7 @@ module _ {limits : Limits} {m : Memory} {log : List Update} {o : Owners} {knows 
       passes = λ u lt f i. f (inside i);
       slots = λ p x l s r e. T.slots p x l s (c.reached p l s r) (sym (c.slots p) ∙ e);
       together = λ r n w l e. T.together r n w (c.back r l) (sym (c.kept r (c.back r l)) ∙ e);
-      rows = λ r w e. ⊎_elim (λ (u : o.row r ≡ Linked). inl (c.stay r u)) (λ (u : o.row r ≡ Spare w.who). inr (c.spare r w.who u)) (T.rows r w e).0;
+      rows = λ r w e. elim (T.rows r w e).0 [ inl u ↦ inl (c.stay r u) | inr u ↦ inr (c.spare r w.who u) ];
       pages = λ p w e. let v = T.pages p w e in ((v.0.0, v.0.1, c.cleared p w.who v.0.0 v.0.1 v.0.2), c.slots p ∙ v.1);
       own_rows = λ b r ne. T.own_rows b r;
       gone_pages = λ b p ne. T.gone_pages b p;
@@ -52,10 +51,10 @@ module _ {limits : Limits} {m : Memory} {log : List Update} {o : Owners} {knows 
         → Timed limits m' o' (put knows a k') (suc now) t
     idle_timed an e0 holds epochs own gone rows pids ready apart =
         let n = calm_turn (λ i. sym e0 ∙ i) in
-        put_timed T linked a m' o' k' t n (record {
+        put_timed n (record {
           within = λ i. T.within a (sym e0 ∙ i);
           holds = holds n;
-          announced = λ i. announced_still T linked a m' o' k' t n a an (sym e0 ∙ i);
+          announced = λ i. announced_still n a an (sym e0 ∙ i);
           epochs = epochs;
           own_rows = own;
           gone_pages = gone;
@@ -66,23 +65,20 @@ module _ {limits : Limits} {m : Memory} {log : List Update} {o : Owners} {knows 
         })
 
     -- a read, after which it also has and has taken out what it had
-    pub read_timed : m'.announced a ≡ m.announced a → k'.inside ≡ (knows a).inside → HoldsBy m'.rows t.row_out t.page_out (t.entered a) k'
-        → k'.limbo.epoch ≡ (knows a).limbo.epoch → k'.own.rows ≡ (knows a).own.rows → k'.own.pages ≡ (knows a).own.pages → k'.limbo.rows ≡ (knows a).limbo.rows → k'.limbo.pids ≡ (knows a).limbo.pids
+    pub read_timed : m'.announced a ≡ m.announced a → k'.inside ≡ (knows a).inside → HoldsBy m'.rows t.row_out t.page_out (t.entered a) k' → k'.own ≡ (knows a).own → k'.limbo ≡ (knows a).limbo
         → Timed limits m' o' (put knows a k') (suc now) t
-    read_timed an e0 holds f0 f1 f2 f3 f4 = idle_timed an e0 (λ n. holds)
-        (λ e i. let j = T.epochs a e (ap (λ (v : Option ℕ). v) (sym f0) ∙ i) in let l = c.epoch in omega arith)
-        (λ r i. T.own_rows a r (subst (λ (f : ℕ → OwnRow). IsOwn (f r)) f1 i))
-        (λ p i. T.gone_pages a p (ap (λ (f : ℕ → OwnPage). f p) (sym f2) ∙ i))
-        (λ n r. subst (λ (f : ℕ → LimboMark). LimboFits a (λ b. (put knows a k' b).inside) t.entered (t.row_out r) (f r)) (sym f3) (limbo_row T linked a m' o' k' t n a r))
-        (λ n p. subst (λ (f : ℕ → LimboMark). LimboFits a (λ b. (put knows a k' b).inside) t.entered (t.page_out p) (f p)) (sym f4) (limbo_pid T linked a m' o' k' t n a p))
-        (λ p r i. subst (λ (f : ℕ → OwnRow). IsOwnBase (f r)) (sym f1) (T.ready a p r (ap (λ (f : ℕ → OwnPage). f p) (sym f2) ∙ i)))
-        (λ p q r i j. T.apart a p q r (ap (λ (f : ℕ → OwnPage). f p) (sym f2) ∙ i) (ap (λ (f : ℕ → OwnPage). f q) (sym f2) ∙ j))
+    read_timed an inside holds own limbo = idle_timed an inside (λ n. holds)
+        (rw limbo λ e i. let j = T.epochs a e i in let l = c.epoch in omega arith)
+        (rw own (T.own_rows a))
+        (rw own (T.gone_pages a))
+        (λ n r. subst (λ (l : Limbos). LimboFits a (λ b. (put knows a k' b).inside) t.entered (t.row_out r) (l.rows r)) (sym limbo) (limbo_row n a r))
+        (λ n p. subst (λ (l : Limbos). LimboFits a (λ b. (put knows a k' b).inside) t.entered (t.page_out p) (l.pids p)) (sym limbo) (limbo_pid n a p))
+        (rw own (T.ready a))
+        (rw own (T.apart a))
 
     -- a step after which it also holds what it held
-    pub still_timed : m'.announced a ≡ m.announced a → k'.inside ≡ (knows a).inside → k'.read.seen ≡ (knows a).read.seen → k'.read.learnt ≡ (knows a).read.learnt → k'.read.roots ≡ (knows a).read.roots
-        → k'.read.heads ≡ (knows a).read.heads → k'.read.before ≡ (knows a).read.before → k'.asked.linked ≡ (knows a).asked.linked → k'.limbo.epoch ≡ (knows a).limbo.epoch
-        → k'.own.rows ≡ (knows a).own.rows → k'.own.pages ≡ (knows a).own.pages → k'.limbo.rows ≡ (knows a).limbo.rows → k'.limbo.pids ≡ (knows a).limbo.pids → Timed limits m' o' (put knows a k') (suc now) t
-    still_timed an e0 e1 e2 e3 e4 e5 e6 = read_timed an e0 (rw (e0, e1, e2, e3, e4, e5, e6) (held_later T linked a m' o' k' t (calm_turn (λ i. sym e0 ∙ i)) a))
+    pub still_timed : m'.announced a ≡ m.announced a → k'.inside ≡ (knows a).inside → k'.read ≡ (knows a).read → k'.asked.linked ≡ (knows a).asked.linked → k'.own ≡ (knows a).own → k'.limbo ≡ (knows a).limbo → Timed limits m' o' (put knows a k') (suc now) t
+    still_timed an inside read over = read_timed an inside (rw (inside, read, over) (held_later (calm_turn (λ i. sym inside ∙ i)) a))
 
   -- nothing is changed
   pub calm_same : Calm m o
@@ -114,15 +110,12 @@ module _ {limits : Limits} {m : Memory} {log : List Update} {o : Owners} {knows 
         learnt_since = h.learnt_since;
         seen_learnt = h.seen_learnt;
         roots_inside = λ p i. inside;
-        roots_since = λ p. by_test p (m.slots 0) (λ z. cond z true ((knows a).read.roots p) ≡ true → IsSince (t.entered a) (t.page_out p)) (λ e i. none_since (t.entered a) (t.page_out p) (placed_in p g.tree.top [] Indexed (ap o.page e ∙ g.tree.exact.is_root))) (λ ne. h.roots_since p);
+        roots_since = λ p. by_equal p (m.slots 0) (λ e is. rw is λ i. none_since (t.entered a) (t.page_out p) (placed_in p g.tree.top [] Indexed (ap o.page e ∙ g.tree.exact.is_root))) (λ ne is. rw is (h.roots_since p));
         heads_since = h.heads_since;
         before_since = h.before_since;
         beside_since = h.beside_since;
         linked_learnt = h.linked_learnt;
       }
-
-  more : (learnt : ℕ → Bool) (x : ℕ) (r : ℕ) → learnt r ≡ true → put learnt x true r ≡ true
-  more learnt x r e = by_test r x (λ z. cond z true (learnt r) ≡ true) (λ i. refl) (λ ne. e)
 
   -- the actor reads the slot of a page
   pub head_holds : (knows a).inside ≡ true → (p x : ℕ) → slot_in m.slots p ≡ Some x → (l : ℕ) (s : Key) → Reached 0 l s (o.page p) → (spells : SpellsLog o (shared m) x log) → Reached 0 (level_in spells.chain) (low_in spells.chain) (o.page p) → Holds m.rows t.row_out t.page_out (t.entered a) (knows a).inside (knows a).read.seen (put (knows a).read.learnt x true) (knows a).read.roots (put (knows a).read.heads p (Some x)) (put (knows a).read.before p (knows a).read.heads) (knows a).asked.linked
@@ -136,20 +129,20 @@ module _ {limits : Limits} {m : Memory} {log : List Update} {o : Owners} {knows 
       } in
       record {
         learnt_inside = λ r i. inside;
-        learnt_since = λ r. by_test r x (λ z. cond z true ((knows a).read.learnt r) ≡ true → IsSince (t.entered a) (t.row_out r)) (λ e i. none_since (t.entered a) (t.row_out r) (ap t.row_out e ∙ (T.slots p x l s reached sx).1)) (λ ne. h.learnt_since r);
-        seen_learnt = λ r w e. more (knows a).read.learnt x r (h.seen_learnt r w e);
+        learnt_since = λ r. by_equal r x (λ e is. rw is λ i. none_since (t.entered a) (t.row_out r) (ap t.row_out e ∙ (T.slots p x l s reached sx).1)) (λ ne is. rw is (h.learnt_since r));
+        seen_learnt = λ r w e. put_true (knows a).read.learnt x r (h.seen_learnt r w e);
         roots_inside = h.roots_inside;
         roots_since = h.roots_since;
-        heads_since = λ q y. by_test q p (λ z. cond z (Some x) ((knows a).read.heads q) ≡ Some y → HeldHead m.rows t.page_out (t.entered a) (put (knows a).read.learnt x true) q y)
-            (λ e i. subst (λ j. HeldHead m.rows t.page_out (t.entered a) (put (knows a).read.learnt x true) j y) (sym e) (subst (λ j. HeldHead m.rows t.page_out (t.entered a) (put (knows a).read.learnt x true) p j) (same_Some x y i) here))
-            (λ ne i. head_more m.rows t.page_out (t.entered a) (knows a).read.learnt (put (knows a).read.learnt x true) q y (more (knows a).read.learnt x) (h.heads_since q y i));
-        before_since = λ q f y. by_test q p (λ z. cond z (knows a).read.heads ((knows a).read.before q) f ≡ Some y → HeldHead m.rows t.page_out (t.entered a) (put (knows a).read.learnt x true) f y)
-            (λ e i. head_more m.rows t.page_out (t.entered a) (knows a).read.learnt (put (knows a).read.learnt x true) f y (more (knows a).read.learnt x) (h.heads_since f y i))
-            (λ ne i. head_more m.rows t.page_out (t.entered a) (knows a).read.learnt (put (knows a).read.learnt x true) f y (more (knows a).read.learnt x) (h.before_since q f y i));
-        beside_since = λ q f y z. by_test q p (λ u. cond u (Some x) ((knows a).read.heads q) ≡ Some y → cond u (knows a).read.heads ((knows a).read.before q) f ≡ Some z → HeldBeside m.rows t.page_out (t.entered a) f y z)
-            (λ e i j. subst (λ v. HeldBeside m.rows t.page_out (t.entered a) f v z) (same_Some x y i) ((at_chain there) f z j))
-            (λ ne. h.beside_since q f y z);
-        linked_learnt = λ y i. more (knows a).read.learnt x y (h.linked_learnt y i);
+        heads_since = λ q y. by_equal q p
+            (λ e is. rw (is, e) λ i. subst (λ j. HeldHead m.rows t.page_out (t.entered a) (put (knows a).read.learnt x true) p j) (same_Some x y i) here)
+            (λ ne is. rw is λ i. head_more m.rows t.page_out (t.entered a) (knows a).read.learnt (put (knows a).read.learnt x true) q y (put_true (knows a).read.learnt x) (h.heads_since q y i));
+        before_since = λ q f y. by_equal q p
+            (λ e is. rw is λ i. head_more m.rows t.page_out (t.entered a) (knows a).read.learnt (put (knows a).read.learnt x true) f y (put_true (knows a).read.learnt x) (h.heads_since f y i))
+            (λ ne is. rw is λ i. head_more m.rows t.page_out (t.entered a) (knows a).read.learnt (put (knows a).read.learnt x true) f y (put_true (knows a).read.learnt x) (h.before_since q f y i));
+        beside_since = λ q f y z. by_equal q p
+            (λ e is. rw is λ i j. rw (same_Some x y i) at ((at_chain there) f z j))
+            (λ ne is. rw is (h.beside_since q f y z));
+        linked_learnt = λ y i. put_true (knows a).read.learnt x y (h.linked_learnt y i);
       }
     where
       h : HoldsBy m.rows t.row_out t.page_out (t.entered a) (knows a)
@@ -171,7 +164,7 @@ module _ {limits : Limits} {m : Memory} {log : List Update} {o : Owners} {knows 
   row_holds q w l e = record {
     learnt_inside = λ r i. h.learnt_inside q l;
     learnt_since = since (next_row w) refl;
-    seen_learnt = λ r v. by_test r q (λ z. cond z (Some w) ((knows a).read.seen r) ≡ Some v → learnt_next (next_row w) (knows a).read.learnt r ≡ true) (λ i j. grows (next_row w) r (ap (knows a).read.learnt i ∙ l)) (λ ne j. grows (next_row w) r (h.seen_learnt r v j));
+    seen_learnt = λ r v. by_equal r q (λ i t. rw t λ j. grows (next_row w) r (ap (knows a).read.learnt i ∙ l)) (λ ne t. rw t λ j. grows (next_row w) r (h.seen_learnt r v j));
     roots_inside = h.roots_inside;
     roots_since = h.roots_since;
     heads_since = λ p x i. head_more m.rows t.page_out (t.entered a) (knows a).read.learnt (learnt_next (next_row w) (knows a).read.learnt) p x (grows (next_row w)) (h.heads_since p x i);
@@ -185,8 +178,8 @@ module _ {limits : Limits} {m : Memory} {log : List Update} {o : Owners} {knows 
 
       grows : (n : Option ℕ) (r : ℕ) → (knows a).read.learnt r ≡ true → learnt_next n (knows a).read.learnt r ≡ true
       grows None r i = i
-      grows (Some n) r i = more (knows a).read.learnt n r i
+      grows (Some n) r i = put_true (knows a).read.learnt n r i
 
       since : (n : Option ℕ) → next_row w ≡ n → (r : ℕ) → learnt_next n (knows a).read.learnt r ≡ true → IsSince (t.entered a) (t.row_out r)
       since None i r = h.learnt_since r
-      since (Some n) i r = by_test r n (λ z. cond z true ((knows a).read.learnt r) ≡ true → IsSince (t.entered a) (t.row_out r)) (λ j v. subst (IsSince (t.entered a)) (sym (ap t.row_out j ∙ (T.together q n w (linked a q l) e i).1)) (h.learnt_since q l)) (λ ne. h.learnt_since r)
+      since (Some n) i r = by_equal r n (λ j is. rw is λ v. subst (IsSince (t.entered a)) (sym (ap t.row_out j ∙ (T.together q n w (linked a q l) e i).1)) (h.learnt_since q l)) (λ ne is. rw is (h.learnt_since r))

@@ -1,9 +1,9 @@
 -- What stays of the times, and of what each actor holds, at a step of one actor.
-use Rattle.tree_law.proofs.Words.{◌⊎◌, ap, cond, Option, suc, None, List, true, inl, ◌≢◌, ◌≤◌, inr, subst, sym, ℕ, ◌≡◌, Bool, ◌∙◌, ◌<◌, arith, Some, ⊎_elim, same_Some, Limits, Memory, next_row}
+use Rattle.tree_law.proofs.Words.{◌⊎◌, ap, Option, suc, None, List, true, inl, ◌≢◌, ◌≤◌, inr, subst, sym, ℕ, ◌≡◌, Bool, ◌∙◌, ◌<◌, arith, Some, same_Some, Limits, Memory, next_row}
 use Rattle.tree_law.proofs.Words.{Record, IsChainFrom, IsOwn, IsOwnBase, Knowledge, Ready, Gone, Unstamped, LimboMark, Absent, Stamped, Key, Linked, Owners, Reached, Spare, Cleared, put, slot_in}
 use Rattle.tree_law.proofs.Words.{Times, Timed, LimboFits, Outing, Holds, NamesSince, IsSince, HeldHead, HoldsBy}
 use Rattle.tree_law.specs.Times.{IsAnnounced}
-use Rattle.tree_law.proofs.shape.Puts.{by_test}
+use Rattle.tree_law.proofs.shape.Puts.{by_equal}
 
 -- it stays out or in, or is taken out now
 abbrev pub IsLater : ℕ → ℕ → ℕ → Option Outing → Option Outing → Type 0
@@ -55,7 +55,7 @@ limbo_later b now inside inside' entered entered' out out' (Stamped epoch passed
 
 pub out_stays : (now epoch who : ℕ) (out out' : Option Outing) (w : Outing) → IsLater now epoch who out out' → out ≡ Some w → out' ≡ Some w
 out_stays now epoch who out out' w (inl same) e = same ∙ e
-out_stays now epoch who out out' w (inr f) e = absurd (let i = sym f.0 ∙ e in cc)
+out_stays now epoch who out out' w (inr f) e = absurd (cc f.0)
 
 -- what is out is out since an earlier step, or since this one
 pub out_was : (now epoch who : ℕ) (out out' : Option Outing) (w : Outing) → IsLater now epoch who out out' → out' ≡ Some w → (out ≡ Some w) ⊎ ((out ≡ None) × (w.at ≡ now) × (w.epoch ≡ epoch) × (w.who ≡ who))
@@ -64,11 +64,11 @@ out_was now epoch who out out' w (inr f) e = let i : record { at = now; epoch = 
 
 pub announced_later : (t t' : Times) (epoch epoch' an an' now a e : ℕ) → epoch ≤ epoch' → an' ≡ an → ((r : ℕ) → IsLater now epoch a (t.row_out r) (t'.row_out r)) → ((p : ℕ) → IsLater now epoch a (t.page_out p) (t'.page_out p)) → IsAnnounced t epoch an now e → IsAnnounced t' epoch' an' (suc now) e
 announced_later t t' epoch epoch' an an' now a e le same rows pages h = record {
-  some = subst (λ n. 0 < n) (sym same) h.some;
-  old = subst (λ n. n ≤ epoch') (sym same) (let i = h.old in omega arith);
+  some = rw same h.some;
+  old = rw same (let i = h.old in omega arith);
   past = let i = h.past in omega arith;
-  rows = λ r w i j. subst (λ n. n ≤ w.epoch) (sym same) (⊎_elim (λ (u : t.row_out r ≡ Some w). h.rows r w u j) (λ (u : (t.row_out r ≡ None) × (w.at ≡ now) × (w.epoch ≡ epoch) × (w.who ≡ a)). let o = h.old in let q = u.2 in omega arith) (out_was now epoch a (t.row_out r) (t'.row_out r) w (rows r) i));
-  pages = λ r w i j. subst (λ n. n ≤ w.epoch) (sym same) (⊎_elim (λ (u : t.page_out r ≡ Some w). h.pages r w u j) (λ (u : (t.page_out r ≡ None) × (w.at ≡ now) × (w.epoch ≡ epoch) × (w.who ≡ a)). let o = h.old in let q = u.2 in omega arith) (out_was now epoch a (t.page_out r) (t'.page_out r) w (pages r) i));
+  rows = λ r w i j. rw same (elim (out_was now epoch a (t.row_out r) (t'.row_out r) w (rows r) i) [ inl u ↦ h.rows r w u j | inr u ↦ let o = h.old in let q = u.2 in omega arith ]);
+  pages = λ r w i j. rw same (elim (out_was now epoch a (t.page_out r) (t'.page_out r) w (pages r) i) [ inl u ↦ h.pages r w u j | inr u ↦ let o = h.old in let q = u.2 in omega arith ]);
 }
 
 module _ {limits : Limits} {m : Memory} {o : Owners} {knows : ℕ → Knowledge} {now : ℕ} {t : Times} (T : Timed limits m o knows now t) (linked : (b r : ℕ) → (knows b).read.learnt r ≡ true → o.row r ≡ Linked) (a : ℕ) where
@@ -101,58 +101,58 @@ module _ {limits : Limits} {m : Memory} {o : Owners} {knows : ℕ → Knowledge}
     pub ready : (p r : ℕ) → k'.own.pages p ≡ Ready r → IsOwnBase (k'.own.rows r)
     pub apart : (p q r : ℕ) → k'.own.pages p ≡ Ready r → k'.own.pages q ≡ Ready r → p ≡ q
 
-  module _ (m' : Memory) (o' : Owners) (k' : Knowledge) (t' : Times) (n : Turn m' o' k' t') where
-    pub pass : (c u : ℕ) → u < now → ((knows c).inside ≡ true → u < t.entered c) → (put knows a k' c).inside ≡ true → u < t'.entered c
-    pass c u lt f = by_test c a (λ z. (cond z k' (knows c)).inside ≡ true → u < t'.entered c)
-        (λ e i. subst (λ j. u < t'.entered j) (sym e) (n.passes u lt (λ h. subst (λ j. u < t.entered j) e (f (subst (λ j. (knows j).inside ≡ true) (sym e) h))) i))
-        (λ ne i. subst (λ j. u < j) (sym (n.entered c ne)) (f i))
+module _ {limits : Limits} {m : Memory} {o : Owners} {knows : ℕ → Knowledge} {now : ℕ} {t : Times} {T : Timed limits m o knows now t} {linked : (b r : ℕ) → (knows b).read.learnt r ≡ true → o.row r ≡ Linked} {a : ℕ} {m' : Memory} {o' : Owners} {k' : Knowledge} {t' : Times} (n : Turn T linked a m' o' k' t') where
+  pub pass : (c u : ℕ) → u < now → ((knows c).inside ≡ true → u < t.entered c) → (put knows a k' c).inside ≡ true → u < t'.entered c
+  pass c u lt f = by_equal c a
+      (λ e is. rw is λ i. rw e (n.passes u lt (λ h. rw e at (f (rw e h))) i))
+      (λ ne is. rw is λ i. rw (n.entered c ne) (f i))
 
-    pub row_stays : (r : ℕ) (w : Outing) → t.row_out r ≡ Some w → (t'.row_out r ≡ Some w) × (w.at < now)
-    row_stays r w e = (out_stays now m.epoch a (t.row_out r) (t'.row_out r) w (n.rows_later r) e, (T.rows r w e).1)
+  pub row_stays : (r : ℕ) (w : Outing) → t.row_out r ≡ Some w → (t'.row_out r ≡ Some w) × (w.at < now)
+  row_stays r w e = (out_stays now m.epoch a (t.row_out r) (t'.row_out r) w (n.rows_later r) e, (T.rows r w e).1)
 
-    pub page_stays : (p : ℕ) (w : Outing) → t.page_out p ≡ Some w → (t'.page_out p ≡ Some w) × (w.at < now)
-    page_stays p w e = (out_stays now m.epoch a (t.page_out p) (t'.page_out p) w (n.pages_later p) e, (T.pages p w e).2)
+  pub page_stays : (p : ℕ) (w : Outing) → t.page_out p ≡ Some w → (t'.page_out p ≡ Some w) × (w.at < now)
+  page_stays p w e = (out_stays now m.epoch a (t.page_out p) (t'.page_out p) w (n.pages_later p) e, (T.pages p w e).2)
 
-    -- what is in the limbo of an actor stays there
-    pub limbo_row : (b r : ℕ) → LimboFits b (λ c. (put knows a k' c).inside) t'.entered (t'.row_out r) ((knows b).limbo.rows r)
-    limbo_row b r = limbo_later b now (λ c. (knows c).inside) (λ c. (put knows a k' c).inside) t.entered t'.entered (t.row_out r) (t'.row_out r) ((knows b).limbo.rows r) (row_stays r) pass (T.limbo_rows b r)
+  -- what is in the limbo of an actor stays there
+  pub limbo_row : (b r : ℕ) → LimboFits b (λ c. (put knows a k' c).inside) t'.entered (t'.row_out r) ((knows b).limbo.rows r)
+  limbo_row b r = limbo_later b now (λ c. (knows c).inside) (λ c. (put knows a k' c).inside) t.entered t'.entered (t.row_out r) (t'.row_out r) ((knows b).limbo.rows r) (row_stays r) pass (T.limbo_rows b r)
 
-    pub limbo_pid : (b p : ℕ) → LimboFits b (λ c. (put knows a k' c).inside) t'.entered (t'.page_out p) ((knows b).limbo.pids p)
-    limbo_pid b p = limbo_later b now (λ c. (knows c).inside) (λ c. (put knows a k' c).inside) t.entered t'.entered (t.page_out p) (t'.page_out p) ((knows b).limbo.pids p) (page_stays p) pass (T.limbo_pids b p)
+  pub limbo_pid : (b p : ℕ) → LimboFits b (λ c. (put knows a k' c).inside) t'.entered (t'.page_out p) ((knows b).limbo.pids p)
+  limbo_pid b p = limbo_later b now (λ c. (knows c).inside) (λ c. (put knows a k' c).inside) t.entered t'.entered (t.page_out p) (t'.page_out p) ((knows b).limbo.pids p) (page_stays p) pass (T.limbo_pids b p)
 
-    -- what an actor held it still holds
-    pub held_later : (b : ℕ) → HoldsBy m'.rows t'.row_out t'.page_out (t.entered b) (knows b)
-    held_later b = holds_later m.rows m'.rows t.row_out t'.row_out t.page_out t'.page_out (t.entered b) (knows b).inside (knows b).read.seen (knows b).read.learnt (knows b).read.roots (knows b).read.heads (knows b).read.before (knows b).asked.linked
-        (λ i r. since_later (t.entered b) now m.epoch a (t.row_out r) (t'.row_out r) (let p = (T.announced b i).past in omega arith) (n.rows_later r))
-        (λ i p. since_later (t.entered b) now m.epoch a (t.page_out p) (t'.page_out p) (let q = (T.announced b i).past in omega arith) (n.pages_later p))
-        (λ x c e. n.chains x c (linked b x e))
-        (T.holds b)
+  -- what an actor held it still holds
+  pub held_later : (b : ℕ) → HoldsBy m'.rows t'.row_out t'.page_out (t.entered b) (knows b)
+  held_later b = holds_later m.rows m'.rows t.row_out t'.row_out t.page_out t'.page_out (t.entered b) (knows b).inside (knows b).read.seen (knows b).read.learnt (knows b).read.roots (knows b).read.heads (knows b).read.before (knows b).asked.linked
+      (λ i r. since_later (t.entered b) now m.epoch a (t.row_out r) (t'.row_out r) (let p = (T.announced b i).past in omega arith) (n.rows_later r))
+      (λ i p. since_later (t.entered b) now m.epoch a (t.page_out p) (t'.page_out p) (let q = (T.announced b i).past in omega arith) (n.pages_later p))
+      (λ x c e. n.chains x c (linked b x e))
+      (T.holds b)
 
-    pub announced_still : (b : ℕ) → m'.announced b ≡ m.announced b → (knows b).inside ≡ true → IsAnnounced t' m'.epoch (m'.announced b) (suc now) (t.entered b)
-    announced_still b same i = announced_later t t' m.epoch m'.epoch (m.announced b) (m'.announced b) now a (t.entered b) n.epoch same n.rows_later n.pages_later (T.announced b i)
+  pub announced_still : (b : ℕ) → m'.announced b ≡ m.announced b → (knows b).inside ≡ true → IsAnnounced t' m'.epoch (m'.announced b) (suc now) (t.entered b)
+  announced_still b same i = announced_later t t' m.epoch m'.epoch (m.announced b) (m'.announced b) now a (t.entered b) n.epoch same n.rows_later n.pages_later (T.announced b i)
 
-    pub put_timed : Mine m' k' t' → Timed limits m' o' (put knows a k') (suc now) t'
-    put_timed k = record {
-      within = λ b. by_test b a (λ z. (cond z k' (knows b)).inside ≡ true → b < limits.actors) (λ e i. subst (λ j. j < limits.actors) (sym e) (k.within i)) (λ ne. T.within b);
-      holds = λ b. by_test b a (λ z. HoldsBy m'.rows t'.row_out t'.page_out (t'.entered b) (cond z k' (knows b)))
-          (λ e. subst (λ j. HoldsBy m'.rows t'.row_out t'.page_out (t'.entered j) k') (sym e) k.holds)
-          (λ ne. subst (λ j. HoldsBy m'.rows t'.row_out t'.page_out j (knows b)) (sym (n.entered b ne)) (held_later b));
-      announced = λ b. by_test b a (λ z. (cond z k' (knows b)).inside ≡ true → IsAnnounced t' m'.epoch (m'.announced b) (suc now) (t'.entered b))
-          (λ e i. subst (λ j. IsAnnounced t' m'.epoch (m'.announced j) (suc now) (t'.entered j)) (sym e) (k.announced i))
-          (λ ne i. subst (λ j. IsAnnounced t' m'.epoch (m'.announced b) (suc now) j) (sym (n.entered b ne)) (announced_still b (n.announced b ne) i));
-      epochs = λ b v. by_test b a (λ z. (cond z k' (knows b)).limbo.epoch ≡ Some v → v ≤ m'.epoch) (λ e. k.epochs v) (λ ne i. let j = T.epochs b v i in let l = n.epoch in omega arith);
-      slots = n.slots;
-      together = n.together;
-      rows = λ r w i. let v = since_then w (t.row_out r) (λ e. (T.rows r w e).1) (λ e. (T.rows r w e).2) (out_was now m.epoch a (t.row_out r) (t'.row_out r) w (n.rows_later r) i) in (n.rows r w i, v.0, v.1);
-      pages = λ p w i. let v = n.pages p w i in let u = since_then w (t.page_out p) (λ e. (T.pages p w e).2) (λ e. (T.pages p w e).3) (out_was now m.epoch a (t.page_out p) (t'.page_out p) w (n.pages_later p) i) in (v.0, v.1, u.0, u.1);
-      own_rows = λ b r. by_test b a (λ z. IsOwn ((cond z k' (knows b)).own.rows r) → t'.row_out r ≡ None) (λ e. k.own_rows r) (λ ne. n.own_rows b r ne);
-      gone_pages = λ b p. by_test b a (λ z. (cond z k' (knows b)).own.pages p ≡ Gone → t'.page_out p ≡ None) (λ e. k.gone_pages p) (λ ne. n.gone_pages b p ne);
-      limbo_rows = λ b r. by_test b a (λ z. LimboFits b (λ c. (put knows a k' c).inside) t'.entered (t'.row_out r) ((cond z k' (knows b)).limbo.rows r)) (λ e. subst (λ j. LimboFits j (λ c. (put knows a k' c).inside) t'.entered (t'.row_out r) (k'.limbo.rows r)) (sym e) (k.limbo_rows r)) (λ ne. limbo_row b r);
-      limbo_pids = λ b p. by_test b a (λ z. LimboFits b (λ c. (put knows a k' c).inside) t'.entered (t'.page_out p) ((cond z k' (knows b)).limbo.pids p)) (λ e. subst (λ j. LimboFits j (λ c. (put knows a k' c).inside) t'.entered (t'.page_out p) (k'.limbo.pids p)) (sym e) (k.limbo_pids p)) (λ ne. limbo_pid b p);
-      ready = λ b p r. by_test b a (λ z. (cond z k' (knows b)).own.pages p ≡ Ready r → IsOwnBase ((cond z k' (knows b)).own.rows r)) (λ e. k.ready p r) (λ ne. T.ready b p r);
-      apart = λ b p q r. by_test b a (λ z. (cond z k' (knows b)).own.pages p ≡ Ready r → (cond z k' (knows b)).own.pages q ≡ Ready r → p ≡ q) (λ e. k.apart p q r) (λ ne. T.apart b p q r);
-    }
-      where
-        since_then : (w : Outing) (out : Option Outing) → (out ≡ Some w → w.at < now) → (out ≡ Some w → w.epoch ≤ m.epoch) → (out ≡ Some w) ⊎ ((out ≡ None) × (w.at ≡ now) × (w.epoch ≡ m.epoch) × (w.who ≡ a)) → (w.at < suc now) × (w.epoch ≤ m'.epoch)
-        since_then w out f g (inl u) = let x = f u in let y = g u in let l = n.epoch in ((let z : w.at < suc now = omega arith in z), (let z : w.epoch ≤ m'.epoch = omega arith in z))
-        since_then w out f g (inr u) = let x = u.1 in let y = u.2 in let l = n.epoch in ((let z : w.at < suc now = omega arith in z), (let z : w.epoch ≤ m'.epoch = omega arith in z))
+  pub put_timed : Mine T linked a m' k' t' → Timed limits m' o' (put knows a k') (suc now) t'
+  put_timed k = record {
+    within = λ b. by_equal b a (λ e t. rw (t, e) λ i. k.within i) (λ ne t. rw t (T.within b));
+    holds = λ b. by_equal b a
+        (λ e t. rw (t, e) k.holds)
+        (λ ne t. rw t (rw (n.entered b ne) (held_later b)));
+    announced = λ b. by_equal b a
+        (λ e t. rw (t, e) λ i. k.announced i)
+        (λ ne t. rw t λ i. rw (n.entered b ne) (announced_still b (n.announced b ne) i));
+    epochs = λ b v. by_equal b a (λ e t. rw t (k.epochs v)) (λ ne t. rw t λ i. let j = T.epochs b v i in let l = n.epoch in omega arith);
+    slots = n.slots;
+    together = n.together;
+    rows = λ r w i. let v = since_then w (t.row_out r) (λ e. (T.rows r w e).1) (λ e. (T.rows r w e).2) (out_was now m.epoch a (t.row_out r) (t'.row_out r) w (n.rows_later r) i) in (n.rows r w i, v.0, v.1);
+    pages = λ p w i. let v = n.pages p w i in let u = since_then w (t.page_out p) (λ e. (T.pages p w e).2) (λ e. (T.pages p w e).3) (out_was now m.epoch a (t.page_out p) (t'.page_out p) w (n.pages_later p) i) in (v.0, v.1, u.0, u.1);
+    own_rows = λ b r. by_equal b a (λ e t. rw t (k.own_rows r)) (λ ne t. rw t (n.own_rows b r ne));
+    gone_pages = λ b p. by_equal b a (λ e t. rw t (k.gone_pages p)) (λ ne t. rw t (n.gone_pages b p ne));
+    limbo_rows = λ b r. by_equal b a (λ e t. rw (t, e) (k.limbo_rows r)) (λ ne t. rw t (limbo_row b r));
+    limbo_pids = λ b p. by_equal b a (λ e t. rw (t, e) (k.limbo_pids p)) (λ ne t. rw t (limbo_pid b p));
+    ready = λ b p r. by_equal b a (λ e t. rw t (k.ready p r)) (λ ne t. rw t (T.ready b p r));
+    apart = λ b p q r. by_equal b a (λ e t. rw t (k.apart p q r)) (λ ne t. rw t (T.apart b p q r));
+  }
+    where
+      since_then : (w : Outing) (out : Option Outing) → (out ≡ Some w → w.at < now) → (out ≡ Some w → w.epoch ≤ m.epoch) → (out ≡ Some w) ⊎ ((out ≡ None) × (w.at ≡ now) × (w.epoch ≡ m.epoch) × (w.who ≡ a)) → (w.at < suc now) × (w.epoch ≤ m'.epoch)
+      since_then w out f g (inl u) = let x = f u in let y = g u in let l = n.epoch in ((let z : w.at < suc now = omega arith in z), (let z : w.epoch ≤ m'.epoch = omega arith in z))
+      since_then w out f g (inr u) = let x = u.1 in let y = u.2 in let l = n.epoch in ((let z : w.at < suc now = omega arith in z), (let z : w.epoch ≤ m'.epoch = omega arith in z))

@@ -1,12 +1,12 @@
 -- What a step leaves, and what the tree says of a slot.
-use Rattle.tree_law.proofs.Words.{false, ◌⊎◌, [], ap, refl, cond, Option, None, List, true, inl, ◌≤◌, inr, ◌∷◌, subst, sym, ℕ, ◌≡◌, ◌∙◌, arith, Some, ⊎_elim, same_Some, Update, Command, Reply, Answer}
+use Rattle.tree_law.proofs.Words.{false, ◌⊎◌, ap, refl, Option, None, List, true, inl, ◌≤◌, inr, ◌∷◌, subst, sym, ℕ, ◌≡◌, ◌∙◌, arith, Some, same_Some, Update, Command, Reply, Answer, []}
 use Rattle.tree_law.proofs.Words.{Done, Leave, Enter, ContentOf, Child, Record, right_in, low_in, is_removed, level_in, HasRead, IsMet, NamesChild, begun, Knowledge, finished, learn, forgotten, Key}
-use Rattle.tree_law.proofs.Words.{Owners, Reached, IsOut, Owner, LinkFits, HeadFits, OrderFits, InOrder, IsChain, IsClosed, SpellsLog, leaf_map, ChainNames, OwnsPages, Owns, Placed, Indexed}
-use Rattle.tree_law.proofs.Words.{PageOwner, Cleared, Fresh, rank, Removed, Held, Merged, Stage, rank_of, child_of, mark, put, Shared, IsTree, spec, IsOff, Off, SidePage, InPlace, HasLevels, KnowsBy}
+use Rattle.tree_law.proofs.Words.{Owners, Reached, IsOut, Owner, LinkFits, InOrder, IsChain, IsClosed, SpellsLog, leaf_map, ChainNames, OwnsPages, Owns, Placed, Indexed}
+use Rattle.tree_law.proofs.Words.{PageOwner, Fresh, rank, Removed, Held, Merged, Stage, rank_of, child_of, mark, put, Shared, IsTree, spec, IsOff, Off, SidePage, InPlace, HasLevels, KnowsBy}
 use Rattle.chain_search.specs.discipline.Discipline.{IsBeyond}
 use Rattle.tree_law.specs.Tree.{FreeAreUnowned}
 use Rattle.tree_law.proofs.shape.KeyOrder.{covers_from}
-use Rattle.tree_law.proofs.shape.Puts.{by_test}
+use Rattle.tree_law.proofs.shape.Puts.{by_equal}
 use Rattle.tree_law.proofs.shape.Chains.{chain_unique}
 use Rattle.tree_law.proofs.shape.Kept.{Kept, cleared_forward, reached_placed, placed_reached, chain_kept, knows_kept, owns_spared, pages_spared}
 use Rattle.tree_law.proofs.shape.Sides.{locate, in_level_as, right_page, tree_kept}
@@ -38,15 +38,15 @@ module _ {m : Shared} {log : List Update} {o : Owners} {knows : ℕ → Knowledg
         frees = frees;
         closed = closed;
         tree = tree;
-        owns = λ b. by_test b a (λ t. Owns b o' m' (cond t k (knows b)).own.rows)
-            (λ e. subst (λ (n : ℕ). Owns n o' m' k.own.rows) (sym e) own)
-            (λ ne. owns_spared b o o' m m' (spared_change a b o o' m m' ne change) (knows b).own.rows (g.owns b));
-        owns_pages = λ b. by_test b a (λ t. OwnsPages b o' m' (cond t k (knows b)).own.pages)
-            (λ e. subst (λ (n : ℕ). OwnsPages n o' m' k.own.pages) (sym e) pages)
-            (λ ne. pages_spared b o o' m m' (spared_change a b o o' m m' ne change) (knows b).own.pages (g.owns_pages b));
-        sound = λ b. by_test b a (λ t. KnowsBy o' m' (cond t k (knows b)) (cond t p (point b)) (cond t s (logs b)))
-            (λ e. kn)
-            (λ ne. knows_kept o o' m m' g.closed (kept_change a o o' m m' change) (knows b).read.seen (knows b).read.learnt (knows b).read.roots (knows b).read.heads (knows b).read.before (knows b).asked.linked (point b) (logs b) (g.sound b));
+        owns = λ b. by_equal b a
+            (λ e t. rw (t, e) own)
+            (λ ne t. rw t (owns_spared b o o' m m' (spared_change a b o o' m m' ne change) (knows b).own.rows (g.owns b)));
+        owns_pages = λ b. by_equal b a
+            (λ e t. rw (t, e) pages)
+            (λ ne t. rw t (pages_spared b o o' m m' (spared_change a b o o' m m' ne change) (knows b).own.pages (g.owns_pages b)));
+        sound = λ b. by_equal b a
+            (λ e t. rw t kn)
+            (λ ne t. rw t (knows_kept o o' m m' g.closed (kept_change a o o' m m' change) (knows b).read.seen (knows b).read.learnt (knows b).read.roots (knows b).read.heads (knows b).read.before (knows b).asked.linked (point b) (logs b) (g.sound b)));
       }
 
   -- a step that leaves memory and log
@@ -65,9 +65,8 @@ module _ {m : Shared} {log : List Update} {o : Owners} {knows : ℕ → Knowledg
   begins c = quiet (begun (knows a) c) None [] (g.owns a) (g.owns_pages a) (record { seen_fits = mine.seen_fits; learnt_fits = mine.learnt_fits; roots_fit = mine.roots_fit; heads_fit = λ p. tt; orders_fit = λ p f. tt; linked_fits = refl })
 
   -- a step after which the actor knows what it knew
-  pub idles : (k : Knowledge) → k.own.rows ≡ (knows a).own.rows → k.own.pages ≡ (knows a).own.pages → k.read.seen ≡ (knows a).read.seen → k.read.learnt ≡ (knows a).read.learnt → k.read.roots ≡ (knows a).read.roots → k.read.heads ≡ (knows a).read.heads → k.read.before ≡ (knows a).read.before → k.asked.linked ≡ (knows a).asked.linked
-      → IsTree m log o (put knows a k) (put point a (point a)) (put logs a (log ∷ logs a))
-  idles k e0 e1 e2 e3 e4 e5 e7 e6 = quiet k (point a) (log ∷ logs a) (rw e0 (g.owns a)) (rw e1 (g.owns_pages a)) (rw (e2, e3, e4, e5, e7, e6) mine)
+  pub idles : (k : Knowledge) → k.own ≡ (knows a).own → k.read ≡ (knows a).read → k.asked.linked ≡ (knows a).asked.linked → IsTree m log o (put knows a k) (put point a (point a)) (put logs a (log ∷ logs a))
+  idles k own read linked = quiet k (point a) (log ∷ logs a) (rw own (g.owns a)) (rw own (g.owns_pages a)) (rw (read, linked) mine)
 
   pub enters : (e : ℕ) (x : Answer Record) (r : Option Reply) → IsTree m log o (put knows a (finished (learn (knows a) (Enter e) x) r)) (put point a (point a)) (put logs a (log ∷ logs a))
   enters e x r = quiet (finished (learn (knows a) (Enter e) x) r) (point a) (log ∷ logs a) (g.owns a) (g.owns_pages a) (record { seen_fits = mine.seen_fits; learnt_fits = λ q e. absurd (cc); roots_fit = mine.roots_fit; heads_fit = mine.heads_fit; orders_fit = mine.orders_fit; linked_fits = mine.linked_fits })
@@ -79,62 +78,65 @@ module _ {m : Shared} {log : List Update} {o : Owners} {knows : ℕ → Knowledg
   pub leaves : (r : Option Reply) → IsTree m log o (put knows a (finished (learn (knows a) Leave Done) r)) (put point a (point a)) (put logs a (log ∷ logs a))
   leaves r = quiet (finished (learn (knows a) Leave Done) r) (point a) (log ∷ logs a) (g.owns a) (g.owns_pages a) (record { seen_fits = λ q. tt; learnt_fits = λ q e. absurd (cc); roots_fit = λ p e. absurd (cc); heads_fit = λ p. tt; orders_fit = λ p f. tt; linked_fits = forgets (knows a).asked.linked mine.linked_fits })
 
+  -- the page is on its side chain, with this row and chain
+  abbrev pub OnSide : (p x : ℕ) (c : List Record) → Type 0
+  OnSide p x c = InPlace o m (level_in c) (spec log o.index (level_in c)) (record { page = p; row = x; chain = c })
+
   -- a page whose slot has a chain that is not removed is on its side chain
-  pub alive_place : (p l : ℕ) (s : Key) → Reached 0 l s (o.page p) → (y : ℕ) → m.slots p ≡ Some y → (d : List Record) → IsChain m.rows d (Some y) → is_removed d ≡ false → InPlace o m (level_in d) (spec log o.index (level_in d)) (record { page = p; row = y; chain = d })
+  pub alive_place : (p l : ℕ) (s : Key) → Reached 0 l s (o.page p) → (y : ℕ) → m.slots p ≡ Some y → (d : List Record) → IsChain m.rows d (Some y) → is_removed d ≡ false → OnSide p y d
   alive_place p l s r y sy d h nd =
-      ⊎_elim
-      (λ (u : (st : Stage) × (o.page p ≡ Placed st l s) × (0 ≤ rank st)). ⊎_elim
-      (λ (on : rank u.0 ≤ 3).
-      let e = (in_level_as o m l (spec log o.index l) (g.tree.first l) (g.tree.levels l (g.tree.exact.below p l s u.0 u.1)) p s u.0 u.1 on y sy d h).place in
-      subst (λ (n : ℕ). InPlace o m n (spec log o.index n) (record { page = p; row = y; chain = d })) (sym e.is_page.on_level) e)
-      (λ (e : u.0 ≡ Merged). off (inl (u.1 ∙ ap (λ st. Placed st l s) e)))
-      (on_or_merged u.0))
-      (λ (u : (b : ℕ) × (o.page p ≡ Cleared b l s)). off (inr u))
-      (reached_placed 0 l s (o.page p) r)
+      elim (reached_placed 0 l s (o.page p) r) [
+        | inl u ↦ elim (on_or_merged u.0) [
+          | inl on ↦ let e = (in_level_as o m l (spec log o.index l) (g.tree.first l) (g.tree.levels l (g.tree.exact.below p l s u.0 u.1)) p s u.0 u.1 on y sy d h).place in
+              rw e.is_page.on_level e
+          | inr e ↦ off (inl (u.1 ∙ ap (λ st. Placed st l s) e))
+        ]
+        | inr u ↦ off (inr u)
+      ]
     where
-      off : IsOff (o.page p) l s → InPlace o m (level_in d) (spec log o.index (level_in d)) (record { page = p; row = y; chain = d })
-      off i = ⊎_elim (λ (n : IsOut (o.page p) (m.slots p)). absurd (let e = sym sy ∙ n.0 in cc))
-          (λ (w : Off o m p l s).
-          let e : w.chain ≡ d = chain_unique m.rows w.chain d (Some y) (subst (λ (n : ℕ). IsChain m.rows w.chain (Some n)) (same_Some w.row y (sym w.head ∙ sy)) w.is_chain) h in
-          absurd (let f : true ≡ false = sym w.flagged ∙ ap is_removed e ∙ nd in cc))
-          (g.tree.off p l s i)
+      off : IsOff (o.page p) l s → OnSide p y d
+      off i = elim (g.tree.off p l s i) [
+        | inl n ↦ absurd (cc n.0)
+        | inr w ↦ let e : w.chain ≡ d = chain_unique m.rows w.chain d (Some y) (rw (same_Some w.row y (sym w.head ∙ sy)) at w.is_chain) h in
+            absurd (cc w.flagged)
+      ]
 
   -- the slot of a page of the tree
   pub slot_of : (p l : ℕ) (s : Key) → Reached 0 l s (o.page p) → (m.slots p ≡ None) ⊎ ((x : ℕ) × (m.slots p ≡ Some x) × (h : SpellsLog o m x log) × Reached 0 (level_in h.chain) (low_in h.chain) (o.page p))
   slot_of p lv s r =
-      ⊎_elim
-      (λ (u : (st : Stage) × (o.page p ≡ Placed st lv s) × (0 ≤ rank st)). ⊎_elim
-      (λ (on : rank u.0 ≤ 3).
-      let t = g.tree.levels lv (g.tree.exact.below p lv s u.0 u.1) in
-      let l = locate o m lv (spec log o.index lv) t.side (Some (g.tree.first lv)) (Some []) None None p t.whole (t.listed p s u.0 u.1 on) in
-      let at : SpellsLog o m l.page.row log = record { linked = l.here.linked; chain = l.page.chain; is_chain = l.here.is_page.is_chain; same = λ z y k v. l.here.is_page.same k v ∙ spec_leaf log o.index lv (sym l.here.is_page.on_level ∙ z) k } in
-      inr (
-        l.page.row,
-        ap m.slots (sym l.is) ∙ l.here.is_page.head,
-        at,
-        subst (λ (n : ℕ). Reached 0 n (low_in l.page.chain) (o.page p)) (sym l.here.is_page.on_level) (placed_reached lv (low_in l.page.chain) l.here.stage (o.page p) (ap o.page (sym l.is) ∙ l.here.placed)),
-      ))
-      (λ (e : u.0 ≡ Merged). off (inl (u.1 ∙ ap (λ st. Placed st lv s) e)))
-      (on_or_merged u.0))
-      (λ (u : (b : ℕ) × (o.page p ≡ Cleared b lv s)). off (inr u))
-      (reached_placed 0 lv s (o.page p) r)
+      elim (reached_placed 0 lv s (o.page p) r) [
+        | inl u ↦ elim (on_or_merged u.0) [
+          | inl on ↦ let t = g.tree.levels lv (g.tree.exact.below p lv s u.0 u.1) in
+              let l = locate o m lv (spec log o.index lv) t.side (Some (g.tree.first lv)) (Some []) None None p t.whole (t.listed p s u.0 u.1 on) in
+              let at : SpellsLog o m l.page.row log = record { linked = l.here.linked; chain = l.page.chain; is_chain = l.here.is_page.is_chain; same = λ z y k v. l.here.is_page.same k v ∙ spec_leaf log o.index lv (sym l.here.is_page.on_level ∙ z) k } in
+              inr (
+                l.page.row,
+                ap m.slots (sym l.is) ∙ l.here.is_page.head,
+                at,
+                rw l.here.is_page.on_level (placed_reached lv (low_in l.page.chain) l.here.stage (o.page p) (ap o.page (sym l.is) ∙ l.here.placed)),
+              )
+          | inr e ↦ off (inl (u.1 ∙ ap (λ st. Placed st lv s) e))
+        ]
+        | inr u ↦ off (inr u)
+      ]
     where
       off : IsOff (o.page p) lv s → (m.slots p ≡ None) ⊎ ((x : ℕ) × (m.slots p ≡ Some x) × (h : SpellsLog o m x log) × Reached 0 (level_in h.chain) (low_in h.chain) (o.page p))
-      off i = ⊎_elim (λ (n : IsOut (o.page p) (m.slots p)). inl n.0)
-          (λ (w : Off o m p lv s). inr (
-            w.row,
-            w.head,
-            record { linked = w.linked; chain = w.chain; is_chain = w.is_chain; same = λ z y. absurd (let e : true ≡ false = sym w.flagged ∙ y in cc) },
-            subst (λ (n : ℕ). Reached 0 n (low_in w.chain) (o.page p)) (sym w.level) (subst (λ (n : Key). Reached 0 lv n (o.page p)) (sym w.low) r),
-          ))
-          (g.tree.off p lv s i)
+      off i = elim (g.tree.off p lv s i) [
+        | inl n ↦ inl n.0
+        | inr w ↦ inr (
+          w.row,
+          w.head,
+          record { linked = w.linked; chain = w.chain; is_chain = w.is_chain; same = λ z y. absurd (cc w.flagged) },
+          rw w.level (rw w.low r),
+        )
+      ]
 
   -- what the chain of a page names that is not removed, as its slot was read
   pub read_names : (p x : ℕ) → (h : HasRead (knows a) p x) → ChainNames o h.chain
   read_names p x h =
-      let f = subst (λ (v : Option ℕ). HeadFits o m (log ∷ logs a) p v) h.head (mine.heads_fit p) in
+      let f = rw h.head at (mine.heads_fit p) in
       let same : f.2.chain ≡ h.chain = chain_unique m.rows f.2.chain h.chain (Some x) f.2.is_chain (chain_stands o m (knows a).read.seen mine.seen_fits h.chain (Some x) h.read) in
-      subst (λ (d : List Record). ChainNames o d) same (f.5 (ap is_removed same ∙ h.alive))
+      rw same at (f.5 (ap is_removed same ∙ h.alive))
 
   -- what a page on its side chain names
   pub place_names : (p : SidePage) → (e : InPlace o m (level_in p.chain) (spec log o.index (level_in p.chain)) p) → ChainNames o p.chain
@@ -148,26 +150,26 @@ module _ {m : Shared} {log : List Update} {o : Owners} {knows : ℕ → Knowledg
 
   -- a removed page that was read and stands right of a page is on its side chain, with the chain that was read
   pub beyond_place : (p x : ℕ) → m.slots p ≡ Some x → (d : List Record) → IsChain m.rows d (Some x) → Reached 0 (level_in d) (low_in d) (o.page p) → is_removed d ≡ false → (f z : ℕ) → right_in d ≡ Some f → (knows a).read.heads f ≡ Some z → (c : List Record) → IsChain m.rows c (Some z) → is_removed c ≡ true
-      → InPlace o m (level_in c) (spec log o.index (level_in c)) (record { page = f; row = z; chain = c })
+      → OnSide f z c
   beyond_place p x sx d id e nd f z i ez c ic rc =
-      let h = subst (λ (v : Option ℕ). HeadFits o m (log ∷ logs a) f v) ez (mine.heads_fit f) in
+      let h = rw ez at (mine.heads_fit f) in
       let w = alive_place p (level_in d) (low_in d) e x sx d id nd in
       let on = g.tree.levels (level_in d) (g.tree.exact.below p (level_in d) (low_in d) w.stage w.placed) in
       let n = right_page o m (level_in d) (spec log o.index (level_in d)) (g.tree.first (level_in d)) on (record { page = p; row = x; chain = d }) w f i in
       let same : h.2.chain ≡ c = chain_unique m.rows h.2.chain c (Some z) h.2.is_chain ic in
-      let slot : m.slots f ≡ Some z = ⊎_elim (λ (u : m.slots f ≡ Some z). u) (λ (u : IsOut (o.page f) (m.slots f)). absurd (let t = sym n.3.placed ∙ ap o.page n.1 ∙ u.1.3 in cc)) (h.4 (ap is_removed same ∙ rc)) in
+      let slot : m.slots f ≡ Some z = elim (h.4 (ap is_removed same ∙ rc)) [ inl u ↦ u | inr u ↦ absurd (cc (n.3.placed, n.1, u.1.3)) ] in
       let r = (in_level_as o m (level_in d) (spec log o.index (level_in d)) (g.tree.first (level_in d)) on f (low_in n.0.chain) n.3.stage (ap o.page (sym n.1) ∙ n.3.placed) n.3.on z slot c ic).place in
-      subst (λ (n : ℕ). InPlace o m n (spec log o.index n) (record { page = f; row = z; chain = c })) (sym r.is_page.on_level) r
+      rw r.is_page.on_level r
 
   -- what that page names, once both were read
   pub beyond_names : (p y : ℕ) → (knows a).read.heads p ≡ Some y → (d : List Record) → IsChain m.rows d (Some y) → is_removed d ≡ false → (q : ℕ) (b : IsBeyond (knows a) p d q) → ChainNames o b.chain
   beyond_names p y e d id nd q b =
-      let i : InOrder o m (log ∷ logs a) p y b.removed b.row = subst (λ (v : Option ℕ). OrderFits o m (log ∷ logs a) p b.removed (Some y) v) b.order (subst (λ (v : Option ℕ). OrderFits o m (log ∷ logs a) p b.removed v ((knows a).read.before p b.removed)) e (mine.orders_fit p b.removed)) in
+      let i : InOrder o m (log ∷ logs a) p y b.removed b.row = rw b.order at (rw e at (mine.orders_fit p b.removed)) in
       i.beyond b.chain d (chain_stands o m (knows a).read.seen mine.seen_fits b.chain (Some b.row) b.read) id b.gone nd b.right
 
   -- a page that was met is in the tree
   pub lower : (r l : ℕ) (s : Key) (w : PageOwner) → Reached r l s w → Reached 0 l s w
-  lower r l s w h = ⊎_elim (λ (u : (st : Stage) × (w ≡ Placed st l s) × (r ≤ rank st)). placed_reached l s u.0 w u.1) (λ (u : (b : ℕ) × (w ≡ Cleared b l s)). subst (λ (v : PageOwner). Reached 0 l s v) (sym u.1) (refl, refl)) (reached_placed r l s w h)
+  lower r l s w h = elim (reached_placed r l s w h) [ inl u ↦ placed_reached l s u.0 w u.1 | inr u ↦ subst (λ (v : PageOwner). Reached 0 l s v) (sym u.1) (refl, refl) ]
 
   pub met_placed : (p : ℕ) → ((knows a).read.roots p ≡ true) ⊎ IsMet (knows a) p → (l : ℕ) × (s : Key) × Reached 0 l s (o.page p)
   met_placed p (inl e) = let i = mine.roots_fit p e in (i.0, [], i.1)
@@ -187,7 +189,7 @@ module _ {m : Shared} {log : List Update} {o : Owners} {knows : ℕ → Knowledg
       by_name (inr (inl u)) = by_child h.basis.chain (read_names h.other h.row h.basis) u
       by_name (inr (inr b)) =
           let n = beyond_names h.other h.row h.basis.head h.basis.chain (chain_stands o m (knows a).read.seen mine.seen_fits h.basis.chain (Some h.row) h.basis.read) h.basis.alive p b in
-          ⊎_elim (λ (u : right_in b.chain ≡ Some p). by_right b.chain n u) (λ (u : NamesChild b.chain p). by_child b.chain n u) b.named
+          elim b.named [ inl u ↦ by_right b.chain n u | inr u ↦ by_child b.chain n u ]
 
   pub off_still : (o' : Owners) (m' : Shared) → Kept o o' m m' → (q l : ℕ) (k : Key) → m'.slots q ≡ m.slots q → IsOut (o.page q) (m.slots q) ⊎ Off o m q l k → IsOut (o'.page q) (m'.slots q) ⊎ Off o' m' q l k
   off_still o' m' kept q l k s (inl e) = inl (s ∙ e.0, cleared_forward (o.page q) (o'.page q) (kept.page q) e.1)

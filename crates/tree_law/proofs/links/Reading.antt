@@ -1,9 +1,9 @@
 -- The reads keep the invariant. At the read of a slot it is known for is_tree what stood in the slots that were read before.
-use Rattle.tree_law.proofs.Words.{[], ap, refl, cond, Option, None, List, true, inl, ◌≤◌, ◌∷◌, subst, sym, ℕ, ◌≡◌, ◌∙◌, arith, Some, ⊎_elim, same_Some, IfSome, Update, Reply, Row, Child, next_row}
-use Rattle.tree_law.proofs.Words.{Record, low_in, is_removed, level_in, Knowledge, finished, learn, learnt_next, learn_head, Linked, Owners, Reached, IsOut, IsLinked, HeadFits, OrderFits, SpellsLog}
-use Rattle.tree_law.proofs.Words.{SeenFits, ChainNames, Placed, Indexed, PageOwner, Cleared, rank, Merged, Stage, put, Shared, IsTree, spec}
+use Rattle.tree_law.proofs.Words.{ap, refl, Option, None, List, true, inl, ◌≤◌, ◌∷◌, subst, sym, ℕ, ◌≡◌, ◌∙◌, arith, Some, same_Some, IfSome, Update, Reply, Row, Child, next_row}
+use Rattle.tree_law.proofs.Words.{Record, low_in, is_removed, level_in, Knowledge, finished, learn, learnt_next, learn_head, Linked, Owners, Reached, IsLinked, HeadFits, OrderFits, SpellsLog}
+use Rattle.tree_law.proofs.Words.{SeenFits, Placed, Indexed, PageOwner, put, Shared, IsTree, spec, [], inr}
 use Rattle.bw_model.specs.declared.step.Answer.TheVariants as answer
-use Rattle.tree_law.proofs.shape.{by_test, put_all, chain_unique, reached_placed, placed_reached, in_level_as, no_gap, right_page, name_more}
+use Rattle.tree_law.proofs.shape.{by_equal, put_all, chain_unique, reached_placed, placed_reached, in_level_as, no_gap, right_page, name_more}
 use Rattle.tree_law.proofs.links.Keeping.{spec_leaf, on_or_merged, quiet, mine, alive_place, beyond_place, place_names}
 
 module _ {m : Shared} {log : List Update} {o : Owners} {knows : ℕ → Knowledge} {point : ℕ → Option (List Update)} {logs : ℕ → List (List Update)} (g : IsTree m log o knows point logs) (a : ℕ) where
@@ -13,7 +13,7 @@ module _ {m : Shared} {log : List Update} {o : Owners} {knows : ℕ → Knowledg
       (record {
         seen_fits = (mine g a).seen_fits;
         learnt_fits = (mine g a).learnt_fits;
-        roots_fit = λ p. by_test p m.root (λ t. cond t true ((knows a).read.roots p) ≡ true → (l : ℕ) × Reached 0 l [] (o.page p)) (λ i e. (g.tree.top, placed_reached g.tree.top [] Indexed (o.page p) (ap o.page i ∙ g.tree.exact.is_root))) (λ i e. (mine g a).roots_fit p e);
+        roots_fit = λ p. by_equal p m.root (λ i t. rw t λ e. (g.tree.top, placed_reached g.tree.top [] Indexed (o.page p) (ap o.page i ∙ g.tree.exact.is_root))) (λ i t. rw t λ e. (mine g a).roots_fit p e);
         heads_fit = (mine g a).heads_fit;
         orders_fit = (mine g a).orders_fit;
         linked_fits = (mine g a).linked_fits;
@@ -27,9 +27,9 @@ module _ {m : Shared} {log : List Update} {o : Owners} {knows : ℕ → Knowledg
         learnt_fits = name_more o (knows a).read.learnt x s.linked (mine g a).learnt_fits;
         roots_fit = (mine g a).roots_fit;
         heads_fit = put_all (λ q v. HeadFits o m (log ∷ logs a) q v) (knows a).read.heads p (Some x) (log, inl refl, s, e, (λ h. inl sx), (λ nr. place_names g a (record { page = p; row = x; chain = s.chain }) (alive_place g a p (level_in s.chain) (low_in s.chain) e x sx s.chain s.is_chain nr))) (λ q ne. (mine g a).heads_fit q);
-        orders_fit = λ q f. by_test q p (λ t. OrderFits o m (log ∷ logs a) q f (cond t (Some x) ((knows a).read.heads q)) ((cond t (knows a).read.heads ((knows a).read.before q)) f))
-            (λ i. subst (λ (n : ℕ). OrderFits o m (log ∷ logs a) n f (Some x) ((knows a).read.heads f)) (sym i) (order f ((knows a).read.heads f) refl ((mine g a).heads_fit f)))
-            (λ i. (mine g a).orders_fit q f);
+        orders_fit = λ q f. by_equal q p
+            (λ i t. rw (t, i) (order f ((knows a).read.heads f) refl ((mine g a).heads_fit f)))
+            (λ i t. rw t ((mine g a).orders_fit q f));
         linked_fits = (mine g a).linked_fits;
       })
     where
@@ -46,24 +46,24 @@ module _ {m : Shared} {log : List Update} {o : Owners} {knows : ℕ → Knowledg
             let w = alive_place g a p (level_in s.chain) (low_in s.chain) e x sx d id nd in
             let n = right_page o m (level_in d) (spec log o.index (level_in d)) (g.tree.first (level_in d)) (g.tree.levels (level_in d) (g.tree.exact.below p (level_in d) (low_in d) w.stage w.placed)) (record { page = p; row = x; chain = d }) w f i in
             let same : h.2.chain ≡ c = chain_unique m.rows h.2.chain c (Some z') h.2.is_chain ic in
-            let slot : m.slots f ≡ Some z' = ⊎_elim (λ (u : m.slots f ≡ Some z'). u) (λ (u : IsOut (o.page f) (m.slots f)). absurd (let t = sym n.3.placed ∙ ap o.page n.1 ∙ u.1.3 in cc)) (h.4 (ap is_removed same ∙ rc)) in
+            let slot : m.slots f ≡ Some z' = elim (h.4 (ap is_removed same ∙ rc)) [ inl u ↦ u | inr u ↦ absurd (cc (n.3.placed, n.1, u.1.3)) ] in
             let r = (in_level_as o m (level_in d) (spec log o.index (level_in d)) (g.tree.first (level_in d)) (g.tree.levels (level_in d) (g.tree.exact.below p (level_in d) (low_in d) w.stage w.placed)) f (low_in n.0.chain) n.3.stage (ap o.page (sym n.1) ∙ n.3.placed) n.3.on z' slot c ic).place in
             (log, inl refl, λ k v. r.is_page.same k v ∙ spec_leaf log o.index (level_in d) (sym r.is_page.on_level ∙ z) k);
         beyond = λ c d ic id rc nd i.
             let same : s.chain ≡ d = chain_unique m.rows s.chain d (Some x) s.is_chain id in
-            place_names g a (record { page = f; row = z'; chain = c }) (beyond_place g a p x sx d id (subst (λ (d : List Record). Reached 0 (level_in d) (low_in d) (o.page p)) same e) nd f z' i at c ic rc);
+            place_names g a (record { page = f; row = z'; chain = c }) (beyond_place g a p x sx d id (rw same at e) nd f z' i at c ic rc);
         merged = λ c d k q ic id nc nd i v fd lo hi ne.
             let same : h.2.chain ≡ c = chain_unique m.rows h.2.chain c (Some z') h.2.is_chain ic in
             let w = alive_place g a p (level_in s.chain) (low_in s.chain) e x sx d id nd in
-            ⊎_elim
-            (λ (u : (st : Stage) × (o.page q ≡ Placed st (level_in d) k) × (2 ≤ rank st)). ⊎_elim
-            (λ (on : rank u.0 ≤ 3). absurd (
-            let b = no_gap o m (level_in d) (spec log o.index (level_in d)) (g.tree.first (level_in d)) (g.tree.levels (level_in d) (g.tree.exact.below q (level_in d) k u.0 u.1)) (record { page = p; row = x; chain = d }) w q k u.0 u.1 on lo hi in
-            ne b.0 b.1))
-            (λ (e : u.0 ≡ Merged). subst (λ (v : PageOwner). Reached 4 (level_in d) k v) (sym (u.1 ∙ ap (λ st. Placed st (level_in d) k) e)) (refl, refl, (let z : 4 ≤ 4 = omega arith in z)))
-            (on_or_merged u.0))
-            (λ (u : (b : ℕ) × (o.page q ≡ Cleared b (level_in d) k)). subst (λ (v : PageOwner). Reached 4 (level_in d) k v) (sym u.1) (refl, refl))
-            (reached_placed 2 (level_in d) k (o.page q) ((subst (λ (d : List Record). ChainNames o d) same (h.5 (ap is_removed same ∙ nc))).items (level_in d) k (Child q true) i v fd));
+            elim (reached_placed 2 (level_in d) k (o.page q) ((rw same at (h.5 (ap is_removed same ∙ nc))).items (level_in d) k (Child q true) i v fd)) [
+              | inl u ↦ elim (on_or_merged u.0) [
+                | inl on ↦ absurd (
+                    let b = no_gap o m (level_in d) (spec log o.index (level_in d)) (g.tree.first (level_in d)) (g.tree.levels (level_in d) (g.tree.exact.below q (level_in d) k u.0 u.1)) (record { page = p; row = x; chain = d }) w q k u.0 u.1 on lo hi in
+                    ne b.0 b.1)
+                | inr e ↦ subst (λ (v : PageOwner). Reached 4 (level_in d) k v) (sym (u.1 ∙ ap (λ st. Placed st (level_in d) k) e)) (refl, refl, (let z : 4 ≤ 4 = omega arith in z))
+              ]
+              | inr u ↦ subst (λ (v : PageOwner). Reached 4 (level_in d) k v) (sym u.1) (refl, refl)
+            ];
       }
 
   pub reads_row : (q : ℕ) (w : Record) → (knows a).read.learnt q ≡ true → m.rows q ≡ Some w → (r : Option Reply) → IsTree m log o (put knows a (finished (learn (knows a) (Row q) (answer.Content w)) r)) (put point a (point a)) (put logs a (log ∷ logs a))
@@ -72,7 +72,7 @@ module _ {m : Shared} {log : List Update} {o : Owners} {knows : ℕ → Knowledg
       quiet g a (finished (learn (knows a) (Row q) (answer.Content w)) r) (point a) (log ∷ logs a) (g.owns a) (g.owns_pages a)
       (record {
         seen_fits = put_all (λ j v. SeenFits (o.row j) (m.rows j) v) (knows a).read.seen q (Some w) (at.linked, e) (λ j ne. (mine g a).seen_fits j);
-        learnt_fits = rows (next_row w) (subst (λ (v : Record). IfSome (next_row v) (λ n. o.row n ≡ Linked)) (same_Some at.content w (sym at.stands ∙ e)) at.next);
+        learnt_fits = rows (next_row w) (rw (same_Some at.content w (sym at.stands ∙ e)) at at.next);
         roots_fit = (mine g a).roots_fit;
         heads_fit = (mine g a).heads_fit;
         orders_fit = (mine g a).orders_fit;

@@ -1,12 +1,11 @@
 -- Each allowed step with the memory's answer keeps the invariant.
-use Rattle.tree_law.proofs.Words.{false, ◌⊎◌, [], ap, refl, cond, Option, suc, None, List, true, inl, inr, ◌∷◌, subst, sym, ℕ, ◌≡◌, Bool, zero, ◌∙◌, Some, eqb, ⊎_elim, same_Some, IfSome, IsTrue}
-use Rattle.tree_law.proofs.Words.{Update, set, unset, Reply, Answer, Whether, Number, StepOf, ReuseRows, ReusePids, Leave, TakePid, Row, Place, TakeRow, Slot, Enter, Epoch, Exchange, Announce, Retire}
-use Rattle.tree_law.proofs.Words.{Page, ContentOf, Child, Memory, replaced_at, next_row, Record, Remove, Base, Hold, Split, Merge, Term, Unterm, low_in, level_in, May, root_over, MayExchange, FitsOn}
-use Rattle.tree_law.proofs.Words.{MayLink, MayRoot, base_from, HasRead, update_record, MayPost, IsMet, MayUpdate, MayUnterm, MayHold, MayMerge, MaySplit, MayConsolidate, MayRemove, IsFitted}
-use Rattle.tree_law.proofs.Words.{Knowledge, finished, Ready, learn, Empty, OwnPage, Gone, Written, filled, OwnRow, emptied, learn_head, IsAnswer, memory_after, IsAdded, Key, put_key, IsReuse}
-use Rattle.tree_law.proofs.Words.{IsMoved, Next, IsHomed, Linked, Owners, Reached, Spare, OwnFits, PageFits, SpellsLog, Placed, Indexed, PageOwner, Cleared, Keeps, Fresh, Removed, Held, Merged}
-use Rattle.tree_law.proofs.Words.{Phased, LinkMoves, put, shared, slot_in, row_in, Shared, IsTree}
-use Rattle.tree_law.proofs.shape.{read_linked, chain_stands, by_test, put_other, own_spare}
+use Rattle.tree_law.proofs.Words.{false, ◌⊎◌, ap, refl, Option, suc, None, List, true, inl, inr, ◌∷◌, subst, sym, ℕ, ◌≡◌, Bool, zero, ◌∙◌, Some, eqb, same_Some, IfSome, IsTrue, Update, set, unset}
+use Rattle.tree_law.proofs.Words.{Reply, Answer, Whether, Number, StepOf, ReuseRows, ReusePids, Leave, TakePid, Row, Place, TakeRow, Slot, Enter, Epoch, Exchange, Announce, Retire, Page, ContentOf}
+use Rattle.tree_law.proofs.Words.{Child, Memory, replaced_at, next_row, Record, Remove, Base, Hold, Split, Merge, Term, Unterm, low_in, level_in, May, root_over, MayExchange, FitsOn, MayLink, MayRoot}
+use Rattle.tree_law.proofs.Words.{base_from, HasRead, update_record, MayPost, IsMet, MayUpdate, MayUnterm, MayHold, MayMerge, MaySplit, MayConsolidate, MayRemove, IsFitted, Knowledge, finished, Ready}
+use Rattle.tree_law.proofs.Words.{learn, Empty, OwnPage, Gone, Written, filled, emptied, IsAnswer, memory_after, IsAdded, Key, put_key, IsReuse, IsMoved, Next, IsHomed, Linked, Owners, Spare}
+use Rattle.tree_law.proofs.Words.{PageFits, Placed, Indexed, PageOwner, Cleared, Keeps, Fresh, Removed, Held, Merged, Phased, LinkMoves, put, shared, slot_in, row_in, Shared, IsTree, []}
+use Rattle.tree_law.proofs.shape.{read_linked, chain_stands, by_equal, put_other, own_spare}
 use Rattle.tree_law.proofs.links.Keeping.{idles, enters, leaves, slot_of, met_placed}
 use Rattle.tree_law.proofs.links.Reading.{reads_root, reads_slot, reads_row}
 use Rattle.tree_law.proofs.links.Taking.{takes_row, takes_page, places, own_slot}
@@ -30,11 +29,11 @@ slot_put slots p y = λ d q. at q d
   where
     at : (q : ℕ) → slot_in (replaced_at (suc p) y slots) q ≡ put (slot_in slots) (suc p) (row_in y) q
     at zero = sym (put_other (slot_in slots) (suc p) (row_in y) 0 (λ e. absurd (cc)))
-    at (suc q) = by_test (suc q) (suc p) (λ t. row_in (cond t y (slots (suc q))) ≡ cond t (row_in y) (row_in (slots (suc q)))) (λ e. refl) (λ ne. refl)
+    at (suc q) = by_equal (suc q) (suc p) (λ e t. rw t) (λ ne t. rw t)
 
 -- a bit that is clear is cleared again
 cleared_again : (free : ℕ → Bool) (n : ℕ) → free n ≡ false → replaced_at n false free ≡ free
-cleared_again free n h = λ d j. by_test j n (λ t. cond t false (free j) ≡ free j) (λ e. sym (ap free e ∙ h)) (λ ne. refl) d
+cleared_again free n h = λ d j. (let at : replaced_at n false free j ≡ free j = by_equal j n (λ e t. rw t (sym (ap free e ∙ h))) (λ ne t. rw t) in at d)
 
 record_next : (u : Update) (x : ℕ) → next_row (update_record u x) ≡ Some x
 record_next (set b k v) x = refl
@@ -63,14 +62,18 @@ module _ (memory : Memory) {log : List Update} {o : Owners} {knows : ℕ → Kno
       → IsTree m' log o (put knows a (finished (learn (knows a) s x) r)) (put point a (point a)) (put logs a (log ∷ logs a)) → Next a (shared memory) m' log o knows point logs s x r
   rests phased rows is_tree = record { update = None; due = tt; last = λ i. refl; owners = o; phased = phased; moved = same_moved; added = same_added; homed = λ row l. inl l; kept = λ row l. (l, rows row l); is_tree = is_tree }
 
+  -- one after which the actor holds what it held, and has read no more
+  idle : {s : StepOf Record} {x : Answer Record} {r : Option Reply} → Phased a (shared memory) s x o.page o.page → (learn (knows a) s x).own ≡ (knows a).own → (learn (knows a) s x).read ≡ (knows a).read → (learn (knows a) s x).asked.linked ≡ (knows a).asked.linked → After memory s x r
+  idle {s} {x} {r} phased own read linked = rests phased (λ row l. refl) (idles g a (finished (learn (knows a) s x) r) own read linked)
+
   spare_of : {w : Record} (y : ℕ) → (knows a).own.rows y ≡ Written w → o.row y ≡ Spare a
-  spare_of {w} y e = (subst (λ (v : OwnRow). OwnFits a (o.row y) (memory.rows y) v) e (g.owns a y)).0
+  spare_of {w} y e = (rw e at (g.owns a y)).0
 
   ready_slot : (p r : ℕ) → (knows a).own.pages p ≡ Ready r → slot_in memory.slots p ≡ Some r
-  ready_slot p r e = (subst (λ (v : OwnPage). PageFits a (o.page p) (slot_in memory.slots p) v) e (g.owns_pages a p)).1
+  ready_slot p r e = (rw e at (g.owns_pages a p)).1
 
   linked_moved : (y : ℕ) → o.row y ≡ Spare a → (row : ℕ) → IsMoved a (memory.free_rows row) (o.row row) (put o.row y Linked row)
-  linked_moved y spare row = by_test row y (λ t. IsMoved a (memory.free_rows row) (o.row row) (cond t Linked (o.row row))) (λ e. inr (inr (ap o.row e ∙ spare, refl))) (λ ne. inl refl)
+  linked_moved y spare row = by_equal row y (λ e t. rw t (inr (inr (ap o.row e ∙ spare, refl)))) (λ ne t. rw t (inl refl))
 
   -- a delta is linked over the chain that was read
   adds : (p x y : ℕ) (w : Record) → (knows a).own.rows y ≡ Written w → next_row w ≡ Some x → (basis : HasRead (knows a) p x) → FitsOn basis.chain w → IsAdded o memory.rows y
@@ -88,28 +91,25 @@ module _ (memory : Memory) {log : List Update} {o : Owners} {knows : ℕ → Kno
   based {page} y placed fits = record { content = Base page; stands = placed_row g a y (Base page) placed; under = []; is_under = refl; next = tt; fits = fits }
 
   linked_added : (y : ℕ) → IsAdded o memory.rows y → (row : ℕ) → put o.row y Linked row ≡ Linked → (o.row row ≡ Linked) ⊎ IsAdded o memory.rows row
-  linked_added y h row l = by_test row y (λ t. cond t Linked (o.row row) ≡ Linked → (o.row row ≡ Linked) ⊎ IsAdded o memory.rows row) (λ e i. inr (subst (IsAdded o memory.rows) (sym e) h)) (λ ne i. inl i) l
+  linked_added y h row l = by_equal row y (λ e t. inr (subst (IsAdded o memory.rows) (sym e) h)) (λ ne t. let i = rw t at l in inl i)
 
   -- the new row of a slot is linked
   linked_homed : (p x y : ℕ) (w : Record) → (knows a).own.rows (suc y) ≡ Written w → IfSome (next_row w) (λ n. n ≡ x) → (row : ℕ) → put o.row (suc y) Linked row ≡ Linked → (o.row row ≡ Linked) ⊎ IsHomed (shared memory) (Exchange (suc p) x (suc y)) (Whether true) row
-  linked_homed p x y w placed next row l = by_test row (suc y) (λ t. cond t Linked (o.row row) ≡ Linked → (o.row row ≡ Linked) ⊎ IsHomed (shared memory) (Exchange (suc p) x (suc y)) (Whether true) row) (λ e i. inr (inl (w, e, ap memory.rows e ∙ placed_row g a (suc y) w placed, next))) (λ ne i. inl i) l
+  linked_homed p x y w placed next row l = by_equal row (suc y) (λ e t. inr (inl (w, e, ap memory.rows e ∙ placed_row g a (suc y) w placed, next))) (λ ne t. let i = rw t at l in inl i)
 
   -- a row that was the actor's own is linked
   linked_rows : (y : ℕ) (row : ℕ) → o.row row ≡ Linked → (put o.row y Linked row ≡ Linked) × (memory.rows row ≡ memory.rows row)
-  linked_rows y row l = (by_test row y (λ t. cond t Linked (o.row row) ≡ Linked) (λ e. refl) (λ ne. l), refl)
+  linked_rows y row l = (by_equal row y (λ e t. rw t) (λ ne t. rw t l), refl)
 
   reads : (p n : ℕ) (r : Option Reply) → memory.slots (suc p) ≡ n → IsTrue ((knows a).read.roots (suc p)) ⊎ IsMet (knows a) (suc p) → After memory (Slot (suc p)) (Number n) r
-  reads p zero r e met = rests refl (λ row l. refl) (idles g a (finished (knows a) r) refl refl refl refl refl refl refl refl)
+  reads p zero r e met = idle refl refl refl refl
   reads p (suc n) r e met =
       let here = met_placed g a (suc p) met in
       let held : slot_in memory.slots (suc p) ≡ Some (suc n) = ap row_in e in
-      ⊎_elim
-      (λ (u : slot_in memory.slots (suc p) ≡ None). absurd (let f = sym held ∙ u in cc))
-      (λ (u : (x : ℕ) × (slot_in memory.slots (suc p) ≡ Some x) × (h : SpellsLog o (shared memory) x log) × Reached 0 (level_in h.chain) (low_in h.chain) (o.page (suc p))).
-      rests refl (λ row l. refl) (subst (λ (v : ℕ). IsTree (shared memory) log o (put knows a (finished (learn_head (suc p) v (knows a)) r)) (put point a (point a)) (put logs a (log ∷ logs a)))
-      (same_Some u.0 (suc n) (sym u.1 ∙ held))
-      (reads_slot g a (suc p) u.0 u.1 u.2 u.3 r)))
-      (slot_of g a (suc p) here.0 here.1 here.2)
+      elim (slot_of g a (suc p) here.0 here.1 here.2) [
+        | inl u ↦ absurd (cc)
+        | inr u ↦ rests refl (λ row l. refl) (rw (same_Some u.0 (suc n) (sym u.1 ∙ held)) at (reads_slot g a (suc p) u.0 u.1 u.2 u.3 r))
+      ]
 
   takes : (q : ℕ) (r : Option Reply) (t : Bool) → memory.free_rows q ≡ t → After (memory_after a (TakeRow q) memory) (TakeRow q) (Whether t) r
   takes q r true e = record {
@@ -118,21 +118,21 @@ module _ (memory : Memory) {log : List Update} {o : Owners} {knows : ℕ → Kno
     last = λ i. refl;
     owners = record o { row = put o.row q (Spare a) };
     phased = refl;
-    moved = λ row. by_test row q (λ t. IsMoved a (memory.free_rows row) (o.row row) (cond t (Spare a) (o.row row))) (λ i. inr (inl (ap memory.free_rows i ∙ e, ap o.row i ∙ g.frees.row q e, refl))) (λ ne. inl refl);
-    added = λ row. by_test row q (λ t. cond t (Spare a) (o.row row) ≡ Linked → (o.row row ≡ Linked) ⊎ IsAdded o memory.rows row) (λ i l. absurd (cc)) (λ ne l. inl l);
-    homed = λ row. by_test row q (λ t. cond t (Spare a) (o.row row) ≡ Linked → (o.row row ≡ Linked) ⊎ IsHomed (shared memory) (TakeRow q) (Whether true) row) (λ i l. absurd (cc)) (λ ne l. inl l);
-    kept = λ row l. (put_other o.row q (Spare a) row (λ i. absurd (let f = g.frees.row q e in let l' = sym (ap o.row i) ∙ l in cc)) ∙ l, refl);
+    moved = λ row. by_equal row q (λ i t. rw t (inr (inl (ap memory.free_rows i ∙ e, ap o.row i ∙ g.frees.row q e, refl)))) (λ ne t. rw t (inl refl));
+    added = λ row. by_equal row q (λ i t. rw t λ l. absurd (cc)) (λ ne t. rw t λ l. inl l);
+    homed = λ row. by_equal row q (λ i t. rw t λ l. absurd (cc)) (λ ne t. rw t λ l. inl l);
+    kept = λ row l. (put_other o.row q (Spare a) row (λ i. absurd (cc (g.frees.row q e))) ∙ l, refl);
     is_tree = takes_row g a q e r;
   }
-  takes q r false e = rests refl (λ row l. refl) (subst (λ (f : ℕ → Bool). IsTree (record (shared memory) { free = f }) log o (put knows a (finished (knows a) r)) (put point a (point a)) (put logs a (log ∷ logs a))) (sym (cleared_again memory.free_rows q e)) (idles g a (finished (knows a) r) refl refl refl refl refl refl refl refl))
+  takes q r false e = rests refl (λ row l. refl) (rw (cleared_again memory.free_rows q e) (idles g a (finished (knows a) r) refl refl refl))
 
   takes_pid : (q : ℕ) (r : Option Reply) (t : Bool) → memory.free_pids q ≡ t → After (memory_after a (TakePid q) memory) (TakePid q) (Whether t) r
   takes_pid q r true e = record { update = None; due = tt; last = λ i. refl; owners = record o { page = put o.page q (Keeps a) }; phased = refl; moved = same_moved; added = same_added; homed = λ row l. inl l; kept = same_rows; is_tree = takes_page g a q e r }
-  takes_pid q r false e = rests refl (λ row l. refl) (subst (λ (f : ℕ → Bool). IsTree (record (shared memory) { free_pages = f }) log o (put knows a (finished (knows a) r)) (put point a (point a)) (put logs a (log ∷ logs a))) (sym (cleared_again memory.free_pids q e)) (idles g a (finished (knows a) r) refl refl refl refl refl refl refl refl))
+  takes_pid q r false e = rests refl (λ row l. refl) (rw (cleared_again memory.free_pids q e) (idles g a (finished (knows a) r) refl refl refl))
 
   -- an exchange that lost teaches nothing
   loses : (p x y : ℕ) (r : Option Reply) → After memory (Exchange p x y) (Whether false) r
-  loses p x y r = rests refl (λ row l. refl) (idles g a (finished (knows a) r) refl refl refl refl refl refl refl refl)
+  loses p x y r = idle refl refl refl refl
 
   module _ (p x y : ℕ) (r : Option Reply) (s : slot_in memory.slots (suc p) ≡ Some (suc x)) (basis : HasRead (knows a) (suc p) (suc x)) (content : Record) (written : (knows a).own.rows (suc y) ≡ Written content) (fits : FitsOn basis.chain content) where
     -- the memory in which the row is linked on the page
@@ -188,16 +188,16 @@ module _ (memory : Memory) {log : List Update} {o : Owners} {knows : ℕ → Kno
         placed_row g a (suc y) (Split (record { level = level_in basis.chain; next = suc x; separator = h.separator; page = h.right })) (written ∙ ap Written h.is),
         (n.1.0, level_in basis.chain, low_in basis.chain, n.1.1, n.1.2, refl),
       );
-      moved = λ row. by_test row (suc y) (λ t. IsMoved a (memory.free_rows row) (o.row row) (cond t Linked (put o.row h.row Linked row))) (λ e. inr (inr (ap o.row e ∙ spare_of (suc y) (written ∙ ap Written h.is), refl))) (λ ne. linked_moved h.row (spare_of h.row h.base) row);
-      homed = λ row. by_test row (suc y) (λ t. cond t Linked (put o.row h.row Linked row) ≡ Linked → (o.row row ≡ Linked) ⊎ IsHomed (shared memory) (Exchange (suc p) (suc x) (suc y)) (Whether true) row)
-          (λ e i. inr (inl (Split (record { level = level_in basis.chain; next = suc x; separator = h.separator; page = h.right }), e, ap memory.rows e ∙ placed_row g a (suc y) (Split (record { level = level_in basis.chain; next = suc x; separator = h.separator; page = h.right })) (written ∙ ap Written h.is), refl)))
-          (λ ne. by_test row h.row (λ t. cond t Linked (o.row row) ≡ Linked → (o.row row ≡ Linked) ⊎ IsHomed (shared memory) (Exchange (suc p) (suc x) (suc y)) (Whether true) row)
-          (λ e i. inr (inr (record { level = level_in basis.chain; next = suc x; separator = h.separator; page = h.right }, _, placed_row g a (suc y) (Split (record { level = level_in basis.chain; next = suc x; separator = h.separator; page = h.right })) (written ∙ ap Written h.is), ready_slot h.right h.row h.ready ∙ ap Some (sym e), ap memory.rows e ∙ placed_row g a h.row (base_from basis.chain h.separator h.items) h.base)))
-          (λ ne i. inl i));
-      added = λ row. by_test row (suc y) (λ t. cond t Linked (put o.row h.row Linked row) ≡ Linked → (o.row row ≡ Linked) ⊎ IsAdded o memory.rows row)
-          (λ e i. inr (subst (IsAdded o memory.rows) (sym e) (adds (suc p) (suc x) (suc y) (Split (record { level = level_in basis.chain; next = suc x; separator = h.separator; page = h.right })) (written ∙ ap Written h.is) refl basis (subst (FitsOn basis.chain) h.is fits))))
-          (λ ne. linked_added h.row (based h.row h.base h.ruled) row);
-      kept = λ row l. (by_test row (suc y) (λ t. cond t Linked (put o.row h.row Linked row) ≡ Linked) (λ e. refl) (λ ne. (linked_rows h.row row l).0), refl);
+      moved = λ row. by_equal row (suc y) (λ e t. rw t (inr (inr (ap o.row e ∙ spare_of (suc y) (written ∙ ap Written h.is), refl)))) (λ ne t. rw t (linked_moved h.row (spare_of h.row h.base) row));
+      homed = λ row. by_equal row (suc y)
+          (λ e is. rw is λ i. inr (inl (Split (record { level = level_in basis.chain; next = suc x; separator = h.separator; page = h.right }), e, ap memory.rows e ∙ placed_row g a (suc y) (Split (record { level = level_in basis.chain; next = suc x; separator = h.separator; page = h.right })) (written ∙ ap Written h.is), refl)))
+          (λ ne is. rw is (by_equal row h.row
+          (λ e t. rw t λ i. inr (inr (record { level = level_in basis.chain; next = suc x; separator = h.separator; page = h.right }, _, placed_row g a (suc y) (Split (record { level = level_in basis.chain; next = suc x; separator = h.separator; page = h.right })) (written ∙ ap Written h.is), ready_slot h.right h.row h.ready ∙ ap Some (sym e), ap memory.rows e ∙ placed_row g a h.row (base_from basis.chain h.separator h.items) h.base)))
+          (λ ne t. rw t λ i. inl i)));
+      added = λ row. by_equal row (suc y)
+          (λ e t. rw t λ i. inr (subst (IsAdded o memory.rows) (sym e) (adds (suc p) (suc x) (suc y) (Split (record { level = level_in basis.chain; next = suc x; separator = h.separator; page = h.right })) (written ∙ ap Written h.is) refl basis (subst (FitsOn basis.chain) h.is fits))))
+          (λ ne t. rw t (linked_added h.row (based h.row h.base h.ruled) row));
+      kept = λ row l. (by_equal row (suc y) (λ e t. rw t) (λ ne t. rw t (linked_rows h.row row l).0), refl);
       is_tree = n.0;
     }
 
@@ -230,15 +230,13 @@ module _ (memory : Memory) {log : List Update} {o : Owners} {knows : ℕ → Kno
   links p x y r s basis content = by_update p x y r s basis content
 
   own_kept : (p : ℕ) (v : OwnPage) → (knows a).own.pages p ≡ v → PageFits a (o.page p) (slot_in memory.slots p) v
-  own_kept p v e = subst (λ (w : OwnPage). PageFits a (o.page p) (slot_in memory.slots p) w) e (g.owns_pages a p)
+  own_kept p v e = rw e at (g.owns_pages a p)
 
   -- an exchange of a page's slot that won
   exchanges : (p x y : ℕ) (r : Option Reply) → slot_in memory.slots (suc p) ≡ row_in x → MayExchange a (knows a) (suc p) x y → Next a (shared memory) (record (shared memory) { slots = put (slot_in memory.slots) (suc p) (row_in y) }) log o knows point logs (Exchange (suc p) x y) (Whether true) r
   exchanges p zero zero r s h = absurd h
-  exchanges p zero (suc y) r s h = rests ((refl, (own_kept (suc p) Empty h.0).0)) (λ row l. refl) (subst (λ (v : OwnPage). IsTree (record (shared memory) { slots = put (slot_in memory.slots) (suc p) (Some (suc y)) }) log o (put knows a (finished (filled v (suc p) zero (suc y) (knows a)) r)) (put point a (point a)) (put logs a (log ∷ logs a))) (sym h.0)
-      (own_slot g a (suc p) (Some (suc y)) (Ready (suc y)) (own_kept (suc p) Empty h.0).0 ((own_kept (suc p) Empty h.0).0, refl) (finished (filled Empty (suc p) zero (suc y) (knows a)) r) refl refl refl refl refl refl refl refl))
-  exchanges p (suc x) zero r s (inl h) = rests ((refl, inl (own_kept (suc p) (Ready (suc x)) h).0)) (λ row l. refl) (subst (λ (v : OwnPage). IsTree (record (shared memory) { slots = put (slot_in memory.slots) (suc p) None }) log o (put knows a (finished (emptied v (suc p) (suc x) (knows a)) r)) (put point a (point a)) (put logs a (log ∷ logs a))) (sym h)
-      (own_slot g a (suc p) None Empty (own_kept (suc p) (Ready (suc x)) h).0 ((own_kept (suc p) (Ready (suc x)) h).0, refl) (finished (emptied (Ready (suc x)) (suc p) (suc x) (knows a)) r) refl refl refl refl refl refl refl refl))
+  exchanges p zero (suc y) r s h = rests ((refl, (own_kept (suc p) Empty h.0).0)) (λ row l. refl) (rw h.0 (own_slot g a (suc p) (Some (suc y)) (Ready (suc y)) (own_kept (suc p) Empty h.0).0 ((own_kept (suc p) Empty h.0).0, refl) (finished (filled Empty (suc p) zero (suc y) (knows a)) r) refl refl refl refl))
+  exchanges p (suc x) zero r s (inl h) = rests ((refl, inl (own_kept (suc p) (Ready (suc x)) h).0)) (λ row l. refl) (rw h (own_slot g a (suc p) None Empty (own_kept (suc p) (Ready (suc x)) h).0 ((own_kept (suc p) (Ready (suc x)) h).0, refl) (finished (emptied (Ready (suc x)) (suc p) (suc x) (knows a)) r) refl refl refl refl))
   exchanges p (suc x) zero r s (inr h) = rests ((refl, inr (let w = own_kept (suc p) Gone h in (w.0, w.1, w.2)))) (λ row l. refl) (clears g a (suc p) (suc x) s h r)
   exchanges p (suc x) (suc y) r s h = links p x y r s h.basis h.content h.placed h.fits h.due
 
@@ -256,35 +254,34 @@ module _ (memory : Memory) {log : List Update} {o : Owners} {knows : ℕ → Kno
     phased = (h.right, g.tree.top, h.separator, n.1.0, n.1.1, n.1.2, refl, (h.base_row, suc (level_in h.basis.chain), ready_slot y h.base_row h.ready, placed_row g a h.base_row (root_over (suc (level_in h.basis.chain)) x h.separator h.right) h.base), h.some);
     moved = linked_moved h.base_row (spare_of h.base_row h.base);
     added = linked_added h.base_row (based h.base_row h.base h.ruled);
-    homed = λ row. by_test row h.base_row (λ t. cond t Linked (o.row row) ≡ Linked → (o.row row ≡ Linked) ⊎ IsHomed (shared memory) (Exchange 0 x y) (Whether true) row)
-        (λ e i. inr (_, ready_slot y h.base_row h.ready ∙ ap Some (sym e), ap memory.rows e ∙ placed_row g a h.base_row (root_over (suc (level_in h.basis.chain)) x h.separator h.right) h.base))
-        (λ ne i. inl i);
+    homed = λ row. by_equal row h.base_row
+        (λ e t. rw t λ i. inr (_, ready_slot y h.base_row h.ready ∙ ap Some (sym e), ap memory.rows e ∙ placed_row g a h.base_row (root_over (suc (level_in h.basis.chain)) x h.separator h.right) h.base))
+        (λ ne t. rw t λ i. inl i);
     kept = linked_rows h.base_row;
     is_tree = n.0;
   }
 
   exchange : (p x y : ℕ) (r : Option Reply) → MayExchange a (knows a) p x y → After (memory_after a (Exchange p x y) memory) (Exchange p x y) (Whether (eqb (memory.slots p) x)) r
-  exchange zero x y r h = by_test (memory.slots 0) x (λ t. After (record memory { slots = cond t (replaced_at 0 y memory.slots) memory.slots }) (Exchange 0 x y) (Whether t) r)
-      (λ e. subst (λ (f : ℕ → Option ℕ). Next a (shared memory) (record (shared memory) { root = y; slots = f }) log o knows point logs (Exchange 0 x y) (Whether true) r) (sym (root_apart memory.slots y)) (exchanges_root x y r e h))
-      (λ ne. loses 0 x y r)
-  exchange (suc p) x y r h = by_test (memory.slots (suc p)) x (λ t. After (record memory { slots = cond t (replaced_at (suc p) y memory.slots) memory.slots }) (Exchange (suc p) x y) (Whether t) r)
-      (λ e. subst (λ (n : ℕ). Next a (shared memory) (record (shared memory) { root = n; slots = slot_in (replaced_at (suc p) y memory.slots) }) log o knows point logs (Exchange (suc p) x y) (Whether true) r) (sym (put_other memory.slots (suc p) y 0 (λ i. absurd (cc))))
-      (subst (λ (f : ℕ → Option ℕ). Next a (shared memory) (record (shared memory) { slots = f }) log o knows point logs (Exchange (suc p) x y) (Whether true) r) (sym (slot_put memory.slots p y)) (exchanges p x y r (ap row_in e) h)))
-      (λ ne. loses (suc p) x y r)
+  exchange zero x y r h = by_equal (memory.slots 0) x
+      (λ e t. rw t (rw (root_apart memory.slots y) (exchanges_root x y r e h)))
+      (λ ne t. rw t (loses 0 x y r))
+  exchange (suc p) x y r h = by_equal (memory.slots (suc p)) x
+      (λ e t. rw t (rw (put_other memory.slots (suc p) y 0 (λ i. absurd (cc))) (rw (slot_put memory.slots p y) (exchanges p x y r (ap row_in e) h))))
+      (λ ne t. rw t (loses (suc p) x y r))
 
   pub step : (s : StepOf Record) → (IsReuse s → ⊥) → (r : Option Reply) → May a (knows a) s → (x : Answer Record) → IsAnswer memory s x → After (memory_after a s memory) s x r
-  step (Slot zero) calm r h x e = subst (λ (v : Answer Record). After memory (Slot zero) v r) (sym e) (rests refl (λ row l. refl) (reads_root g a r))
-  step (Slot (suc p)) calm r h x e = subst (λ (v : Answer Record). After memory (Slot (suc p)) v r) (sym e) (reads p (memory.slots (suc p)) r refl h.1)
-  step (Row q) calm r h x e = subst (λ (v : Answer Record). After memory (Row q) v r) (sym e.2) (rests refl (λ row l. refl) (reads_row g a q e.0 h.1 e.1 r))
-  step Epoch calm r h x e = subst (λ (v : Answer Record). After memory Epoch v r) (sym e) (rests refl (λ row l. refl) (idles g a (finished (learn (knows a) Epoch (Number memory.epoch)) r) refl refl refl refl refl refl refl refl))
-  step (Announce b) calm r h x e = subst (λ (v : Answer Record). After memory (Announce b) v r) (sym e) (rests refl (λ row l. refl) (idles g a (finished (learn (knows a) (Announce b) (Number (memory.announced b))) r) refl refl refl refl refl refl refl refl))
-  step (Place q w) calm r h x e = subst (λ (v : Answer Record). After (memory_after a (Place q w) memory) (Place q w) v r) (sym e) (rests refl (λ row l. put_other memory.rows q (Some w) row (λ i. absurd (let f : o.row q ≡ Spare a = own_spare (memory.rows q) ((knows a).own.rows q) (g.owns a q) h.1 in let l' = sym (ap o.row i) ∙ l in cc))) (places g a q w h.1 r))
-  step (Exchange p old y) calm r h x e = subst (λ (v : Answer Record). After (memory_after a (Exchange p old y) memory) (Exchange p old y) v r) (sym e) (exchange p old y r h.1)
-  step (TakePid q) calm r h x e = subst (λ (v : Answer Record). After (memory_after a (TakePid q) memory) (TakePid q) v r) (sym e) (takes_pid q r (memory.free_pids q) refl)
-  step (TakeRow q) calm r h x e = subst (λ (v : Answer Record). After (memory_after a (TakeRow q) memory) (TakeRow q) v r) (sym e) (takes q r (memory.free_rows q) refl)
+  step (Slot zero) calm r h x e = rw e (rests refl (λ row l. refl) (reads_root g a r))
+  step (Slot (suc p)) calm r h x e = rw e (reads p (memory.slots (suc p)) r refl h.1)
+  step (Row q) calm r h x e = rw e.2 (rests refl (λ row l. refl) (reads_row g a q e.0 h.1 e.1 r))
+  step Epoch calm r h x e = rw e (idle refl refl refl refl)
+  step (Announce b) calm r h x e = rw e (idle refl refl refl refl)
+  step (Place q w) calm r h x e = rw e (rests refl (λ row l. put_other memory.rows q (Some w) row (λ i. absurd (cc (own_spare (memory.rows q) ((knows a).own.rows q) (g.owns a q) h.1)))) (places g a q w h.1 r))
+  step (Exchange p old y) calm r h x e = rw e (exchange p old y r h.1)
+  step (TakePid q) calm r h x e = rw e (takes_pid q r (memory.free_pids q) refl)
+  step (TakeRow q) calm r h x e = rw e (takes q r (memory.free_rows q) refl)
   step (Enter n) calm r h x e = rests refl (λ row l. refl) (enters g a n x r)
-  step Leave calm r h x e = subst (λ (v : Answer Record). After (memory_after a Leave memory) Leave v r) (sym e) (rests refl (λ row l. refl) (leaves g a r))
-  step (Retire n) calm r h x e = rests refl (λ row l. refl) (idles g a (finished (knows a) r) refl refl refl refl refl refl refl refl)
+  step Leave calm r h x e = rw e (rests refl (λ row l. refl) (leaves g a r))
+  step (Retire n) calm r h x e = idle refl refl refl refl
   step (ReusePids w b) calm r h x e = absurd (calm tt)
   step (ReuseRows w b) calm r h x e = absurd (calm tt)
-  step s calm r h x e = subst (λ (v : Answer Record). After memory s v r) (sym e.2) (rests refl (λ row l. refl) (idles g a (finished (learn (knows a) s (Number e.0)) r) refl refl refl refl refl refl refl refl))
+  step s calm r h x e = rw e.2 (idle refl refl refl refl)

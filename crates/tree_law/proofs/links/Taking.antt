@@ -1,8 +1,7 @@
 -- Taking rows and pages, placing records in own rows and rows in the slots of own pages keep the invariant.
-use Rattle.tree_law.proofs.Words.{false, ◌⊎◌, ap, refl, cond, Option, None, List, true, inl, inr, ◌∷◌, sym, ℕ, ◌≡◌, ◌∙◌, Some, ⊎_elim, Update, Reply, Whether, Done, TakePid, Place, TakeRow, Record}
-use Rattle.tree_law.proofs.Words.{IsOwn, Knowledge, finished, learn, Empty, OwnPage, Taken, Written, Key, Free, Linked, Owners, Spare, IsLinked, OwnFits, PageFits, Nobody, Placed, Cleared, Keeps}
-use Rattle.tree_law.proofs.Words.{Merged, Stage, put, Shared, IsTree}
-use Rattle.tree_law.proofs.shape.{by_test, put_same, put_other, put_all, tree_kept, exact_same, RowChange, row_free, row_own, row_same, PageChange, page_free, page_own, page_same, Change}
+use Rattle.tree_law.proofs.Words.{false, ap, refl, Option, None, List, true, inl, inr, ◌∷◌, ℕ, ◌≡◌, ◌∙◌, Some, Update, Reply, Whether, Done, TakePid, Place, TakeRow, Record, IsOwn}
+use Rattle.tree_law.proofs.Words.{Knowledge, finished, learn, Empty, OwnPage, Taken, Written, Key, Owners, Spare, OwnFits, PageFits, Nobody, Placed, Cleared, Keeps, Merged, Stage, put, Shared, IsTree}
+use Rattle.tree_law.proofs.shape.{by_equal, put_same, put_other, put_all, tree_kept, exact_same, row_free, row_own, row_same, page_free, page_own, page_same, Change}
 use Rattle.tree_law.proofs.shape.{kept_change, closed_kept, own_spare}
 use Rattle.tree_law.proofs.links.Keeping.{put_tree, mine_at, tree_at, off_still}
 use Rattle.tree_law.proofs.shape.Kept.{Kept}
@@ -13,15 +12,15 @@ module _ {m : Shared} {log : List Update} {o : Owners} {knows : ℕ → Knowledg
       let m' : Shared = record m { free = put m.free q false } in
       let o' : Owners = record o { row = put o.row q (Spare a) } in
       let change : Change a o o' m m' =
-      record { row = λ j. by_test j q (λ t. RowChange a (o.row j) (cond t (Spare a) (o.row j)) (m.rows j) (m.rows j)) (λ i. row_free (ap o.row i ∙ g.frees.row q f)) (λ i. row_same refl refl); page = λ p. page_same refl refl } in
+      record { row = λ j. by_equal j q (λ i t. rw t (row_free (ap o.row i ∙ g.frees.row q f))) (λ i t. rw t (row_same refl refl)); page = λ p. page_same refl refl } in
       let kept : Kept o o' m m' = kept_change a o o' m m' change in
       put_tree g a m' log o' (finished (learn (knows a) (TakeRow q) (Whether true)) r) (point a) (log ∷ logs a)
       change
       (record {
-        row = λ j. by_test j q (λ t. cond t false (m.free j) ≡ true → cond t (Spare a) (o.row j) ≡ Free) (λ i h. absurd (cc)) (λ ne h. g.frees.row j h);
+        row = λ j. by_equal j q (λ i t. rw t λ h. absurd (cc)) (λ ne t. rw t λ h. g.frees.row j h);
         page = g.frees.page;
       })
-      (closed_kept o o' m m' kept g.closed (λ j. by_test j q (λ t. cond t (Spare a) (o.row j) ≡ Linked → (o.row j ≡ Linked) ⊎ IsLinked o' m' j) (λ i h. absurd (cc)) (λ i h. inl h)))
+      (closed_kept o o' m m' kept g.closed (λ j. by_equal j q (λ i t. rw t λ h. absurd (cc)) (λ i t. rw t λ h. inl h)))
       (tree_at g a o'.row m' kept refl refl)
       (put_all (λ j v. OwnFits a (o'.row j) (m.rows j) v) (knows a).own.rows q Taken (put_same o.row q (Spare a)) (λ j ne. rw (put_other o.row q (Spare a) j ne) (g.owns a j)))
       (g.owns_pages a)
@@ -33,23 +32,23 @@ module _ {m : Shared} {log : List Update} {o : Owners} {knows : ℕ → Knowledg
       let m' : Shared = record m { free_pages = put m.free_pages q false } in
       let o' : Owners = record o { page = put o.page q (Keeps a) } in
       let change : Change a o o' m m' =
-      record { row = λ j. row_same refl refl; page = λ p. by_test p q (λ t. PageChange a o m m' (o.page p) (cond t (Keeps a) (o.page p)) (m.slots p) (m.slots p)) (λ i. page_free (ap o.page i ∙ was.0)) (λ i. page_same refl refl) } in
+      record { row = λ j. row_same refl refl; page = λ p. by_equal p q (λ i t. rw t (page_free (ap o.page i ∙ was.0))) (λ i t. rw t (page_same refl refl)) } in
       let new : (p l : ℕ) (s : Key) (st : Stage) → o.page p ≡ Placed st l s → put o.page q (Keeps a) p ≡ Placed st l s =
-      λ p l s st e. put_other o.page q (Keeps a) p (λ i. absurd (let f = sym (ap o.page i ∙ was.0) ∙ e in cc)) ∙ e in
+      λ p l s st e. put_other o.page q (Keeps a) p (λ i. absurd (cc was.0)) ∙ e in
       let cleared : (p b l : ℕ) (s : Key) → put o.page q (Keeps a) p ≡ Cleared b l s → o.page p ≡ Cleared b l s =
-      λ p b l s. by_test p q (λ t. cond t (Keeps a) (o.page p) ≡ Cleared b l s → o.page p ≡ Cleared b l s) (λ i h. absurd (cc)) (λ i h. h) in
+      λ p b l s. by_equal p q (λ i t. rw t λ h. absurd (cc)) (λ i t. rw t λ h. h) in
       let old : (p l : ℕ) (s : Key) (st : Stage) → put o.page q (Keeps a) p ≡ Placed st l s → o.page p ≡ Placed st l s =
-      λ p l s st. by_test p q (λ t. cond t (Keeps a) (o.page p) ≡ Placed st l s → o.page p ≡ Placed st l s) (λ i h. absurd (cc)) (λ i h. h) in
+      λ p l s st. by_equal p q (λ i t. rw t λ h. absurd (cc)) (λ i t. rw t λ h. h) in
       let kept : Kept o o' m m' = kept_change a o o' m m' change in
       put_tree g a m' log o' (finished (learn (knows a) (TakePid q) (Whether true)) r) (point a) (log ∷ logs a)
       change
       (record {
         row = g.frees.row;
-        page = λ j. by_test j q (λ t. cond t false (m.free_pages j) ≡ true → (cond t (Keeps a) (o.page j) ≡ Nobody) × (m.slots j ≡ None)) (λ i h. absurd (cc)) (λ ne h. g.frees.page j h);
+        page = λ j. by_equal j q (λ i t. rw t λ h. absurd (cc)) (λ ne t. rw t λ h. g.frees.page j h);
       })
       (closed_kept o o' m m' kept g.closed (λ j l. inl l))
       (tree_kept o o' m m' log g.closed kept (λ p l s st e on. (refl, (st, new p l s st e, on, refl))) refl refl (λ p l s st e on. (st, old p l s st e, on)) g.tree
-      (exact_same o.page o'.page o.index g.tree.top m.root old new cleared g.tree.exact) (λ p l s i. off_still g a o' m' kept p l s refl (g.tree.off p l s (⊎_elim (λ (u : put o.page q (Keeps a) p ≡ Placed Merged l s). inl (old p l s Merged u)) (λ (u : (b : ℕ) × (put o.page q (Keeps a) p ≡ Cleared b l s)). inr (u.0, cleared p u.0 l s u.1)) i))))
+      (exact_same o.page o'.page o.index g.tree.top m.root old new cleared g.tree.exact) (λ p l s i. off_still g a o' m' kept p l s refl (g.tree.off p l s (elim i [ inl u ↦ inl (old p l s Merged u) | inr u ↦ inr (u.0, cleared p u.0 l s u.1) ]))))
       (g.owns a)
       (put_all (λ j v. PageFits a (o'.page j) (m.slots j) v) (knows a).own.pages q Empty (put_same o.page q (Keeps a), was.1) (λ j ne. rw (put_other o.page q (Keeps a) j ne) (g.owns_pages a j)))
       (mine_at g a o' m' kept)
@@ -59,7 +58,7 @@ module _ {m : Shared} {log : List Update} {o : Owners} {knows : ℕ → Knowledg
       let was : o.row q ≡ Spare a = own_spare (m.rows q) ((knows a).own.rows q) (g.owns a q) i in
       let m' : Shared = record m { rows = put m.rows q (Some w) } in
       let change : Change a o o m m' =
-      record { row = λ j. by_test j q (λ t. RowChange a (o.row j) (o.row j) (m.rows j) (cond t (Some w) (m.rows j))) (λ e. row_own (ap o.row e ∙ was)) (λ e. row_same refl refl); page = λ p. page_same refl refl } in
+      record { row = λ j. by_equal j q (λ e t. rw t (row_own (ap o.row e ∙ was))) (λ e t. rw t (row_same refl refl)); page = λ p. page_same refl refl } in
       put_tree g a m' log o (finished (learn (knows a) (Place q w) Done) r) (point a) (log ∷ logs a)
       change
       (record { row = g.frees.row; page = g.frees.page })
@@ -70,19 +69,19 @@ module _ {m : Shared} {log : List Update} {o : Owners} {knows : ℕ → Knowledg
       (mine_at g a o m' (kept_change a o o m m' change))
 
   -- the slot of a page of its own is changed
-  pub own_slot : (p : ℕ) (x : Option ℕ) (v : OwnPage) → o.page p ≡ Keeps a → PageFits a (o.page p) x v → (k : Knowledge) → k.own.rows ≡ (knows a).own.rows → k.own.pages ≡ put (knows a).own.pages p v → k.read.seen ≡ (knows a).read.seen → k.read.learnt ≡ (knows a).read.learnt → k.read.roots ≡ (knows a).read.roots → k.read.heads ≡ (knows a).read.heads → k.read.before ≡ (knows a).read.before → k.asked.linked ≡ (knows a).asked.linked
+  pub own_slot : (p : ℕ) (x : Option ℕ) (v : OwnPage) → o.page p ≡ Keeps a → PageFits a (o.page p) x v → (k : Knowledge) → k.own.rows ≡ (knows a).own.rows → k.own.pages ≡ put (knows a).own.pages p v → k.read ≡ (knows a).read → k.asked.linked ≡ (knows a).asked.linked
       → IsTree (record m { slots = put m.slots p x }) log o (put knows a k) (put point a (point a)) (put logs a (log ∷ logs a))
-  own_slot p x v was fits k e0 e1 e2 e3 e4 e5 e7 e6 =
+  own_slot p x v was fits k rows pages read linked =
       let m' : Shared = record m { slots = put m.slots p x } in
       let change : Change a o o m m' =
-      record { row = λ j. row_same refl refl; page = λ j. by_test j p (λ t. PageChange a o m m' (o.page j) (o.page j) (m.slots j) (cond t x (m.slots j))) (λ e. page_own (ap o.page e ∙ was)) (λ e. page_same refl refl) } in
+      record { row = λ j. row_same refl refl; page = λ j. by_equal j p (λ e t. rw t (page_own (ap o.page e ∙ was))) (λ e t. rw t (page_same refl refl)) } in
       let kept : Kept o o m m' = kept_change a o o m m' change in
       put_tree g a m' log o k (point a) (log ∷ logs a)
       change
-      (record { row = g.frees.row; page = λ j h. let f = g.frees.page j h in (f.0, put_other m.slots p x j (λ e. absurd (let i = ap o.page e ∙ was in let h = f.0 in cc)) ∙ f.1) })
+      (record { row = g.frees.row; page = λ j h. let f = g.frees.page j h in (f.0, put_other m.slots p x j (λ e. absurd (cc f.0)) ∙ f.1) })
       (closed_kept o o m m' kept g.closed (λ j l. inl l))
-      (tree_kept o o m m' log g.closed kept (λ j l s st h on. (put_other m.slots p x j (λ e. absurd (let i = sym (ap o.page e ∙ was) ∙ h in cc)), (st, h, on, refl))) refl refl (λ j l s st h on. (st, h, on)) g.tree g.tree.exact
-      (λ j l s i. off_still g a o m' kept j l s (put_other m.slots p x j (λ e. ⊎_elim (λ (u : o.page j ≡ Placed Merged l s). absurd (let i = sym (ap o.page e ∙ was) ∙ u in cc)) (λ (u : (b : ℕ) × (o.page j ≡ Cleared b l s)). absurd (let i = sym (ap o.page e ∙ was) ∙ u.1 in cc)) i)) (g.tree.off j l s i)))
-      (rw e0 (g.owns a))
-      (rw e1 (put_all (λ j w. PageFits a (o.page j) (m'.slots j) w) (knows a).own.pages p v (rw (put_same m.slots p x) fits) (λ j ne. rw (put_other m.slots p x j ne) (g.owns_pages a j))))
-      (rw (e2, e3, e4, e5, e7, e6) (mine_at g a o m' kept))
+      (tree_kept o o m m' log g.closed kept (λ j l s st h on. (put_other m.slots p x j (λ e. absurd (cc)), (st, h, on, refl))) refl refl (λ j l s st h on. (st, h, on)) g.tree g.tree.exact
+      (λ j l s i. off_still g a o m' kept j l s (put_other m.slots p x j (λ e. elim i [ inl u ↦ absurd (cc) | inr u ↦ absurd (cc u.1) ])) (g.tree.off j l s i)))
+      (rw rows (g.owns a))
+      (rw pages (put_all (λ j w. PageFits a (o.page j) (m'.slots j) w) (knows a).own.pages p v (rw (put_same m.slots p x) fits) (λ j ne. rw (put_other m.slots p x j ne) (g.owns_pages a j))))
+      (rw (read, linked) (mine_at g a o m' kept))

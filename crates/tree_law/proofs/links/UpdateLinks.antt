@@ -1,7 +1,7 @@
 -- A step makes an update exactly where it links a put or a delete.
 use Rattle.tree_law.proofs.Words.{ap, refl, Option, suc, None, List, true, inl, inr, subst, sym, ℕ, ◌≡◌, zero, ◌∙◌, Some, eqb, same_Some, option_map, IsSome, IfSome, Update, Reply, Answer, Whether}
-use Rattle.tree_law.proofs.Words.{Link, StepOf, Exchange, record_link, Memory, Record, Base, Put, Delete, low_in, level_in, May, MayExchange, MayLink, Knowledge, finished, learn, OwnPage, Other}
-use Rattle.tree_law.proofs.Words.{Written, filled, OwnRow, linked_over, IsAnswer, memory_after, link_without, link_of, IsUpdateLink, After, IsDue, Owners, OwnFits, LinkFits, shared, row_in, IsTree}
+use Rattle.tree_law.proofs.Words.{Link, StepOf, Exchange, record_link, Memory, Record, Base, Put, Delete, low_in, level_in, May, MayExchange, MayLink, Knowledge, finished, learn, Other}
+use Rattle.tree_law.proofs.Words.{Written, linked_over, IsAnswer, memory_after, link_without, link_of, IsUpdateLink, After, IsDue, Owners, LinkFits, shared, row_in, IsTree}
 use Rattle.bw_model.specs.declared.step.Link.TheVariants as link
 use Rattle.tree_law.specs.Next.{pointed}
 use Rattle.tree_law.proofs.trace.Phasing.{link_ready, link_empty, link_front}
@@ -40,7 +40,7 @@ links_own k s x none h = (elim (learning k s x) as (λ s x k' v. IsLinked k' →
     | updates p x y w o e u ↦ λ h. record { page = p; old = x; new = y; step = refl; won = refl; other = o; row = record { content = w; placed = e; kind = u } }
     | v ↦ λ h. absurd (unlinked k none h)
   ]
-  | leaves y ↦ λ h. absurd (let e : None ≡ k.asked.linked = sym none in cc)
+  | leaves y ↦ λ h. absurd (cc)
   | v ↦ λ h. absurd (unlinked k none h)
 ]) h
 
@@ -77,7 +77,7 @@ pub record LinksNow (m : Memory) (s : StepOf Record) (x : Answer Record) : Type 
 module _ (m : Memory) {log : List Update} {o : Owners} {knows : ℕ → Knowledge} {point : ℕ → Option (List Update)} {logs : ℕ → List (List Update)} (g : IsTree (shared m) log o knows point logs) (a : ℕ) where
   -- an own row has what was placed there
   stands : (row : ℕ) (content : Record) → (knows a).own.rows row ≡ Written content → m.rows row ≡ Some content
-  stands row content e = (subst (λ (v : OwnRow). OwnFits a (o.row row) (m.rows row) v) e (g.owns a row)).1
+  stands row content e = (rw e at (g.owns a row)).1
 
   -- what an exchange that links an update leaves known
   pub learns_update : (page old new : ℕ) (kind : Link) → MayExchange a (knows a) page old new → m.slots page ≡ old → link_of m page old new ≡ Some kind → IsUpdateLink kind → ((knows a).asked.linked ≡ None) × IsLinked (learn (knows a) (Exchange page old new) (Whether true))
@@ -90,8 +90,7 @@ module _ (m : Memory) {log : List Update} {o : Owners} {knows : ℕ → Knowledg
       let kind_is : Some (record_link may.content) ≡ Some kind = ap (option_map record_link) (sym (stands (suc new) may.content may.placed)) ∙ sym (link_front m page old new) ∙ e in
       let update : IsUpdateLink (record_link may.content) = subst IsUpdateLink (sym (same_Some (record_link may.content) kind kind_is)) u in (
         update_due a (knows a) (suc page) (suc old) may.basis.chain may.content may.due update,
-        subst (λ (v : OwnPage). IsLinked (filled v (suc page) (suc old) (suc new) (knows a))) (sym other)
-            (subst (λ (v : OwnRow). IsLinked (linked_over v (suc old) (suc new) (knows a))) (sym may.placed) (row_linked may.content (suc old) (suc new) (knows a) update)),
+        rw other (rw may.placed (row_linked may.content (suc old) (suc new) (knows a) update)),
       )
 
   module _ (s : StepOf Record) (x : Answer Record) (r : Option Reply) (may : May a (knows a) s) (is : IsAnswer m s x) (n : After a (shared m) (shared (memory_after a s m)) log o knows point logs s x r) where
@@ -114,7 +113,7 @@ module _ (m : Memory) {log : List Update} {o : Owners} {knows : ℕ → Knowledg
     makes none some = go n.update (learn (knows a) s x).asked.linked some after
       where
         before : point a ≡ None
-        before = subst (λ l. LinkFits o (shared m) (point a) l) none (g.sound a).linked_fits
+        before = rw none at (g.sound a).linked_fits
 
         go : (u : Option Update) → (l : Option (Option ℕ)) → IsSome l → LinkFits n.owners (shared (memory_after a s m)) (pointed log u (point a)) l → IsSome u
         go (Some u) l e h = refl
@@ -143,6 +142,6 @@ module _ (m : Memory) {log : List Update} {o : Owners} {knows : ℕ → Knowledg
 
     pub link_updates : LinksNow m s x → IsSome n.update
     link_updates h =
-        let told : Whether true ≡ Whether (eqb (m.slots h.slot) h.old) = sym h.won ∙ subst (λ t. IsAnswer m t x) h.step is in
+        let told : Whether true ≡ Whether (eqb (m.slots h.slot) h.old) = sym h.won ∙ (rw h.step at is) in
         let l = learns_update h.slot h.old h.new h.kind ((subst (May a (knows a)) h.step may).1) (eqb_true (m.slots h.slot) h.old (let e = told in cc)) h.link h.update in
         makes l.0 (subst (λ (t : StepOf Record × Answer Record). IsLinked (learn (knows a) t.0 t.1)) (λ i. (sym h.step i, sym h.won i)) l.1)

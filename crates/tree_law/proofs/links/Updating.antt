@@ -1,16 +1,16 @@
 -- Links that leave the index as it is: an update, a consolidation, and the removal of a page.
-use Rattle.tree_law.proofs.Words.{false, [], ap, refl, cond, Option, suc, None, List, true, ◌≢◌, ◌++◌, ◌≤◌, ◌∷◌, subst, sym, ℕ, ◌≡◌, Bool, zero, ◌∙◌, ◌<◌, arith, Some, nat_tests, fold-append}
+use Rattle.tree_law.proofs.Words.{false, ap, refl, cond, Option, suc, None, List, true, ◌≢◌, ◌++◌, ◌≤◌, ◌∷◌, sym, ℕ, ◌≡◌, Bool, zero, ◌∙◌, ◌<◌, arith, Some, nat_tests, fold-append}
 use Rattle.tree_law.proofs.Words.{same_Some, option_map, is_eq, if◌then◌else◌, bytes_eq, key_cmp, Update, logged_value, set, unset, update_of, command_key, Command, Swap, Upsert, Insert, Reply}
 use Rattle.tree_law.proofs.Words.{ContentOf, Child, Value, next_row, Record, Remove, content_in, right_in, low_in, is_removed, level_in, high_in, value_of, base_from, HasRead, update_record}
-use Rattle.tree_law.proofs.Words.{MayUpdate, MayConsolidate, MayRemove, Knowledge, finished, Written, filled, OwnRow, linked_over, handed_over, rebuilt, updated, Key, Covers, Linked, Owners, Reached}
-use Rattle.tree_law.proofs.Words.{Spare, OwnFits, LinkFits, leaf_map, Placed, Indexed, PageOwner, rank, Removed, Held, Merged, Stage, stage_removed, put, Shared, IsTree, spec}
+use Rattle.tree_law.proofs.Words.{MayUpdate, MayConsolidate, MayRemove, Knowledge, Written, linked_over, handed_over, rebuilt, updated, Key, Covers, Linked, Owners, Reached}
+use Rattle.tree_law.proofs.Words.{leaf_map, Placed, Indexed, PageOwner, rank, Removed, Held, Merged, Stage, stage_removed, put, Shared, IsTree, spec, []}
 use Rattle.bw_model.specs.declared.command.Command.TheVariants.{Delete}
 use Rattle.bw_model.specs.Log.{updated_key, updated_value}
 use Rattle.tree_law.proofs.shape.KeyOrder.{by_key, covers_from, covers_to}
-use Rattle.tree_law.proofs.shape.Puts.{by_test, put_same, put_other}
+use Rattle.tree_law.proofs.shape.Puts.{by_equal, put_same, put_other}
 use Rattle.tree_law.proofs.shape.Terms.{exact_going}
 use Rattle.tree_law.proofs.links.Keeping.{spec_leaf, mine, read_names}
-use Rattle.tree_law.proofs.links.Relinking.{stay, not_own, found, place_of, relink_one, alive_stage}
+use Rattle.tree_law.proofs.links.Relinking.{LinkedTree, stay, found, place_of, relink_one, alive_stage}
 
 -- the record of an update over a chain
 record LiesOver (w : Record) (x : ℕ) (c : List Record) : Type 0 where
@@ -64,7 +64,7 @@ linked_update (unset b j) x y k = refl
 module _ {m : Shared} {log : List Update} {o : Owners} {knows : ℕ → Knowledge} {point : ℕ → Option (List Update)} {logs : ℕ → List (List Update)} (g : IsTree m log o knows point logs) (a : ℕ) where
   -- the exchange that links an update
   pub updates : (p x y : ℕ) → m.slots p ≡ Some x → (basis : HasRead (knows a) p x) (content : Record) → (knows a).own.rows y ≡ Written content → (h : MayUpdate a (knows a) x basis.chain content) → (r : Option Reply)
-      → IsTree (record m { slots = put m.slots p (Some y) }) (log ++ h.update ∷ []) (record o { row = put o.row y Linked }) (put knows a (finished (filled ((knows a).own.pages p) p x y (knows a)) r)) (put point a (Some log)) (put logs a (log ∷ logs a))
+      → LinkedTree g a p x y r (log ++ h.update ∷ []) (record o { row = put o.row y Linked }) (Some log)
       × (update_of a h.command (logged_value log (command_key h.command)) ≡ Some h.update)
   updates p x y s basis content written h r =
       let u = h.update in
@@ -72,74 +72,62 @@ module _ {m : Shared} {log : List Update} {o : Owners} {knows : ℕ → Knowledg
       let f = found g a p x basis in
       let place = place_of g a p x c f basis.alive s in
       let is : (k : Key) → Covers c k → content_in c k ≡ leaf_map log k = λ k v. place.is_page.same k v ∙ spec_leaf log o.index (level_in c) h.leaf k in
-      let fits : (o.row y ≡ Spare a) × (m.rows y ≡ Some (update_record u x)) = subst (λ (v : OwnRow). OwnFits a (o.row y) (m.rows y) v) (written ∙ ap Written h.is) (g.owns a y) in
       let over = is_over u x c in
       let inside : Covers c (command_key h.command) = covers_from c (command_key h.command) h.covers in
-      let due : update_of a h.command (logged_value log (command_key h.command)) ≡ Some u = subst (λ (v : Option Key). update_of a h.command v ≡ Some u) (ap value_of (is (command_key h.command) inside) ∙ value_of_map (logged_value log (command_key h.command))) h.due in
-      let none : point a ≡ None = subst (λ (v : Option (Option ℕ)). LinkFits o m (point a) v) h.unlinked (mine g a).linked_fits in
-      let learned : filled ((knows a).own.pages p) p x y (knows a) ≡ updated x y (knows a) = rw (not_own g a p (level_in c) (low_in c) place.stage place.placed ((knows a).own.pages p) (g.owns_pages a p), (written ∙ ap Written h.is)) (linked_update u x y (knows a)) in (
-        subst (λ (k : Knowledge). IsTree (record m { slots = put m.slots p (Some y) }) (log ++ u ∷ []) (record o { row = put o.row y Linked }) (put knows a (finished k r)) (put point a (Some log)) (put logs a (log ∷ logs a))) (sym learned)
-            (relink_one g a p x y c f place basis.alive s fits.0 place.stage (omega arith) place.on o.page o.index place.placed (λ q ne. stay refl) g.tree.exact (update_record u x) fits.1
+      let due : update_of a h.command (logged_value log (command_key h.command)) ≡ Some u = rw (ap value_of (is (command_key h.command) inside) ∙ value_of_map (logged_value log (command_key h.command))) at h.due in
+      let none : point a ≡ None = rw h.unlinked at (mine g a).linked_fits in (
+        relink_one g a p x y c f place basis.alive s (update_record u x) (written ∙ ap Written h.is) place.stage (omega arith) place.on o.page o.index place.placed (λ q ne. stay refl) g.tree.exact
             (rw over.next f.linked) c (rw over.next f.stands)
             over.level over.low over.right over.high (over.flag ∙ place.flagged)
             (log ++ u ∷ [])
             (λ k v. rw h.leaf (over_decides u x c log k (is k v)))
-            (λ l k n. log_outside u log o.index (level_in c) c h.leaf (λ k n. key_apart u log k (λ i. n (subst (λ (z : Key). Covers c z) (sym (i ∙ key_due a h.command (logged_value log (command_key h.command)) u due)) inside))) l k n)
-            (finished (updated x y (knows a)) r)
-            refl (λ v. v) refl refl refl refl refl
-            (Some log) (log, refl, (record { linked = f.linked; chain = c; is_chain = f.stands; same = λ z n. is }))),
+            (λ l k n. log_outside u log o.index (level_in c) c h.leaf (λ k n. key_apart u log k (λ i. n (rw (i ∙ key_due a h.command (logged_value log (command_key h.command)) u due) inside))) l k n)
+            (updated x y (knows a)) (linked_update u x y (knows a)) refl (λ v. v) refl
+            (Some log) (log, refl, (record { linked = f.linked; chain = c; is_chain = f.stands; same = λ z n. is })) r,
         due,
       )
 
   -- the exchange that puts a base in the chain's place
-  pub consolidates : (p x y : ℕ) → m.slots p ≡ Some x → (basis : HasRead (knows a) p x) (content : Record) → (knows a).own.rows y ≡ Written content → MayConsolidate basis.chain content → (r : Option Reply) → IsTree (record m { slots = put m.slots p (Some y) }) log (record o { row = put o.row y Linked }) (put knows a (finished (filled ((knows a).own.pages p) p x y (knows a)) r)) (put point a (point a)) (put logs a (log ∷ logs a))
+  pub consolidates : (p x y : ℕ) → m.slots p ≡ Some x → (basis : HasRead (knows a) p x) (content : Record) → (knows a).own.rows y ≡ Written content → MayConsolidate basis.chain content → (r : Option Reply) → LinkedTree g a p x y r log (record o { row = put o.row y Linked }) (point a)
   consolidates p x y s basis content written h r =
       let c = basis.chain in
       let f = found g a p x basis in
       let place = place_of g a p x c f basis.alive s in
       let w = base_from c (low_in c) h.items in
-      let fits : (o.row y ≡ Spare a) × (m.rows y ≡ Some w) = subst (λ (v : OwnRow). OwnFits a (o.row y) (m.rows y) v) (written ∙ ap Written h.is) (g.owns a y) in
-      let learned : filled ((knows a).own.pages p) p x y (knows a) ≡ rebuilt x y (knows a) = rw (not_own g a p (level_in c) (low_in c) place.stage place.placed ((knows a).own.pages p) (g.owns_pages a p), (written ∙ ap Written h.is)) refl in
-      subst (λ (k : Knowledge). IsTree (record m { slots = put m.slots p (Some y) }) log (record o { row = put o.row y Linked }) (put knows a (finished k r)) (put point a (point a)) (put logs a (log ∷ logs a))) (sym learned)
-      (relink_one g a p x y c f place basis.alive s fits.0 place.stage (omega arith) place.on o.page o.index place.placed (λ q ne. stay refl) g.tree.exact w fits.1 tt [] refl
+      relink_one g a p x y c f place basis.alive s w (written ∙ ap Written h.is) place.stage (omega arith) place.on o.page o.index place.placed (λ q ne. stay refl) g.tree.exact tt [] refl
       refl refl refl refl (alive_stage g a p x c place basis.alive)
       log (λ k v. h.alike k (covers_to c k v) ∙ place.is_page.same k v) (λ l k n. refl)
-      (finished (rebuilt x y (knows a)) r)
-      refl (λ v. v) refl refl refl refl refl
-      (point a) (mine g a).linked_fits)
+      (rebuilt x y (knows a)) refl refl (λ v. v) refl
+      (point a) (mine g a).linked_fits r
 
   pub below_top : (q l : ℕ) (s : Key) (st : Stage) → o.page q ≡ Placed st l s → 2 ≤ rank st → l < g.tree.top
   below_top q l s st e i =
       let b = g.tree.exact.below q l s st e in
-      by_test l g.tree.top (λ t. l < g.tree.top)
-      (λ j. by_test q m.root (λ t. l < g.tree.top)
-      (λ z. absurd (let w : Placed st l s ≡ Placed Indexed g.tree.top [] = sym e ∙ ap o.page z ∙ g.tree.exact.is_root in let v : st ≡ Indexed = cc in let u = ap rank v in omega arith))
-      (λ z. absurd (let v = ap rank (g.tree.exact.others q s st (subst (λ (n : ℕ). o.page q ≡ Placed st n s) j e) z) in omega arith)))
-      (λ ne. grind (arith, nat_tests))
+      by_equal l g.tree.top
+      (λ j is. by_equal q m.root
+      (λ z t. absurd (let w : Placed st l s ≡ Placed Indexed g.tree.top [] = sym e ∙ ap o.page z ∙ g.tree.exact.is_root in let v : st ≡ Indexed = cc in let u = ap rank v in omega arith))
+      (λ z t. absurd (let v = ap rank (g.tree.exact.others q s st (rw j at e) z) in omega arith)))
+      (λ ne is. grind (arith, nat_tests))
 
   -- the exchange that removes a page
-  pub removes : (p x y : ℕ) → m.slots p ≡ Some x → (basis : HasRead (knows a) p x) (content : Record) → (knows a).own.rows y ≡ Written content → (h : MayRemove (knows a) p x basis.chain content) → (r : Option Reply) → IsTree (record m { slots = put m.slots p (Some y) }) log (record { row = put o.row y Linked; page = put o.page p (Placed Removed (level_in basis.chain) (low_in basis.chain)); index = o.index }) (put knows a (finished (filled ((knows a).own.pages p) p x y (knows a)) r)) (put point a (point a)) (put logs a (log ∷ logs a)) × (o.page p ≡ Placed Held (level_in basis.chain) (low_in basis.chain))
+  pub removes : (p x y : ℕ) → m.slots p ≡ Some x → (basis : HasRead (knows a) p x) (content : Record) → (knows a).own.rows y ≡ Written content → (h : MayRemove (knows a) p x basis.chain content) → (r : Option Reply) → LinkedTree g a p x y r log (record { row = put o.row y Linked; page = put o.page p (Placed Removed (level_in basis.chain) (low_in basis.chain)); index = o.index }) (point a) × (o.page p ≡ Placed Held (level_in basis.chain) (low_in basis.chain))
   removes p x y s basis content written h r =
       let ranked : (r l : ℕ) (s : Key) (l' : ℕ) (s' : Key) (st : Stage) (w : PageOwner) → w ≡ Placed st l' s' → Reached r l s w → r ≤ rank st =
-      λ r l s l' s' st w e h. (subst (λ (v : PageOwner). Reached r l s v) e h).2 in
+      λ r l s l' s' st w e h. (rw e at h).2 in
       let c = basis.chain in
       let f = found g a p x basis in
       let place = place_of g a p x c f basis.alive s in
-      let fits : (o.row y ≡ Spare a) × (m.rows y ≡ Some (Remove (record { level = level_in c; next = x }))) = subst (λ (v : OwnRow). OwnFits a (o.row y) (m.rows y) v) (written ∙ ap Written h.is) (g.owns a y) in
       let above = read_names g a h.parent h.row h.above in
       let least : 2 ≤ rank place.stage = ranked 2 (level_in c) (low_in c) (level_in c) (low_in c) place.stage (o.page p) place.placed (above.items (level_in c) (low_in c) (Child p true) h.level (covers_from h.above.chain (low_in c) h.covers) h.held) in
       let held : place.stage ≡ Held = is_held place.stage least (sym (alive_stage g a p x c place basis.alive)) in
       let was : o.page p ≡ Placed Held (level_in c) (low_in c) = place.placed ∙ ap (λ st. Placed st (level_in c) (low_in c)) held in
-      let lt : level_in c < g.tree.top = below_top p (level_in c) (low_in c) place.stage place.placed least in
-      let learned : filled ((knows a).own.pages p) p x y (knows a) ≡ handed_over y (knows a) = rw (not_own g a p (level_in c) (low_in c) place.stage place.placed ((knows a).own.pages p) (g.owns_pages a p), (written ∙ ap Written h.is)) refl in (
-        subst (λ (k : Knowledge). IsTree (record m { slots = put m.slots p (Some y) }) log (record { row = put o.row y Linked; page = put o.page p (Placed Removed (level_in basis.chain) (low_in basis.chain)); index = o.index }) (put knows a (finished k r)) (put point a (point a)) (put logs a (log ∷ logs a))) (sym learned)
-            (relink_one g a p x y c f place basis.alive s fits.0 Removed (let i = ap rank held in omega arith) (omega arith) (put o.page p (Placed Removed (level_in c) (low_in c))) o.index (put_same o.page p (Placed Removed (level_in c) (low_in c))) (λ q ne. stay (put_other o.page p (Placed Removed (level_in c) (low_in c)) q ne))
-            (exact_going o.page o.index g.tree.top m.root p (level_in c) (low_in c) Held Removed was lt refl g.tree.exact) (Remove (record { level = level_in c; next = x })) fits.1 f.linked c f.stands
+      let lt : level_in c < g.tree.top = below_top p (level_in c) (low_in c) place.stage place.placed least in (
+        relink_one g a p x y c f place basis.alive s (Remove (record { level = level_in c; next = x })) (written ∙ ap Written h.is) Removed (let i = ap rank held in omega arith) (omega arith) (put o.page p (Placed Removed (level_in c) (low_in c))) o.index (put_same o.page p (Placed Removed (level_in c) (low_in c))) (λ q ne. stay (put_other o.page p (Placed Removed (level_in c) (low_in c)) q ne))
+            (exact_going o.page o.index g.tree.top m.root p (level_in c) (low_in c) Held Removed was lt refl g.tree.exact) f.linked c f.stands
             refl refl refl refl refl
             log (λ k v. place.is_page.same k v) (λ l k n. refl)
-            (finished (handed_over y (knows a)) r)
-            refl (λ v. v) refl refl refl refl refl
-            (point a) (mine g a).linked_fits),
+            (handed_over y (knows a)) refl refl (λ v. v) refl
+            (point a) (mine g a).linked_fits r,
         was,
       )
     where

@@ -1,5 +1,5 @@
 -- What each link of the run puts over a chain fits it.
-use Rattle.tree_law.proofs.Words.{false, [], refl, cond, Option, None, true, ◌≢◌, ◌≤◌, ◌∷◌, subst, sym, ℕ, ◌≡◌, Bool, arith, Some, All-from_recursion, is_eq, if◌then◌else◌, IsTrue, not, is_some}
+use Rattle.tree_law.proofs.Words.{false, [], refl, cond, Option, None, true, ◌≢◌, ◌≤◌, ◌∷◌, sym, ℕ, ◌≡◌, Bool, arith, Some, All-from_recursion, is_eq, if◌then◌else◌, IsTrue, not, is_some}
 use Rattle.tree_law.proofs.Words.{key_cmp, is_under, IsPage-from, empty_leaf, Page, content_at, IsPage, IsRuled, held_count, ContentOf, Child, Item, Applies, IsSpellablePage, HasPid, FitsOn, IsFitted}
 use Rattle.tree_law.proofs.Words.{Makes, opening_leaf, put_a, split_a, term_b, item_a, base_b, unterm_a, split_b, upper_a, deletion_a, merge_a, root_a, a, hold_a, remove_a, Key, IsBelow}
 use Rattle.std.specs.List.Sorted.{IsStrictlySortedBy}
@@ -90,7 +90,7 @@ linked level next key page top over above names = record { top = top; over = ove
 
 -- below the key the item is not
 below_none : (key : Key) → IsBelow key a → content_at (item_a ∷ []) key ≡ None
-below_none key below = by_key key a (λ t. cond t (Some item_a.content) None ≡ None) (λ same. absurd (not_self a (subst (λ k. IsBelow k a) same below))) (λ ne. refl)
+below_none key below = by_key key a (λ t. cond t (Some item_a.content) None ≡ None) (λ same. absurd (not_self a (rw same at below))) (λ ne. refl)
 
 put_applies : Applies empty_leaf put_a full
 unfolding IsStrictlySortedBy

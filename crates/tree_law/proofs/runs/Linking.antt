@@ -1,6 +1,6 @@
 -- What an actor has read, and what it may link over that.
-use Rattle.tree_law.proofs.Words.{[], refl, suc, List, ◌∷◌, subst, sym, ℕ, ◌≡◌, Some, IsFalse, Record, IsChainFrom, right_in, is_removed, level_in, high_in, root_over, FitsOn, IsUnset, MayLink}
-use Rattle.tree_law.proofs.Words.{MayRoot, MayAdd, HasRead, IsFitted, Knowledge, Ready, Written, root_a, a}
+use Rattle.tree_law.proofs.Words.{refl, List, ℕ, ◌≡◌, Some, IsFalse, Record, IsChainFrom, right_in, is_removed, level_in, high_in, FitsOn, IsUnset, MayLink}
+use Rattle.tree_law.proofs.Words.{MayRoot, MayAdd, HasRead, Knowledge, Ready, Written, root_a, a}
 use Rattle.tree_law.proofs.runs.LinkFits.{root_fitted}
 
 -- a page was read with its whole chain
@@ -23,6 +23,6 @@ puts_root {k} basis level right high ready base = record {
   some = refl;
   base_row = 5;
   ready = ready;
-  base = subst (λ below. k.own.rows 5 ≡ Written (root_over (suc below) 1 a 2)) (sym level) base;
-  ruled = subst (λ below. IsFitted (root_over (suc below) 1 a 2 ∷ [])) (sym level) root_fitted;
+  base = rw level base;
+  ruled = rw level root_fitted;
 }

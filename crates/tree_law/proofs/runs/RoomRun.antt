@@ -1,5 +1,5 @@
 -- Each step of the run without room is allowed.
-use Rattle.tree_law.proofs.Words.{[], refl, None, List, true, ◌++◌, inr, ◌∷◌, subst, sym, ℕ, ◌≡◌, Bool, arith, ◌+◌, ◌==◌, ◌*◌, lit<, eqb-true, bit_at, if◌then◌else◌, Number, RowBits, MayReply}
+use Rattle.tree_law.proofs.Words.{[], refl, None, List, ◌++◌, inr, ◌∷◌, ℕ, ◌≡◌, Bool, arith, ◌+◌, ◌==◌, ◌*◌, lit<, eqb-true, bit_at, if◌then◌else◌, Number, RowBits, MayReply}
 use Rattle.tree_law.proofs.Words.{LacksRoom, IsDisciplined, knows, Knowledge, IsWordOf, memory_of, Entry, Step, all_below-at, small, insert_a, takes, enters}
 use Rattle.bw_model.specs.declared.command.Reply.TheVariants as reply
 use Rattle.tree_law.specs.NoRoom.{no_room}
@@ -21,7 +21,7 @@ none_free =
     }
 
 lacks : LacksRoom small at_last
-lacks = inr (λ word lt. let zero : word ≡ 0 = omega arith in subst (λ w. at_last.asked.no_rows w ≡ true) (sym zero) refl)
+lacks = inr (λ word lt. let zero : word ≡ 0 = omega arith in rw zero refl)
 
 full : MayReply small 0 at_last reply.Full
 full = record { command = insert_a; going = refl; justified = inr (inr (inr (record { is = refl; writes = refl; unlinked = refl; lacks = lacks }))) }

@@ -165,8 +165,8 @@ disciplined before entries turn same owed = stand entries before (turn, same, ow
 
 -- the parts of a trace
 pub joined : (limits : Limits) (before first second : List Entry) → IsDisciplinedFrom limits before first → IsDisciplinedFrom limits (before ++ first) second → IsDisciplinedFrom limits before (first ++ second)
-joined limits before [] second h i = subst (λ entries. IsDisciplinedFrom limits entries second) (append-nil before) i
-joined limits before (entry ∷ first) second h i = (h.0, joined limits (before ++ entry ∷ []) first second h.1 (subst (λ entries. IsDisciplinedFrom limits entries second) (sym (append_assoc before (entry ∷ []) first)) i))
+joined limits before [] second h i = rw (append-nil before) at i
+joined limits before (entry ∷ first) second h i = (h.0, joined limits (before ++ entry ∷ []) first second h.1 (rw (append_assoc before (entry ∷ []) first) i))
 
 -- one after another
 pub ◌▸◌ : {A B : Type 0} → A → B → A × B

@@ -1,5 +1,5 @@
 -- Each step of the sweep is allowed.
-use Rattle.tree_law.proofs.Words.{false, ◌⊎◌, [], ap, refl, true, inl, ◌++◌, inr, ◌∷◌, subst, sym, ℕ, ◌≡◌, Bool, ◌∙◌, ◌<◌, arith, take, ⊎_elim, ◌==◌, lit<, eqb-true, bit_at, ◌||◌, not, is_among}
+use Rattle.tree_law.proofs.Words.{false, ◌⊎◌, [], ap, refl, true, inl, ◌++◌, inr, ◌∷◌, ℕ, ◌≡◌, Bool, ◌∙◌, ◌<◌, arith, take, ◌==◌, lit<, eqb-true, bit_at, ◌||◌, not, is_among}
 use Rattle.tree_law.proofs.Words.{ReuseRows, ReusePids, replaced_at, IsPassed, MayFree, IsDisciplined, knows, Knowledge, Empty, LimboMark, Stamped, and_right, and_left, all_below-at, small, all_links}
 use Rattle.std.proofs.Common.{◌/◌, ◌%◌}
 use Rattle.tree_law.specs.Sweep.{sweep}
@@ -26,11 +26,11 @@ among bits i j k n each e =
     let high : n / 64 ≡ 0 = eqb-true (n / 64) 0 (and_left (n / 64 == 0) (bit_at bits (n % 64) == 1) e) in
     let within : n % 64 < 64 = omega arith in
     let same : n % 64 ≡ n = omega arith in
-    subst (λ m. (m ≡ i) ⊎ (m ≡ j) ⊎ (m ≡ k)) same (one_of (n % 64) i j k (implied (bit_at bits (n % 64) == 1) ((n % 64 == i) || ((n % 64 == j) || (n % 64 == k))) (each (n % 64) within) (and_right (n / 64 == 0) (bit_at bits (n % 64) == 1) e)))
+    rw same at (one_of (n % 64) i j k (implied (bit_at bits (n % 64) == 1) ((n % 64 == i) || ((n % 64 == j) || (n % 64 == k))) (each (n % 64) within) (and_right (n / 64 == 0) (bit_at bits (n % 64) == 1) e)))
 
 -- what is stamped, and passed by the only other actor, may be freed
 passed_at : (limbo : ℕ → LimboMark) (n k : ℕ) (passed : ℕ → Bool) → n ≡ k → limbo k ≡ Stamped 1 passed → passed 1 ≡ true → IsPassed small 0 (limbo n)
-passed_at limbo n k passed e is past = record { epoch = 1; passed = passed; stamped = ap limbo e ∙ is; all = λ other lt ne. let one : other ≡ 1 = omega arith in subst (λ j. passed j ≡ true) (sym one) past }
+passed_at limbo n k passed e is past = record { epoch = 1; passed = passed; stamped = ap limbo e ∙ is; all = λ other lt ne. let one : other ≡ 1 = omega arith in rw one past }
 
 -- what the actor knows before entry n of the sweep
 abbrev before : ℕ → Knowledge
@@ -41,13 +41,16 @@ abbrev looked_at : ℕ → Bool
 looked_at = replaced_at 1 true (λ actor. false)
 
 frees_rows : MayFree small 0 (before 4) (ReuseRows 0 1160)
-frees_rows row e = ⊎_elim (λ (u : row ≡ 3). passed_at (before 4).limbo.rows row 3 looked_at u refl refl)
-    (λ u. ⊎_elim (λ (v : row ≡ 7). passed_at (before 4).limbo.rows row 7 looked_at v refl refl) (λ (v : row ≡ 10). passed_at (before 4).limbo.rows row 10 looked_at v refl refl) u)
-    (among 1160 3 7 10 row (λ m lt. all_below-at (λ m. not (bit_at 1160 m == 1) || ((m == 3) || ((m == 7) || (m == 10)))) 64 refl m lt) e)
+frees_rows row e = elim (among 1160 3 7 10 row (λ m lt. all_below-at (λ m. not (bit_at 1160 m == 1) || ((m == 3) || ((m == 7) || (m == 10)))) 64 refl m lt) e) [
+  | inl u ↦ passed_at (before 4).limbo.rows row 3 looked_at u refl refl
+  | inr u ↦ elim u [ inl v ↦ passed_at (before 4).limbo.rows row 7 looked_at v refl refl | inr v ↦ passed_at (before 4).limbo.rows row 10 looked_at v refl refl ]
+]
 
 frees_page : MayFree small 0 (before 5) (ReusePids 0 4)
-frees_page page e = let two : page ≡ 2 = ⊎_elim (λ (u : page ≡ 2). u) (λ u. ⊎_elim (λ (v : page ≡ 2). v) (λ (v : page ≡ 2). v) u)
-    (among 4 2 2 2 page (λ m lt. all_below-at (λ m. not (bit_at 4 m == 1) || ((m == 2) || ((m == 2) || (m == 2)))) 64 refl m lt) e) in
+frees_page page e = let two : page ≡ 2 = elim (among 4 2 2 2 page (λ m lt. all_below-at (λ m. not (bit_at 4 m == 1) || ((m == 2) || ((m == 2) || (m == 2)))) 64 refl m lt) e) [
+  | inl u ↦ u
+  | inr u ↦ elim u [ inl v ↦ v | inr v ↦ v ]
+] in
     passed_at (before 5).limbo.pids page 2 looked_at two refl refl
 
 -- it frees what it took out, enters the new epoch, and takes the page and a row again

@@ -1,7 +1,7 @@
 -- Each level is a whole side chain, and each level above the leaves has just the terms of the pages under it.
-use Rattle.tree_law.proofs.Words.{[], ap, Option, suc, None, List, inl, ◌≤◌, ◌∷◌, subst, sym, ℕ, ◌≡◌, Bool, ◌∙◌, arith, Some, map, ⊎_elim, same_Some, IsTrue, Update, ContentOf, Child, Memory, Record}
-use Rattle.tree_law.proofs.Words.{IsChainOf-unique, IsChainOf, content_in, low_in, level_in, high_in, covers, Knowledge, LivePage, HasMark, IsIndexed, Key, IsUpTo, Covers, IsUnder, Owners, IsOut}
-use Rattle.tree_law.proofs.Words.{Placed, Indexed, rank, Merged, Stage, shared, Shared, IsTree, spec, Level, Off, SidePage, InPlace, IsPart}
+use Rattle.tree_law.proofs.Words.{[], ap, Option, suc, None, List, inl, ◌≤◌, ◌∷◌, sym, ℕ, ◌≡◌, Bool, ◌∙◌, arith, Some, map, same_Some, Update, ContentOf, Child, Memory, Record}
+use Rattle.tree_law.proofs.Words.{IsChainOf-unique, content_in, low_in, level_in, high_in, Knowledge, LivePage, HasMark, IsIndexed, Key, Covers, IsUnder, Owners}
+use Rattle.tree_law.proofs.Words.{Placed, Indexed, rank, Stage, shared, Shared, IsTree, spec, Level, SidePage, InPlace, IsPart, inr}
 use Rattle.tree_law.specs.Indexed.{HasTermAt, IsPageIn}
 use Rattle.tree_law.proofs.shape.KeyOrder.{empty_lowest, covers_from, covers_to}
 use Rattle.tree_law.proofs.links.Keeping.{on_or_merged}
@@ -12,26 +12,25 @@ placed_low : (st st' : Stage) (l l' : ℕ) (s s' : Key) → Placed st l s ≡ Pl
 placed_low st st' l l' s s' e = cc
 
 pub first_page : (o : Owners) (m : Shared) (lv : ℕ) (mp : Key → Option ContentOf) (gs : List SidePage) (p : ℕ) (low : Key) → IsPart o m lv mp gs (Some p) (Some low) None None → (g : SidePage) × (g.page ≡ p) × (low_in g.chain ≡ low) × InPlace o m lv mp g
-first_page o m lv mp [] p low h = absurd (let e = h.0 in cc)
+first_page o m lv mp [] p low h = absurd (cc h.0)
 first_page o m lv mp (g ∷ gs) p low h = (g, sym (same_Some p g.page h.0), sym (same_Some low (low_in g.chain) h.1), h.2)
 
 module _ (memory : Memory) {log : List Update} {o : Owners} {knows : ℕ → Knowledge} {point : ℕ → Option (List Update)} {logs : ℕ → List (List Update)} (g : IsTree (shared memory) log o knows point logs) where
   -- the page of a PID in the tree
   page_at : (q l : ℕ) (s : Key) (st : Stage) → o.page q ≡ Placed st l s → IsPageIn memory l s q
-  page_at q l s st e = ⊎_elim
-      (λ (on : rank st ≤ 3).
-      let t = g.tree.levels l (g.tree.exact.below q l s st e) in
-      let f = locate o (shared memory) l (spec log o.index l) t.side (Some (g.tree.first l)) (Some []) None None q t.whole (t.listed q s st e on) in (
-        f.page.chain,
-        subst (λ (n : ℕ). IsChainOf memory n f.page.chain) f.is (chain_of memory o l (spec log o.index l) f.page f.here),
-        f.here.is_page.on_level,
-        placed_low f.here.stage st l l (low_in f.page.chain) s (sym f.here.placed ∙ ap o.page f.is ∙ e),
-      ))
-      (λ (m : st ≡ Merged). ⊎_elim
-      (λ (u : IsOut (o.page q) ((shared memory).slots q)). absurd (let f = sym e ∙ u.1.3 in cc))
-      (λ (u : Off o (shared memory) q l s). (u.chain, chain_at memory q u.row u.chain u.head u.is_chain, u.level, u.low))
-      (g.tree.off q l s (inl (e ∙ ap (λ v. Placed v l s) m))))
-      (on_or_merged st)
+  page_at q l s st e = elim (on_or_merged st) [
+    | inl on ↦ let t = g.tree.levels l (g.tree.exact.below q l s st e) in
+        let f = locate o (shared memory) l (spec log o.index l) t.side (Some (g.tree.first l)) (Some []) None None q t.whole (t.listed q s st e on) in (
+          f.page.chain,
+          rw f.is at (chain_of memory o l (spec log o.index l) f.page f.here),
+          f.here.is_page.on_level,
+          placed_low f.here.stage st l l (low_in f.page.chain) s (sym f.here.placed ∙ ap o.page f.is ∙ e),
+        )
+    | inr m ↦ elim (g.tree.off q l s (inl (e ∙ ap (λ v. Placed v l s) m))) [
+      | inl u ↦ absurd (cc u.1.3)
+      | inr u ↦ (u.chain, chain_at memory q u.row u.chain u.head u.is_chain, u.level, u.low)
+    ]
+  ]
 
   module _ (l : ℕ) (le : suc l ≤ g.tree.top) where
     abbrev above : Level o (shared memory) (suc l) (o.index l) (g.tree.first (suc l))
@@ -41,7 +40,7 @@ module _ (memory : Memory) {log : List Update} {o : Owners} {knows : ℕ → Kno
     posted key child held (page, contains, inside, content) =
         let f = among memory o (suc l) (o.index l) above.side (Some (g.tree.first (suc l))) (Some []) above.whole page contains in
         let chain : f.0.chain ≡ page.chain = ap (λ (q : LivePage). q.chain) f.1 in
-        let is : content_in f.0.chain key ≡ o.index l key = f.2.is_page.same key (covers_from f.0.chain key (subst (λ (c : List Record). IsTrue (covers c key)) (sym chain) inside)) in
+        let is : content_in f.0.chain key ≡ o.index l key = f.2.is_page.same key (covers_from f.0.chain key (rw chain inside)) in
         let n = (g.tree.exact.named l key (Child child held) (sym is ∙ ap (λ c. content_in c key) chain ∙ content)).1 in
         (page_at child l key n.0 n.1, (n.0, l, key, n.1, n.2))
 
@@ -58,7 +57,7 @@ module _ (memory : Memory) {log : List Update} {o : Owners} {knows : ℕ → Kno
       let front : (l : ℕ) (le : l ≤ g.tree.top) → (f : SidePage) × (f.page ≡ g.tree.first l) × (low_in f.chain ≡ []) × InPlace o (shared memory) l (spec log o.index l) f =
       λ l le. first_page o (shared memory) l (spec log o.index l) (g.tree.levels l le).side (g.tree.first l) [] (g.tree.levels l le).whole in
       let from_empty : (c : List Record) → low_in c ≡ [] → IsUnder (low_in c) (high_in c) → Covers c [] =
-      λ c e some. record { low = subst (λ (k : Key). IsUpTo k []) (sym e) (empty_lowest []); high = subst (λ (k : Key). IsUnder k (high_in c)) e some } in
+      λ c e some. record { low = rw e (empty_lowest []); high = rw e at some } in
       record {
         top = g.tree.top;
         first = g.tree.first;

@@ -1,9 +1,9 @@
 -- A step keeps the first page of each level, and adds at most one level on top.
-use Rattle.tree_law.proofs.Words.{false, ◌⊎◌, [], ap, Option, suc, List, true, inl, ◌≢◌, ◌≤◌, inr, subst, sym, ℕ, ◌≡◌, zero, ◌∙◌, arith, Update, is_among, Answer, Whether, StepOf, ReusePids, TakePid}
+use Rattle.tree_law.proofs.Words.{false, ◌⊎◌, ap, Option, suc, List, true, inl, ◌≢◌, ◌≤◌, inr, sym, ℕ, ◌≡◌, zero, ◌∙◌, arith, Update, is_among, Answer, Whether, StepOf, ReusePids, TakePid}
 use Rattle.tree_law.proofs.Words.{Exchange, Memory, Record, Remove, Hold, Split, Merge, Term, Unterm, Knowledge, IsAnswer, IsFirst, Key, Owners, Nobody, Placed, Indexed, PageOwner, Cleared, Keeps}
-use Rattle.tree_law.proofs.Words.{Fresh, rank, Removed, Held, Merged, Stage, Phased, LinkMoves, Exchanged, put, shared, Shared, IsTree}
+use Rattle.tree_law.proofs.Words.{Fresh, rank, Removed, Held, Merged, Stage, Phased, LinkMoves, Exchanged, put, shared, Shared, IsTree, [], nat_tests, eqb}
 use Rattle.tree_law.proofs.shape.Exactness.{is_indexed, below_top, root_indexed}
-use Rattle.tree_law.proofs.shape.Puts.{by_test, put_same, put_other, decided}
+use Rattle.tree_law.proofs.shape.Puts.{by_equal, put_same, put_other, decided, eqb_apart}
 use Rattle.tree_law.proofs.shape.Sides.{placed_level}
 
 -- A page on a side chain is there afterwards, at its place, or was merged, and then nothing else was changed.
@@ -16,22 +16,20 @@ Grown f l = (p : ℕ) × (st : Stage) × (below : ℕ) × (s : Key) × (f p ≡ 
 
 module _ (f f' : ℕ → PageOwner) where
   unchanged : (q l : ℕ) (s : Key) (st : Stage) → f q ≡ Placed st l s → rank st ≤ 3 → f' ≡ f → Stays f f' q l s
-  unchanged q l s st at on e = inl (st, ap (λ (k : ℕ → PageOwner). k q) e ∙ at, on)
+  unchanged q l s st at on e = inl (st, rw e at, on)
 
   -- one page goes to a next stage that is still on the side chain
   staged : (q l : ℕ) (s : Key) (st : Stage) (p lp : ℕ) (sp : Key) (from to : Stage) → f q ≡ Placed st l s → rank st ≤ 3 → f p ≡ Placed from lp sp → rank to ≤ 3 → f' ≡ put f p (Placed to lp sp) → Stays f f' q l s
-  staged q l s st p lp sp from to at on was next e = by_test q p (λ t. Stays f f' q l s)
-      (λ i.
-      let here : f p ≡ Placed st l s = ap f (sym i) ∙ at in
-      inl (to, ap (λ (k : ℕ → PageOwner). k q) e ∙ ap (put f p (Placed to lp sp)) i ∙ put_same f p (Placed to lp sp) ∙ cc, next))
-      (λ ne. inl (st, ap (λ (k : ℕ → PageOwner). k q) e ∙ put_other f p (Placed to lp sp) q ne ∙ at, on))
+  staged q l s st p lp sp from to at on was next e = by_equal q p
+      (λ i t. inl (to, rw (e, t) (grind (arith, nat_tests)), next))
+      (λ ne t. inl (st, rw (e, t) at, on))
 
   -- a page that was on no side chain is changed
   elsewhere : (q l : ℕ) (s : Key) (st : Stage) (p : ℕ) (to : PageOwner) → f q ≡ Placed st l s → rank st ≤ 3 → (f p ≡ Placed st l s → ⊥) → f' ≡ put f p to → Stays f f' q l s
-  elsewhere q l s st p to at on not e = inl (st, ap (λ (k : ℕ → PageOwner). k q) e ∙ put_other f p to q (λ i. not (ap f (sym i) ∙ at)) ∙ at, on)
+  elsewhere q l s st p to at on not e = inl (st, rw e (put_other f p to q (λ i. not (ap f (sym i) ∙ at)) ∙ at), on)
 
   not_merged : (st : Stage) (l l' : ℕ) (s s' : Key) → rank st ≤ 3 → Placed Merged l' s' ≡ Placed st l s → ⊥
-  not_merged st l l' s s' on e = let i : st ≡ Merged = cc in absurd (let n : rank Merged ≤ 3 = subst (λ t. rank t ≤ 3) i on in omega arith)
+  not_merged st l l' s s' on e = let i : st ≡ Merged = cc in absurd (let n : rank Merged ≤ 3 = rw i at on in omega arith)
 
   module _ (m : Shared) (a : ℕ) where
     by_links : (w : Record) (p : ℕ) → LinkMoves m a w p f f' → (q l : ℕ) (s : Key) (st : Stage) → f q ≡ Placed st l s → rank st ≤ 3 → Stays f f' q l s
@@ -40,33 +38,24 @@ module _ (f f' : ℕ → PageOwner) where
     by_links (Unterm unterm) p h q l s st at on = elsewhere q l s st unterm.child (Cleared a h.0 unterm.separator) at on (λ e. not_merged st l h.0 s unterm.separator on (sym h.1 ∙ e)) h.2
     by_links (Split split) p h q l s st at on = elsewhere q l s st split.page (Placed Fresh h.1 split.separator) at on (λ e. let g = h.4 in absurd (cc)) h.5
     by_links (Remove remove) p h q l s st at on = staged q l s st p h.0 h.1 Held Removed at on h.2 (omega arith) h.3
-    by_links (Merge merge) p h q l s st at on = by_test q h.0 (λ t. Stays f f' q l s)
-        (λ i.
-        let here : f h.0 ≡ Placed st l s = ap f (sym i) ∙ at in
-        let was : f h.0 ≡ Placed Removed h.1 merge.low = h.2 in
-        inr (h.3 ∙ ap (λ n. put f n (Placed Merged h.1 merge.low)) (sym i) ∙ ap (λ v. put f q v) cc))
-        (λ ne. inl (st, ap (λ (k : ℕ → PageOwner). k q) h.3 ∙ put_other f h.0 (Placed Merged h.1 merge.low) q ne ∙ at, on))
+    by_links (Merge merge) p h q l s st at on = by_equal q h.0
+        (λ i t. let here : Placed Removed h.1 merge.low ≡ Placed st l s = sym h.2 ∙ ap f (sym i) ∙ at in inr (h.3 ∙ ap (λ n. put f n (Placed Merged h.1 merge.low)) (sym i) ∙ ap (put f q) cc))
+        (λ ne t. inl (st, rw (h.3, t) at, on))
     by_links w p h q l s st at on = unchanged q l s st at on h
 
     by_root : (x y : ℕ) → Exchanged a m zero x y f f' → (q l : ℕ) (s : Key) (st : Stage) → f q ≡ Placed st l s → rank st ≤ 3 → Stays f f' q l s
-    by_root x y h q l s st at on = by_test q h.0 (λ t. Stays f f' q l s)
-        (λ i.
-        let here : f h.0 ≡ Placed st l s = ap f (sym i) ∙ at in
-        let was : f h.0 ≡ Placed Fresh h.1 h.2 = h.4 in
-        inl (Indexed, rest ∙ ap (put f h.0 (Placed Indexed h.1 h.2)) i ∙ put_same f h.0 (Placed Indexed h.1 h.2) ∙ cc, omega arith))
-        (λ ne. inl (st, rest ∙ put_other f h.0 (Placed Indexed h.1 h.2) q ne ∙ at, on))
-      where
-        rest : f' q ≡ put f h.0 (Placed Indexed h.1 h.2) q
-        rest = ap (λ (k : ℕ → PageOwner). k q) h.6 ∙ put_other (put f h.0 (Placed Indexed h.1 h.2)) y (Placed Indexed (suc h.1) []) q (λ i. let e : f q ≡ Keeps a = ap f i ∙ h.5 in absurd (cc))
+    by_root x y h q l s st at on =
+        let other : eqb q y ≡ false = eqb_apart q y (λ i. let e : f q ≡ Keeps a = ap f i ∙ h.5 in absurd (cc)) in
+        by_equal q h.0
+        (λ i t. let here : Placed Fresh h.1 h.2 ≡ Placed st l s = sym h.4 ∙ ap f (sym i) ∙ at in inl (Indexed, rw (h.6, other, t) cc, omega arith))
+        (λ ne t. inl (st, rw (h.6, other, t) at, on))
 
     -- backwards
     was_there : (q l : ℕ) (s : Key) (st : Stage) → f' q ≡ Placed st l s → f' ≡ f → Grown f l
-    was_there q l s st at e = (q, st, l, s, ap (λ (k : ℕ → PageOwner). k q) (sym e) ∙ at, omega arith)
+    was_there q l s st at e = (q, st, l, s, rw e at at, omega arith)
 
     put_back : (q l : ℕ) (s : Key) (st : Stage) (p : ℕ) (to : PageOwner) → f' q ≡ Placed st l s → f' ≡ put f p to → (to ≡ Placed st l s → Grown f l) → Grown f l
-    put_back q l s st p to at e here = by_test q p (λ t. Grown f l)
-        (λ i. here (sym (ap (λ (k : ℕ → PageOwner). k q) e ∙ ap (put f p to) i ∙ put_same f p to) ∙ at))
-        (λ ne. (q, st, l, s, sym (ap (λ (k : ℕ → PageOwner). k q) e ∙ put_other f p to q ne) ∙ at, omega arith))
+    put_back q l s st p to at e here = by_equal q p (λ i t. here (rw (e, t) at at)) (λ ne t. (q, st, l, s, rw (e, t) at at, omega arith))
 
     from : (q l : ℕ) (s : Key) (st : Stage) (lp : ℕ) (sp sf : Key) (sto sfrom : Stage) (p : ℕ) → f p ≡ Placed sfrom lp sf → Placed sto lp sp ≡ Placed st l s → Grown f l
     from q l s st lp sp sf sto sfrom p was e = (p, sfrom, lp, sf, was, let i : lp ≡ l = (placed_level sto st lp l sp s e).0 in omega arith)
@@ -81,16 +70,11 @@ module _ (f f' : ℕ → PageOwner) where
     links_back w p h q l s st at = was_there q l s st at h
 
     root_back : (x y : ℕ) → Exchanged a m zero x y f f' → (q l : ℕ) (s : Key) (st : Stage) → f' q ≡ Placed st l s → Grown f l
-    root_back x y h q l s st at = by_test q y (λ t. Grown f l)
-        (λ i.
-        let now : f' q ≡ Placed Indexed (suc h.1) [] = ap (λ (k : ℕ → PageOwner). k q) h.6 ∙ ap (put (put f h.0 (Placed Indexed h.1 h.2)) y (Placed Indexed (suc h.1) [])) i ∙ put_same (put f h.0 (Placed Indexed h.1 h.2)) y (Placed Indexed (suc h.1) []) in
-        let is : suc h.1 ≡ l = (placed_level Indexed st (suc h.1) l [] s (sym now ∙ at)).0 in
-        (x, Indexed, h.1, [], h.3, omega arith))
-        (λ ne.
-        let rest : f' q ≡ put f h.0 (Placed Indexed h.1 h.2) q = ap (λ (k : ℕ → PageOwner). k q) h.6 ∙ put_other (put f h.0 (Placed Indexed h.1 h.2)) y (Placed Indexed (suc h.1) []) q ne in
-        by_test q h.0 (λ t. Grown f l)
-        (λ i. from q l s st h.1 h.2 h.2 Indexed Fresh h.0 h.4 (sym (rest ∙ ap (put f h.0 (Placed Indexed h.1 h.2)) i ∙ put_same f h.0 (Placed Indexed h.1 h.2)) ∙ at))
-        (λ other. (q, st, l, s, sym (rest ∙ put_other f h.0 (Placed Indexed h.1 h.2) q other) ∙ at, omega arith)))
+    root_back x y h q l s st at = by_equal q y
+        (λ i t. let is : suc h.1 ≡ l = (placed_level Indexed st (suc h.1) l [] s (rw (h.6, t) at at)).0 in (x, Indexed, h.1, [], h.3, omega arith))
+        (λ ne t. by_equal q h.0
+        (λ i u. from q l s st h.1 h.2 h.2 Indexed Fresh h.0 h.4 (rw (h.6, t, u) at at))
+        (λ other u. (q, st, l, s, rw (h.6, t, u) at at, omega arith)))
 
 -- what each step does, by its phases
 module _ (m : Memory) {log : List Update} {o : Owners} {knows : ℕ → Knowledge} {point : ℕ → Option (List Update)} {logs : ℕ → List (List Update)} (g : IsTree (shared m) log o knows point logs) (a : ℕ) (s : StepOf Record) (x : Answer Record) (is : IsAnswer m s x) (f' : ℕ → PageOwner) where
@@ -110,8 +94,8 @@ module _ (m : Memory) {log : List Update} {o : Owners} {knows : ℕ → Knowledg
       go (Exchange p old new) (Whether false) e ph' = unchanged o.page f' q l low st at on ph'
       go (TakePid p) (Whether false) e ph' = unchanged o.page f' q l low st at on ph'
       go (ReusePids word bits) y e ph' = elim (decided (is_among word bits q)) [ inl k ↦ absurd (let v = (ph' q).0 k in let f = sym at ∙ v.3 in cc) | inr k ↦ inl (st, (ph' q).1 k ∙ at, on) ]
-      go (Exchange p old new) y e ph' = absurd (let f = e in cc)
-      go (TakePid p) y e ph' = absurd (let f = e in cc)
+      go (Exchange p old new) y e ph' = absurd (cc)
+      go (TakePid p) y e ph' = absurd (cc)
       go t y e ph' = unchanged o.page f' q l low st at on ph'
 
   grown_by_one : Phased a (shared m) s x o.page f' → (q l : ℕ) (low : Key) (st : Stage) → f' q ≡ Placed st l low → Grown o.page l
@@ -130,8 +114,8 @@ module _ (m : Memory) {log : List Update} {o : Owners} {knows : ℕ → Knowledg
       go (Exchange p old new) (Whether false) e ph' = same ph'
       go (TakePid p) (Whether false) e ph' = same ph'
       go (ReusePids word bits) y e ph' = elim (decided (is_among word bits q)) [ inl k ↦ absurd (let v = (ph' q).0 k in let f = sym at ∙ v.4 in cc) | inr k ↦ (q, st, l, low, sym ((ph' q).1 k) ∙ at, omega arith) ]
-      go (Exchange p old new) y e ph' = absurd (let f = e in cc)
-      go (TakePid p) y e ph' = absurd (let f = e in cc)
+      go (Exchange p old new) y e ph' = absurd (cc)
+      go (TakePid p) y e ph' = absurd (cc)
       go t y e ph' = same ph'
 
 -- from one memory that meets the invariant to the next

@@ -1,11 +1,11 @@
 -- The chain of each linked row stays a page's chain.
-use Rattle.tree_law.proofs.Words.{◌⊎◌, [], refl, cond, Option, None, List, inl, length, ◌≤◌, inr, ◌∷◌, subst, sym, ℕ, ◌≡◌, arith, Some, All-from_recursion, IfSome, MatchOption, Limits, IsPage-from}
+use Rattle.tree_law.proofs.Words.{◌⊎◌, refl, Option, None, List, inl, length, ◌≤◌, inr, ◌∷◌, subst, ℕ, ◌≡◌, arith, Some, All-from_recursion, IfSome, MatchOption, Limits, IsPage-from}
 use Rattle.tree_law.proofs.Words.{empty_leaf, IsRuled, Item, opening, next_row, IsSpellablePage, HasPid, Record, Base, IsChainFrom-unique, IsChainFrom, FitsOn, IsFitted, FitsOver, AreFitted, IsAdded}
-use Rattle.tree_law.proofs.Words.{Free, Linked, Owners, IsChain, IsClosed, Shared}
+use Rattle.tree_law.proofs.Words.{Linked, Owners, IsChain, IsClosed, Shared, []}
 use Rattle.std.specs.List.Sorted.{IsStrictlySortedBy}
 use Rattle.chain_search.specs.chain.Fitted.{IsPageChain}
 use Rattle.tree_law.proofs.trace.Opening.{opening_owners}
-use Rattle.tree_law.proofs.shape.Puts.{by_test}
+use Rattle.tree_law.proofs.shape.Puts.{by_equal}
 use Rattle.tree_law.proofs.shape.Rows.{chain_was}
 
 -- one more delta over a page's chain
@@ -16,7 +16,7 @@ grown w (v ∷ c) fits short p = record { fitted = (fits, p.fitted); short = ome
 -- what fits over nothing, or over a page's chain, makes one
 page_chain : (w : Record) (under : List Record) → FitsOn under w → MatchOption (next_row w) (under ≡ []) (λ n. IsPageChain under) → IsPageChain (w ∷ under)
 page_chain w under fits below = elim (next_row w) as (λ n. MatchOption n (IsFitted (w ∷ [])) (λ next. FitsOver under w × (length under ≤ 12)) → MatchOption n (under ≡ []) (λ n. IsPageChain under) → IsPageChain (w ∷ under)) [
-  | None ↦ λ f e. subst (λ c. IsPageChain (w ∷ c)) (sym e) (record { fitted = f; short = omega arith })
+  | None ↦ λ f e. rw e (record { fitted = f; short = omega arith })
   | Some n ↦ λ f p. grown w under f.0 f.1 p
 ] fits below
 
@@ -40,7 +40,7 @@ empty_stands : IsSpellablePage empty_leaf
 empty_stands = record { ruled = empty_ruled; alive = refl; right = tt; children = All-from_recursion (λ (item : Item). HasPid item.content) [] tt }
 
 pub opening_fitted : (limits : Limits) → AreFitted (opening_owners limits) (opening limits).rows
-opening_fitted limits row l c h = by_test row 1 (λ t. cond t Linked Free ≡ Linked → IsPageChain c) (λ i e. first (subst (λ r. IsChainFrom (opening limits).rows r c) i h)) (λ ne e. absurd (cc)) l
+opening_fitted limits row l c h = by_equal row 1 (λ i t. first (rw i at h)) (λ ne t. absurd (let e = rw t at l in cc))
   where
     first : IsChainFrom (opening limits).rows 1 c → IsPageChain c
     first at = subst IsPageChain (IsChainFrom-unique (opening limits).rows 1 (Base empty_leaf ∷ []) c (refl, refl) at) (record { fitted = (empty_leaf, refl, empty_stands); short = omega arith })

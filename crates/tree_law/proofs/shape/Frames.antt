@@ -1,8 +1,8 @@
 -- What a step touches was free or its actor's own: so all else stays.
-use Rattle.tree_law.proofs.Words.{false, ◌⊎◌, [], ap, refl, cond, Option, suc, None, List, true, inl, ◌≢◌, ◌≤◌, inr, ◌∷◌, subst, sym, ℕ, ◌≡◌, Bool, ◌∙◌, arith, Some, ⊎_elim, same_Some, IfSome, Update}
+use Rattle.tree_law.proofs.Words.{false, ◌⊎◌, ap, refl, Option, suc, None, List, true, inl, ◌≢◌, ◌≤◌, inr, ◌∷◌, subst, sym, ℕ, ◌≡◌, Bool, ◌∙◌, arith, Some, same_Some, IfSome, Update}
 use Rattle.tree_law.proofs.Words.{next_row, Record, content_in, low_in, is_removed, level_in, Key, Covers, Free, Linked, Owners, Reached, Spare, IsOut, IsLinked, Owner, HeadFits, OrderFits, IsChain}
-use Rattle.tree_law.proofs.Words.{IsClosed, IsCleared, SpellsLog, Knows, leaf_map, SeenFits, Forward, Nobody, Placed, PageOwner, Cleared, Keeps, rank, Merged, Stage, put, Shared}
-use Rattle.tree_law.proofs.shape.Puts.{by_test}
+use Rattle.tree_law.proofs.Words.{IsClosed, IsCleared, SpellsLog, Knows, leaf_map, SeenFits, Forward, Nobody, Placed, PageOwner, Cleared, Keeps, rank, Merged, Stage, put, Shared, []}
+use Rattle.tree_law.proofs.shape.Puts.{by_equal}
 use Rattle.tree_law.proofs.shape.Chains.{chain_unique, chain_within}
 use Rattle.tree_law.proofs.shape.Kept.{chain_kept, Kept, Spared}
 
@@ -26,10 +26,10 @@ pub record Change (a : ℕ) (o o' : Owners) (m m' : Shared) : Type 0 where
   pub page : (p : ℕ) → PageChange a o m m' (o.page p) (o'.page p) (m.slots p) (m'.slots p)
 
 not_reached : (r l : ℕ) (s : Key) (w : PageOwner) (a : ℕ) → w ≡ Keeps a → Reached r l s w → ⊥
-not_reached r l s w a e h = subst (λ (v : PageOwner). Reached r l s v) e h
+not_reached r l s w a e h = rw e at h
 
 nobody_reached : (r l : ℕ) (s : Key) (w : PageOwner) → w ≡ Nobody → Reached r l s w → ⊥
-nobody_reached r l s w e h = subst (λ (v : PageOwner). Reached r l s v) e h
+nobody_reached r l s w e h = rw e at h
 
 pub kept_change : (a : ℕ) (o o' : Owners) (m m' : Shared) → Change a o o' m m' → Kept o o' m m'
 kept_change a o o' m m' c = record {
@@ -48,17 +48,17 @@ kept_change a o o' m m' c = record {
 
     staged : (w n : PageOwner) (st st' : Stage) (lv : ℕ) (low : Key) → w ≡ Placed st lv low → n ≡ Placed st' lv low → rank st ≤ rank st' → Forward w n
     staged w n st st' lv low e f le r l s h =
-        let i = subst (λ (v : PageOwner). Reached r l s v) e h in
+        let i = rw e at h in
         subst (λ (v : PageOwner). Reached r l s v) (sym f) (i.0, i.1, (let j = i.2 in let g : r ≤ rank st' = omega arith in g))
 
     page : (w n : PageOwner) (u v : Option ℕ) → PageChange a o m m' w n u v → Forward w n
     page w n u v (page_free e) r l s h = absurd (nobody_reached r l s w e h)
     page w n u v (page_own e) r l s h = absurd (not_reached r l s w a e h)
-    page w n u v (page_same e f) r l s h = subst (λ (v : PageOwner). Reached r l s v) (sym e) h
+    page w n u v (page_same e f) r l s h = rw e h
     page w n u v (page_stage st st' lv low e f le i) r l s h = staged w n st st' lv low e f le r l s h
     page w n u v (page_link st st' lv low e f le x y d i j k z q) r l s h = staged w n st st' lv low e f le r l s h
-    page w n u v (page_clear lv low e f i g) r l s h = let i = subst (λ (v : PageOwner). Reached r l s v) e h in subst (λ (v : PageOwner). Reached r l s v) (sym f) (i.0, i.1)
-    page w n u v (page_gone lv low e f i) r l s h = subst (λ (v : PageOwner). Reached r l s v) (e ∙ sym f) h
+    page w n u v (page_clear lv low e f i g) r l s h = let i = rw e at h in subst (λ (v : PageOwner). Reached r l s v) (sym f) (i.0, i.1)
+    page w n u v (page_gone lv low e f i) r l s h = rw (e ∙ sym f) at h
 
     back : (w n : PageOwner) (u v : Option ℕ) (x l : ℕ) (s : Key) → PageChange a o m m' w n u v → Reached 0 l s w → o.row x ≡ Linked → v ≡ Some x → u ≡ Some x
     back w n u v x l s (page_free e) r lx i = absurd (nobody_reached 0 l s w e r)
@@ -67,7 +67,7 @@ kept_change a o o' m m' c = record {
     back w n u v x l s (page_stage st st' lv low e f le j) r lx i = sym j ∙ i
     back w n u v x l s (page_link st st' lv low e f le x' y d j k nr z q) r lx i = absurd (let same : y ≡ x = same_Some y x (sym z ∙ i) in let h = sym q ∙ ap o.row same ∙ lx in cc)
     back w n u v x l s (page_clear lv low e f j g) r lx i = sym j ∙ i
-    back w n u v x l s (page_gone lv low e f j) r lx i = absurd (let h = sym j ∙ i in cc)
+    back w n u v x l s (page_gone lv low e f j) r lx i = absurd (cc)
 
     frozen : (w n : PageOwner) (u v : Option ℕ) (x l : ℕ) (s : Key) (d : List Record) → PageChange a o m m' w n u v → Reached 0 l s w → u ≡ Some x → o.row x ≡ Linked → IsChain m.rows d (Some x) → is_removed d ≡ true → (v ≡ Some x) ⊎ IsOut n v
     frozen w n u v x l s d (page_free e) r i lx ch rm = absurd (nobody_reached 0 l s w e r)
@@ -76,30 +76,30 @@ kept_change a o o' m m' c = record {
     frozen w n u v x l s d (page_stage st st' lv low e f le j) r i lx ch rm = inl (j ∙ i)
     frozen w n u v x l s d (page_link st st' lv low e f le x' y d' j k nr z q) r i lx ch rm =
         absurd (let t : x' ≡ x = same_Some x' x (sym j ∙ i) in
-        let h : true ≡ false = sym rm ∙ ap is_removed (sym (chain_unique m.rows d' d (Some x) (subst (λ (b : ℕ). IsChain m.rows d' (Some b)) t k) ch)) ∙ nr in cc)
+        let h : true ≡ false = sym rm ∙ ap is_removed (sym (chain_unique m.rows d' d (Some x) (rw t at k) ch)) ∙ nr in cc)
     frozen w n u v x l s d (page_clear lv low e f j g) r i lx ch rm = inl (j ∙ i)
     frozen w n u v x l s d (page_gone lv low e f j) r i lx ch rm = inr (j, (a, lv, low, f))
 
     out : (w n : PageOwner) (u v : Option ℕ) → PageChange a o m m' w n u v → IsOut w u → IsOut n v
-    out w n u v (page_free e) i = absurd (let h = sym i.1.3 ∙ e in cc)
-    out w n u v (page_own e) i = absurd (let h = sym i.1.3 ∙ e in cc)
+    out w n u v (page_free e) i = absurd (cc i.1.3)
+    out w n u v (page_own e) i = absurd (cc i.1.3)
     out w n u v (page_same e f) i = (f ∙ i.0, (i.1.0, i.1.1, i.1.2, e ∙ i.1.3))
-    out w n u v (page_stage st st' lv low e f le j) i = absurd (let h = sym i.1.3 ∙ e in cc)
-    out w n u v (page_link st st' lv low e f le x' y d' j k nr z q) i = absurd (let h = sym i.1.3 ∙ e in cc)
-    out w n u v (page_clear lv low e f j g) i = absurd (let h = sym i.1.3 ∙ e in cc)
+    out w n u v (page_stage st st' lv low e f le j) i = absurd (cc i.1.3)
+    out w n u v (page_link st st' lv low e f le x' y d' j k nr z q) i = absurd (cc i.1.3)
+    out w n u v (page_clear lv low e f j g) i = absurd (cc i.1.3)
     out w n u v (page_gone lv low e f j) i = (j, (a, lv, low, f))
 
     clears : (w n : PageOwner) (u v : Option ℕ) (l : ℕ) (s : Key) (st : Stage) → PageChange a o m m' w n u v → w ≡ Placed st l s → IsCleared n
         → (f x : ℕ) (d : List Record) → o.row x ≡ Linked → IsChain m.rows d (Some x) → Reached 0 (level_in d) (low_in d) (o.page f) → is_removed d ≡ false → level_in d ≡ suc l → Covers d s → m.slots f ≡ Some x → m'.slots f ≡ Some x → ⊥
-    clears w n u v l s st (page_free e) i cl f x d lx ch r nr lv cv sx sx' = absurd (let h = sym e ∙ i in cc)
-    clears w n u v l s st (page_own e) i cl f x d lx ch r nr lv cv sx sx' = absurd (let h = sym e ∙ i in cc)
-    clears w n u v l s st (page_same e j) i cl f x d lx ch r nr lv cv sx sx' = absurd (let h = sym i ∙ sym e ∙ cl.3 in cc)
-    clears w n u v l s st (page_stage st' st'' l' low e j le z) i cl f x d lx ch r nr lv cv sx sx' = absurd (let h = sym j ∙ cl.3 in cc)
-    clears w n u v l s st (page_link st' st'' l' low e j le x' y d' z k nr' z' q) i cl f x d lx ch r nr lv cv sx sx' = absurd (let h = sym j ∙ cl.3 in cc)
+    clears w n u v l s st (page_free e) i cl f x d lx ch r nr lv cv sx sx' = absurd (cc)
+    clears w n u v l s st (page_own e) i cl f x d lx ch r nr lv cv sx sx' = absurd (cc)
+    clears w n u v l s st (page_same e j) i cl f x d lx ch r nr lv cv sx sx' = absurd (cc cl.3)
+    clears w n u v l s st (page_stage st' st'' l' low e j le z) i cl f x d lx ch r nr lv cv sx sx' = absurd (cc cl.3)
+    clears w n u v l s st (page_link st' st'' l' low e j le x' y d' z k nr' z' q) i cl f x d lx ch r nr lv cv sx sx' = absurd (cc cl.3)
     clears w n u v l s st (page_clear l' low e j z g) i cl f x d lx ch r nr lv cv sx sx' =
         let h : Placed Merged l' low ≡ Placed st l s = sym e ∙ i in let p : l ≡ l' = cc in let q : s ≡ low = cc in
-        g f x d lx ch r nr (lv ∙ ap suc p) (subst (λ (k : Key). Covers d k) q cv) sx sx'
-    clears w n u v l s st (page_gone l' low e j z) i cl f x d lx ch r nr lv cv sx sx' = absurd (let h = sym e ∙ i in cc)
+        g f x d lx ch r nr (lv ∙ ap suc p) (rw q at cv) sx sx'
+    clears w n u v l s st (page_gone l' low e j z) i cl f x d lx ch r nr lv cv sx sx' = absurd (cc)
 
 pub spared_change : (a b : ℕ) (o o' : Owners) (m m' : Shared) → b ≢ a → Change a o o' m m' → Spared b o o' m m'
 spared_change a b o o' m m' ne c = record { row = λ r l. row r l (c.row r); page = λ p l. page p l (c.page p); gone = λ p l s e. gone p l s e (c.page p) }
@@ -113,18 +113,18 @@ spared_change a b o o' m m' ne c = record { row = λ r l. row r l (c.row r); pag
     page p l (page_free e) = absurd (cc)
     page p l (page_own e) = absurd (ne (let h : Keeps b ≡ Keeps a = sym l ∙ e in cc))
     page p l (page_same e f) = (e ∙ l, f)
-    page p l (page_stage st st' lv low e f le i) = absurd (let h = sym l ∙ e in cc)
-    page p l (page_link st st' lv low e f le x y d i j k z q) = absurd (let h = sym l ∙ e in cc)
-    page p l (page_clear lv low e f i g) = absurd (let h = sym l ∙ e in cc)
-    page p l (page_gone lv low e f i) = absurd (let h = sym l ∙ e in cc)
+    page p l (page_stage st st' lv low e f le i) = absurd (cc)
+    page p l (page_link st st' lv low e f le x y d i j k z q) = absurd (cc)
+    page p l (page_clear lv low e f i g) = absurd (cc)
+    page p l (page_gone lv low e f i) = absurd (cc)
 
     gone : (p l : ℕ) (s : Key) → o.page p ≡ Cleared b l s → PageChange a o m m' (o.page p) (o'.page p) (m.slots p) (m'.slots p) → (o'.page p ≡ Cleared b l s) × (m'.slots p ≡ m.slots p)
-    gone p l s i (page_free e) = absurd (let h = sym i ∙ e in cc)
-    gone p l s i (page_own e) = absurd (let h = sym i ∙ e in cc)
+    gone p l s i (page_free e) = absurd (cc)
+    gone p l s i (page_own e) = absurd (cc)
     gone p l s i (page_same e f) = (e ∙ i, f)
-    gone p l s i (page_stage st st' lv low e f le j) = absurd (let h = sym i ∙ e in cc)
-    gone p l s i (page_link st st' lv low e f le x y d j k nr z q) = absurd (let h = sym i ∙ e in cc)
-    gone p l s i (page_clear lv low e f j g) = absurd (let h = sym i ∙ e in cc)
+    gone p l s i (page_stage st st' lv low e f le j) = absurd (cc)
+    gone p l s i (page_link st st' lv low e f le x y d j k nr z q) = absurd (cc)
+    gone p l s i (page_clear lv low e f j g) = absurd (cc)
     gone p l s i (page_gone lv low e f j) = absurd (ne (let h : Cleared b l s ≡ Cleared a lv low = sym i ∙ e in cc))
 
 pub change_none : (a : ℕ) (o : Owners) (m : Shared) → Change a o o m m
@@ -146,12 +146,12 @@ linked_kept o o' m m' closed kept r h =
     next (Some n) l = (kept.row n l).0
 
 pub closed_kept : (o o' : Owners) (m m' : Shared) → Kept o o' m m' → IsClosed o m → ((r : ℕ) → o'.row r ≡ Linked → (o.row r ≡ Linked) ⊎ IsLinked o' m' r) → IsClosed o' m'
-closed_kept o o' m m' kept closed new r l = ⊎_elim (λ (i : o.row r ≡ Linked). linked_kept o o' m m' closed kept r (closed r i)) (λ (i : IsLinked o' m' r). i) (new r l)
+closed_kept o o' m m' kept closed new r l = elim (new r l) [ inl i ↦ linked_kept o o' m m' closed kept r (closed r i) | inr i ↦ i ]
 
 -- the row of a chain that was read is linked
 pub read_linked : (o : Owners) (m : Shared) (seen : ℕ → Option Record) → ((r : ℕ) → SeenFits (o.row r) (m.rows r) (seen r)) → (c : List Record) (x : ℕ) → IsChain seen c (Some x) → o.row x ≡ Linked
 read_linked o m seen fits [] x h = absurd h
-read_linked o m seen fits (w ∷ c) x h = (subst (λ (v : Option Record). SeenFits (o.row x) (m.rows x) v) h.0 (fits x)).0
+read_linked o m seen fits (w ∷ c) x h = (rw h.0 at (fits x)).0
 
 -- one more own step
 pub knows_more : (o : Owners) (m : Shared) (seen : ℕ → Option Record) (learnt roots : ℕ → Bool) (heads : ℕ → Option ℕ) (before : ℕ → ℕ → Option ℕ) (linked : Option (Option ℕ)) (point : Option (List Update)) (logs : List (List Update)) (l : List Update)
@@ -170,17 +170,17 @@ knows_more o m seen learnt roots heads before linked point logs l k =
 -- one more name
 pub name_more : (o : Owners) (learnt : ℕ → Bool) (x : ℕ) → o.row x ≡ Linked → ((r : ℕ) → learnt r ≡ true → o.row r ≡ Linked) → (r : ℕ) → put learnt x true r ≡ true → o.row r ≡ Linked
 name_more o learnt x l h r =
-    by_test r x (λ t. cond t true (learnt r) ≡ true → o.row r ≡ Linked)
-    (λ e _. ap o.row e ∙ l)
-    (λ ne. h r)
+    by_equal r x
+    (λ e t. rw t λ _. ap o.row e ∙ l)
+    (λ ne t. rw t (h r))
 
 -- the chain that was read stands
 pub chain_stands : (o : Owners) (m : Shared) (seen : ℕ → Option Record) → ((r : ℕ) → SeenFits (o.row r) (m.rows r) (seen r)) → (c : List Record) (x : Option ℕ) → IsChain seen c x → IsChain m.rows c x
 chain_stands o m seen fits =
-    chain_within seen m.rows (λ r w e. (subst (λ (v : Option Record). SeenFits (o.row r) (m.rows r) v) e (fits r)).1)
+    chain_within seen m.rows (λ r w e. (rw e at (fits r)).1)
 
 -- a chain that was read decides what the log of its row does
 pub chain_decides : (o : Owners) (m : Shared) (seen : ℕ → Option Record) → ((r : ℕ) → SeenFits (o.row r) (m.rows r) (seen r)) → (x : ℕ) (c : List Record) → IsChain seen c (Some x) → (l : List Update) → SpellsLog o m x l → level_in c ≡ 0 → is_removed c ≡ false → (k : Key) → Covers c k → content_in c k ≡ leaf_map l k
 chain_decides o m seen fits x c h l s z y k v =
     let e = chain_unique m.rows c s.chain (Some x) (chain_stands o m seen fits c (Some x) h) s.is_chain in
-    ap (λ d. content_in d k) e ∙ s.same (ap level_in (sym e) ∙ z) (ap is_removed (sym e) ∙ y) k (subst (λ (d : List Record). Covers d k) e v)
+    ap (λ d. content_in d k) e ∙ s.same (ap level_in (sym e) ∙ z) (ap is_removed (sym e) ∙ y) k (rw e at v)

@@ -1,5 +1,5 @@
 -- What stays of what actors know: linked rows stay, and pages go forward.
-use Rattle.tree_law.proofs.Words.{false, ◌⊎◌, [], refl, Option, suc, None, List, true, inl, ◌≤◌, inr, ◌∷◌, subst, sym, ℕ, ◌≡◌, Bool, ◌∙◌, ◌<◌, arith, Some, ⊎_elim, same_Some, IsSome, IfSome, Update}
+use Rattle.tree_law.proofs.Words.{false, ◌⊎◌, [], refl, Option, suc, None, List, true, inl, ◌≤◌, inr, ◌∷◌, subst, sym, ℕ, ◌≡◌, Bool, ◌∙◌, ◌<◌, arith, Some, same_Some, IsSome, IfSome, Update}
 use Rattle.tree_law.proofs.Words.{next_row, Record, low_in, is_removed, level_in, Foreign, OwnPage, Taken, Other, Gone, Written, OwnRow, Key, Covers, Linked, Owners, Reached, Spare, IsOut, OwnFits}
 use Rattle.tree_law.proofs.Words.{LinkFits, HeadFits, OrderFits, InOrder, PageFits, IsChain, IsClosed, IsCleared, SpellsLog, Knows, SeenFits, ChainNames, OwnsPages, Forward, Owns, Placed, PageOwner}
 use Rattle.tree_law.proofs.Words.{Cleared, Keeps, Fresh, rank, Stage, rank_of, child_of, Shared}
@@ -36,9 +36,10 @@ rank_below st = omega arith
 
 pub cleared_forward : (w n : PageOwner) → Forward w n → IsCleared w → IsCleared n
 cleared_forward w n f u =
-    ⊎_elim (λ (r : (st : Stage) × (n ≡ Placed st u.1 u.2) × (5 ≤ rank st)). absurd (let i = rank_below r.0 in let j = r.2 in omega arith))
-    (λ (r : (a : ℕ) × (n ≡ Cleared a u.1 u.2)). (r.0, u.1, u.2, r.1))
-    (reached_placed 5 u.1 u.2 n (f 5 u.1 u.2 (subst (λ (v : PageOwner). Reached 5 u.1 u.2 v) (sym u.3) (refl, refl))))
+    elim (reached_placed 5 u.1 u.2 n (f 5 u.1 u.2 (subst (λ (v : PageOwner). Reached 5 u.1 u.2 v) (sym u.3) (refl, refl)))) [
+      | inl r ↦ absurd (let i = rank_below r.0 in let j = r.2 in omega arith)
+      | inr r ↦ (r.0, u.1, u.2, r.1)
+    ]
 
 pub placed_reached : (l : ℕ) (s : Key) (st : Stage) (w : PageOwner) → w ≡ Placed st l s → Reached 0 l s w
 placed_reached l s st w e = subst (λ (v : PageOwner). Reached 0 l s v) (sym e) (refl, refl, (let h : 0 ≤ rank st = omega arith in h))
@@ -49,7 +50,7 @@ chain_kept o o' m m' closed kept c None l h = h
 chain_kept o o' m m' closed kept [] (Some x) l h = h
 chain_kept o o' m m' closed kept (w ∷ c) (Some x) l h =
     let k = closed x l in
-    let n = subst (λ (u : Record). IfSome (next_row u) (λ n. o.row n ≡ Linked)) (same_Some k.content w (sym k.stands ∙ h.0)) k.next in
+    let n = rw (same_Some k.content w (sym k.stands ∙ h.0)) at k.next in
     ((kept.row x l).1 ∙ h.0, chain_kept o o' m m' closed kept c (next_row w) n h.1)
 
 -- and back
@@ -91,10 +92,10 @@ knows_kept o o' m m' closed kept seen learnt roots heads before linked point log
     still p f x y c d ic id nc nd e v s u h i =
         let above : i.chain ≡ c = chain_unique m.rows i.chain c (Some x) i.is_chain ic in
         let was : m.slots f ≡ Some x = kept.back f x (level_in i.chain) (low_in i.chain) i.placed i.above s in
-        ⊎_elim
-        (λ (r : (st : Stage) × (o.page p ≡ Placed st (level_in d) (low_in d)) × (0 ≤ rank st)). kept.clears p (level_in d) (low_in d) r.0 r.1 u f x c i.above ic (subst (λ (w : List Record). Reached 0 (level_in w) (low_in w) (o.page f)) above i.placed) nc e v was s)
-        (λ (r : (a : ℕ) × (o.page p ≡ Cleared a (level_in d) (low_in d))). i.uncleared c d ic id nc nd e v was (r.0, level_in d, low_in d, r.1))
-        (reached_placed 0 (level_in d) (low_in d) (o.page p) (subst (λ (w : List Record). Reached 0 (level_in w) (low_in w) (o.page p)) (chain_unique m.rows h.2.chain d (Some y) h.2.is_chain id) h.3))
+        elim (reached_placed 0 (level_in d) (low_in d) (o.page p) (rw (chain_unique m.rows h.2.chain d (Some y) h.2.is_chain id) at h.3)) [
+          | inl r ↦ kept.clears p (level_in d) (low_in d) r.0 r.1 u f x c i.above ic (rw above at i.placed) nc e v was s
+          | inr r ↦ i.uncleared c d ic id nc nd e v was (r.0, level_in d, low_in d, r.1)
+        ]
 
     seen_at : (r : ℕ) (w : Option Record) → SeenFits (o.row r) (m.rows r) w → SeenFits (o'.row r) (m'.rows r) w
     seen_at r None h = tt
@@ -107,7 +108,7 @@ knows_kept o o' m m' closed kept seen learnt roots heads before linked point log
       h.1,
       spells_kept o o' m m' closed kept x h.0 h.2,
       kept.page p 0 (level_in h.2.chain) (low_in h.2.chain) h.3,
-      λ e. ⊎_elim (λ (u : m.slots p ≡ Some x). kept.frozen p x (level_in h.2.chain) (low_in h.2.chain) h.2.chain h.3 u h.2.linked h.2.is_chain e) (λ (u : IsOut (o.page p) (m.slots p)). inr (kept.out p u)) (h.4 e),
+      λ e. elim (h.4 e) [ inl u ↦ kept.frozen p x (level_in h.2.chain) (low_in h.2.chain) h.2.chain h.3 u h.2.linked h.2.is_chain e | inr u ↦ inr (kept.out p u) ],
       λ e. names_kept o o' kept.page h.2.chain (h.5 e),
     )
 

@@ -1,5 +1,5 @@
 -- The order of keys is total, and the empty key is lowest.
-use Rattle.tree_law.proofs.Words.{false, [], ap, refl, cond, Option, None, List, true, inl, ◌≢◌, inr, ◌∷◌, subst, sym, ◌≡◌, Bool, ◌∙◌, Some, is_eq, IsTrue, ◌&&◌, not, key_cmp, is_under, is_in_range}
+use Rattle.tree_law.proofs.Words.{false, [], ap, refl, cond, Option, None, List, true, inl, ◌≢◌, inr, ◌∷◌, subst, ◌≡◌, Bool, ◌∙◌, Some, is_eq, IsTrue, ◌&&◌, not, key_cmp, is_under, is_in_range}
 use Rattle.tree_law.proofs.Words.{is_below, Record, low_in, high_in, covers, Key, IsBelow, IsUpTo, Covers, IsUnder, put_key}
 use Rattle.std.specs.declared.cmp.Ordering.TheVariants.{Less, Equal, Greater}
 use Rattle.std.specs.Ordering.{is_lt, ordering_reverse}
@@ -41,13 +41,13 @@ upto_cases a b P h below same = (elim (key_cmp a b) as (λ o. key_cmp a b ≡ o 
 ]) refl
 
 pub below_upto : (a b c : Key) → IsBelow a b → IsUpTo b c → IsBelow a c
-below_upto a b c h k = upto_cases b c (IsBelow a c) k (λ i. below_trans a b c h i) (λ e. subst (λ (n : Key). IsBelow a n) e h)
+below_upto a b c h k = upto_cases b c (IsBelow a c) k (λ i. below_trans a b c h i) (λ e. rw e at h)
 
 pub upto_below : (a b c : Key) → IsUpTo a b → IsBelow b c → IsBelow a c
-upto_below a b c h k = upto_cases a b (IsBelow a c) h (λ i. below_trans a b c i k) (λ e. subst (λ (n : Key). IsBelow n c) (sym e) k)
+upto_below a b c h k = upto_cases a b (IsBelow a c) h (λ i. below_trans a b c i k) (λ e. rw e k)
 
 pub upto_trans : (a b c : Key) → IsUpTo a b → IsUpTo b c → IsUpTo a c
-upto_trans a b c h k = upto_cases a b (IsUpTo a c) h (λ i. below_not a c (below_upto a b c i k)) (λ e. subst (λ (n : Key). IsUpTo n c) (sym e) k)
+upto_trans a b c h k = upto_cases a b (IsUpTo a c) h (λ i. below_not a c (below_upto a b c i k)) (λ e. rw e k)
 
 pub upto_both : (a b : Key) → IsUpTo a b → IsUpTo b a → a ≡ b
 upto_both a b h k = upto_cases a b (a ≡ b) h (λ i. absurd (not_below a b i k)) (λ e. e)
@@ -63,9 +63,9 @@ under_trans k s (Some x) h i = below_trans k s x h i
 -- tests on keys, by cases
 pub by_key : (j i : Key) (P : Bool → Type 0) → (j ≡ i → P true) → (j ≢ i → P false) → P (is_eq (key_cmp j i))
 by_key j i P same other = (elim (key_cmp j i) as (λ o. key_cmp j i ≡ o → P (is_eq o)) [
-  | Less ↦ λ e. other (λ s. not_self i (subst (λ (n : Key). IsBelow n i) s (less_below j i e)))
+  | Less ↦ λ e. other (λ s. not_self i (rw s at (less_below j i e)))
   | Equal ↦ λ e. same (exact_bytes j i e)
-  | Greater ↦ λ e. other (λ s. let i2 : key_cmp i j ≡ Less = nat_list_cmp_total.antisymm i j ∙ ap ordering_reverse e in not_self i (subst (λ (n : Key). IsBelow i n) s (less_below i j i2)))
+  | Greater ↦ λ e. other (λ s. let i2 : key_cmp i j ≡ Less = nat_list_cmp_total.antisymm i j ∙ ap ordering_reverse e in not_self i (rw s at (less_below i j i2)))
 ]) refl
 
 pub by_below : (j i : Key) (P : Bool → Type 0) → (IsBelow j i → P true) → (IsUpTo i j → P false) → P (is_below j i)
@@ -73,7 +73,7 @@ by_below j i P below other = elim (decided (is_below j i)) [ inl e ↦ rw e (bel
 
 -- of a key under the bound of a range, whether it is in the range
 pub by_range : (low k : Key) (high : Option Key) → IsUnder k high → (P : Bool → Type 0) → (IsUpTo low k → P true) → (IsBelow k low → P false) → P (is_in_range low high k)
-by_range low k high under P inside below = subst (λ (t : Bool). P (not (is_below k low) && t)) (sym under) (by_below k low (λ t. P (not t && true)) below inside)
+by_range low k high under P inside below = rw under (by_below k low (λ t. P (not t && true)) below inside)
 
 pub key_same : {X : Type 0} (f : Key → X) (s : Key) (v : X) → put_key f s v s ≡ v
 key_same {X} f s v = by_key s s (λ t. cond t v (f s) ≡ v) (λ e. refl) (λ ne. absurd (ne refl))

@@ -1,5 +1,5 @@
 -- The pages of each level of a state stand, and are fewer than there are slots.
-use Rattle.tree_law.proofs.Words.{false, [], ap, Option, None, List, true, inl, ◌≢◌, length, ◌≤◌, inr, ◌∷◌, subst, sym, ℕ, ◌≡◌, ◌∙◌, ◌<◌, arith, Some, map, ⊎_elim, cases_lt, nat_tests, All-weaker}
+use Rattle.tree_law.proofs.Words.{false, [], ap, Option, None, List, true, inl, ◌≢◌, length, ◌≤◌, inr, ◌∷◌, sym, ℕ, ◌≡◌, ◌∙◌, ◌<◌, arith, Some, map, cases_lt, nat_tests, All-weaker}
 use Rattle.tree_law.proofs.Words.{All-from_recursion, All, ⊤, Update, Limits, ContentOf, Memory, right_in, low_in, high_in, LivePage, memory_of, turn_of, Entry, IsLinearized, log_of, HasMapOf, Key}
 use Rattle.tree_law.proofs.Words.{Owners, leaf_map, Placed, Fresh, Stage, shared, Shared, IsState, phase_of, Level, SidePage, InPlace, IsPart}
 use Rattle.base_page.proofs.ItemLaws.{all-weaker}
@@ -83,10 +83,7 @@ module _ (limits : Limits) (entries : List Entry) (state : IsState limits entrie
     each_page P f = all_in state.owners (shared m) l mp (λ g. ⊤) P (λ g here t. f g here) level.side (Some first) (Some []) None None level.whole (all_pages (λ g. ⊤) (λ g. tt) level.side)
 
     in_range : (g : SidePage) → Here g → (0 < g.page) × (g.page < limits.pids)
-    in_range g here = ⊎_elim
-        (λ free. absurd (not_free here.stage l (low_in g.chain) (ap phase_of (sym here.placed) ∙ free)))
-        (λ in_range. in_range)
-        (state.named.pid_below g.page)
+    in_range g here = elim (state.named.pid_below g.page) [ inl free ↦ absurd (not_free here.stage l (low_in g.chain) (ap phase_of (sym here.placed) ∙ free)) | inr within ↦ within ]
 
     page_on : (g : SidePage) → Here g → IsPageOn limits m l (live g)
     page_on g here = record {
@@ -102,14 +99,14 @@ module _ (limits : Limits) (entries : List Entry) (state : IsState limits entrie
         let above : AllByRecursion (λ n. 0 ≢ n) (pids level.side) = of_pids (λ n. 0 ≢ n) level.side (each_page (λ g. 0 ≢ g.page) (λ g here e. let above = (in_range g here).0 in omega arith)) in
         let below : AllByRecursion (λ n. n < limits.pids) (pids level.side) = of_pids (λ n. n < limits.pids) level.side (each_page (λ g. g.page < limits.pids) (λ g here. (in_range g here).1)) in
         let apart : AreApart (pids level.side) = apart_in state.owners (shared m) l mp level.side (Some first) (Some []) None None level.whole in
-        subst (λ n. n < limits.pids) (length-map level.side (λ g. g.page)) (fewer limits.pids (pids level.side) (omega arith) apart above below)
+        rw (length-map level.side (λ g. g.page)) at (fewer limits.pids (pids level.side) (omega arith) apart above below)
 
     pub pages_on : HasPagesOn limits m l first
     pages_on = record {
       pages = map live level.side;
       side = side_from m state.owners l mp level.side (Some first) (Some []) level.whole;
       whole = whole_from m state.owners l mp level.side (Some first) (Some []) level.whole;
-      few = subst (λ n. n < limits.pids) (sym (length-map level.side live)) few;
+      few = rw (length-map level.side live) few;
       each = of_live (IsPageOn limits m l) level.side (each_page (λ g. IsPageOn limits m l (live g)) page_on);
     }
 

@@ -1,7 +1,7 @@
 -- All levels of a state stand, and each one's first page is the child at the empty key of the first page above it.
-use Rattle.tree_law.proofs.Words.{false, true, [], ap, refl, suc, List, ◌∷◌, ◌≤◌, subst, sym, ℕ, ◌≡◌, ◌∙◌, ◌<◌, arith, Option, Some, None, Limits, ContentOf, Child, Value, Item, Memory, Record}
-use Rattle.tree_law.proofs.Words.{IsChainOf, IsChainOf-unique, content_in, content_at, low_in, high_in, memory_of, log_of, Entry, Update, Key, Covers, IsUnder, IsUpTo}
-use Rattle.tree_law.proofs.Words.{Owners, Indexed, Stage, Fresh, Held, Removed, Merged, mark, rank, shared, IsState, spec}
+use Rattle.tree_law.proofs.Words.{false, ap, refl, suc, List, ◌∷◌, ◌≤◌, subst, sym, ℕ, ◌≡◌, ◌∙◌, ◌<◌, arith, Option, Some, Limits, ContentOf, Child, Value, Item, Memory, Record}
+use Rattle.tree_law.proofs.Words.{IsChainOf, IsChainOf-unique, content_in, content_at, low_in, high_in, memory_of, log_of, Entry, Key, Covers, IsUnder}
+use Rattle.tree_law.proofs.Words.{Indexed, Stage, Fresh, Held, Removed, Merged, mark, rank, shared, IsState, spec, []}
 use Rattle.std.specs.List.{AllByRecursion}
 use Rattle.std.proofs.lemmas.List.Elements.{recursion_from_All}
 use Rattle.base_page.specs.Pages.{IsOfLevel}
@@ -32,7 +32,7 @@ indexed_mark Removed q e = absurd (cc)
 indexed_mark Merged q e = absurd (cc)
 
 from_empty : (c : List Record) → low_in c ≡ [] → IsUnder (low_in c) (high_in c) → Covers c []
-from_empty c e some = record { low = subst (λ (k : Key). IsUpTo k []) (sym e) (empty_lowest []); high = subst (λ (k : Key). IsUnder k (high_in c)) e some }
+from_empty c e some = record { low = rw e (empty_lowest []); high = rw e at some }
 
 module _ (limits : Limits) (entries : List Entry) (state : IsState limits entries) where
   abbrev memory : Memory
@@ -46,7 +46,7 @@ module _ (limits : Limits) (entries : List Entry) (state : IsState limits entrie
       let tree = state.is_tree.tree in
       let level = tree.levels (suc l) le in
       let f = first_page state.owners (shared memory) (suc l) (map (suc l)) level.side (tree.first (suc l)) [] level.whole in
-      let same : f.0.chain ≡ chain = IsChainOf-unique memory (tree.first (suc l)) f.0.chain chain (subst (λ (n : ℕ). IsChainOf memory n f.0.chain) f.1 (chain_of memory state.owners (suc l) (map (suc l)) f.0 f.3)) is in
+      let same : f.0.chain ≡ chain = IsChainOf-unique memory (tree.first (suc l)) f.0.chain chain (rw f.1 at (chain_of memory state.owners (suc l) (map (suc l)) f.0 f.3)) is in
       let fits : IsPageChain f.0.chain = state.fitted f.0.row f.3.linked f.0.chain f.3.is_page.is_chain in
       let made = page_of f.0.chain fits.fitted in
       let rules = ruled f.0.chain made.0 fits.fitted made.1 in
@@ -56,7 +56,7 @@ module _ (limits : Limits) (entries : List Entry) (state : IsState limits entrie
       let content : content_in f.0.chain [] ≡ Some (Child child.0 false) = subst (λ (k : Key). content_in f.0.chain k ≡ Some (Child child.0 false)) (made.1.low ∙ f.2) (sym (made.1.items.contents made.0.low) ∙ child.1) in
       let named = (tree.exact.named l [] (Child child.0 false) (sym (f.3.is_page.same [] (from_empty f.0.chain f.2 f.3.is_page.some)) ∙ content)).1 in
       let stage : named.0 ≡ Indexed = indexed_mark named.0 child.0 named.2 in
-      let on_side : rank named.0 ≤ 3 = subst (λ (st : Stage). rank st ≤ 3) (sym stage) (omega arith) in
+      let on_side : rank named.0 ≤ 3 = rw stage (omega arith) in
       let is_first : child.0 ≡ tree.first l = first_only memory state.is_tree child.0 l named.0 (omega (arith, le)) named.1 on_side in
       (ap low_in (sym same) ∙ f.2, ap (λ (c : List Record). content_in c []) (sym same) ∙ content ∙ ap (λ q. Some (Child q false)) is_first)
 

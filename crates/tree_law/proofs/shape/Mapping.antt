@@ -1,6 +1,6 @@
 -- The memory has the map of the log: the leaves are whole, and decide each key as the log does.
-use Rattle.tree_law.proofs.Words.{false, [], ap, refl, Option, suc, None, List, true, ◌∷◌, subst, sym, ℕ, ◌≡◌, Bool, zero, ◌∙◌, ◌<◌, arith, Some, map, same_Some, Contains, MatchOption, IsTrue}
-use Rattle.tree_law.proofs.Words.{is_under, Update, logged_value, ContentOf, Memory, Record, IsChainOf, content_in, right_in, low_in, high_in, covers, value_of, Knowledge, LivePage, IsSideChainFrom}
+use Rattle.tree_law.proofs.Words.{false, [], ap, refl, Option, suc, None, List, true, ◌∷◌, sym, ℕ, ◌≡◌, Bool, zero, ◌∙◌, ◌<◌, arith, Some, map, same_Some, Contains, MatchOption}
+use Rattle.tree_law.proofs.Words.{is_under, Update, logged_value, ContentOf, Memory, Record, IsChainOf, content_in, right_in, low_in, high_in, value_of, Knowledge, LivePage, IsSideChainFrom}
 use Rattle.tree_law.proofs.Words.{HasMapOf, Key, Covers, IsUnder, Owners, IsChain, leaf_map, shared, slot_in, row_in, IsTree, Level, SidePage, InPlace, IsPart}
 use Rattle.chain_search.specs.chain.SideChain.{IsWholeFrom, IsLeaves, Spells}
 use Rattle.chain_search.proofs.ChainLaws.{IsSideChainFrom-unique}
@@ -21,7 +21,7 @@ slot_some slots (suc p) r e = (elim (slots (suc p)) as (λ n. row_in n ≡ Some 
 ]) e
 
 pub chain_at : (memory : Memory) (p x : ℕ) (c : List Record) → slot_in memory.slots p ≡ Some x → IsChain memory.rows c (Some x) → IsChainOf memory p c
-chain_at memory p x c e h = let s = slot_some memory.slots p x e in record { page = s.0; linked = subst (λ (n : ℕ). 0 < n) (sym s.1) s.2; records = rw s.1 h }
+chain_at memory p x c e h = let s = slot_some memory.slots p x e in record { page = s.0; linked = rw s.1 s.2; records = rw s.1 h }
 
 module _ (memory : Memory) (o : Owners) (lv : ℕ) (mp : Key → Option ContentOf) where
   pub chain_of : (g : SidePage) → InPlace o (shared memory) lv mp g → IsChainOf memory g.page g.chain
@@ -30,13 +30,13 @@ module _ (memory : Memory) (o : Owners) (lv : ℕ) (mp : Key → Option ContentO
   -- the pages are a side chain, and their ranges follow one another
   pub side_from : (gs : List SidePage) (p : Option ℕ) (low : Option Key) → IsPart o (shared memory) lv mp gs p low None None → MatchOption p (map live gs ≡ []) (λ q. IsSideChainFrom memory q (map live gs))
   side_from [] None low h = refl
-  side_from (g ∷ gs) (Some p) low h = (sym (same_Some p g.page h.0), subst (λ (n : ℕ). IsChainOf memory n g.chain) (sym (same_Some p g.page h.0)) (chain_of g h.2), side_from gs (right_in g.chain) (high_in g.chain) h.3)
-  side_from gs p low h = absurd (let e = h.0 in cc)
+  side_from (g ∷ gs) (Some p) low h = (sym (same_Some p g.page h.0), rw (same_Some p g.page h.0) (chain_of g h.2), side_from gs (right_in g.chain) (high_in g.chain) h.3)
+  side_from gs p low h = absurd (cc h.0)
 
   pub whole_from : (gs : List SidePage) (p : Option ℕ) (low : Option Key) → IsPart o (shared memory) lv mp gs p low None None → MatchOption low (map live gs ≡ []) (λ k. IsWholeFrom k (map live gs))
   whole_from [] p None h = refl
   whole_from (g ∷ gs) p (Some k) h = (sym (same_Some k (low_in g.chain) h.1), whole_from gs (right_in g.chain) (high_in g.chain) h.3)
-  whole_from gs p low h = absurd (let e = h.1 in cc)
+  whole_from gs p low h = absurd (cc h.1)
 
   -- a page among them is in its place
   pub among : (gs : List SidePage) (p : Option ℕ) (low : Option Key) → IsPart o (shared memory) lv mp gs p low None None → (page : LivePage) → Contains (map live gs) page → (g : SidePage) × (live g ≡ page) × InPlace o (shared memory) lv mp g
@@ -50,11 +50,11 @@ module _ (memory : Memory) (o : Owners) (lv : ℕ) (mp : Key → Option ContentO
 
   -- a key from the first low key on is covered by one of them
   pub covering : (gs : List SidePage) (p : Option ℕ) (low : Option Key) → IsPart o (shared memory) lv mp gs p low None None → (key : Key) → StartsFrom low key → Covering gs key
-  covering [] p low h key s = absurd (subst (λ (b : Option Key). StartsFrom b key) h.1 s)
+  covering [] p low h key s = absurd (rw h.1 at s)
   covering (g ∷ gs) p low h key s = go (λ u. covering gs (right_in g.chain) (high_in g.chain) h.3 key u) (high_in g.chain) refl
     where
       here : IsUnder key (high_in g.chain) → Covering (g ∷ gs) key
-      here u = (g, (zero, omega arith, refl), h.2, record { low = subst (λ (b : Option Key). StartsFrom b key) h.1 s; high = u })
+      here u = (g, (zero, omega arith, refl), h.2, record { low = rw h.1 at s; high = u })
 
       later : Covering gs key → Covering (g ∷ gs) key
       later r = (r.0, (suc r.1.0, (let lt = r.1.1 in omega arith), r.1.2), r.2, r.3)
@@ -69,7 +69,7 @@ module _ (memory : Memory) (o : Owners) (lv : ℕ) (mp : Key → Option ContentO
 
 module _ (memory : Memory) {log : List Update} {o : Owners} {knows : ℕ → Knowledge} {point : ℕ → Option (List Update)} {logs : ℕ → List (List Update)} (g : IsTree (shared memory) log o knows point logs) where
   pub leaves : Level o (shared memory) 0 (leaf_map log) 1
-  leaves = subst (λ (n : ℕ). Level o (shared memory) 0 (leaf_map log) n) g.tree.leaf (g.tree.levels 0 (omega arith))
+  leaves = rw g.tree.leaf at (g.tree.levels 0 (omega arith))
 
   pub is_leaves : IsLeaves memory (map live leaves.side)
   is_leaves = side_from memory o 0 (leaf_map log) leaves.side (Some 1) (Some []) leaves.whole
@@ -77,9 +77,9 @@ module _ (memory : Memory) {log : List Update} {o : Owners} {knows : ℕ → Kno
   spelled : (key value : Key) → Spells memory key value → logged_value log key ≡ Some value
   spelled key value (pages, page, side, contains, inside, content) =
       let same : pages ≡ map live leaves.side = IsSideChainFrom-unique memory 1 pages (map live leaves.side) side is_leaves in
-      let f = among memory o 0 (leaf_map log) leaves.side (Some 1) (Some []) leaves.whole page (subst (λ (ps : List LivePage). Contains ps page) same contains) in
+      let f = among memory o 0 (leaf_map log) leaves.side (Some 1) (Some []) leaves.whole page (rw same at contains) in
       let chain : f.0.chain ≡ page.chain = ap (λ (q : LivePage). q.chain) f.1 in
-      let is : content_in f.0.chain key ≡ leaf_map log key = f.2.is_page.same key (covers_from f.0.chain key (subst (λ (c : List Record). IsTrue (covers c key)) (sym chain) inside)) in
+      let is : content_in f.0.chain key ≡ leaf_map log key = f.2.is_page.same key (covers_from f.0.chain key (rw chain inside)) in
       sym (value_of_map (logged_value log key)) ∙ ap value_of (sym is ∙ ap (λ c. content_in c key) chain ∙ content)
 
   spells : (key value : Key) → logged_value log key ≡ Some value → Spells memory key value

@@ -1,6 +1,6 @@
 -- What was so of a moment is so in a longer trace.
-use Rattle.tree_law.proofs.Words.{false, [], suc, List, true, inl, length, ◌++◌, ◌≤◌, inr, ◌∷◌, subst, sym, ℕ, ◌≡◌, Bool, arith, Limits, Memory, memory_at-push, Happens-kept, Happens-push_cases}
-use Rattle.tree_law.proofs.Words.{IsChainOf, LivePage, IsSideChainFrom, memory_at, Entry, IsLeftmost, IsRootLevel, Indexes, HasPhaseOfTerm, indexed, IsInPhase, Phase, held, removed, merged, Key}
+use Rattle.tree_law.proofs.Words.{false, [], suc, List, true, inl, length, ◌++◌, ◌≤◌, inr, ◌∷◌, ℕ, ◌≡◌, Bool, arith, Limits, memory_at-push, Happens-kept, Happens-push_cases}
+use Rattle.tree_law.proofs.Words.{LivePage, memory_at, Entry, IsLeftmost, Indexes, HasPhaseOfTerm, indexed, IsInPhase, Phase, held, removed, merged, Key}
 use Rattle.op_machine.specs.theorem.Index.{IsPageAt}
 use Rattle.op_machine.specs.theorem.Phases.{Rests}
 use Rattle.op_machine.proofs.PhaseLaws.{IsInPhase-kept}
@@ -39,15 +39,15 @@ module _ (limits : Limits) (entries : List Entry) (last : Entry) where
   leftmost_later n later level pid le up (m, low, at, root, first) = (
     m,
     omega arith,
-    subst (λ (x : Memory). x.slots 0 ≡ pid) (sym (same_memory m (omega arith))) at,
-    subst (λ (x : Memory). IsRootLevel x level) (sym (same_memory m (omega arith))) root,
-    λ earlier lt h. first earlier lt (subst (λ (x : Memory). IsRootLevel x level) (same_memory earlier (omega arith)) h),
+    rw (same_memory m (omega arith)) at,
+    rw (same_memory m (omega arith)) root,
+    λ earlier lt h. first earlier lt (rw (same_memory earlier (omega arith)) at h),
   )
 
   -- the index of a moment is the same in the longer trace
   pub indexes_kept : (n level : ℕ) (above : List LivePage) → n ≤ length entries → Indexes limits entries n level above → Indexes limits (entries ++ last ∷ []) n level above
   indexes_kept n level above le h = record {
-    pages = (h.pages.0, leftmost_later n n (suc level) h.pages.0 le (omega arith) h.pages.1, subst (λ (x : Memory). IsSideChainFrom x h.pages.0 above) (sym (same_memory n le)) h.pages.2);
+    pages = (h.pages.0, leftmost_later n n (suc level) h.pages.0 le (omega arith) h.pages.1, rw (same_memory n le) h.pages.2);
     whole = h.whole;
     terms = λ key child is_held. (
       λ t. let f = (h.terms key child is_held).0 t in (page_kept key child f.0, term_kept n child is_held le f.1),
@@ -56,7 +56,7 @@ module _ (limits : Limits) (entries : List Entry) (last : Entry) where
   }
     where
       page_kept : (key : Key) (child : ℕ) → IsPageAt limits entries n level key child → IsPageAt limits longer n level key child
-      page_kept key child (chain, is, on, low) = (chain, subst (λ (x : Memory). IsChainOf x child chain) (sym (same_memory n le)) is, on, low)
+      page_kept key child (chain, is, on, low) = (chain, rw (same_memory n le) is, on, low)
 
       page_before : (key : Key) (child : ℕ) → IsPageAt limits longer n level key child → IsPageAt limits entries n level key child
-      page_before key child (chain, is, on, low) = (chain, subst (λ (x : Memory). IsChainOf x child chain) (same_memory n le) is, on, low)
+      page_before key child (chain, is, on, low) = (chain, rw (same_memory n le) at is, on, low)

@@ -1,5 +1,5 @@
 -- A function changed at one place: what holds at that place and at the others.
-use Rattle.tree_law.proofs.Words.{false, ◌⊎◌, refl, cond, Option, None, true, inl, ◌≢◌, inr, subst, sym, ℕ, ◌≡◌, Bool, arith, Some, eqb, nat_tests, put}
+use Rattle.tree_law.proofs.Words.{false, ◌⊎◌, refl, Option, None, true, inl, ◌≢◌, inr, ℕ, ◌≡◌, Bool, arith, Some, eqb, nat_tests, put}
 
 pub eqb_same : (i : ℕ) → eqb i i ≡ true
 eqb_same i = grind (arith, nat_tests)
@@ -27,20 +27,28 @@ pub none_if : {X : Type 0} (o : Option X) → ((x : X) → o ≡ Some x → ⊥)
 none_if None never = refl
 none_if (Some x) never = absurd (never x refl)
 
--- a test on numbers, by cases
-pub by_test : (j i : ℕ) (P : Bool → Type 0) → (j ≡ i → P true) → (j ≢ i → P false) → P (eqb j i)
-by_test j i P same other = elim (decided (eqb j i)) [ inl e ↦ rw e (same (eqb_true j i e)) | inr e ↦ rw e (other (eqb_false j i e)) ]
+-- by cases: the same number or another one, and what the test of the two then says
+pub by_equal : {P : Type 0} (j i : ℕ) → (j ≡ i → eqb j i ≡ true → P) → (j ≢ i → eqb j i ≡ false → P) → P
+by_equal j i same other = elim (decided (eqb j i)) [ inl t ↦ same (eqb_true j i t) t | inr t ↦ other (eqb_false j i t) t ]
 
 pub put_same : {X : Type 0} (f : ℕ → X) (i : ℕ) (v : X) → put f i v i ≡ v
-put_same {X} f i v = subst (λ (t : Bool). cond t v (f i) ≡ v) (sym (eqb_same i)) refl
+put_same {X} f i v = rw eqb_same
 
 pub put_other : {X : Type 0} (f : ℕ → X) (i : ℕ) (v : X) (j : ℕ) → j ≢ i → put f i v j ≡ f j
-put_other {X} f i v j ne = subst (λ (t : Bool). cond t v (f j) ≡ f j) (sym (eqb_apart j i ne)) refl
+put_other {X} f i v j ne = rw (eqb_apart j i ne)
+
+-- what is there and is not the new value was there
+pub put_was : {X : Type 0} (f : ℕ → X) (i : ℕ) (v : X) (j : ℕ) {w : X} → (v ≡ w → ⊥) → put f i v j ≡ w → f j ≡ w
+put_was {X} f i v j {w} never = by_equal j i (λ e t. rw t λ h. absurd (never h)) (λ ne t. rw t λ h. h)
+
+-- a bit that is set stays set
+pub put_true : (f : ℕ → Bool) (i j : ℕ) → f j ≡ true → put f i true j ≡ true
+put_true f i j h = by_equal j i (λ e t. rw t) (λ ne t. rw t h)
 
 -- what holds of the new value at its place, and of the old ones elsewhere
 pub put_all : {X : Type 0} (P : ℕ → X → Type 0) (f : ℕ → X) (i : ℕ) (v : X) → P i v → ((j : ℕ) → j ≢ i → P j (f j)) → (j : ℕ) → P j (put f i v j)
-put_all {X} P f i v here others j = by_test j i (λ t. P j (cond t v (f j))) (λ e. subst (λ (n : ℕ). P n v) (sym e) here) (others j)
+put_all {X} P f i v here others j = by_equal j i (λ e t. rw (t, e) here) (λ ne t. rw t (others j ne))
 
 -- what holds of the new value at its place, and of the old one elsewhere
 pub at_place : {X : Type 0} (P : X → Type 0) (n : ℕ) (x : X) (f : ℕ → X) (k : ℕ) → (k ≡ n → P x) → (k ≢ n → P (f k)) → P (put f n x k)
-at_place {X} P n x f k here elsewhere = by_test k n (λ t. P (cond t x (f k))) here elsewhere
+at_place {X} P n x f k here elsewhere = by_equal k n (λ e t. rw t (here e)) (λ ne t. rw t (elsewhere ne))

@@ -6,12 +6,12 @@ use Rattle.tree_law.proofs.Words.{next_row, Record, IsChainFrom-unique, chain_ro
 pub next_linked : (o : Owners) (m : Shared) → IsClosed o m → (x : ℕ) (w : Record) → o.row x ≡ Linked → m.rows x ≡ Some w → IfSome (next_row w) (λ n. o.row n ≡ Linked)
 next_linked o m closed x w l e =
     let k = closed x l in
-    subst (λ (u : Record). IfSome (next_row u) (λ n. o.row n ≡ Linked)) (same_Some k.content w (sym k.stands ∙ e)) k.next
+    rw (same_Some k.content w (sym k.stands ∙ e)) at k.next
 
 -- each row of the chain is linked
 pub chain_linked : (o : Owners) (m : Shared) → IsClosed o m → (x : ℕ) (c : List Record) → o.row x ≡ Linked → IsChainFrom m.rows x c → (row : ℕ) → Contains (chain_rows x c) row → o.row row ≡ Linked
 chain_linked o m closed x [] l h row among = absurd h
-chain_linked o m closed x (w ∷ c) l h row (zero, lt, e) = subst (λ r. o.row r ≡ Linked) e l
+chain_linked o m closed x (w ∷ c) l h row (zero, lt, e) = rw e at l
 chain_linked o m closed x (w ∷ c) l h row (suc k, lt, e) =
     let nothing_under : c ≡ [] → k < length (chain_rows 0 c) → ⊥ = λ empty within. let none_there : length (chain_rows 0 c) ≡ 0 = ap (λ r. length (chain_rows 0 r)) empty in omega arith in
     elim (next_row w) as (λ n. IfSome n (λ n. o.row n ≡ Linked) → MatchOption n (c ≡ []) (λ n. IsChainFrom m.rows n c) → k < length (chain_rows (unwrap_or n 0) c) → slice_index_or (chain_rows (unwrap_or n 0) c) k row ≡ row → o.row row ≡ Linked) [

@@ -1,10 +1,10 @@
 -- Parts of the side chain: joining, finding a page, what is outside a page, putting others in its place.
-use Rattle.tree_law.proofs.Words.{◌⊎◌, [], ap, refl, Option, None, List, inl, ◌≢◌, ◌++◌, ◌≤◌, inr, ◌∷◌, subst, sym, ℕ, ◌≡◌, ◌∙◌, Some, ⊎_elim, same_Some, ⊤, Update, ContentOf, Record, right_in}
+use Rattle.tree_law.proofs.Words.{◌⊎◌, ap, refl, Option, None, List, inl, ◌≢◌, ◌++◌, ◌≤◌, inr, ◌∷◌, subst, sym, ℕ, ◌≡◌, ◌∙◌, Some, same_Some, ⊤, Update, ContentOf, Record, right_in}
 use Rattle.tree_law.proofs.Words.{low_in, is_removed, high_in, Key, IsBelow, IsUpTo, Covers, IsUnder, Owners, IsOut, IsChain, IsClosed, Placed, rank, Stage, stage_removed, Shared, spec, HasSidePage}
-use Rattle.tree_law.proofs.Words.{Level, IsOff, Off, SidePage, InPlace, IsPart, Exact, HasLevels}
+use Rattle.tree_law.proofs.Words.{Level, IsOff, Off, SidePage, InPlace, IsPart, Exact, HasLevels, []}
 use Rattle.tree_law.specs.Keys.{IsWithinEnd}
 use Rattle.tree_law.proofs.shape.KeyOrder.{not_below, below_not, below_upto, upto_same, upto_refl, upto_both, upto_trans}
-use Rattle.tree_law.proofs.shape.Puts.{by_test}
+use Rattle.tree_law.proofs.shape.Puts.{by_equal}
 use Rattle.tree_law.proofs.shape.Chains.{chain_unique}
 use Rattle.tree_law.proofs.shape.Kept.{Kept, chain_kept}
 
@@ -60,7 +60,7 @@ ends_before : (o : Owners) (m : Shared) (lv : ℕ) (mp : Key → Option ContentO
 ends_before o m lv mp [] p low q h part = (ends_itself low h part.1, tt)
 ends_before o m lv mp (g ∷ gs) p low q h part =
     let r = ends_before o m lv mp gs (right_in g.chain) (high_in g.chain) q h part.3 in
-    (subst (λ (b : Option Key). StartsFrom b h) (sym part.1) (below_not (low_in g.chain) h (under_start (low_in g.chain) h (high_in g.chain) part.2.is_page.some r.0)), (r.0, r.1))
+    (rw part.1 (below_not (low_in g.chain) h (under_start (low_in g.chain) h (high_in g.chain) part.2.is_page.some r.0)), (r.0, r.1))
 
 -- and begin at or above its beginning
 pub begins_after : (o : Owners) (m : Shared) (lv : ℕ) (mp : Key → Option ContentOf) (gs : List SidePage) (p : Option ℕ) (low : Option Key) (q : Option ℕ) (high : Option Key) → IsPart o m lv mp gs p low q high → AllPages (λ g. StartsFrom low (low_in g.chain)) gs
@@ -80,7 +80,7 @@ pub record Beside (g f : SidePage) : Type 0 where
 pub one_chain : (o : Owners) (m : Shared) (lv : ℕ) (mp mp' : Key → Option ContentOf) (g f : SidePage) → InPlace o m lv mp g → InPlace o m lv mp' f → f.page ≡ g.page → f.chain ≡ g.chain
 one_chain o m lv mp mp' g f hg hf e =
     let i : f.row ≡ g.row = same_Some f.row g.row (sym hf.is_page.head ∙ ap m.slots e ∙ hg.is_page.head) in
-    chain_unique m.rows f.chain g.chain (Some g.row) (subst (λ (r : ℕ). IsChain m.rows f.chain (Some r)) i hf.is_page.is_chain) hg.is_page.is_chain
+    chain_unique m.rows f.chain g.chain (Some g.row) (rw i at hf.is_page.is_chain) hg.is_page.is_chain
 
 beside_before : (o : Owners) (m : Shared) (lv : ℕ) (mp : Key → Option ContentOf) (g f : SidePage) → InPlace o m lv mp g → InPlace o m lv mp f → StartsFrom (high_in f.chain) (low_in g.chain) → Beside g f
 beside_before o m lv mp g f hg hf u =
@@ -188,9 +188,9 @@ pub in_level_as : (o : Owners) (m : Shared) (lv : ℕ) (mp : Key → Option Cont
 in_level_as o m lv mp first t p s st e on x i c h =
     let l = locate o m lv mp t.side (Some first) (Some []) None None p t.whole (t.listed p s st e on) in
     let r : l.page.row ≡ x = same_Some l.page.row x (sym l.here.is_page.head ∙ ap m.slots l.is ∙ i) in
-    let d : l.page.chain ≡ c = chain_unique m.rows l.page.chain c (Some x) (subst (λ (i : ℕ). IsChain m.rows l.page.chain (Some i)) r l.here.is_page.is_chain) h in
+    let d : l.page.chain ≡ c = chain_unique m.rows l.page.chain c (Some x) (rw r at l.here.is_page.is_chain) h in
     let q : l.page ≡ record { page = p; row = x; chain = c } = λ i. record { page = l.is i; row = r i; chain = d i } in
-    record { place = subst (λ (f : SidePage). InPlace o m lv mp f) q l.here }
+    record { place = rw q at l.here }
 
 -- pages in the place of one
 level_relinked : (o o' : Owners) (m m' : Shared) (lv : ℕ) (mp mp' : Key → Option ContentOf) (first : ℕ) → IsClosed o m → Kept o o' m m' → (t : Level o m lv mp first) → (p : ℕ) (s : Key) (st : Stage) → o.page p ≡ Placed st lv s → rank st ≤ 3 → (x : ℕ) → m.slots p ≡ Some x → (c : List Record) → IsChain m.rows c (Some x)
@@ -201,20 +201,20 @@ level_relinked : (o o' : Owners) (m m' : Shared) (lv : ℕ) (mp mp' : Key → Op
 level_relinked o o' m m' lv mp mp' first closed kept t p s st e on x i c h rests outside news new has listed =
     let l = locate o m lv mp t.side (Some first) (Some []) None None p t.whole (t.listed p s st e on) in
     let r : l.page.row ≡ x = same_Some l.page.row x (sym l.here.is_page.head ∙ ap m.slots l.is ∙ i) in
-    let d : l.page.chain ≡ c = chain_unique m.rows l.page.chain c (Some x) (subst (λ (i : ℕ). IsChain m.rows l.page.chain (Some i)) r l.here.is_page.is_chain) h in
+    let d : l.page.chain ≡ c = chain_unique m.rows l.page.chain c (Some x) (rw r at l.here.is_page.is_chain) h in
     record {
       side = l.before ++ (news ++ l.after);
       whole = replaced o o' m m' lv mp mp' closed kept t.side (Some first) (Some []) None None p l
           (λ f h b. rests f.page (low_in f.chain) h.stage (λ i. b.other (i ∙ sym l.is)) h.placed h.on)
-          (λ k n. outside k (λ v. n (subst (λ (w : List Record). Covers w k) (sym d) v)))
+          (λ k n. outside k (λ v. n (rw d v)))
           news
           (rw (l.is, d) new);
-      listed = λ q s' st' i on'. ⊎_elim
-          (λ (u : (st'' : Stage) × (o.page q ≡ Placed st'' lv s') × (rank st'' ≤ 3)). by_test q p (λ b. HasSidePage q (l.before ++ (news ++ l.after)))
-          (λ j. has_right q l.before (news ++ l.after) (has_left q news l.after (subst (λ (n : ℕ). HasSidePage n news) (sym j) has)))
-          (λ ne. has_other q l.before l.page news l.after (λ j. ne (j ∙ l.is)) (subst (λ (xs : List SidePage). HasSidePage q xs) l.all (t.listed q s' u.0 u.1 u.2))))
-          (λ (u : HasSidePage q news). has_right q l.before (news ++ l.after) (has_left q news l.after u))
-          (listed q s' st' i on');
+      listed = λ q s' st' i on'. elim (listed q s' st' i on') [
+        | inl u ↦ by_equal q p
+            (λ j is. has_right q l.before (news ++ l.after) (has_left q news l.after (rw j has)))
+            (λ ne is. has_other q l.before l.page news l.after (λ j. ne (j ∙ l.is)) (rw l.all at (t.listed q s' u.0 u.1 u.2)))
+        | inr u ↦ has_right q l.before (news ++ l.after) (has_left q news l.after u)
+      ];
     }
 
 pub placed_level : (st st' : Stage) (l l' : ℕ) (s s' : Key) → Placed st l s ≡ Placed st' l' s' → (l ≡ l') × (s ≡ s')
@@ -247,14 +247,13 @@ tree_relinked o o' m m' log log' closed kept t p lv s st e on x i c h rests root
       first = t.first;
       leaf = t.leaf;
       root = root ∙ t.root;
-      levels = λ l le. by_test l lv (λ b. Level o' m' l (spec log' o'.index l) (t.first l))
-          (λ j. subst (λ (n : ℕ). Level o' m' n (spec log' o'.index n) (t.first n)) (sym j)
-          (level_relinked o o' m m' lv (spec log o.index lv) (spec log' o'.index lv) (t.first lv) closed kept (t.levels lv (t.exact.below p lv s st e)) p s st e on x i c h (λ q s' st'. rests q lv s' st') (λ k n. outside lv k (λ j. n)) news new has
-          (λ q s' st' f on'. ⊎_elim (λ (u : (st'' : Stage) × (o.page q ≡ Placed st'' lv s') × (rank st'' ≤ 3)). inl u) (λ (u : (lv ≡ lv) × HasSidePage q news). inr u.1) (listed q lv s' st' f on'))))
-          (λ ne. level_kept o o' m m' l (spec log o.index l) (spec log' o'.index l) (t.first l) closed kept
+      levels = λ l le. by_equal l lv
+          (λ j is. rw j (level_relinked o o' m m' lv (spec log o.index lv) (spec log' o'.index lv) (t.first lv) closed kept (t.levels lv (t.exact.below p lv s st e)) p s st e on x i c h (λ q s' st'. rests q lv s' st') (λ k n. outside lv k (λ j. n)) news new has
+          (λ q s' st' f on'. elim (listed q lv s' st' f on') [ inl u ↦ inl u | inr u ↦ inr u.1 ])))
+          (λ ne is. level_kept o o' m m' l (spec log o.index l) (spec log' o'.index l) (t.first l) closed kept
           (λ q s' st' f. rests q l s' st' (λ j. ne (placed_level st' st l lv s' s (sym f ∙ ap o.page j ∙ e)).0) f)
           (λ k. outside l k (λ j. absurd (ne j)))
-          (λ q s' st' f on'. ⊎_elim (λ (u : (st'' : Stage) × (o.page q ≡ Placed st'' l s') × (rank st'' ≤ 3)). u) (λ (u : (l ≡ lv) × HasSidePage q news). absurd (ne u.0)) (listed q l s' st' f on'))
+          (λ q s' st' f on'. elim (listed q l s' st' f on') [ inl u ↦ u | inr u ↦ absurd (ne u.0) ])
           (t.levels l le));
       exact = exact;
       off = off;
@@ -265,7 +264,7 @@ pub same_page : (o : Owners) (m : Shared) (lv : ℕ) (mp : Key → Option Conten
 same_page o m lv mp first t g f hg hf k cg cf = go t.side (Some first) (Some []) t.whole (t.listed g.page (low_in g.chain) hg.stage hg.placed hg.on) (t.listed f.page (low_in f.chain) hf.stage hf.placed hf.on)
   where
     moved : (h e : SidePage) → InPlace o m lv mp h → InPlace o m lv mp e → h.page ≡ e.page → Covers e.chain k → Covers h.chain k
-    moved h e ih ie i c = subst (λ (d : List Record). Covers d k) (sym (one_chain o m lv mp mp e h ie ih i)) c
+    moved h e ih ie i c = rw (one_chain o m lv mp mp e h ie ih i) c
 
     later : (h e : SidePage) → InPlace o m lv mp e → Covers h.chain k → Covers e.chain k → (gs : List SidePage) (p : Option ℕ) (low : Option Key) → low ≡ high_in h.chain → IsPart o m lv mp gs p low None None → HasSidePage e.page gs → ⊥
     later h e ie ch ce gs p low j part has =
@@ -278,8 +277,8 @@ same_page o m lv mp first t g f hg hf k cg cf = go t.side (Some first) (Some [])
         from_located l = middle l.before p low l.first
           where
             middle : (bs : List SidePage) (p : Option ℕ) (low : Option Key) → IsPart o m lv mp bs p low (Some l.page.page) (Some (low_in l.page.chain)) → StartsFrom low (low_in l.page.chain)
-            middle [] p low h = subst (λ (b : Option Key). StartsFrom b (low_in l.page.chain)) (sym h.1) (upto_refl (low_in l.page.chain))
-            middle (b ∷ bs) p low h = subst (λ (c : Option Key). StartsFrom c (low_in l.page.chain)) (sym h.1) (let i = under_start (low_in b.chain) (low_in l.page.chain) (high_in b.chain) h.2.is_page.some (middle bs (right_in b.chain) (high_in b.chain) h.3) in below_not (low_in b.chain) (low_in l.page.chain) i)
+            middle [] p low h = rw h.1 (upto_refl (low_in l.page.chain))
+            middle (b ∷ bs) p low h = rw h.1 (let i = under_start (low_in b.chain) (low_in l.page.chain) (high_in b.chain) h.2.is_page.some (middle bs (right_in b.chain) (high_in b.chain) h.3) in below_not (low_in b.chain) (low_in l.page.chain) i)
 
     go : (gs : List SidePage) (p : Option ℕ) (low : Option Key) → IsPart o m lv mp gs p low None None → HasSidePage g.page gs → HasSidePage f.page gs → g.page ≡ f.page
     go [] p low part a b = absurd a
@@ -300,8 +299,8 @@ no_gap o m lv mp first t g hg q s st e on lo hi = go t.side (Some first) (Some [
 
     from : (gs : List SidePage) (p : Option ℕ) (low : Option Key) → IsPart o m lv mp gs p low None None → (f : ℕ) → HasSidePage f gs → (k : Key) → ((h : SidePage) → InPlace o m lv mp h → h.page ≡ f → low_in h.chain ≡ k) → StartsFrom low k
     from [] p low part f has k is = absurd has
-    from (h ∷ gs) p low part f (inl i) k is = subst (λ (b : Option Key). StartsFrom b k) (sym part.1) (upto_same (low_in h.chain) k (is h part.2 i))
-    from (h ∷ gs) p low part f (inr i) k is = subst (λ (b : Option Key). StartsFrom b k) (sym part.1) (let u = under_start (low_in h.chain) k (high_in h.chain) part.2.is_page.some (from gs (right_in h.chain) (high_in h.chain) part.3 f i k is) in below_not (low_in h.chain) k u)
+    from (h ∷ gs) p low part f (inl i) k is = rw part.1 (upto_same (low_in h.chain) k (is h part.2 i))
+    from (h ∷ gs) p low part f (inr i) k is = rw part.1 (let u = under_start (low_in h.chain) k (high_in h.chain) part.2.is_page.some (from gs (right_in h.chain) (high_in h.chain) part.3 f i k is) in below_not (low_in h.chain) k u)
 
     upto : (b : Option Key) → StartsFrom b s → IsWithinEnd s b → b ≡ Some s
     upto None u v = absurd u
@@ -316,7 +315,7 @@ no_gap o m lv mp first t g hg q s st e on lo hi = go t.side (Some first) (Some [
     go [] p low part a b = absurd a
     go (h ∷ gs) p low part (inl a) (inl b) = absurd (not_below (low_in g.chain) s lo (upto_same s (low_in g.chain) (sym (low_is h part.2 b) ∙ ap low_in (chain_is h part.2 a))))
     go (h ∷ gs) p low part (inl a) (inr b) =
-        let r : IsPart o m lv mp gs (right_in g.chain) (high_in g.chain) None None = subst (λ (d : List Record). IsPart o m lv mp gs (right_in d) (high_in d) None None) (chain_is h part.2 a) part.3 in
+        let r : IsPart o m lv mp gs (right_in g.chain) (high_in g.chain) None None = rw (chain_is h part.2 a) at part.3 in
         let i = upto (high_in g.chain) (from gs (right_in g.chain) (high_in g.chain) r q b s low_is) hi in
         (i, next gs (right_in g.chain) (high_in g.chain) r i b)
     go (h ∷ gs) p low part (inr a) (inl b) = absurd (
@@ -329,12 +328,12 @@ pub right_page : (o : Owners) (m : Shared) (lv : ℕ) (mp : Key → Option Conte
 right_page o m lv mp first t g hg q r = go t.side (Some first) (Some []) t.whole (t.listed g.page (low_in g.chain) hg.stage hg.placed hg.on)
   where
     next : (gs : List SidePage) → IsPart o m lv mp gs (right_in g.chain) (high_in g.chain) None None → (f : SidePage) × (f.page ≡ q) × (high_in g.chain ≡ Some (low_in f.chain)) × InPlace o m lv mp f
-    next [] part = absurd (let e = sym r ∙ part.0 in cc)
+    next [] part = absurd (cc part.0)
     next (k ∷ gs) part = (k, same_Some k.page q (sym part.0 ∙ r), part.1, part.2)
 
     go : (gs : List SidePage) (p : Option ℕ) (low : Option Key) → IsPart o m lv mp gs p low None None → HasSidePage g.page gs → (f : SidePage) × (f.page ≡ q) × (high_in g.chain ≡ Some (low_in f.chain)) × InPlace o m lv mp f
     go [] p low part a = absurd a
-    go (h ∷ gs) p low part (inl a) = next gs (subst (λ (d : List Record). IsPart o m lv mp gs (right_in d) (high_in d) None None) (one_chain o m lv mp mp g h hg part.2 a) part.3)
+    go (h ∷ gs) p low part (inl a) = next gs (rw (one_chain o m lv mp mp g h hg part.2 a) at part.3)
     go (h ∷ gs) p low part (inr a) = go gs (right_in h.chain) (high_in h.chain) part.3 a
 
 -- one page in the place of two
@@ -352,8 +351,8 @@ level_merged o o' m m' lv mp mp' first closed kept t p sp q sq st st2 ep on eq l
 
     from : (gs : List SidePage) (b : Option ℕ) (low : Option Key) → IsPart o m lv mp gs b low None None → HasSidePage p gs → StartsFrom low sp
     from [] b low part has = absurd has
-    from (h ∷ gs) b low part (inl i) = subst (λ (c : Option Key). StartsFrom c sp) (sym part.1) (upto_same (low_in h.chain) sp (low_at p sp st ep h part.2 i))
-    from (h ∷ gs) b low part (inr i) = subst (λ (c : Option Key). StartsFrom c sp) (sym part.1) (let u = under_start (low_in h.chain) sp (high_in h.chain) part.2.is_page.some (from gs (right_in h.chain) (high_in h.chain) part.3 i) in below_not (low_in h.chain) sp u)
+    from (h ∷ gs) b low part (inl i) = rw part.1 (upto_same (low_in h.chain) sp (low_at p sp st ep h part.2 i))
+    from (h ∷ gs) b low part (inr i) = rw part.1 (let u = under_start (low_in h.chain) sp (high_in h.chain) part.2.is_page.some (from gs (right_in h.chain) (high_in h.chain) part.3 i) in below_not (low_in h.chain) sp u)
 
     stays : (f : SidePage) → InPlace o m lv mp f → f.page ≢ p → f.page ≢ q → Stays o' m m' lv mp mp' f
     stays f h np nq = stays_by o o' m m' lv mp mp' f h (rests f.page (low_in f.chain) h.stage np nq h.placed h.on) (λ k c. same k)
@@ -368,7 +367,7 @@ level_merged o o' m m' lv mp mp' first closed kept t p sp q sq st st2 ep on eq l
 
     merge : (h : SidePage) → InPlace o m lv mp h → h.page ≡ p → (gs : List SidePage) → IsPart o m lv mp gs (right_in h.chain) (high_in h.chain) None None
         → (gs' : List SidePage) × IsPart o' m' lv mp' gs' (Some h.page) (Some (low_in h.chain)) None None × ((r : ℕ) → r ≢ q → HasSidePage r (h ∷ gs) → HasSidePage r gs')
-    merge h hh i [] part = absurd (let e = sym (right h hh i) ∙ part.0 in cc)
+    merge h hh i [] part = absurd (cc (right h hh i, part.0))
     merge h hh i (k ∷ gs) part =
         let f = pair h k hh i part.2 part.0 in (
           new ∷ gs,
@@ -407,10 +406,9 @@ tree_merged o o' m m' log closed kept t p lv sp q sq st st2 ep on eq lt rests ro
       first = t.first;
       leaf = t.leaf;
       root = root ∙ t.root;
-      levels = λ l le. by_test l lv (λ b. Level o' m' l (spec log o'.index l) (t.first l))
-          (λ j. subst (λ (n : ℕ). Level o' m' n (spec log o'.index n) (t.first n)) (sym j)
-          (level_merged o o' m m' lv (spec log o.index lv) (spec log o'.index lv) (t.first lv) closed kept (t.levels lv (t.exact.below p lv sp st ep)) p sp q sq st st2 ep on eq lt (λ r s. rests r lv s) (λ k. ap (λ (f : ℕ → Key → Option ContentOf). spec log f lv k) index) new is pair right (λ r s. old r lv s)))
-          (λ ne. level_kept o o' m m' l (spec log o.index l) (spec log o'.index l) (t.first l) closed kept
+      levels = λ l le. by_equal l lv
+          (λ j says. rw j (level_merged o o' m m' lv (spec log o.index lv) (spec log o'.index lv) (t.first lv) closed kept (t.levels lv (t.exact.below p lv sp st ep)) p sp q sq st st2 ep on eq lt (λ r s. rests r lv s) (λ k. ap (λ (f : ℕ → Key → Option ContentOf). spec log f lv k) index) new is pair right (λ r s. old r lv s)))
+          (λ ne says. level_kept o o' m m' l (spec log o.index l) (spec log o'.index l) (t.first l) closed kept
           (λ r s' st' f. rests r l s' st' (λ j. ne (placed_level st' st l lv s' sp (sym f ∙ ap o.page j ∙ ep)).0) (λ j. ne (placed_level st' st2 l lv s' sq (sym f ∙ ap o.page j ∙ eq)).0) f)
           (λ k. ap (λ (f : ℕ → Key → Option ContentOf). spec log f l k) index)
           (λ r s' st' f i. (old r l s' st' f i).1)

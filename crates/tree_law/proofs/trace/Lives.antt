@@ -1,5 +1,5 @@
 -- One more entry: the life of each page, and that nothing is used again.
-use Rattle.tree_law.proofs.Words.{◌⊎◌, [], refl, Option, suc, List, true, inl, length, ◌++◌, inr, ◌∷◌, subst, sym, ℕ, ◌≡◌, ◌∙◌, ◌<◌, arith, Command, Reply, Limits, Answer, Whether, StepOf, TakePid}
+use Rattle.tree_law.proofs.Words.{◌⊎◌, [], refl, Option, suc, List, true, inl, length, ◌++◌, inr, ◌∷◌, sym, ℕ, ◌≡◌, ◌∙◌, ◌<◌, arith, Command, Reply, Limits, Answer, Whether, StepOf, TakePid}
 use Rattle.tree_law.proofs.Words.{Memory, Record, Remove, RemoveOf, Happens-kept, Happens-push_cases, IsChainOf, IsAnswer, memory_of, IsUnheld, Entry, Begin, Step, Wins, Installs, free, IsInPhase}
 use Rattle.tree_law.proofs.Words.{MovesPhase, removes, Phase, cleared, splits, merges, becomes_root, reuses, under_root, terms, holds, unterms, PageOwner, phase_of}
 use Rattle.bw_model.specs.declared.step.Link.TheVariants as link
@@ -32,7 +32,7 @@ taken_from {m} {a} {s} {x} {r} {pid} (takes b step) e is =
     let f = step.1 in
     let i : s ≡ TakePid pid = cc in
     let j : x ≡ Whether true = cc in
-    let says : x ≡ Whether (m.free_pids pid) = subst (λ t. IsAnswer m t x) i is in
+    let says : x ≡ Whether (m.free_pids pid) = rw i at is in
     cc (says, j)
 taken_from (splits slot split installs at) e is = absurd (cc)
 taken_from m e is = absurd (cc)
@@ -52,7 +52,7 @@ module _ (limits : Limits) (entries : List Entry) where
   begins_in_phase a c pid phase h = rw pushed_length (IsInPhase-rested limits entries (Begin a c) pid phase (λ from to moves. begin_still moves) h)
 
   pub begins_phases : (a : ℕ) (c : Command) → KeepsPhases limits entries → KeepsPhases limits (entries ++ Begin a c ∷ [])
-  begins_phases a c keeps = KeepsPhases-push limits entries (Begin a c) keeps (λ pid from to moves. absurd (begin_still moves)) (λ b pid old won. absurd (let e = won.0.1 in cc)) (λ pid remove chain installs stands. absurd (let e = installs.3.0.1 in cc))
+  begins_phases a c keeps = KeepsPhases-push limits entries (Begin a c) keeps (λ pid from to moves. absurd (begin_still moves)) (λ b pid old won. absurd (cc won.0.1)) (λ pid remove chain installs stands. absurd (cc installs.3.0.1))
 
   module _ (last : Entry) (f f' : ℕ → PageOwner) (before : (pid : ℕ) → IsInPhase limits entries (length entries) pid (phase_of (f pid)))
       (between : (pid : ℕ) (from to : Phase) → MovesPhase (memory_of limits entries) last pid from to → (phase_of (f pid) ≡ from) × (phase_of (f' pid) ≡ to)) where
@@ -60,8 +60,7 @@ module _ (limits : Limits) (entries : List Entry) where
         → (pid : ℕ) → IsInPhase limits (entries ++ last ∷ []) (length (entries ++ last ∷ [])) pid (phase_of (f' pid))
     steps_in_phase cases pid = rw pushed_length (elim (cases pid) [
       | inl moves ↦ IsInPhase-moved limits entries last pid (phase_of (f pid)) (phase_of (f' pid)) moves
-      | inr same ↦ subst (λ p. IsInPhase limits (entries ++ last ∷ []) (suc (length entries)) pid p) (sym same)
-          (IsInPhase-rested limits entries last pid (phase_of (f pid)) (λ from to moves. let b = between pid from to moves in moves_on moves (sym b.0 ∙ sym same ∙ b.1)) (before pid))
+      | inr same ↦ rw same (IsInPhase-rested limits entries last pid (phase_of (f pid)) (λ from to moves. let b = between pid from to moves in moves_on moves (sym b.0 ∙ sym same ∙ b.1)) (before pid))
     ])
 
     -- a phase in which a PID is is the one that its owner says
@@ -88,12 +87,12 @@ module _ (limits : Limits) (entries : List Entry) where
     pub steps_phases : KeepsPhases limits entries → ((b pid old : ℕ) → Wins (memory_of limits entries) last b pid old 0 link.Clear → phase_of (f pid) ≡ cleared)
         → ((pid : ℕ) (remove : RemoveOf) (chain : List Record) → Installs (memory_of limits entries) last pid (Remove remove) → IsChainOf (memory_of limits entries) pid chain → IsUnheld chain) → KeepsPhases limits (entries ++ last ∷ [])
     steps_phases keeps clears unheld = KeepsPhases-push limits entries last keeps
-        (λ pid from to moves. subst (λ p. IsInPhase limits entries (length entries) pid p) (between pid from to moves).0 (before pid))
-        (λ b pid old won. subst (λ p. IsInPhase limits entries (length entries) pid p) (clears b pid old won) (before pid))
+        (λ pid from to moves. rw (between pid from to moves).0 at (before pid))
+        (λ b pid old won. rw (clears b pid old won) at (before pid))
         unheld
 
 module _ (limits : Limits) (entries : List Entry) where
   pub begins_only : (a : ℕ) (c : Command) (f : ℕ → PageOwner) → ((pid : ℕ) → IsInPhase limits entries (length entries) pid (phase_of (f pid)))
       → ((pid : ℕ) (phase : Phase) → IsInPhase limits entries (length entries) pid phase → phase ≡ phase_of (f pid))
       → (pid : ℕ) (phase : Phase) → IsInPhase limits (entries ++ Begin a c ∷ []) (length (entries ++ Begin a c ∷ [])) pid phase → phase ≡ phase_of (f pid)
-  begins_only a c f before only pid phase h = only_after limits entries (Begin a c) f f before (λ pid from to moves. absurd (begin_still moves)) (λ pid. inr refl) only pid phase (subst (λ n. IsInPhase limits (entries ++ Begin a c ∷ []) n pid phase) (pushed_length entries (Begin a c)) h)
+  begins_only a c f before only pid phase h = only_after limits entries (Begin a c) f f before (λ pid from to moves. absurd (begin_still moves)) (λ pid. inr refl) only pid phase (rw (pushed_length entries (Begin a c)) at h)

@@ -3,7 +3,6 @@ use Rattle.tree_law.proofs.Words.{false, [], ap, refl, cond, Option, suc, None, 
 use Rattle.tree_law.proofs.Words.{MatchOption, Update, Command, Reply, Limits, Answer, StepOf, Record, slice_get_below, slice_get_kept, slice_get-push, take-push, take-push_whole, memory_at-push}
 use Rattle.tree_law.proofs.Words.{memory_at, command_of, memory_of, Entry, Begin, Step, log_at-push, IsOperation, Operation, Finishes, IsOwnStep, log_at, log_of, IsPoint, HasMapOf, IsQuiet, Tells}
 use Rattle.tree_law.proofs.Words.{operation_of, IsUnended, IsAnsweredBy, IsMarked, HasFound}
-use Rattle.op_machine.specs.theorem.Answered.{IsLeafOf}
 use Rattle.tree_law.specs.State.{Justifies}
 use Rattle.tree_law.proofs.trace.Searches.{held_back_kept, nothing_free_kept}
 use Rattle.tree_law.proofs.trace.Owned.{pushed_length, point_below, point_last, own_step_kept, own_cases, step_cases, step_below, own_new, unended_kept, operation_old}
@@ -41,7 +40,7 @@ module _ (entries : List Entry) (points : List Bool) (last : Entry) (mark : Bool
       own = own_step_kept entries last op h.1.step h.1.own;
       tidy = record {
         leaf = h.1.tidy.leaf;
-        stands = subst (λ memory. IsLeafOf memory h.1.key h.1.tidy.leaf) (sym (memory_same limits op h.1.step h.1.own)) h.1.tidy.stands;
+        stands = rw (memory_same limits op h.1.step h.1.own) h.1.tidy.stands;
         base = h.1.tidy.base;
         alone = h.1.tidy.alone;
         few = h.1.tidy.few;
@@ -155,7 +154,7 @@ module _ (entries : List Entry) (points : List Bool) (last : Entry) (mark : Bool
 
       point_kept : (k : Bool) → mark ≡ k → (o : Option (List Update)) → MatchOption o ((m : ℕ) → IsOwnStep entries (operation_of t.start a asked) m → IsPoint points m → ⊥) (λ l. (m : ℕ) × IsOwnStep entries (operation_of t.start a asked) m × IsPoint points m × (log_at entries points m ≡ l))
           → MatchOption (cond k (Some log) o) ((m : ℕ) → IsOwnStep entries' (operation_of t.start a asked) m → IsPoint points' m → ⊥) (λ l. (m : ℕ) × IsOwnStep entries' (operation_of t.start a asked) m × IsPoint points' m × (log_at entries' points' m ≡ l))
-      point_kept true k o h = (length entries, new, subst (λ n. IsPoint points' n) beside (slice_get-push points mark ∙ ap Some k), last_log)
+      point_kept true k o h = (length entries, new, rw beside at (slice_get-push points mark ∙ ap Some k), last_log)
       point_kept false k None h = λ m own p. elim (step_cases entries last (operation_of t.start a asked) m own) [
         | inl own' ↦ h m own' (point_old (operation_of t.start a asked) m own' p)
         | inr at ↦ let marked : mark ≡ true = point_last points mark m (at.0 ∙ sym beside) p in absurd (cc)

@@ -1,10 +1,10 @@
 -- One more entry: what the names that actors have learnt are, and what is read.
-use Rattle.tree_law.proofs.Words.{false, ◌⊎◌, [], ap, refl, cond, Option, suc, None, List, true, inl, ◌≢◌, length, ◌++◌, ◌≤◌, inr, ◌∷◌, subst, sym, ℕ, ◌≡◌, Bool, zero, ◌∙◌, ◌<◌, arith, Some, ◌+◌, ◌^◌}
-use Rattle.tree_law.proofs.Words.{eqb, same_Some, Contains, MatchOption, unwrap_or, IsFalse, Update, Command, Reply, Limits, Answer, Whether, Content, Number, StepOf, ReuseRows, ReusePids, Leave}
+use Rattle.tree_law.proofs.Words.{false, ◌⊎◌, ap, refl, cond, Option, suc, None, List, true, inl, ◌≢◌, length, ◌++◌, ◌≤◌, inr, ◌∷◌, subst, sym, ℕ, ◌≡◌, Bool, zero, ◌∙◌, ◌<◌, arith, Some, ◌+◌, ◌^◌}
+use Rattle.tree_law.proofs.Words.{eqb, same_Some, Contains, unwrap_or, IsFalse, Update, Command, Reply, Limits, Answer, Whether, Content, Number, StepOf, ReuseRows, ReusePids, Leave}
 use Rattle.tree_law.proofs.Words.{TakePid, Row, Place, TakeRow, Slot, Enter, Exchange, Retire, Memory, next_row, Record, Base, slice_get_below, slice_get-push, take-push_whole, TakesStep-push_cases}
-use Rattle.tree_law.proofs.Words.{memory_at-push, IsOnChain, chain_rows, IsChainFrom, May, begun, Knowledge, knows_after, finished, Ready, learn, learnt_next, ShowsRow, IsAnswer, memory_after}
-use Rattle.tree_law.proofs.Words.{memory_at, command_of, memory_of, IsStep, commands_after, Entry, Begin, Step, Key, IsReuse, IsMoved, Free, Linked, Owners, Reached, Spare, Placed, PageOwner, Cleared}
-use Rattle.tree_law.proofs.Words.{put, shared, slot_in, row_in, IsReadyPage, phase_of, IsInTree, IsNamed, IsTree}
+use Rattle.tree_law.proofs.Words.{memory_at-push, IsOnChain, chain_rows, IsChainFrom, May, Knowledge, knows_after, finished, Ready, learn, learnt_next, ShowsRow, IsAnswer, memory_after}
+use Rattle.tree_law.proofs.Words.{command_of, memory_of, IsStep, commands_after, Entry, Begin, Step, Key, IsReuse, IsMoved, Free, Linked, Owners, Reached, Spare, Placed, PageOwner, Cleared}
+use Rattle.tree_law.proofs.Words.{shared, slot_in, row_in, IsReadyPage, phase_of, IsInTree, IsNamed, IsTree, []}
 use Rattle.base_page.specs.Pages as pages
 use Rattle.chain_search.specs.trace.Run.{MayTake}
 use Rattle.chain_search.proofs.TraceLaws.{HasLearnt-push_cases}
@@ -12,7 +12,7 @@ use Rattle.op_machine.specs.theorem.Phases as phase
 use Rattle.op_machine.specs.theorem.Faithful.{IsFaithful, KnowsRow, Disturbs, touches_pages}
 use Rattle.op_machine.proofs.FaithLaws.{KnowsRow-before, KnowsRow-kept, KnowsRow-shown}
 use Rattle.chain_search.specs.discipline.Knowledge.{going_on}
-use Rattle.tree_law.proofs.shape.{by_test, put_same, put_other, slot_some, chain_linked, own_spare, false_if}
+use Rattle.tree_law.proofs.shape.{by_equal, put_same, put_other, put_true, slot_some, chain_linked, own_spare, false_if}
 use Rattle.tree_law.proofs.links.Exchanged.{exchanged_alike}
 use Rattle.tree_law.proofs.links.Keeping.{slot_of}
 use Rattle.tree_law.proofs.trace.Owned.{pushed_length}
@@ -25,11 +25,11 @@ pub faithful_push : (limits : Limits) (entries : List Entry) (last : Entry) → 
 faithful_push limits entries last old reads outside = record {
   known = λ n b row x h. elim (TakesStep-push_cases entries last n b (Row row) x h) [
     | inl before ↦ let lt : n < length entries = slice_get_below entries n _ before.1 in KnowsRow-before entries last n b row (omega arith) (old.known n b row x before)
-    | inr at ↦ let same : n ≡ length entries = at.0 in KnowsRow-before entries last n b row (omega arith) (subst (λ k. KnowsRow entries k b row) (sym at.0) (reads b row x at.1))
+    | inr at ↦ let same : n ≡ length entries = at.0 in KnowsRow-before entries last n b row (omega arith) (rw at.0 (reads b row x at.1))
   ];
   outside = λ n b s x h z. elim (TakesStep-push_cases entries last n b s x h) [
-    | inl before ↦ let lt : n < length entries = slice_get_below entries n _ before.1 in old.outside n b s x before (subst (λ m. m.announced b ≡ 0) (memory_at-push limits entries (last ∷ []) n (omega arith)) z)
-    | inr at ↦ outside b s x at.1 (subst (λ es. (memory_of limits es).announced b ≡ 0) (take-push_whole entries (last ∷ [])) (subst (λ k. (memory_at limits (entries ++ last ∷ []) k).announced b ≡ 0) at.0 z))
+    | inl before ↦ let lt : n < length entries = slice_get_below entries n _ before.1 in old.outside n b s x before (rw (memory_at-push limits entries (last ∷ []) n (omega arith)) at z)
+    | inr at ↦ outside b s x at.1 (rw (take-push_whole entries (last ∷ [])) at (rw at.0 at z))
   ];
 }
 
@@ -41,12 +41,12 @@ pub named_begins : (limits : Limits) (entries : List Entry) (o : Owners) (m : Me
     → command_of (entries ++ Begin a c ∷ []) ≡ commands_after (command_of entries) (Begin a c)
     → IsNamed limits (entries ++ Begin a c ∷ []) o m (knows_after knows (Begin a c))
 named_begins limits entries o m knows a c old asks = record {
-  shown = λ b r h. elim (HasLearnt-push_cases entries (Begin a c) b r h) [ inl before ↦ elim (old.shown b r before.0) [ inl z ↦ inl z | inr l ↦ inr (by_test b a (λ t. (cond t (begun (knows a) c) (knows b)).read.learnt r ≡ true) (λ i. subst (λ n. (knows n).read.learnt r ≡ true) i l) (λ ne. l)) ] | inr shows ↦ absurd (begin_shows entries a c b r shows) ];
+  shown = λ b r h. elim (HasLearnt-push_cases entries (Begin a c) b r h) [ inl before ↦ elim (old.shown b r before.0) [ inl z ↦ inl z | inr l ↦ inr (by_equal b a (λ i t. rw t (rw i at l)) (λ ne t. rw t l)) ] | inr shows ↦ absurd (begin_shows entries a c b r shows) ];
   known = λ b r e. rw pushed_length (KnowsRow-kept entries (Begin a c) b r
-      (old.known b r (by_test b a (λ t. (cond t (begun (knows a) c) (knows b)).read.learnt r ≡ true → (knows b).read.learnt r ≡ true) (λ i f. subst (λ n. (knows n).read.learnt r ≡ true) (sym i) f) (λ ne f. f) e))
+      (old.known b r (by_equal b a (λ i t. let f = rw t at e in rw i f) (λ ne t. rw t at e)))
       (λ epoch x. ((λ h. let is = h.1 in cc), (λ h. let is = h.1 in cc)))
       (λ other s x h. let is = h.1 in absurd (cc)));
-  announced = λ b e. old.announced b (by_test b a (λ t. (cond t (begun (knows a) c) (knows b)).inside ≡ true → (knows b).inside ≡ true) (λ i f. subst (λ n. (knows n).inside ≡ true) (sym i) f) (λ ne f. f) e);
+  announced = λ b e. old.announced b (by_equal b a (λ i t. let f = rw t at e in rw i f) (λ ne t. rw t at e));
   epoch = old.epoch;
   posted = old.posted;
   zero_free = old.zero_free;
@@ -56,14 +56,14 @@ named_begins limits entries o m knows a c old asks = record {
   free_pid_below = old.free_pid_below;
   pid_below = old.pid_below;
   in_slots = λ p r e. held_begins (old.in_slots p r e);
-  commands = λ b. rw asks (by_test b a (λ t. (cond t (begun (knows a) c) (knows b)).asked.command ≡ cond t (Some c) (command_of entries b)) (λ i. refl) (λ ne. old.commands b));
+  commands = λ b. rw asks (by_equal b a (λ i t. rw t) (λ ne t. rw t (old.commands b)));
 }
   where
     held_begins : {p r : ℕ} → IsInTree (o.page p) ⊎ IsReadyPage o m knows p r → IsInTree (o.page p) ⊎ IsReadyPage o m (knows_after knows (Begin a c)) p r
     held_begins {p} {r} (inl h) = inl h
     held_begins {p} {r} (inr h) = inr (record {
       actor = h.actor;
-      ready = by_test h.actor a (λ t. (cond t (begun (knows a) c) (knows h.actor)).own.pages p ≡ Ready r) (λ i. subst (λ n. (knows n).own.pages p ≡ Ready r) i h.ready) (λ ne. h.ready);
+      ready = by_equal h.actor a (λ i t. rw t (rw i at h.ready)) (λ ne t. rw t h.ready);
       owned = h.owned;
       base = h.base;
       stands = h.stands;
@@ -78,10 +78,10 @@ learn_command k s x = elim (learning k s x) as (λ s x k' v. k'.asked.command �
 
 learnt_cases : (k : Knowledge) (s : StepOf Record) (x : Answer Record) (r : ℕ) → (learn k s x).read.learnt r ≡ true → ((k.read.learnt r ≡ true) × Stays s) ⊎ Shown s x r
 learnt_cases k s x r e = (elim (learning k s x) as (λ s x k' v. k'.read.learnt r ≡ true → ((k.read.learnt r ≡ true) × Stays s) ⊎ Shown s x r) [
-  | at_page p n ↦ by_test r (suc n) (λ t. cond t true (k.read.learnt r) ≡ true → ((k.read.learnt r ≡ true) × Unit {0}) ⊎ Shown (Slot (suc p)) (Number (suc n)) r)
-      (λ i f. inr (inl (suc p, omega arith, refl, ap Number (sym i)))) (λ ne f. inl (f, tt))
+  | at_page p n ↦ by_equal r (suc n)
+      (λ i t. rw t λ f. inr (inl (suc p, omega arith, refl, ap Number (sym i)))) (λ ne t. rw t λ f. inl (f, tt))
   | at_row q w ↦ go q w (next_row w) refl
-  | wins p y z ↦ λ f. inl (subst (λ f. f r ≡ true) (ap (λ v. v.learnt) (exchanged_alike p y z k).read) f, tt)
+  | wins p y z ↦ λ f. inl (rw (ap (λ v. v.learnt) (exchanged_alike p y z k).read) at f, tt)
   | enters n y ↦ λ f. absurd (cc)
   | leaves y ↦ λ f. absurd (cc)
   | in_rows rows st ↦ λ f. inl (f, st)
@@ -92,8 +92,8 @@ learnt_cases k s x r e = (elim (learning k s x) as (λ s x k' v. k'.read.learnt 
   where
     go : (q : ℕ) (w : Record) (o : Option ℕ) → next_row w ≡ o → learnt_next o k.read.learnt r ≡ true → ((k.read.learnt r ≡ true) × Unit {0}) ⊎ Shown (Row q) (Content w) r
     go q w None i f = inl (f, tt)
-    go q w (Some n) i f = by_test r n (λ t. cond t true (k.read.learnt r) ≡ true → ((k.read.learnt r ≡ true) × Unit {0}) ⊎ Shown (Row q) (Content w) r)
-        (λ j g. inr (inr (q, w, refl, refl, i ∙ ap Some (sym j)))) (λ ne g. inl (g, tt)) f
+    go q w (Some n) i f = by_equal r n
+        (λ j t. inr (inr (q, w, refl, refl, i ∙ ap Some (sym j)))) (λ ne t. let g = rw t at f in inl (g, tt))
 
 stays_no_enter : (s : StepOf Record) (e : ℕ) → Stays s → s ≡ Enter e → ⊥
 stays_no_enter s e h i = subst Stays i h
@@ -138,19 +138,22 @@ pub slot_none : (slots : ℕ → ℕ) (p : ℕ) → 0 < p → slot_in slots p �
 slot_none slots zero above e = absurd (omega arith)
 slot_none slots (suc p) above e = row_none (slots (suc p)) e
 
-module _ (limits : Limits) (entries : List Entry) (o : Owners) (m : Memory) (knows : ℕ → Knowledge) (log : List Update) (points : ℕ → Option (List Update)) (logs : ℕ → List (List Update))
+module _ {limits : Limits} {entries : List Entry} {o : Owners} {m : Memory} {knows : ℕ → Knowledge} {log : List Update} {points : ℕ → Option (List Update)} {logs : ℕ → List (List Update)}
     (g : IsTree (shared m) log o knows points logs) (old : IsNamed limits entries o m knows) (a : ℕ) (s : StepOf Record) (x : Answer Record) (r : Option Reply) (may : May a (knows a) s) (is : IsAnswer m s x) where
   abbrev last : Entry
   last = Step a s x r
+
+  abbrev longer : List Entry
+  longer = entries ++ last ∷ []
 
   -- a step but a reuse disturbs no linked row
   pub calm : (t : StepOf Record) → (IsReuse t → ⊥) → May a (knows a) t → (y : Answer Record) → IsAnswer m t y → (q : ℕ) → o.row q ≡ Linked → Disturbs t y q → ⊥
   calm (Place row w) still_so h y i q l same =
       let spare : o.row row ≡ Spare a = own_spare (m.rows row) ((knows a).own.rows row) (g.owns a row) h.1 in
-      let l' : o.row row ≡ Linked = subst (λ n. o.row n ≡ Linked) (sym same) l in cc
+      let l' : o.row row ≡ Linked = rw same l in cc
   calm (TakeRow row) still_so h y i q l d =
       let free : o.row row ≡ Free = g.frees.row row (whether_same (m.free_rows row) true y i d.0) in
-      let l' : o.row row ≡ Linked = subst (λ n. o.row n ≡ Linked) (sym d.1) l in cc
+      let l' : o.row row ≡ Linked = rw d.1 l in cc
   calm (ReuseRows w b) still_so h y i q l d = still_so tt
   calm t still_so h y i q l d = d
 
@@ -158,30 +161,27 @@ module _ (limits : Limits) (entries : List Entry) (o : Owners) (m : Memory) (kno
   tree_slot : (p : ℕ) → IsInTree (o.page p) → (q : ℕ) → slot_in m.slots p ≡ Some q → o.row q ≡ Linked
   tree_slot p h q e = let here = placed_at (o.page p) h in elim (slot_of g a p here.0 here.1 here.2) [
     | inl none ↦ absurd (cc)
-    | inr some ↦ let same : some.0 ≡ q = same_Some some.0 q (sym some.1 ∙ e) in subst (λ n. o.row n ≡ Linked) same some.2.linked
+    | inr some ↦ let same : some.0 ≡ q = same_Some some.0 q (sym some.1 ∙ e) in rw same at some.2.linked
   ]
 
   -- what a step shows its actor learns
   learnt_shown : (q : ℕ) → Shown s x q → (q ≡ 0) ⊎ ((learn (knows a) s x).read.learnt q ≡ true)
-  learnt_shown q (inl h) = subst (λ (t : StepOf Record). (q ≡ 0) ⊎ ((learn (knows a) t x).read.learnt q ≡ true)) (sym h.2) (subst (λ (y : Answer Record). (q ≡ 0) ⊎ ((learn (knows a) (Slot h.0) y).read.learnt q ≡ true)) (sym h.3) (by_slot h.0 q h.1))
+  learnt_shown q (inl h) = rw h.2 (rw h.3 (by_slot h.0 q h.1))
     where
       by_slot : (p q : ℕ) → 0 < p → (q ≡ 0) ⊎ ((learn (knows a) (Slot p) (Number q)).read.learnt q ≡ true)
       by_slot zero q above = absurd (omega arith)
       by_slot (suc p) zero above = inl refl
       by_slot (suc p) (suc q) above = inr (put_same (knows a).read.learnt (suc q) true)
-  learnt_shown q (inr h) = inr (subst (λ (t : StepOf Record). (learn (knows a) t x).read.learnt q ≡ true) (sym h.2) (subst (λ (y : Answer Record). (learn (knows a) (Row h.0) y).read.learnt q ≡ true) (sym h.3) (subst (λ (v : Option ℕ). learnt_next v (knows a).read.learnt q ≡ true) (sym h.4) (put_same (knows a).read.learnt q true))))
-
-  grows : (f : ℕ → Bool) (n q : ℕ) → f q ≡ true → put f n true q ≡ true
-  grows f n q e = by_test q n (λ z. cond z true (f q) ≡ true) (λ i. refl) (λ ne. e)
+  learnt_shown q (inr h) = inr (rw h.2 (rw h.3 (rw h.4 (put_same (knows a).read.learnt q true))))
 
   grows_next : (v : Option ℕ) (f : ℕ → Bool) (q : ℕ) → f q ≡ true → learnt_next v f q ≡ true
   grows_next None f q e = e
-  grows_next (Some n) f q e = grows f n q e
+  grows_next (Some n) f q e = put_true f n q e
 
   -- what an actor that goes on has learnt it knows still
   learnt_stays : (k : Knowledge) (t : StepOf Record) (y : Answer Record) → Stays t → (q : ℕ) → k.read.learnt q ≡ true → (learn k t y).read.learnt q ≡ true
   learnt_stays k t y st q e = (elim (learning k t y) as (λ s x k' v. Stays s → k.read.learnt q ≡ true → k'.read.learnt q ≡ true) [
-    | at_page p n ↦ λ st. grows k.read.learnt (suc n) q
+    | at_page p n ↦ λ st. put_true k.read.learnt (suc n) q
     | at_row r w ↦ λ st. grows_next (next_row w) k.read.learnt q
     | wins p x z ↦ λ st. subst (λ (f : ℕ → Bool). f q ≡ true) (sym (ap (λ v. v.learnt) (exchanged_alike p x z k).read))
     | enters n x ↦ λ st e. absurd st
@@ -190,45 +190,45 @@ module _ (limits : Limits) (entries : List Entry) (o : Owners) (m : Memory) (kno
   ]) st e
 
   stays_or : (t : StepOf Record) → May a (knows a) t → (q : ℕ) → (knows a).read.learnt q ≡ true → ((q : ℕ) → (knows a).read.learnt q ≡ true → (knows a).inside ≡ true) → (t ≡ Leave) ⊎ Stays t
-  stays_or (Enter n) h q e inside = absurd (let i = inside q e in let f = h.0 in cc)
+  stays_or (Enter n) h q e inside = absurd (cc (inside q e, h.0))
   stays_or Leave h q e inside = inl refl
   stays_or t h q e inside = inr tt
 
-  shown_cases : (b q : ℕ) → ShowsRow (entries ++ last ∷ []) (length entries) b q → (b ≡ a) × Shown s x q
+  shown_cases : (b q : ℕ) → ShowsRow longer (length entries) b q → (b ≡ a) × Shown s x q
   shown_cases b q (inl h) = let e = h.2.1 in let f = slice_get-push entries last in ((cc (e, f)), inl (h.0, h.1, (cc (e, f)), (cc (e, f))))
   shown_cases b q (inr h) = let e = h.2.1 in let f = slice_get-push entries last in ((cc (e, f)), inr (h.0, h.1, (cc (e, f)), (cc (e, f)), h.3))
 
-  shows_now : (q : ℕ) → Shown s x q → ShowsRow (entries ++ last ∷ []) (length entries) a q
+  shows_now : (q : ℕ) → Shown s x q → ShowsRow longer (length entries) a q
   shows_now q (inl h) = inl (h.0, h.1, (r, rw (sym h.2, sym h.3) (slice_get-push entries last)))
   shows_now q (inr h) = inr (h.0, h.1, (r, rw (sym h.2, sym h.3) (slice_get-push entries last)), h.4)
 
-  known_kept : (b q : ℕ) → (knows b).read.learnt q ≡ true → (b ≡ a → Stays s) → (Disturbs s x q → ⊥) → KnowsRow (entries ++ last ∷ []) (length (entries ++ last ∷ [])) b q
+  known_kept : (b q : ℕ) → (knows b).read.learnt q ≡ true → (b ≡ a → Stays s) → (Disturbs s x q → ⊥) → KnowsRow longer (length longer) b q
   known_kept b q e stays still = rw pushed_length (KnowsRow-kept entries last b q (old.known b q e)
       (λ epoch y. ((λ h. let i = h.1 in stays_no_enter s epoch (stays (let j : a ≡ b = cc in sym j)) (cc)), (λ h. let i = h.1 in stays_no_leave s (stays (let j : a ≡ b = cc in sym j)) (cc))))
       (λ other t y h d. let i = h.1 in let st : s ≡ t = cc in let xy : x ≡ y = cc in
-      still (subst (λ z. Disturbs s z q) (sym xy) (subst (λ z. Disturbs z y q) (sym st) d))))
+      still (rw xy (rw st d))))
 
   at_rest : (t : StepOf Record) → Stays t → (y : Answer Record) → (b : ℕ) → (cond (eqb b a) (finished (learn (knows a) t y) r) (knows b)).inside ≡ true → 0 < (memory_after a t m).announced b
-  at_rest t st y b e = rw (same_announced a m t st) (by_test b a (λ z. (cond z (finished (learn (knows a) t y) r) (knows b)).inside ≡ true → 0 < m.announced b)
-      (λ i f. subst (λ n. 0 < m.announced n) (sym i) (old.announced a (sym (learn_inside (knows a) t y st) ∙ f))) (λ ne f. old.announced b f) e)
+  at_rest t st y b e = rw (same_announced a m t st) (by_equal b a
+      (λ i is. let f = rw is at e in rw i (old.announced a (sym (learn_inside (knows a) t y st) ∙ f))) (λ ne is. let f = rw is at e in old.announced b f))
 
   announced_after : (t : StepOf Record) → May a (knows a) t → (y : Answer Record) → (b : ℕ) → (cond (eqb b a) (finished (learn (knows a) t y) r) (knows b)).inside ≡ true → 0 < (memory_after a t m).announced b
-  announced_after (Enter n) h y b e = by_test b a (λ t. (cond t (finished (learn (knows a) (Enter n) y) r) (knows b)).inside ≡ true → 0 < cond t n (m.announced b)) (λ i f. h.1) (λ ne f. old.announced b f) e
-  announced_after Leave h y b e = by_test b a (λ t. (cond t (finished (learn (knows a) Leave y) r) (knows b)).inside ≡ true → 0 < cond t 0 (m.announced b)) (λ i f. absurd (cc)) (λ ne f. old.announced b f) e
+  announced_after (Enter n) h y b e = by_equal b a (λ i t. rw t h.1) (λ ne t. rw t (old.announced b (rw t at e)))
+  announced_after Leave h y b e = by_equal b a (λ i t. absurd (let f = rw t at e in cc)) (λ ne t. rw t (old.announced b (rw t at e)))
   announced_after t h y b e = at_rest t tt y b e
 
   epoch_after : (t : StepOf Record) → May a (knows a) t → (0 < (memory_after a t m).epoch) × ((memory_after a t m).epoch ≤ 2 ^ 62)
-  epoch_after (Retire q) h = by_test m.epoch q (λ t. (0 < cond t (q + 1) m.epoch) × (cond t (q + 1) m.epoch ≤ 2 ^ 62)) (λ i. ((let z : 0 < q + 1 = omega arith in z), (let z : q + 1 ≤ 2 ^ 62 = omega arith in z))) (λ ne. old.epoch)
+  epoch_after (Retire q) h = by_equal m.epoch q (λ i t. rw t (omega arith)) (λ ne t. rw t old.epoch)
   epoch_after t h = old.epoch
 
   posted_after : (t : StepOf Record) → May a (knows a) t → ((e : ℕ) → (knows a).limbo.epoch ≡ Some e → e ≤ m.epoch) → (b : ℕ) → (memory_after a t m).announced b ≤ (memory_after a t m).epoch
-  posted_after (Retire q) h read b = by_test m.epoch q (λ t. m.announced b ≤ cond t (q + 1) m.epoch) (λ i. let o = old.posted b in omega arith) (λ ne. old.posted b)
-  posted_after (Enter n) h read b = by_test b a (λ t. cond t n (m.announced b) ≤ m.epoch) (λ i. read n h.2) (λ ne. old.posted b)
-  posted_after Leave h read b = by_test b a (λ t. cond t 0 (m.announced b) ≤ m.epoch) (λ i. omega arith) (λ ne. old.posted b)
+  posted_after (Retire q) h read b = by_equal m.epoch q (λ i t. rw t (let o = old.posted b in omega arith)) (λ ne t. rw t (old.posted b))
+  posted_after (Enter n) h read b = by_equal b a (λ i t. rw t (read n h.2)) (λ ne t. rw t (old.posted b))
+  posted_after Leave h read b = by_equal b a (λ i t. rw t (omega arith)) (λ ne t. rw t (old.posted b))
   posted_after t h read b = old.posted b
 
   pub zero_after : (t : StepOf Record) → (IsReuse t → ⊥) → May a (knows a) t → (memory_after a t m).free_rows 0 ≡ false
-  zero_after (TakeRow q) still_so h = by_test 0 q (λ t. cond t false (m.free_rows 0) ≡ false) (λ i. refl) (λ ne. old.zero_taken)
+  zero_after (TakeRow q) still_so h = by_equal 0 q (λ i t. rw t) (λ ne t. rw t old.zero_taken)
   zero_after (ReuseRows q w) still_so h = absurd (still_so tt)
   zero_after t still_so h = old.zero_taken
 
@@ -241,12 +241,12 @@ module _ (limits : Limits) (entries : List Entry) (o : Owners) (m : Memory) (kno
   other_command (Some y) b ne = put_other (command_of entries) a None b ne
 
   pub free_rows_before : (t : StepOf Record) → (IsReuse t → ⊥) → May a (knows a) t → (q : ℕ) → (memory_after a t m).free_rows q ≡ true → m.free_rows q ≡ true
-  free_rows_before (TakeRow n) still_so h q e = by_test q n (λ t. cond t false (m.free_rows q) ≡ true → m.free_rows q ≡ true) (λ i f. absurd (cc)) (λ ne f. f) e
+  free_rows_before (TakeRow n) still_so h q e = by_equal q n (λ i t. absurd (let f = rw t at e in cc)) (λ ne t. rw t at e)
   free_rows_before (ReuseRows n w) still_so h q e = absurd (still_so tt)
   free_rows_before t still_so h q e = e
 
   pub free_pids_before : (t : StepOf Record) → (IsReuse t → ⊥) → May a (knows a) t → (q : ℕ) → (memory_after a t m).free_pids q ≡ true → m.free_pids q ≡ true
-  free_pids_before (TakePid n) still_so h q e = by_test q n (λ t. cond t false (m.free_pids q) ≡ true → m.free_pids q ≡ true) (λ i f. absurd (cc)) (λ ne f. f) e
+  free_pids_before (TakePid n) still_so h q e = by_equal q n (λ i t. absurd (let f = rw t at e in cc)) (λ ne t. rw t at e)
   free_pids_before (ReusePids n w) still_so h q e = absurd (still_so tt)
   free_pids_before t still_so h q e = e
 
@@ -255,14 +255,14 @@ module _ (limits : Limits) (entries : List Entry) (o : Owners) (m : Memory) (kno
     | inl same ↦ elim (old.row_below q) [ inl f ↦ inl (same ∙ f) | inr lt ↦ inr lt ]
     | inr more ↦ elim more [
       | inl taken ↦ inr (old.free_row_below q taken.0)
-      | inr linked ↦ elim (old.row_below q) [ inl f ↦ absurd (let e = linked.0 in cc) | inr lt ↦ inr lt ]
+      | inr linked ↦ elim (old.row_below q) [ inl f ↦ absurd (cc linked.0) | inr lt ↦ inr lt ]
     ]
   ]
 
   pub zero_free_after : (o' : Owners) → IsMoved a (m.free_rows 0) (o.row 0) (o'.row 0) → o'.row 0 ≡ Free
   zero_free_after o' (inl e) = e ∙ old.zero_free
-  zero_free_after o' (inr (inl h)) = absurd (let e = h.0 in let f = old.zero_taken in cc)
-  zero_free_after o' (inr (inr h)) = absurd (let e = h.0 in let f = old.zero_free in cc)
+  zero_free_after o' (inr (inl h)) = absurd (cc (h.0, old.zero_taken))
+  zero_free_after o' (inr (inr h)) = absurd (cc (h.0, old.zero_free))
 
   -- what the numbers are afterwards
   pub record Numbers (o' : Owners) : Type 0 where
@@ -286,30 +286,30 @@ module _ (limits : Limits) (entries : List Entry) (o : Owners) (m : Memory) (kno
 
   pub named_steps : (o' : Owners) → Numbers o' → ((q : ℕ) → (knows a).read.learnt q ≡ true → (knows a).inside ≡ true) → ((e : ℕ) → (knows a).limbo.epoch ≡ Some e → e ≤ m.epoch) → ((p : ℕ) → (phase_of (o'.page p) ≡ phase.free) ⊎ ((0 < p) × (p < limits.pids)))
       → ((p q : ℕ) → slot_in (memory_after a s m).slots p ≡ Some q → IsInTree (o'.page p) ⊎ IsReadyPage o' (memory_after a s m) (knows_after knows last) p q)
-      → command_of (entries ++ last ∷ []) ≡ commands_after (command_of entries) last
-      → IsNamed limits (entries ++ last ∷ []) o' (memory_after a s m) (knows_after knows last)
+      → command_of longer ≡ commands_after (command_of entries) last
+      → IsNamed limits longer o' (memory_after a s m) (knows_after knows last)
   named_steps o' numbers inside read pid_below held asks = record {
     shown = λ b q h. elim (HasLearnt-push_cases entries last b q h) [
       | inl before ↦ elim (old.shown b q before.0) [
         | inl z ↦ inl z
-        | inr l ↦ inr (by_test b a (λ t. (cond t (finished (learn (knows a) s x) r) (knows b)).read.learnt q ≡ true)
-            (λ i. let l' : (knows a).read.learnt q ≡ true = subst (λ n. (knows n).read.learnt q ≡ true) i l in
+        | inr l ↦ inr (by_equal b a
+            (λ i t. rw t (let l' : (knows a).read.learnt q ≡ true = rw i at l in
             elim (stays_or s may q l' inside) [
               | inl left ↦ let back = sym i in absurd (before.1 x (r, λ d. Step (back d) (left d) x r))
               | inr st ↦ learnt_stays (knows a) s x st q l'
-            ])
-            (λ ne. l))
+            ]))
+            (λ ne t. rw t l))
       ]
       | inr shows ↦
           let v = shown_cases b q shows in
-          elim (learnt_shown q v.1) [ inl z ↦ inl z | inr l ↦ inr (by_test b a (λ t. (cond t (finished (learn (knows a) s x) r) (knows b)).read.learnt q ≡ true) (λ i. l) (λ ne. absurd (ne v.0))) ]
+          elim (learnt_shown q v.1) [ inl z ↦ inl z | inr l ↦ inr (by_equal b a (λ i t. rw t l) (λ ne t. rw t (absurd (ne v.0)))) ]
     ];
-    known = λ b q. by_test b a (λ t. (cond t (finished (learn (knows a) s x) r) (knows b)).read.learnt q ≡ true → KnowsRow (entries ++ last ∷ []) (length (entries ++ last ∷ [])) b q)
-        (λ i e. subst (λ n. KnowsRow (entries ++ last ∷ []) (length (entries ++ last ∷ [])) n q) (sym i) (elim (learnt_cases (knows a) s x q e) [
+    known = λ b q. by_equal b a
+        (λ i t. rw (t, i) λ e. elim (learnt_cases (knows a) s x q e) [
           | inl h ↦ known_kept a q h.0 (λ j. h.1) (numbers.undisturbed a q h.0)
           | inr h ↦ rw pushed_length (KnowsRow-shown entries last a q (shows_now q h))
-        ]))
-        (λ ne e. known_kept b q e (λ i. absurd (ne i)) (numbers.undisturbed b q e));
+        ])
+        (λ ne t. rw t λ e. known_kept b q e (λ i. absurd (ne i)) (numbers.undisturbed b q e));
     announced = announced_after s may x;
     epoch = epoch_after s may;
     posted = posted_after s may read;
@@ -320,9 +320,9 @@ module _ (limits : Limits) (entries : List Entry) (o : Owners) (m : Memory) (kno
     free_pid_below = numbers.free_pid_below;
     pid_below = pid_below;
     in_slots = held;
-    commands = λ b. rw asks (by_test b a (λ t. (cond t (finished (learn (knows a) s x) r) (knows b)).asked.command ≡ commands_after (command_of entries) last b)
-        (λ i. subst (λ n. going_on r (learn (knows a) s x).asked.command ≡ commands_after (command_of entries) last n) (sym i) (ap (going_on r) (learn_command (knows a) s x ∙ old.commands a) ∙ going_command r))
-        (λ ne. old.commands b ∙ sym (other_command r b ne)));
+    commands = λ b. rw asks (by_equal b a
+        (λ i t. rw (t, i) (ap (going_on r) (learn_command (knows a) s x ∙ old.commands a) ∙ going_command r))
+        (λ ne t. rw t (old.commands b ∙ sym (other_command r b ne))));
   }
 
   pub reads_known : (b row : ℕ) (y : Answer Record) → IsStep last b (Row row) y → KnowsRow entries (length entries) b row
@@ -330,7 +330,7 @@ module _ (limits : Limits) (entries : List Entry) (o : Owners) (m : Memory) (kno
       let i = h.1 in
       let ab : a ≡ b = cc in
       let st : s ≡ Row row = cc in
-      subst (λ n. KnowsRow entries (length entries) n row) ab (old.known a row (subst (May a (knows a)) st may).1)
+      rw ab at (old.known a row (subst (May a (knows a)) st may).1)
 
   pub touches_outside : (b : ℕ) (t : StepOf Record) (y : Answer Record) → IsStep last b t y → m.announced b ≡ 0 → IsFalse (touches_pages t)
   touches_outside b t y h z =
@@ -338,14 +338,14 @@ module _ (limits : Limits) (entries : List Entry) (o : Owners) (m : Memory) (kno
       let ab : a ≡ b = cc in
       let st : s ≡ t = cc in
       subst (λ u. IsFalse (touches_pages u)) st (elim (touches_inside a (knows a) s may) [
-        | inl inside ↦ let lt : 0 < m.announced a = old.announced a inside in let z' : m.announced a ≡ 0 = subst (λ n. m.announced n ≡ 0) (sym ab) z in absurd (omega arith)
+        | inl inside ↦ let lt : 0 < m.announced a = old.announced a inside in let z' : m.announced a ≡ 0 = rw ab z in absurd (omega arith)
         | inr no_touch ↦ no_touch
       ])
 
   pub may_take : memory_of limits entries ≡ m → (t : StepOf Record) → May a (knows a) t → MayTake limits entries a t
   may_take same (Place row w) h = record {
     taken = rw same (false_if (m.free_rows row) (λ e. let f : o.row row ≡ Free = g.frees.row row e in let sp = spare in cc));
-    unlinked = λ on. unlinked (subst (λ n. IsOnChain n row) same on);
+    unlinked = λ on. unlinked (rw same at on);
     unlearnt = λ other ne learnt. elim (old.shown other row learnt) [
       | inl z ↦ let f : o.row row ≡ Free = ap o.row z ∙ old.zero_free in let sp = spare in absurd (cc)
       | inr l ↦ let l' = (g.sound other).learnt_fits row l in let sp = spare in absurd (cc)
@@ -364,15 +364,15 @@ module _ (limits : Limits) (entries : List Entry) (o : Owners) (m : Memory) (kno
       in_base b page p x [] chain among e sp ready = chain
       in_base b page p x (v ∷ c) chain (suc k, lt, at) e sp ready =
           let same : v ≡ Base page = cc (chain.0, e) in
-          let none : c ≡ [] = subst (λ u. MatchOption (next_row u) (c ≡ []) (λ n. IsChainFrom m.rows n c)) same chain.1 in
+          let none : c ≡ [] = rw same at chain.1 in
           let short : length (chain_rows (unwrap_or (next_row v) 0) c) ≡ 0 = ap (λ d. length (chain_rows (unwrap_or (next_row v) 0) d)) none in
           absurd (omega arith)
       in_base b page p x (v ∷ c) chain (zero, lt, at) e sp ready =
           let here : x ≡ row = at in
-          let owner : o.row row ≡ Spare b = subst (λ n. o.row n ≡ Spare b) here sp in
+          let owner : o.row row ≡ Spare b = rw here at sp in
           let sp' = spare in
           let mine : b ≡ a = cc in
-          h.2 p (subst (λ n. (knows n).own.pages p ≡ Ready row) mine (ready ∙ ap Ready here))
+          h.2 p (rw mine at (ready ∙ ap Ready here))
 
       unlinked : IsOnChain m row → ⊥
       unlinked (p, c, chain, among) = in_slot (slot_in m.slots p) refl
@@ -381,8 +381,8 @@ module _ (limits : Limits) (entries : List Entry) (o : Owners) (m : Memory) (kno
           in_slot None e = let z : m.slots p ≡ 0 = slot_none m.slots p chain.page e in let above : 0 < m.slots p = chain.linked in omega arith
           in_slot (Some x) e =
               let at : m.slots p ≡ x = (slot_some m.slots p x e).1 in
-              let chain' : IsChainFrom m.rows x c = subst (λ n. IsChainFrom m.rows n c) at chain.records in
-              let among' : Contains (chain_rows x c) row = subst (λ n. Contains (chain_rows n c) row) at among in
+              let chain' : IsChainFrom m.rows x c = rw at at chain.records in
+              let among' : Contains (chain_rows x c) row = rw at at among in
               elim (old.in_slots p x e) [
                 | inl in_tree ↦ apart x c chain' among' (tree_slot p in_tree x e)
                 | inr ready ↦ elim ready.owned [

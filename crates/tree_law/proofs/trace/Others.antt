@@ -1,5 +1,5 @@
 -- What is an actor's own outlasts the entries of others.
-use Rattle.tree_law.proofs.Words.{false, [], ap, refl, Option, None, List, true, inl, ◌++◌, inr, ◌∷◌, subst, sym, ℕ, ◌≡◌, ◌∙◌, Some, append_assoc, append-nil, fold-append, fold, if◌then◌else◌}
+use Rattle.tree_law.proofs.Words.{false, [], ap, refl, Option, None, List, true, inl, ◌++◌, inr, ◌∷◌, sym, ℕ, ◌≡◌, ◌∙◌, Some, append_assoc, append-nil, fold-append, fold, if◌then◌else◌}
 use Rattle.tree_law.proofs.Words.{Command, Limits, own_entries, is_entry_of, knows_after, nothing, recall, Recalled, blank, recalls_after, commands_after, Entry, Begin, Step, Accounts}
 use Rattle.chain_search.specs.discipline.Disciplined.{Extends}
 use Rattle.tree_law.specs.Own.{OwnLasts}
@@ -43,10 +43,10 @@ accounts_other limits entries (Step b s x r) a left e accounts op latest same = 
 
 -- one entry after the other
 accounts_along : (limits : Limits) (a left : ℕ) (seen rest : List Entry) → own_entries a rest ≡ [] → Accounts limits seen a left → Accounts limits (seen ++ rest) a left
-accounts_along limits a left seen [] none accounts = subst (λ es. Accounts limits es a left) (sym (append-nil seen)) accounts
+accounts_along limits a left seen [] none accounts = rw (append-nil seen) accounts
 accounts_along limits a left seen (entry ∷ rest) none accounts = elim (is_entry_of a entry) as (λ t. is_entry_of a entry ≡ t → (if t then entry ∷ own_entries a rest else own_entries a rest) ≡ [] → Accounts limits (seen ++ entry ∷ rest) a left) [
   | true ↦ λ e f. cc
-  | false ↦ λ e f. subst (λ es. Accounts limits es a left) (append_assoc seen (entry ∷ []) rest) (accounts_along limits a left (seen ++ entry ∷ []) rest f (accounts_other limits seen entry a left e accounts))
+  | false ↦ λ e f. rw (append_assoc seen (entry ∷ []) rest) at (accounts_along limits a left (seen ++ entry ∷ []) rest f (accounts_other limits seen entry a left e accounts))
 ] refl none
 
 pub own_lasts : OwnLasts
@@ -54,5 +54,5 @@ own_lasts limits a seen run x = record {
   known = lasts knows_after a (λ ks entry e. after_other ks a entry e) (λ b. nothing) seen run x;
   recalled = lasts recalls_after a (λ rs entry e. recalls_other rs a entry e) (λ b. blank) seen run x;
   command = lasts commands_after a (λ cs entry e. commands_other cs a entry e) (λ b. None) seen run x;
-  affords = λ left accounts. subst (λ es. Accounts limits es a left) (sym x.1) (accounts_along limits a left seen x.0 x.2 accounts);
+  affords = λ left accounts. rw x.1 (accounts_along limits a left seen x.0 x.2 accounts);
 }

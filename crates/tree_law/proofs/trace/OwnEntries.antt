@@ -1,5 +1,5 @@
 -- What an actor knows comes from its own entries alone.
-use Rattle.tree_law.proofs.Words.{false, [], ap, refl, List, true, ◌∷◌, subst, sym, ℕ, ◌≡◌, ◌∙◌, fold, if◌then◌else◌, own_entries, is_entry_of, begun, Knowledge, knows_after, finished, learn, nothing}
+use Rattle.tree_law.proofs.Words.{false, [], ap, refl, List, true, ◌∷◌, sym, ℕ, ◌≡◌, ◌∙◌, fold, if◌then◌else◌, own_entries, is_entry_of, begun, Knowledge, knows_after, finished, learn, nothing}
 use Rattle.tree_law.proofs.Words.{Entry, Begin, Step}
 use Rattle.tree_law.specs.TraceLaws.{KnowledgeIsOwn}
 use Rattle.tree_law.proofs.shape.Puts.{eqb_true, eqb_false, put_same, put_other}
@@ -13,10 +13,10 @@ after_other ks a (Step b step answer reply) e = put_other ks b (finished (learn 
 after_own : (ks ks' : ℕ → Knowledge) (a : ℕ) (entry : Entry) → is_entry_of a entry ≡ true → ks a ≡ ks' a → knows_after ks entry a ≡ knows_after ks' entry a
 after_own ks ks' a (Begin b command) e same =
     let i : a ≡ b = eqb_true a b e in
-    rw (i, put_same ks b (begun (ks b) command), put_same ks' b (begun (ks' b) command)) (ap (λ k. begun k command) (subst (λ n. ks n ≡ ks' n) i same))
+    rw (i, put_same ks b (begun (ks b) command), put_same ks' b (begun (ks' b) command)) (ap (λ k. begun k command) (rw i at same))
 after_own ks ks' a (Step b step answer reply) e same =
     let i : a ≡ b = eqb_true a b e in
-    rw (i, put_same ks b (finished (learn (ks b) step answer) reply), put_same ks' b (finished (learn (ks' b) step answer) reply)) (ap (λ k. finished (learn k step answer) reply) (subst (λ n. ks n ≡ ks' n) i same))
+    rw (i, put_same ks b (finished (learn (ks b) step answer) reply), put_same ks' b (finished (learn (ks' b) step answer) reply)) (ap (λ k. finished (learn k step answer) reply) (rw i at same))
 
 fold_own : (entries : List Entry) (ks ks' : ℕ → Knowledge) (a : ℕ) → ks a ≡ ks' a → fold knows_after ks entries a ≡ fold knows_after ks' (own_entries a entries) a
 fold_own [] ks ks' a same = same

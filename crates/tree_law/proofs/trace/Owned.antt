@@ -22,7 +22,10 @@ pub point_last : (points : List Bool) (mark : Bool) (n : ℕ) → n ≡ length p
 point_last points mark n at e = let h : slice_get (points ++ mark ∷ []) n ≡ Some mark = rw at (slice_get-push points mark) in cc
 
 module _ (entries : List Entry) (last : Entry) where
-  pub own_kept : (op : Operation) (n : ℕ) (step : StepOf Record) (answer : Answer Record) (reply : Option Reply) → IsOwnEntry entries op n step answer reply → IsOwnEntry (entries ++ last ∷ []) op n step answer reply
+  abbrev longer : List Entry
+  longer = entries ++ last ∷ []
+
+  pub own_kept : (op : Operation) (n : ℕ) (step : StepOf Record) (answer : Answer Record) (reply : Option Reply) → IsOwnEntry entries op n step answer reply → IsOwnEntry longer op n step answer reply
   own_kept op n step answer reply h = record {
     begun = h.begun;
     entry = slice_get_kept entries (last ∷ []) n _ h.entry;
@@ -32,17 +35,17 @@ module _ (entries : List Entry) (last : Entry) where
     ];
   }
 
-  pub own_step_kept : (op : Operation) (n : ℕ) → IsOwnStep entries op n → IsOwnStep (entries ++ last ∷ []) op n
+  pub own_step_kept : (op : Operation) (n : ℕ) → IsOwnStep entries op n → IsOwnStep longer op n
   own_step_kept op n h = (h.0, h.1, (h.2.0, own_kept op n h.0 h.1 h.2.0 h.2.1))
 
-  pub own_cases : (op : Operation) (n : ℕ) (step : StepOf Record) (answer : Answer Record) (reply : Option Reply) → IsOwnEntry (entries ++ last ∷ []) op n step answer reply
+  pub own_cases : (op : Operation) (n : ℕ) (step : StepOf Record) (answer : Answer Record) (reply : Option Reply) → IsOwnEntry longer op n step answer reply
       → IsOwnEntry entries op n step answer reply ⊎ ((n ≡ length entries) × (last ≡ Step op.actor step answer reply) × IsUnended entries op.start op.actor)
   own_cases op n step answer reply h = elim (slice_get-push_cases entries last n _ h.entry) [
     | inl before ↦ inl (record { begun = h.begun; entry = before; not_ended = λ later c low high e. h.not_ended later c low high (slice_get_kept entries (last ∷ []) later _ e) })
     | inr at ↦ inr (at.0, sym at.1, λ later c low e. let lt : later < length entries = slice_get_below entries later _ e in let same : n ≡ length entries = at.0 in h.not_ended later c low (omega arith) (slice_get_kept entries (last ∷ []) later _ e))
   ]
 
-  pub step_cases : (op : Operation) (n : ℕ) → IsOwnStep (entries ++ last ∷ []) op n
+  pub step_cases : (op : Operation) (n : ℕ) → IsOwnStep longer op n
       → IsOwnStep entries op n ⊎ ((n ≡ length entries) × ((step : StepOf Record) × (answer : Answer Record) × (reply : Option Reply) × (last ≡ Step op.actor step answer reply)) × IsUnended entries op.start op.actor)
   step_cases op n h = elim (own_cases op n h.0 h.1 h.2.0 h.2.1) [ inl own ↦ inl (h.0, h.1, (h.2.0, own)) | inr at ↦ inr (at.0, (h.0, h.1, h.2.0, at.1), at.2) ]
 
@@ -50,7 +53,7 @@ module _ (entries : List Entry) (last : Entry) where
   step_below op n h = slice_get_below entries n _ h.2.1.entry
 
   pub takes_new : (start a : ℕ) (c : Command) (step : StepOf Record) (answer : Answer Record) (reply : Option Reply) → slice_get entries start ≡ Some (Begin a c) → IsUnended entries start a → last ≡ Step a step answer reply
-      → TakesOwnStep (entries ++ last ∷ []) (operation_of start a c) (length entries) step answer
+      → TakesOwnStep longer (operation_of start a c) (length entries) step answer
   takes_new start a c step answer reply begins unended is = (
     reply,
     record {
@@ -61,20 +64,20 @@ module _ (entries : List Entry) (last : Entry) where
   )
 
   pub own_new : (start a : ℕ) (c : Command) (step : StepOf Record) (answer : Answer Record) (reply : Option Reply) → slice_get entries start ≡ Some (Begin a c) → IsUnended entries start a → last ≡ Step a step answer reply
-      → IsOwnStep (entries ++ last ∷ []) (operation_of start a c) (length entries)
+      → IsOwnStep longer (operation_of start a c) (length entries)
   own_new start a c step answer reply begins unended is = (step, answer, takes_new start a c step answer reply begins unended is)
 
-  pub unended_kept : (start a : ℕ) → IsUnended entries start a → ((c : Command) → last ≡ Begin a c → ⊥) → IsUnended (entries ++ last ∷ []) start a
+  pub unended_kept : (start a : ℕ) → IsUnended entries start a → ((c : Command) → last ≡ Begin a c → ⊥) → IsUnended longer start a
   unended_kept start a u never later c low e = elim (slice_get-push_cases entries last later _ e) [ inl before ↦ u later c low before | inr at ↦ never c (sym at.1) ]
 
   -- an operation that has taken a step began before the last entry
-  pub operation_old : (op : Operation) (n : ℕ) → IsOperation (entries ++ last ∷ []) op → IsOwnStep (entries ++ last ∷ []) op n → IsOperation entries op
+  pub operation_old : (op : Operation) (n : ℕ) → IsOperation longer op → IsOwnStep longer op n → IsOperation entries op
   operation_old op n is own = elim (slice_get-push_cases entries last op.start _ is) [
     | inl before ↦ before
     | inr at ↦
-        let lt : n < length (entries ++ last ∷ []) = slice_get_below (entries ++ last ∷ []) n _ own.2.1.entry in
+        let lt : n < length longer = slice_get_below longer n _ own.2.1.entry in
         let begun : op.start < n = own.2.1.begun in
         let same : op.start ≡ length entries = at.0 in
-        let long : length (entries ++ last ∷ []) ≡ suc (length entries) = pushed_length entries last in
+        let long : length longer ≡ suc (length entries) = pushed_length entries last in
         absurd (omega arith)
   ]

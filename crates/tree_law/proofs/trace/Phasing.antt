@@ -1,11 +1,11 @@
 -- A step moves each PID from the phase that its owner says to the one that it says afterwards.
-use Rattle.tree_law.proofs.Words.{false, ◌⊎◌, [], ap, refl, cond, Option, suc, None, List, true, inl, ◌≢◌, inr, ◌∷◌, subst, sym, ℕ, ◌≡◌, Bool, zero, ◌∙◌, ◌<◌, Some, eqb, same_Some, option_map, is_eq}
+use Rattle.tree_law.proofs.Words.{false, ◌⊎◌, ap, refl, cond, Option, suc, None, List, true, inl, inr, ◌∷◌, subst, sym, ℕ, ◌≡◌, Bool, zero, ◌∙◌, Some, eqb, same_Some, option_map, is_eq}
 use Rattle.tree_law.proofs.Words.{if◌then◌else◌, key_cmp, Update, is_among, Reply, Answer, Whether, Link, StepOf, ReusePids, TakePid, Exchange, ContentOf, Child, record_link, Memory, Record, Remove}
-use Rattle.tree_law.proofs.Words.{Base, Hold, Split, Merge, Term, Unterm, RemoveOf, IsChainFrom-unique, IsChainOf, IsChainFrom, content_in, right_in, low_in, May, root_over, Knowledge, IsAnswer}
+use Rattle.tree_law.proofs.Words.{Base, Hold, Split, Merge, Term, Unterm, RemoveOf, IsChainFrom-unique, IsChainOf, right_in, May, root_over, Knowledge, IsAnswer}
 use Rattle.tree_law.proofs.Words.{IsUnheld, Entry, Step, link_without, link_of, Wins, Installs, indexed, free, MovesPhase, removes, Phase, cleared, held, removed, merged, splits, merges, becomes_root}
 use Rattle.tree_law.proofs.Words.{reuses, under_root, terms, holds, unterms, IsBelow, Owners, Nobody, Placed, Indexed, PageOwner, Cleared, Keeps, Fresh, Removed, Held, Merged, Phased, LinkMoves, put}
-use Rattle.tree_law.proofs.Words.{shared, slot_in, row_in, IsReadyPage, phase_of, IsInTree, IsTree}
-use Rattle.tree_law.proofs.shape.{by_key, not_self, slot_some, eqb_true, eqb_apart, by_test, put_same, put_other, decided}
+use Rattle.tree_law.proofs.Words.{shared, slot_in, row_in, IsReadyPage, phase_of, IsInTree, IsTree, []}
+use Rattle.tree_law.proofs.shape.{by_key, not_self, slot_some, eqb_true, eqb_apart, by_equal, put_same, put_other, decided}
 use Rattle.bw_model.specs.declared.step.Link.TheVariants as link
 use Rattle.base_page.specs.Pages as pages
 use Rattle.op_machine.specs.theorem.Phases.{owned, fresh, MakesRoot, takes}
@@ -27,14 +27,14 @@ without_front (Base page) = refl
 without_front w = refl
 
 no_front : (k : Link) (w : Record) → is_front k ≡ false → Some k ≡ Some (record_link w) → ⊥
-no_front k w e same = let f : is_front (record_link w) ≡ false = subst (λ z. is_front z ≡ false) (same_Some k (record_link w) same) e in let g = record_front w in cc
+no_front k w e same = let f : is_front (record_link w) ≡ false = rw (same_Some k (record_link w) same) at e in let g = record_front w in cc
 
 no_front_map : (v : Option Record) (w : Record) → option_map link_without v ≡ Some (record_link w) → ⊥
 no_front_map None w same = cc
 no_front_map (Some v) w same = no_front (link_without v) w (without_front v) same
 
 clear_base : (base : pages.Page) (v : Option Record) → v ≡ Some (Base base) → option_map link_without v ≡ Some link.Clear → ⊥
-clear_base base v e same = let f : Some link.Undo ≡ Some link.Clear = subst (λ (z : Option Record). option_map link_without z ≡ Some link.Clear) e same in cc
+clear_base base v e same = let f : Some link.Undo ≡ Some link.Clear = rw e at same in cc
 
 not_zero : (n : ℕ) → eqb (suc n) 0 ≡ false
 not_zero n = eqb_apart (suc n) 0 (λ e. absurd (cc))
@@ -81,8 +81,8 @@ module _ (m : Memory) {log : List Update} {o : Owners} {knows : ℕ → Knowledg
   linked_by (suc p) zero new w i j kind stands = absurd (no_front link.Ready w refl (sym (link_ready m p new) ∙ kind))
   linked_by (suc p) (suc old) zero w i j kind stands = absurd (no_front_map (m.rows (suc old)) w (sym (link_empty m p old) ∙ kind))
   linked_by (suc p) (suc old) (suc new) w i j kind stands =
-      let h : Phased a (shared m) (Exchange (suc p) (suc old) (suc new)) (Whether true) o.page f' = subst (λ y. Phased a (shared m) (Exchange (suc p) (suc old) (suc new)) y o.page f') j (subst (λ t. Phased a (shared m) t x o.page f') i ph) in
-      (p, refl, subst (λ u. LinkMoves (shared m) a u (suc p) o.page f') (same_Some h.0 w (sym h.1 ∙ stands)) h.2)
+      let h : Phased a (shared m) (Exchange (suc p) (suc old) (suc new)) (Whether true) o.page f' = rw j at (rw i at ph) in
+      (p, refl, rw (same_Some h.0 w (sym h.1 ∙ stands)) at h.2)
 
   -- the step is the exchange that put the record in front of a chain
   installed : (slot : ℕ) (w : Record) → Installs m last slot w → (p : ℕ) × (slot ≡ suc p) × LinkMoves (shared m) a w (suc p) o.page f'
@@ -93,12 +93,12 @@ module _ (m : Memory) {log : List Update} {o : Owners} {knows : ℕ → Knowledg
       let e = won.0.1 in
       let i : s ≡ Exchange 0 old pid = cc in
       let j : x ≡ Whether true = cc in
-      (old, subst (λ y. Phased a (shared m) (Exchange 0 old pid) y o.page f') j (subst (λ t. Phased a (shared m) t x o.page f') i ph))
+      (old, rw j at (rw i at ph))
 
   taken : (pid : ℕ) → s ≡ TakePid pid → x ≡ Whether true → (phase_of (o.page pid) ≡ free) × (phase_of (f' pid) ≡ owned)
   taken pid i j =
-      let h : f' ≡ put o.page pid (Keeps a) = subst (λ y. Phased a (shared m) (TakePid pid) y o.page f') j (subst (λ t. Phased a (shared m) t x o.page f') i ph) in
-      (ap phase_of (g.frees.page pid (cc ((subst (λ t. IsAnswer m t x) i is), j))).0, put_phase o.page f' pid (Keeps a) h)
+      let h : f' ≡ put o.page pid (Keeps a) = rw j at (rw i at ph) in
+      (ap phase_of (g.frees.page pid (cc ((rw i at is), j))).0, put_phase o.page f' pid (Keeps a) h)
 
   -- each move goes from the phase that the owner says
   pub moves_between : (pid : ℕ) (from to : Phase) → MovesPhase m last pid from to → (phase_of (o.page pid) ≡ from) × (phase_of (f' pid) ≡ to)
@@ -118,10 +118,10 @@ module _ (m : Memory) {log : List Update} {o : Owners} {knows : ℕ → Knowledg
       let base = h.7 in
       let at : m.slots root ≡ base.0 = (slot_some m.slots root base.0 base.2).1 in
       let same : chain ≡ root_over base.1 old h.2 h.0 ∷ [] = IsChainFrom-unique m.rows (m.slots root) chain (root_over base.1 old h.2 h.0 ∷ []) stands.records (ap m.rows at ∙ base.3, refl) in
-      let here : h.0 ≡ pid = second_child key h.2 old h.0 pid mark (subst (λ (c : List Record). IsBelow (low_in c) key) same above) (subst (λ (c : List Record). content_in c key ≡ Some (Child pid mark)) same said) in
+      let here : h.0 ≡ pid = second_child key h.2 old h.0 pid mark (rw same at above) (rw same at said) in
       subst (λ q. (phase_of (o.page q) ≡ fresh) × (phase_of (f' q) ≡ indexed)) here (
         ap phase_of h.4,
-        ap (λ (k : ℕ → PageOwner). phase_of (k h.0)) h.6 ∙ ap phase_of (put_other (put o.page h.0 (Placed Indexed h.1 h.2)) root (Placed Indexed (suc h.1) []) h.0 (λ i. absurd (let e = h.4 in let k : o.page h.0 ≡ Keeps a = ap o.page i ∙ h.5 in cc)) ∙ put_same o.page h.0 (Placed Indexed h.1 h.2)),
+        ap (λ (k : ℕ → PageOwner). phase_of (k h.0)) h.6 ∙ ap phase_of (put_other (put o.page h.0 (Placed Indexed h.1 h.2)) root (Placed Indexed (suc h.1) []) h.0 (λ i. absurd (cc (h.4, h.5))) ∙ put_same o.page h.0 (Placed Indexed h.1 h.2)),
       )
   moves_between pid from to (holds slot hold installs at) =
       let h = (installed slot (Hold hold) installs).2 in
@@ -135,7 +135,7 @@ module _ (m : Memory) {log : List Update} {o : Owners} {knows : ℕ → Knowledg
       let h = i.2 in
       let side = h.4 in
       let at : m.slots (suc i.0) ≡ side.0 = (slot_some m.slots (suc i.0) side.0 side.2).1 in
-      let same : side.1 ≡ chain = IsChainFrom-unique m.rows side.0 side.1 chain side.3 (subst (λ n. IsChainFrom m.rows n chain) at (subst (λ p. IsChainOf m p chain) i.1 stood).records) in
+      let same : side.1 ≡ chain = IsChainFrom-unique m.rows side.0 side.1 chain side.3 (rw at at (rw i.1 at stood).records) in
       let here : h.0 ≡ pid = same_Some h.0 pid (sym side.4 ∙ ap right_in same ∙ right) in
       subst (λ q. (phase_of (o.page q) ≡ removed) × (phase_of (f' q) ≡ merged)) here (ap phase_of h.2, put_phase o.page f' h.0 (Placed Merged h.1 merge.low) h.3)
   moves_between pid from to (unterms slot unterm installs at) =
@@ -144,7 +144,7 @@ module _ (m : Memory) {log : List Update} {o : Owners} {knows : ℕ → Knowledg
   moves_between pid from to (reuses b word bits answer step among) =
       let e = step.1 in
       let i : s ≡ ReusePids word bits = cc in
-      let h = subst (λ t. Phased a (shared m) t x o.page f') i ph in
+      let h = rw i at ph in
       let v = (h pid).0 among in
       (ap phase_of v.3, ap phase_of v.4)
 
@@ -154,18 +154,18 @@ module _ (m : Memory) {log : List Update} {o : Owners} {knows : ℕ → Knowledg
       let i = installed pid (Remove remove) installs in
       let bare = i.2.4 in
       let at : m.slots (suc i.0) ≡ bare.0 = (slot_some m.slots (suc i.0) bare.0 bare.2).1 in
-      subst IsUnheld (IsChainFrom-unique m.rows bare.0 bare.1 chain bare.3 (subst (λ n. IsChainFrom m.rows n chain) at (subst (λ p. IsChainOf m p chain) i.1 stood).records)) bare.4
+      subst IsUnheld (IsChainFrom-unique m.rows bare.0 bare.1 chain bare.3 (rw at at (rw i.1 at stood).records)) bare.4
 
   -- the slot of a removed page is emptied only when it is cleared
   pub clears_cleared : (b pid old : ℕ) → Wins m last b pid old 0 link.Clear → phase_of (o.page pid) ≡ cleared
   clears_cleared b pid old won = let e = won.0.1 in go pid old (cc) (cc) won.1
     where
       go : (pid old : ℕ) → s ≡ Exchange pid old 0 → x ≡ Whether true → link_of m pid old 0 ≡ Some link.Clear → phase_of (o.page pid) ≡ cleared
-      go zero old i j kind = absurd (let e : Some link.Root ≡ Some link.Clear = kind in cc)
-      go (suc p) zero i j kind = absurd (let e : Some link.Ready ≡ Some link.Clear = sym (link_ready m p 0) ∙ kind in cc)
+      go zero old i j kind = absurd (cc)
+      go (suc p) zero i j kind = absurd (cc (link_ready m p 0))
       go (suc p) (suc old) i j kind =
-          let at : m.slots (suc p) ≡ suc old = eqb_true (m.slots (suc p)) (suc old) (cc ((subst (λ t. IsAnswer m t x) i is), j)) in
-          elim (subst (λ y. Phased a (shared m) (Exchange (suc p) (suc old) zero) y o.page f') j (subst (λ t. Phased a (shared m) t x o.page f') i ph)).1 [
+          let at : m.slots (suc p) ≡ suc old = eqb_true (m.slots (suc p)) (suc old) (cc ((rw i at is), j)) in
+          elim (rw j at (rw i at ph)).1 [
             | inl keeps ↦ elim (inhabited (suc p) (suc old) (ap row_in at)) [
               | inl tree ↦ absurd (subst IsInTree keeps tree)
               | inr ready ↦ absurd (clear_base ready.base (m.rows (suc old)) ready.stands (sym (link_empty m p old) ∙ kind))
@@ -177,17 +177,18 @@ module _ (m : Memory) {log : List Update} {o : Owners} {knows : ℕ → Knowledg
   installs_now : (p old new : ℕ) (w : Record) → s ≡ Exchange (suc p) (suc old) (suc new) → x ≡ Whether true → m.rows (suc new) ≡ Some w → Installs m last (suc p) w
   installs_now p old new w i j stands = (a, suc old, suc new, ((r, λ d. Step a (i d) (j d) r), link_front m p old new ∙ ap (option_map record_link) stands), stands)
 
+  -- the page is moved by the step, or rests
+  abbrev MovesOrRests : ℕ → Type 0
+  MovesOrRests pid = MovesPhase m last pid (phase_of (o.page pid)) (phase_of (f' pid)) ⊎ (phase_of (f' pid) ≡ phase_of (o.page pid))
+
   -- a page whose phase is changed at one place
-  moved_at : (q pid : ℕ) (from to : PageOwner) → o.page q ≡ from → f' ≡ put o.page q to → MovesPhase m last q (phase_of from) (phase_of to) → MovesPhase m last pid (phase_of (o.page pid)) (phase_of (f' pid)) ⊎ (phase_of (f' pid) ≡ phase_of (o.page pid))
-  moved_at q pid from to was now moves = by_test pid q (λ t. MovesPhase m last pid (phase_of (o.page pid)) (phase_of (f' pid)) ⊎ (phase_of (f' pid) ≡ phase_of (o.page pid)))
-      (λ i. inl (subst (λ n. MovesPhase m last n (phase_of (o.page n)) (phase_of (f' n))) (sym i)
-      (subst (λ k. MovesPhase m last q k (phase_of (f' q))) (sym (ap phase_of was)) (subst (λ k. MovesPhase m last q (phase_of from) k) (sym (put_phase o.page f' q to now)) moves))))
-      (λ ne. inr (ap (λ (k : ℕ → PageOwner). phase_of (k pid)) now ∙ ap phase_of (put_other o.page q to pid ne)))
+  moved_at : (q pid : ℕ) (from to : PageOwner) → o.page q ≡ from → f' ≡ put o.page q to → MovesPhase m last q (phase_of from) (phase_of to) → MovesOrRests pid
+  moved_at q pid from to was now moves = by_equal pid q (λ i t. inl (rw (now, t, i, was) moves)) (λ ne t. inr (rw (now, t)))
 
-  same_phase : (pid : ℕ) → f' ≡ o.page → MovesPhase m last pid (phase_of (o.page pid)) (phase_of (f' pid)) ⊎ (phase_of (f' pid) ≡ phase_of (o.page pid))
-  same_phase pid e = inr (ap (λ (k : ℕ → PageOwner). phase_of (k pid)) e)
+  same_phase : (pid : ℕ) → f' ≡ o.page → MovesOrRests pid
+  same_phase pid e = inr (rw e)
 
-  by_link : (p old new : ℕ) (w : Record) → s ≡ Exchange (suc p) (suc old) (suc new) → x ≡ Whether true → m.rows (suc new) ≡ Some w → LinkMoves (shared m) a w (suc p) o.page f' → (pid : ℕ) → MovesPhase m last pid (phase_of (o.page pid)) (phase_of (f' pid)) ⊎ (phase_of (f' pid) ≡ phase_of (o.page pid))
+  by_link : (p old new : ℕ) (w : Record) → s ≡ Exchange (suc p) (suc old) (suc new) → x ≡ Whether true → m.rows (suc new) ≡ Some w → LinkMoves (shared m) a w (suc p) o.page f' → (pid : ℕ) → MovesOrRests pid
   by_link p old new (Split split) i j stands h pid = moved_at split.page pid (Keeps a) (Placed Fresh h.1 split.separator) h.4 h.5 (splits (suc p) split (installs_now p old new (Split split) i j stands) refl)
   by_link p old new (Term term) i j stands h pid = moved_at term.child pid (Placed Fresh h.0 term.separator) (Placed Indexed h.0 term.separator) h.1 h.2 (terms (suc p) term (installs_now p old new (Term term) i j stands) refl)
   by_link p old new (Hold hold) i j stands h pid = moved_at hold.child pid (Placed Indexed h.0 hold.separator) (Placed Held h.0 hold.separator) h.1 h.2 (holds (suc p) hold (installs_now p old new (Hold hold) i j stands) refl)
@@ -195,34 +196,27 @@ module _ (m : Memory) {log : List Update} {o : Owners} {knows : ℕ → Knowledg
   by_link p old new (Merge merge) i j stands h pid =
       let side = h.4 in
       let at = slot_some m.slots (suc p) side.0 side.2 in
-      moved_at h.0 pid (Placed Removed h.1 merge.low) (Placed Merged h.1 merge.low) h.2 h.3 (merges (suc p) merge side.1 (installs_now p old new (Merge merge) i j stands) (record { page = at.0; linked = subst (λ n. 0 < n) (sym at.1) at.2; records = subst (λ n. IsChainFrom m.rows n side.1) (sym at.1) side.3 }) side.4)
+      moved_at h.0 pid (Placed Removed h.1 merge.low) (Placed Merged h.1 merge.low) h.2 h.3 (merges (suc p) merge side.1 (installs_now p old new (Merge merge) i j stands) (record { page = at.0; linked = rw at.1 at.2; records = rw at.1 side.3 }) side.4)
   by_link p old new (Unterm unterm) i j stands h pid = moved_at unterm.child pid (Placed Merged h.0 unterm.separator) (Cleared a h.0 unterm.separator) h.1 h.2 (unterms (suc p) unterm (installs_now p old new (Unterm unterm) i j stands) refl)
   by_link p old new w i j stands h pid = same_phase pid h
 
-  by_root : (old y : ℕ) → s ≡ Exchange 0 old y → x ≡ Whether true → Phased a (shared m) (Exchange 0 old y) (Whether true) o.page f' → (pid : ℕ) → MovesPhase m last pid (phase_of (o.page pid)) (phase_of (f' pid)) ⊎ (phase_of (f' pid) ≡ phase_of (o.page pid))
+  by_root : (old y : ℕ) → s ≡ Exchange 0 old y → x ≡ Whether true → Phased a (shared m) (Exchange 0 old y) (Whether true) o.page f' → (pid : ℕ) → MovesOrRests pid
   by_root old y i j h pid =
-      let rest : pid ≢ y → phase_of (f' pid) ≡ phase_of (put o.page h.0 (Placed Indexed h.1 h.2) pid) =
-      λ ne. ap (λ (k : ℕ → PageOwner). phase_of (k pid)) h.6 ∙ ap phase_of (put_other (put o.page h.0 (Placed Indexed h.1 h.2)) y (Placed Indexed (suc h.1) []) pid ne) in
       let makes : MakesRoot m last y = (a, old, ((r, λ d. Step a (i d) (j d) r), refl)) in
       let under : MovesPhase m last h.0 fresh indexed =
       let base = h.7 in
       let at = slot_some m.slots y base.0 base.2 in
-      let own : IsChainOf m y (root_over base.1 old h.2 h.0 ∷ []) = record { page = at.0; linked = subst (λ n. 0 < n) (sym at.1) at.2; records = (ap m.rows at.1 ∙ base.3, refl) } in
+      let own : IsChainOf m y (root_over base.1 old h.2 h.0 ∷ []) = record { page = at.0; linked = rw at.1 at.2; records = (ap m.rows at.1 ∙ base.3, refl) } in
       under_root y (root_over base.1 old h.2 h.0 ∷ []) h.2 false makes own h.8 (at_second h.2 old h.0 h.8) in
-      by_test pid y (λ t. MovesPhase m last pid (phase_of (o.page pid)) (phase_of (f' pid)) ⊎ (phase_of (f' pid) ≡ phase_of (o.page pid)))
-      (λ e. inl (subst (λ n. MovesPhase m last n (phase_of (o.page n)) (phase_of (f' n))) (sym e)
-      (subst (λ k. MovesPhase m last y k (phase_of (f' y))) (sym (ap phase_of h.5)) (subst (λ k. MovesPhase m last y owned k) (sym (put_phase (put o.page h.0 (Placed Indexed h.1 h.2)) f' y (Placed Indexed (suc h.1) []) h.6)) (becomes_root makes)))))
-      (λ ne. by_test pid h.0 (λ t. MovesPhase m last pid (phase_of (o.page pid)) (phase_of (f' pid)) ⊎ (phase_of (f' pid) ≡ phase_of (o.page pid)))
-      (λ e. inl (subst (λ n. MovesPhase m last pid (phase_of n) (phase_of (f' pid))) (sym (ap o.page e ∙ h.4))
-      (subst (λ k. MovesPhase m last pid fresh k) (sym (rest ne ∙ ap (λ n. phase_of (put o.page h.0 (Placed Indexed h.1 h.2) n)) e ∙ ap phase_of (put_same o.page h.0 (Placed Indexed h.1 h.2))))
-      (subst (λ n. MovesPhase m last n fresh indexed) (sym e) under))))
-      (λ other. inr (rest ne ∙ ap phase_of (put_other o.page h.0 (Placed Indexed h.1 h.2) pid other))))
+      by_equal pid y
+      (λ e t. inl (rw (h.6, t, e, h.5) (becomes_root makes)))
+      (λ ne t. by_equal pid h.0 (λ e u. inl (rw (h.6, t, u, e, h.4) under)) (λ other u. inr (rw (h.6, t, u))))
 
   -- each PID is moved from phase to phase, or stays in its own
-  pub moves_or_rests : (pid : ℕ) → MovesPhase m last pid (phase_of (o.page pid)) (phase_of (f' pid)) ⊎ (phase_of (f' pid) ≡ phase_of (o.page pid))
+  pub moves_or_rests : (pid : ℕ) → MovesOrRests pid
   moves_or_rests pid = go s x refl refl may is ph
     where
-      go : (t : StepOf Record) (y : Answer Record) → s ≡ t → x ≡ y → May a (knows a) t → IsAnswer m t y → Phased a (shared m) t y o.page f' → MovesPhase m last pid (phase_of (o.page pid)) (phase_of (f' pid)) ⊎ (phase_of (f' pid) ≡ phase_of (o.page pid))
+      go : (t : StepOf Record) (y : Answer Record) → s ≡ t → x ≡ y → May a (knows a) t → IsAnswer m t y → Phased a (shared m) t y o.page f' → MovesOrRests pid
       go (TakePid q) (Whether true) i j h e ph' =
           moved_at q pid Nobody (Keeps a) (g.frees.page q cc).0 ph' (takes a (r, λ d. Step a (i d) (j d) r))
       go (TakePid q) (Whether false) i j h e ph' = same_phase pid ph'
@@ -233,9 +227,9 @@ module _ (m : Memory) {log : List Update} {o : Owners} {knows : ℕ → Knowledg
       go (Exchange (suc p) (suc old) (suc new)) (Whether true) i j h e ph' = by_link p old new ph'.0 i j ph'.1 ph'.2 pid
       go (Exchange p old new) (Whether false) i j h e ph' = same_phase pid ph'
       go (ReusePids word bits) y i j h e ph' = elim (decided (is_among word bits pid)) [
-        | inl k ↦ let v = (ph' pid).0 k in inl (subst (λ z. MovesPhase m last pid z (phase_of (f' pid))) (sym (ap phase_of v.3)) (subst (λ z. MovesPhase m last pid cleared z) (sym (ap phase_of v.4)) (reuses a word bits y (r, λ d. Step a (i d) (j d) r) k)))
+        | inl k ↦ let v = (ph' pid).0 k in inl (rw (ap phase_of v.3) (rw (ap phase_of v.4) (reuses a word bits y (r, λ d. Step a (i d) (j d) r) k)))
         | inr k ↦ inr (ap phase_of ((ph' pid).1 k))
       ]
-      go (Exchange p old new) y i j h e ph' = absurd (let f = e in cc)
-      go (TakePid q) y i j h e ph' = absurd (let f = e in cc)
+      go (Exchange p old new) y i j h e ph' = absurd (cc)
+      go (TakePid q) y i j h e ph' = absurd (cc)
       go t y i j h e ph' = same_phase pid ph'

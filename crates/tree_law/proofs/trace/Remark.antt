@@ -1,11 +1,11 @@
 -- A mark set later, at an own step at which the command makes no update: each log stays.
-use Rattle.tree_law.proofs.Words.{false, ◌⊎◌, [], ap, refl, Option, suc, None, List, true, inl, ◌≢◌, length, ◌++◌, ◌≤◌, inr, ◌∷◌, subst, sym, ℕ, ◌≡◌, Bool, zero, ◌∙◌, ◌<◌, arith, Some, take, cases_lt}
+use Rattle.tree_law.proofs.Words.{false, ◌⊎◌, ap, refl, Option, suc, None, List, true, inl, ◌≢◌, length, ◌++◌, ◌≤◌, inr, ◌∷◌, subst, sym, ℕ, ◌≡◌, Bool, zero, ◌∙◌, ◌<◌, arith, Some, take, cases_lt}
 use Rattle.tree_law.proofs.Words.{slice_get, MatchOption, Update, logged_value, update_of, command_key, Command, Reply, Limits, slice_get_below, command_of, Entry, Begin, Step, same_operation}
-use Rattle.tree_law.proofs.Words.{IsOperation, Operation, Finishes, IsOwnStep, log_at, log_of, IsPoint, IsQuiet, UpdatesAtLinks, Tells, operation_of, IsMarked}
+use Rattle.tree_law.proofs.Words.{IsOperation, Operation, Finishes, IsOwnStep, log_at, log_of, IsPoint, IsQuiet, UpdatesAtLinks, Tells, operation_of, IsMarked, []}
 use Rattle.std.proofs.Common.{set}
 use Rattle.op_machine.specs.theorem.Points.{updates_at}
 use Rattle.op_machine.proofs.LogLaws.{log_of-marked, log_at-step}
-use Rattle.tree_law.proofs.shape.Puts.{by_test}
+use Rattle.tree_law.proofs.shape.Puts.{by_equal}
 
 set_length : {X : Type 0} (xs : List X) (i : ℕ) (x : X) → length (set xs i x) ≡ length xs
 set_length (z ∷ xs) (suc i) x = ap suc (set_length xs i x)
@@ -92,15 +92,15 @@ module _ (limits : Limits) (entries : List Entry) (points : List Bool) (a : ℕ)
   beside' = set_length points place true ∙ marked.beside
 
   point_kept : (n : ℕ) → IsPoint points n → IsPoint remarked n
-  point_kept n p = by_test n place (λ b. IsPoint remarked n) (λ e. subst (IsPoint remarked) (sym e) (get_set_same points place true below)) (λ ne. get_set_other points place true n ne ∙ p)
+  point_kept n p = by_equal n place (λ e t. subst (IsPoint remarked) (sym e) (get_set_same points place true below)) (λ ne t. get_set_other points place true n ne ∙ p)
 
   point_cases : (n : ℕ) → IsPoint remarked n → (n ≡ place) ⊎ IsPoint points n
-  point_cases n p = by_test n place (λ b. (n ≡ place) ⊎ IsPoint points n) (λ e. inl e) (λ ne. inr (sym (get_set_other points place true n ne) ∙ p))
+  point_cases n p = by_equal n place (λ e t. inl e) (λ ne t. inr (sym (get_set_other points place true n ne) ∙ p))
 
   -- no own step of the operation was marked
   alone : (op : Operation) (i j : ℕ) → IsOperation entries op → IsOwnStep entries op i → i ≡ place → IsOwnStep entries op j → IsPoint points j → ⊥
   alone op i j is own e own' p =
-      t.point_at j (subst (λ o. IsOwnStep entries o j) (own_same entries op (operation_of t.start a asked) place is t.begins (subst (IsOwnStep entries op) e own) mine) own') p
+      t.point_at j (rw (own_same entries op (operation_of t.start a asked) place is t.begins (subst (IsOwnStep entries op) e own) mine) at own') p
 
   pub marked' : ((n : ℕ) (reply : Reply) → Finishes entries (operation_of t.start a asked) n reply → ⊥) → IsMarked limits entries remarked
   marked' unfinished = record {
@@ -115,7 +115,7 @@ module _ (limits : Limits) (entries : List Entry) (points : List Bool) (a : ℕ)
       | inr h ↦ inr (record {
         unmarked = λ m own p. elim (point_cases m p) [
           | inl e ↦
-              unfinished n reply (subst (λ o. Finishes entries o n reply) (own_same entries op (operation_of t.start a asked) place is t.begins (subst (IsOwnStep entries op) e own) mine) ends)
+              unfinished n reply (rw (own_same entries op (operation_of t.start a asked) place is t.begins (subst (IsOwnStep entries op) e own) mine) at ends)
           | inr p' ↦ h.unmarked m own p'
         ];
         finds = h.finds;

@@ -1,5 +1,5 @@
 -- In a state, the rows that actors have taken are apart from each other and from those that anyone has learnt.
-use Rattle.tree_law.proofs.Words.{List, true, inl, inr, subst, ℕ, ◌≡◌, Limits, IsOwn, knows, OwnRow, memory_of, Entry, Linked, Spare, OwnFits, IsState}
+use Rattle.tree_law.proofs.Words.{List, true, inl, inr, ℕ, ◌≡◌, Limits, IsOwn, knows, memory_of, Entry, Linked, Spare, IsState}
 use Rattle.tree_law.specs.Own.{AreSeparate}
 use Rattle.tree_law.proofs.shape.Own.{own_spare}
 
@@ -16,6 +16,6 @@ module _ (limits : Limits) (entries : List Entry) (state : IsState limits entrie
     unlearnt = λ a b row own learnt. let e = spare a row own in let f = linked b row learnt in absurd (cc);
     own_below = λ a row own. elim (state.named.row_below row) [ inl free ↦ let e = spare a row own in absurd (cc) | inr below ↦ below ];
     learnt_below = λ a row learnt. elim (state.named.row_below row) [ inl free ↦ let e = linked a row learnt in absurd (cc) | inr below ↦ below ];
-    written = λ a row content is. (subst (λ (v : OwnRow). OwnFits a (state.owners.row row) ((memory_of limits entries).rows row) v) is (state.is_tree.owns a row)).1;
+    written = λ a row content is. (rw is at (state.is_tree.owns a row)).1;
     placed = λ a row learnt. let l = state.is_tree.closed row (linked a row learnt) in (l.content, l.stands);
   }

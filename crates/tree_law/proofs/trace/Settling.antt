@@ -1,7 +1,7 @@
 -- Why a reply is right: where an actor may reply, its operation is answered by the points before that step.
 use Rattle.tree_law.proofs.Words.{[], ap, refl, Option, None, List, inl, ◌≢◌, length, inr, subst, sym, ℕ, ◌≡◌, Bool, ◌∙◌, ◌<◌, arith, Some, take, ⊎_elim, same_Some, IfSome, MatchOption, Update}
-use Rattle.tree_law.proofs.Words.{logged_value, update_of, command_key, reply_of, Command, Reply, Limits, Record, slice_get_below, IsChainFrom, low_in, level_in, high_in, MayReply, MayAnswer, knows}
-use Rattle.tree_law.proofs.Words.{memory_at, command_of, memory_of, Entry, WasHeldBack, RepliesAt, Operation, IsOwnStep, log_at, log_of, IsPoint, IsQuiet, UpdatesAtLinks, LinkFits, IsRepliedAt}
+use Rattle.tree_law.proofs.Words.{logged_value, update_of, command_key, Command, Reply, Limits, Record, slice_get_below, IsChainFrom, low_in, level_in, high_in, MayReply, MayAnswer, knows}
+use Rattle.tree_law.proofs.Words.{memory_at, command_of, memory_of, Entry, WasHeldBack, RepliesAt, Operation, IsOwnStep, log_at, log_of, IsPoint, IsQuiet, UpdatesAtLinks, IsRepliedAt}
 use Rattle.tree_law.proofs.Words.{shared, Tells, operation_of, IsState, IsAnsweredBy, IsMarked, HasFound, HaveStood, WereRead, WasLeafWith}
 use Rattle.chain_search.specs.discipline.Discipline.{IsHeldBack, MayShowPage, MayCallTidy, MayGiveUp}
 use Rattle.tree_law.proofs.answering.Answering.{answers}
@@ -46,11 +46,11 @@ module _ (limits : Limits) (entries : List Entry) (a : ℕ) (asked : Command) (s
   }
 
   pub no_point : (knows entries a).asked.linked ≡ None → state.point a ≡ None
-  no_point e = subst (λ (v : Option (Option ℕ)). LinkFits state.owners (shared (memory_of limits entries)) (state.point a) v) e (state.is_tree.sound a).linked_fits
+  no_point e = rw e at (state.is_tree.sound a).linked_fits
 
   -- what is told of the actor's point, if it has one
   point_told : (o : Option (List Update)) → state.point a ≡ o → MatchOption o ((m : ℕ) → IsOwnStep entries mine m → IsPoint state.points m → ⊥) (λ l. (m : ℕ) × IsOwnStep entries mine m × IsPoint state.points m × (log_at entries state.points m ≡ l))
-  point_told o e = subst (λ o. MatchOption o ((m : ℕ) → IsOwnStep entries mine m → IsPoint state.points m → ⊥) (λ l. (m : ℕ) × IsOwnStep entries mine m × IsPoint state.points m × (log_at entries state.points m ≡ l))) e begun.point_at
+  point_told o e = rw e at begun.point_at
 
   -- where a mark is set late, at an own step at which the command makes no update and has this reply
   marked_late : (reply : Reply) → state.point a ≡ None → (m : ℕ) (own : IsOwnStep entries mine m) → command_of (take m entries) a ≡ Some asked
@@ -77,12 +77,12 @@ module _ (limits : Limits) (entries : List Entry) (a : ℕ) (asked : Command) (s
       elim at.own [
         | inl linked ↦
             let p = point_told (Some at.at) linked in
-            as_they_are (Some reply) (λ y e. inl (p.0, p.1, p.2, inl (subst (λ l. reply_of asked (logged_value l (command_key asked)) ≡ Some y) (sym p.3) (at.same ∙ e))))
+            as_they_are (Some reply) (λ y e. inl (p.0, p.1, p.2, inl (rw p.3 (at.same ∙ e))))
         | inr u ↦
             let h = begun.logs_at at.at u.2 in
             marked_late reply u.0 h.0 h.1 h.3
-            (subst (λ l. update_of a asked (logged_value l (command_key asked)) ≡ None) (sym h.2) u.1)
-            (inl (subst (λ l. reply_of asked (logged_value l (command_key asked)) ≡ Some reply) (sym h.2) at.same))
+            (rw h.2 u.1)
+            (inl (rw h.2 at.same))
       ]
 
   stood : HaveStood limits entries mine (memory_of limits entries).rows (knows entries a).read
@@ -146,8 +146,8 @@ module _ (limits : Limits) (entries : List Entry) (a : ℕ) (asked : Command) (s
   settled (Some reply) may =
       let same : may.command ≡ asked = same_Some may.command asked (sym may.going ∙ state.named.commands a ∙ asks) in
       elim may.justified [
-        | inl value ↦ by_value reply (subst (λ c. MayAnswer a (knows entries a) c reply) same value)
-        | inr (inl page) ↦ by_page reply (subst (λ c. MayShowPage (knows entries a) c reply) same page)
-        | inr (inr (inl tidy)) ↦ by_tidying reply (subst (λ c. MayCallTidy (knows entries a) c reply) same tidy)
-        | inr (inr (inr want)) ↦ by_want reply (subst (λ c. MayGiveUp limits (knows entries a) c reply) same want)
+        | inl value ↦ by_value reply (rw same at value)
+        | inr (inl page) ↦ by_page reply (rw same at page)
+        | inr (inr (inl tidy)) ↦ by_tidying reply (rw same at tidy)
+        | inr (inr (inr want)) ↦ by_want reply (rw same at want)
       ]

@@ -1,33 +1,32 @@
 -- Which slots hold rows, after a step.
-use Rattle.tree_law.proofs.Words.{false, ◌⊎◌, [], ap, refl, cond, Option, suc, None, List, true, inl, ◌≢◌, inr, subst, sym, ℕ, ◌≡◌, Bool, zero, ◌∙◌, Some, eqb, same_Some, Update, Reply, Answer}
-use Rattle.tree_law.proofs.Words.{Whether, Content, Number, StepOf, ReuseRows, ReusePids, TakePid, Row, Place, TakeRow, Slot, Epoch, PidBits, Exchange, RowBits, Announce, Memory, replaced_at, Record}
-use Rattle.tree_law.proofs.Words.{Remove, Base, Hold, Split, Merge, Term, Unterm, low_in, level_in, May, IsOwn, MayExchange, IsOwnBase, Knowledge, finished, Ready, learn, Empty, OwnPage, Other, Gone}
-use Rattle.tree_law.proofs.Words.{Written, filled, rooted, OwnRow, emptied, exchanged, split_off, linked_over, IsAnswer, memory_after, Key, IsReuse, IsMoved, Linked, Owners, Reached, Spare, OwnFits}
-use Rattle.tree_law.proofs.Words.{HeadFits, Placed, Indexed, PageOwner, Cleared, Keeps, Fresh, Removed, Held, Merged, Stage, Phased, LinkMoves, put, shared, slot_in, Shared, IsReadyPage, IsInTree}
-use Rattle.tree_law.proofs.Words.{IsTree}
+use Rattle.tree_law.proofs.Words.{false, ◌⊎◌, ap, refl, Option, suc, None, List, true, inl, ◌≢◌, inr, subst, sym, ℕ, ◌≡◌, zero, ◌∙◌, Some, eqb, same_Some, Update, Reply, Answer, Whether}
+use Rattle.tree_law.proofs.Words.{Content, Number, StepOf, ReuseRows, ReusePids, TakePid, Row, Place, TakeRow, Slot, Epoch, PidBits, Exchange, RowBits, Announce, Memory, replaced_at, Record, Remove}
+use Rattle.tree_law.proofs.Words.{Base, Hold, Split, Merge, Term, Unterm, low_in, level_in, May, IsOwn, MayExchange, IsOwnBase, Knowledge, finished, Ready, learn, Empty, OwnPage, Other, Gone, Written}
+use Rattle.tree_law.proofs.Words.{filled, rooted, OwnRow, emptied, exchanged, split_off, linked_over, IsAnswer, memory_after, Key, IsReuse, IsMoved, Linked, Owners, Reached, Spare, OwnFits}
+use Rattle.tree_law.proofs.Words.{Placed, Indexed, PageOwner, Cleared, Keeps, Fresh, Removed, Held, Merged, Stage, Phased, LinkMoves, put, shared, slot_in, Shared, IsReadyPage, IsInTree, IsTree, []}
 use Rattle.base_page.specs.Pages as pages
-use Rattle.tree_law.proofs.shape.{by_test, put_same, put_other, own_spare}
+use Rattle.tree_law.proofs.shape.{by_equal, put_same, put_other, own_spare}
 use Rattle.tree_law.proofs.links.Stepping.{root_apart, slot_put}
 
 -- a page that was placed at one place is in the tree
 put_in_tree : (f : ℕ → PageOwner) (q p : ℕ) (st : Stage) (l : ℕ) (k : Key) → IsInTree (f p) → IsInTree (put f q (Placed st l k) p)
-put_in_tree f q p st l k h = by_test p q (λ t. IsInTree (cond t (Placed st l k) (f p))) (λ e. tt) (λ ne. h)
+put_in_tree f q p st l k h = by_equal p q (λ e t. rw t tt) (λ ne t. rw t h)
 
 put_cleared : (f : ℕ → PageOwner) (q p b l : ℕ) (k : Key) → IsInTree (f p) → IsInTree (put f q (Cleared b l k) p)
-put_cleared f q p b l k h = by_test p q (λ t. IsInTree (cond t (Cleared b l k) (f p))) (λ e. tt) (λ ne. h)
+put_cleared f q p b l k h = by_equal p q (λ e t. rw t tt) (λ ne t. rw t h)
 
 here_in_tree : (f : ℕ → PageOwner) (q : ℕ) (st : Stage) (l : ℕ) (k : Key) → IsInTree (put f q (Placed st l k) q)
 here_in_tree f q st l k = subst IsInTree (sym (put_same f q (Placed st l k))) tt
 
 -- what is in the tree stays in it when a record is linked
 links_in_tree : (m : Shared) (a : ℕ) (w : Record) (q : ℕ) (f f' : ℕ → PageOwner) → LinkMoves m a w q f f' → (p : ℕ) → IsInTree (f p) → IsInTree (f' p)
-links_in_tree m a (Term term) q f f' h p i = subst (λ (g : ℕ → PageOwner). IsInTree (g p)) (sym h.2) (put_in_tree f term.child p Indexed h.0 term.separator i)
-links_in_tree m a (Hold hold) q f f' h p i = subst (λ (g : ℕ → PageOwner). IsInTree (g p)) (sym h.2) (put_in_tree f hold.child p Held h.0 hold.separator i)
-links_in_tree m a (Unterm unterm) q f f' h p i = subst (λ (g : ℕ → PageOwner). IsInTree (g p)) (sym h.2) (put_cleared f unterm.child p a h.0 unterm.separator i)
-links_in_tree m a (Split split) q f f' h p i = subst (λ (g : ℕ → PageOwner). IsInTree (g p)) (sym h.5) (put_in_tree f split.page p Fresh h.1 split.separator i)
-links_in_tree m a (Remove remove) q f f' h p i = subst (λ (g : ℕ → PageOwner). IsInTree (g p)) (sym h.3) (put_in_tree f q p Removed h.0 h.1 i)
-links_in_tree m a (Merge merge) q f f' h p i = subst (λ (g : ℕ → PageOwner). IsInTree (g p)) (sym h.3) (put_in_tree f h.0 p Merged h.1 merge.low i)
-links_in_tree m a w q f f' h p i = subst (λ (g : ℕ → PageOwner). IsInTree (g p)) (sym h) i
+links_in_tree m a (Term term) q f f' h p i = rw h.2 (put_in_tree f term.child p Indexed h.0 term.separator i)
+links_in_tree m a (Hold hold) q f f' h p i = rw h.2 (put_in_tree f hold.child p Held h.0 hold.separator i)
+links_in_tree m a (Unterm unterm) q f f' h p i = rw h.2 (put_cleared f unterm.child p a h.0 unterm.separator i)
+links_in_tree m a (Split split) q f f' h p i = rw h.5 (put_in_tree f split.page p Fresh h.1 split.separator i)
+links_in_tree m a (Remove remove) q f f' h p i = rw h.3 (put_in_tree f q p Removed h.0 h.1 i)
+links_in_tree m a (Merge merge) q f f' h p i = rw h.3 (put_in_tree f h.0 p Merged h.1 merge.low i)
+links_in_tree m a w q f f' h p i = rw h i
 
 pub reached_in_tree : (r l : ℕ) (k : Key) (w : PageOwner) → Reached r l k w → IsInTree w
 reached_in_tree r l k (Placed st l' k') h = tt
@@ -40,7 +39,7 @@ module _ (m : Memory) {log : List Update} {o : Owners} {knows : ℕ → Knowledg
   spare_after : (b q : ℕ) → o.row q ≡ Spare b → (o'.row q ≡ Linked) ⊎ (o'.row q ≡ Spare b)
   spare_after b q e = elim (moved q) [
     | inl same ↦ inr (same ∙ e)
-    | inr more ↦ elim more [ inl h ↦ absurd (let f = h.1 in cc) | inr h ↦ inl h.1 ]
+    | inr more ↦ elim more [ inl h ↦ absurd (cc h.1) | inr h ↦ inl h.1 ]
   ]
 
   owned_after : (b q : ℕ) → (o.row q ≡ Linked) ⊎ (o.row q ≡ Spare b) → (o'.row q ≡ Linked) ⊎ (o'.row q ≡ Spare b)
@@ -51,7 +50,7 @@ module _ (m : Memory) {log : List Update} {o : Owners} {knows : ℕ → Knowledg
   ready_after : (m' : Memory) (k : Knowledge) (p q : ℕ) → (h : IsReadyPage o m knows p q) → ((o.row q ≡ Linked) ⊎ (o.row q ≡ Spare h.actor) → m'.rows q ≡ m.rows q) → (h.actor ≡ a → k.own.pages p ≡ Ready q) → IsReadyPage o' m' (put knows a k) p q
   ready_after m' k p q h same still = record {
     actor = h.actor;
-    ready = by_test h.actor a (λ t. (cond t k (knows h.actor)).own.pages p ≡ Ready q) still (λ ne. h.ready);
+    ready = by_equal h.actor a (λ e t. rw t (still e)) (λ ne t. rw t h.ready);
     owned = owned_after h.actor q h.owned;
     base = h.base;
     stands = same h.owned ∙ h.stands;
@@ -60,8 +59,8 @@ module _ (m : Memory) {log : List Update} {o : Owners} {knows : ℕ → Knowledg
   -- after a step that leaves slots, and pages of the actor
   still : (m' : Memory) (k : Knowledge) → m'.rows ≡ m.rows → o'.page ≡ o.page → k.own.pages ≡ (knows a).own.pages → (p q : ℕ) → slot_in m.slots p ≡ Some q → IsInTree (o'.page p) ⊎ IsReadyPage o' m' (put knows a k) p q
   still m' k rows same pages p q e = elim (held p q e) [
-    | inl h ↦ inl (subst (λ (f : ℕ → PageOwner). IsInTree (f p)) (sym same) h)
-    | inr h ↦ inr (ready_after m' k p q h (λ i. ap (λ f. f q) rows) (λ i. ap (λ f. f p) pages ∙ subst (λ n. (knows n).own.pages p ≡ Ready q) i h.ready))
+    | inl h ↦ inl (rw same h)
+    | inr h ↦ inr (ready_after m' k p q h (λ i. ap (λ f. f q) rows) (λ i. ap (λ f. f p) pages ∙ (rw i at h.ready)))
   ]
 
   -- a page whose kind is known to the actor after a change at another page
@@ -73,18 +72,18 @@ module _ (m : Memory) {log : List Update} {o : Owners} {knows : ℕ → Knowledg
     -- a page that is ready is so afterwards, or in the tree
     linked_ready : (v : OwnRow) → OwnFits a (o.row (suc y)) (m.rows (suc y)) v → (p q : ℕ) → (knows a).own.pages p ≡ Ready q → IsInTree (o'.page p) ⊎ ((linked_over v (suc x) (suc y) (knows a)).own.pages p ≡ Ready q)
     linked_ready (Written (Split split)) fits p q e =
-        let h = subst (λ (u : Record). LinkMoves (shared m) a u (suc n) o.page o'.page) (same_Some w (Split split) (sym stands ∙ fits.1)) links in
+        let h = rw (same_Some w (Split split) (sym stands ∙ fits.1)) at links in
         elim ((knows a).own.pages split.page) as (λ z. IsInTree (o'.page p) ⊎ ((split_off z split.page (suc y) (knows a)).own.pages p ≡ Ready q)) [
-          | Ready base ↦ by_test p split.page (λ t. IsInTree (o'.page p) ⊎ (cond t Other ((knows a).own.pages p) ≡ Ready q))
-              (λ i. inl (subst (λ (f : ℕ → PageOwner). IsInTree (f p)) (sym h.5) (rw i (here_in_tree o.page split.page Fresh h.1 split.separator))))
-              (λ ne. inr e)
+          | Ready base ↦ by_equal p split.page
+              (λ i t. rw t (inl (rw h.5 (rw i (here_in_tree o.page split.page Fresh h.1 split.separator)))))
+              (λ ne t. rw t (inr e))
           | v ↦ inr e
         ]
     linked_ready (Written (Unterm unterm)) fits p q e =
-        let h = subst (λ (u : Record). LinkMoves (shared m) a u (suc n) o.page o'.page) (same_Some w (Unterm unterm) (sym stands ∙ fits.1)) links in
-        by_test p unterm.child (λ t. IsInTree (o'.page p) ⊎ (cond t Gone ((knows a).own.pages p) ≡ Ready q))
-        (λ i. inl (subst (λ (f : ℕ → PageOwner). IsInTree (f p)) (sym h.2) (rw i (subst IsInTree (sym (put_same o.page unterm.child (Cleared a h.0 unterm.separator))) tt))))
-        (λ ne. inr e)
+        let h = rw (same_Some w (Unterm unterm) (sym stands ∙ fits.1)) at links in
+        by_equal p unterm.child
+        (λ i t. rw t (inl (rw h.2 (rw i (subst IsInTree (sym (put_same o.page unterm.child (Cleared a h.0 unterm.separator))) tt)))))
+        (λ ne t. rw t (inr e))
     linked_ready (Written (Base page)) fits p q e = inr e
     linked_ready v fits p q e = inr e
 
@@ -94,17 +93,17 @@ module _ (m : Memory) {log : List Update} {o : Owners} {knows : ℕ → Knowledg
     filled_ready v p q ne e = inr e
 
     linking : (m' : Memory) → m'.rows ≡ m.rows → (p q : ℕ) → put (slot_in m.slots) (suc n) (Some (suc y)) p ≡ Some q → IsInTree (o'.page p) ⊎ IsReadyPage o' m' (put knows a (finished (exchanged (suc n) (suc x) (suc y) (knows a)) r)) p q
-    linking m' rows p q e = by_test p (suc n) (λ t. cond t (Some (suc y)) (slot_in m.slots p) ≡ Some q → IsInTree (o'.page p) ⊎ IsReadyPage o' m' (put knows a (finished (exchanged (suc n) (suc x) (suc y) (knows a)) r)) p q)
-        (λ i f. inl (links_in_tree (shared m) a w (suc n) o.page o'.page links p (subst (λ z. IsInTree (o.page z)) (sym i) in_tree)))
-        (λ ne f. elim (held p q f) [
+    linking m' rows p q e = by_equal p (suc n)
+        (λ i is. inl (links_in_tree (shared m) a w (suc n) o.page o'.page links p (rw i in_tree)))
+        (λ ne is. let f = rw is at e in elim (held p q f) [
           | inl h ↦ inl (links_in_tree (shared m) a w (suc n) o.page o'.page links p h)
-          | inr h ↦ by_test h.actor a (λ t. IsInTree (o'.page p) ⊎ IsReadyPage o' m' (put knows a (finished (exchanged (suc n) (suc x) (suc y) (knows a)) r)) p q)
-              (λ i. elim (filled_ready ((knows a).own.pages (suc n)) p q ne (subst (λ z. (knows z).own.pages p ≡ Ready q) i h.ready)) [
+          | inr h ↦ by_equal h.actor a
+              (λ i t. elim (filled_ready ((knows a).own.pages (suc n)) p q ne (rw i at h.ready)) [
                 | inl tree ↦ inl tree
                 | inr known ↦ inr (ready_after m' (finished (exchanged (suc n) (suc x) (suc y) (knows a)) r) p q h (λ j. ap (λ f. f q) rows) (λ j. known))
               ])
-              (λ other. inr (ready_after m' (finished (exchanged (suc n) (suc x) (suc y) (knows a)) r) p q h (λ j. ap (λ f. f q) rows) (λ j. absurd (other j))))
-        ]) e
+              (λ other t. inr (ready_after m' (finished (exchanged (suc n) (suc x) (suc y) (knows a)) r) p q h (λ j. ap (λ f. f q) rows) (λ j. absurd (other j))))
+        ])
 
   abbrev Holds : Memory → Knowledge → Type 0
   Holds m' k = (p q : ℕ) → slot_in m'.slots p ≡ Some q → IsInTree (o'.page p) ⊎ IsReadyPage o' m' (put knows a k) p q
@@ -116,19 +115,18 @@ module _ (m : Memory) {log : List Update} {o : Owners} {knows : ℕ → Knowledg
 
   readies : (n y : ℕ) (r : Option Reply) → (knows a).own.pages (suc n) ≡ Empty → IsOwnBase ((knows a).own.rows (suc y)) → o'.page ≡ o.page → (p q : ℕ) → put (slot_in m.slots) (suc n) (Some (suc y)) p ≡ Some q
       → IsInTree (o'.page p) ⊎ IsReadyPage o' (record m { slots = replaced_at (suc n) (suc y) m.slots }) (put knows a (finished (exchanged (suc n) zero (suc y) (knows a)) r)) p q
-  readies n y r empty base same p q e = subst (λ (v : OwnPage). IsInTree (o'.page p) ⊎ IsReadyPage o' (record m { slots = replaced_at (suc n) (suc y) m.slots }) (put knows a (finished (filled v (suc n) zero (suc y) (knows a)) r)) p q) (sym empty)
-      (by_test p (suc n) (λ t. cond t (Some (suc y)) (slot_in m.slots p) ≡ Some q → IsInTree (o'.page p) ⊎ IsReadyPage o' (record m { slots = replaced_at (suc n) (suc y) m.slots }) (put knows a k) p q)
-      (λ i f. let at : suc y ≡ q = same_Some (suc y) q f in let own = own_base (suc y) ((knows a).own.rows (suc y)) (g.owns a (suc y)) base in inr (record {
+  readies n y r empty base same p q e = rw empty (by_equal p (suc n)
+      (λ i t. let f = rw t at e in let at : suc y ≡ q = same_Some (suc y) q f in let own = own_base (suc y) ((knows a).own.rows (suc y)) (g.owns a (suc y)) base in inr (record {
         actor = a;
-        ready = subst (λ (z : Knowledge). z.own.pages p ≡ Ready q) (sym (put_same knows a k)) (rw i (put_same (knows a).own.pages (suc n) (Ready (suc y)) ∙ ap Ready at));
-        owned = owned_after a q (inr (subst (λ z. o.row z ≡ Spare a) at own.0));
+        ready = rw (put_same knows a k) (rw i (put_same (knows a).own.pages (suc n) (Ready (suc y)) ∙ ap Ready at));
+        owned = owned_after a q (inr (rw at at own.0));
         base = own.1.0;
         stands = subst (λ z. m.rows z ≡ Some (Base own.1.0)) at own.1.1;
       }))
-      (λ ne f. elim (held p q f) [
-        | inl h ↦ inl (subst (λ (f : ℕ → PageOwner). IsInTree (f p)) (sym same) h)
-        | inr h ↦ inr (ready_after (record m { slots = replaced_at (suc n) (suc y) m.slots }) k p q h (λ j. refl) (λ j. with_other (Ready (suc y)) (suc n) p q ne (subst (λ z. (knows z).own.pages p ≡ Ready q) j h.ready)))
-      ]) e)
+      (λ ne t. let f = rw t at e in elim (held p q f) [
+        | inl h ↦ inl (rw same h)
+        | inr h ↦ inr (ready_after (record m { slots = replaced_at (suc n) (suc y) m.slots }) k p q h (λ j. refl) (λ j. with_other (Ready (suc y)) (suc n) p q ne (rw j at h.ready)))
+      ]))
     where
       k : Knowledge
       k = finished (filled Empty (suc n) zero (suc y) (knows a)) r
@@ -139,12 +137,12 @@ module _ (m : Memory) {log : List Update} {o : Owners} {knows : ℕ → Knowledg
   emptied_ready v n x p q ne e = e
 
   empties : (n x : ℕ) (r : Option Reply) (m' : Memory) → m'.rows ≡ m.rows → o'.page ≡ o.page → (p q : ℕ) → put (slot_in m.slots) (suc n) None p ≡ Some q → IsInTree (o'.page p) ⊎ IsReadyPage o' m' (put knows a (finished (exchanged (suc n) (suc x) zero (knows a)) r)) p q
-  empties n x r m' rows same p q e = by_test p (suc n) (λ t. cond t None (slot_in m.slots p) ≡ Some q → IsInTree (o'.page p) ⊎ IsReadyPage o' m' (put knows a (finished (exchanged (suc n) (suc x) zero (knows a)) r)) p q)
-      (λ i f. absurd (cc))
-      (λ ne f. elim (held p q f) [
-        | inl h ↦ inl (subst (λ (f : ℕ → PageOwner). IsInTree (f p)) (sym same) h)
-        | inr h ↦ inr (ready_after m' (finished (exchanged (suc n) (suc x) zero (knows a)) r) p q h (λ j. ap (λ f. f q) rows) (λ j. emptied_ready ((knows a).own.pages (suc n)) (suc n) (suc x) p q ne (subst (λ z. (knows z).own.pages p ≡ Ready q) j h.ready)))
-      ]) e
+  empties n x r m' rows same p q e = by_equal p (suc n)
+      (λ i t. absurd (let f = rw t at e in cc))
+      (λ ne t. let f = rw t at e in elim (held p q f) [
+        | inl h ↦ inl (rw same h)
+        | inr h ↦ inr (ready_after m' (finished (exchanged (suc n) (suc x) zero (knows a)) r) p q h (λ j. ap (λ f. f q) rows) (λ j. emptied_ready ((knows a).own.pages (suc n)) (suc n) (suc x) p q ne (rw j at h.ready)))
+      ])
 
   rooted_ready : (v : OwnPage) (n p q : ℕ) → p ≢ n → (knows a).own.pages p ≡ Ready q → (rooted v n (knows a)).own.pages p ≡ Ready q
   rooted_ready (Ready base) n p q ne e = with_other Other n p q ne e
@@ -152,42 +150,42 @@ module _ (m : Memory) {log : List Update} {o : Owners} {knows : ℕ → Knowledg
 
   roots : (x y : ℕ) (r : Option Reply) (m' : Memory) → m'.rows ≡ m.rows → (b l : ℕ) (k : Key) → o'.page ≡ put (put o.page b (Placed Indexed l k)) y (Placed Indexed (suc l) []) → (p q : ℕ) → slot_in m.slots p ≡ Some q → IsInTree (o'.page p) ⊎ IsReadyPage o' m' (put knows a (finished (exchanged zero x y (knows a)) r)) p q
   roots x y r m' rows b l k same p q e = elim (held p q e) [
-    | inl h ↦ inl (subst (λ (f : ℕ → PageOwner). IsInTree (f p)) (sym same) (put_in_tree (put o.page b (Placed Indexed l k)) y p Indexed (suc l) [] (put_in_tree o.page b p Indexed l k h)))
-    | inr h ↦ by_test p y (λ t. IsInTree (o'.page p) ⊎ IsReadyPage o' m' (put knows a (finished (exchanged zero x y (knows a)) r)) p q)
-        (λ i. inl (subst (λ (f : ℕ → PageOwner). IsInTree (f p)) (sym same) (rw i (here_in_tree (put o.page b (Placed Indexed l k)) y Indexed (suc l) []))))
-        (λ ne. inr (ready_after m' (finished (exchanged zero x y (knows a)) r) p q h (λ j. ap (λ f. f q) rows) (λ j. rooted_ready ((knows a).own.pages y) y p q ne (subst (λ z. (knows z).own.pages p ≡ Ready q) j h.ready))))
+    | inl h ↦ inl (rw same (put_in_tree (put o.page b (Placed Indexed l k)) y p Indexed (suc l) [] (put_in_tree o.page b p Indexed l k h)))
+    | inr h ↦ by_equal p y
+        (λ i t. inl (rw same (rw i (here_in_tree (put o.page b (Placed Indexed l k)) y Indexed (suc l) []))))
+        (λ ne t. inr (ready_after m' (finished (exchanged zero x y (knows a)) r) p q h (λ j. ap (λ f. f q) rows) (λ j. rooted_ready ((knows a).own.pages y) y p q ne (rw j at h.ready))))
   ]
 
   exchange_won : (p x y : ℕ) (r : Option Reply) → MayExchange a (knows a) p x y → Phased a (shared m) (Exchange p x y) (Whether true) o.page o'.page → Holds (record m { slots = replaced_at p y m.slots }) (finished (exchanged p x y (knows a)) r)
-  exchange_won zero x y r may ph p q e = roots x y r (record m { slots = replaced_at 0 y m.slots }) refl ph.0 ph.1 ph.2 ph.6 p q (subst (λ (f : ℕ → Option ℕ). f p ≡ Some q) (root_apart m.slots y) e)
+  exchange_won zero x y r may ph p q e = roots x y r (record m { slots = replaced_at 0 y m.slots }) refl ph.0 ph.1 ph.2 ph.6 p q (rw (root_apart m.slots y) at e)
   exchange_won (suc n) zero zero r may ph p q e = absurd may
-  exchange_won (suc n) zero (suc y) r may ph p q e = readies n y r may.0 may.1 ph.0 p q (subst (λ (f : ℕ → Option ℕ). f p ≡ Some q) (slot_put m.slots n (suc y)) e)
-  exchange_won (suc n) (suc x) zero r may ph p q e = empties n x r (record m { slots = replaced_at (suc n) zero m.slots }) refl ph.0 p q (subst (λ (f : ℕ → Option ℕ). f p ≡ Some q) (slot_put m.slots n zero) e)
+  exchange_won (suc n) zero (suc y) r may ph p q e = readies n y r may.0 may.1 ph.0 p q (rw (slot_put m.slots n (suc y)) at e)
+  exchange_won (suc n) (suc x) zero r may ph p q e = empties n x r (record m { slots = replaced_at (suc n) zero m.slots }) refl ph.0 p q (rw (slot_put m.slots n zero) at e)
   exchange_won (suc n) (suc x) (suc y) r may ph p q e =
-      let h = subst (λ (v : Option ℕ). HeadFits o (shared m) (logs a) (suc n) v) may.basis.head ((g.sound a).heads_fit (suc n)) in
-      linking n x y r ph.0 ph.1 ph.2 (reached_in_tree 0 (level_in h.2.chain) (low_in h.2.chain) (o.page (suc n)) h.3) (record m { slots = replaced_at (suc n) (suc y) m.slots }) refl p q (subst (λ (f : ℕ → Option ℕ). f p ≡ Some q) (slot_put m.slots n (suc y)) e)
+      let h = rw may.basis.head at ((g.sound a).heads_fit (suc n)) in
+      linking n x y r ph.0 ph.1 ph.2 (reached_in_tree 0 (level_in h.2.chain) (low_in h.2.chain) (o.page (suc n)) h.3) (record m { slots = replaced_at (suc n) (suc y) m.slots }) refl p q (rw (slot_put m.slots n (suc y)) at e)
 
   takes : (n : ℕ) (r : Option Reply) → m.free_pids n ≡ true → o'.page ≡ put o.page n (Keeps a) → Holds (memory_after a (TakePid n) m) (finished (learn (knows a) (TakePid n) (Whether true)) r)
-  takes n r free same p q e = by_test p n (λ t. IsInTree (o'.page p) ⊎ IsReadyPage o' (memory_after a (TakePid n) m) (put knows a (finished (learn (knows a) (TakePid n) (Whether true)) r)) p q)
-      (λ i. absurd (let none = (g.frees.page n free).1 in let f : slot_in m.slots n ≡ Some q = subst (λ z. slot_in m.slots z ≡ Some q) i e in cc))
-      (λ ne. elim (held p q e) [
-        | inl h ↦ inl (subst (λ (f : ℕ → PageOwner). IsInTree (f p)) (sym same) (subst IsInTree (sym (put_other o.page n (Keeps a) p ne)) h))
-        | inr h ↦ inr (ready_after (memory_after a (TakePid n) m) (finished (learn (knows a) (TakePid n) (Whether true)) r) p q h (λ j. refl) (λ j. with_other Empty n p q ne (subst (λ z. (knows z).own.pages p ≡ Ready q) j h.ready)))
+  takes n r free same p q e = by_equal p n
+      (λ i t. absurd (let none = (g.frees.page n free).1 in let f : slot_in m.slots n ≡ Some q = rw i at e in cc))
+      (λ ne t. elim (held p q e) [
+        | inl h ↦ inl (rw same (subst IsInTree (sym (put_other o.page n (Keeps a) p ne)) h))
+        | inr h ↦ inr (ready_after (memory_after a (TakePid n) m) (finished (learn (knows a) (TakePid n) (Whether true)) r) p q h (λ j. refl) (λ j. with_other Empty n p q ne (rw j at h.ready)))
       ])
 
   places : (n : ℕ) (w : Record) (x : Answer Record) (r : Option Reply) → IsOwn ((knows a).own.rows n) → ((page : ℕ) → (knows a).own.pages page ≡ Ready n → ⊥) → o'.page ≡ o.page → Holds (memory_after a (Place n w) m) (finished (learn (knows a) (Place n w) x) r)
   places n w x r own never same p q e = elim (held p q e) [
-    | inl h ↦ inl (subst (λ (f : ℕ → PageOwner). IsInTree (f p)) (sym same) h)
+    | inl h ↦ inl (rw same h)
     | inr h ↦ inr (ready_after (memory_after a (Place n w) m) (finished (learn (knows a) (Place n w) x) r) p q h
         (λ owned. put_other m.rows n (Some w) q (λ i. elim owned [
-          | inl l ↦ let mine = (own_spare (m.rows n) ((knows a).own.rows n) (g.owns a n) own) in let l' : o.row n ≡ Linked = subst (λ z. o.row z ≡ Linked) i l in absurd (cc)
+          | inl l ↦ let mine = (own_spare (m.rows n) ((knows a).own.rows n) (g.owns a n) own) in let l' : o.row n ≡ Linked = rw i at l in absurd (cc)
           | inr s ↦
               let mine = (own_spare (m.rows n) ((knows a).own.rows n) (g.owns a n) own) in
-              let his : o.row n ≡ Spare h.actor = subst (λ z. o.row z ≡ Spare h.actor) i s in
+              let his : o.row n ≡ Spare h.actor = rw i at s in
               let actors : h.actor ≡ a = cc in
-              never p (subst (λ z. (knows z).own.pages p ≡ Ready n) actors (h.ready ∙ ap Ready i))
+              never p (rw actors at (h.ready ∙ ap Ready i))
         ]))
-        (λ j. subst (λ z. (knows z).own.pages p ≡ Ready q) j h.ready))
+        (λ j. rw j at h.ready))
   ]
 
   -- after an allowed step
@@ -204,11 +202,11 @@ module _ (m : Memory) {log : List Update} {o : Owners} {knows : ℕ → Knowledg
   held_after (Place n w) still_so x r may is ph = places n w x r may.1 may.2 ph
   held_after (Exchange p x y) still_so (Whether true) r may is ph =
       let won : eqb (m.slots p) x ≡ true = let e = is in cc in
-      subst (λ (t : Bool). Holds (record m { slots = cond t (replaced_at p y m.slots) m.slots }) (finished (exchanged p x y (knows a)) r)) (sym won) (exchange_won p x y r may.1 ph)
+      rw won (exchange_won p x y r may.1 ph)
   held_after (Exchange p x y) still_so (Whether false) r may is ph =
       let lost : eqb (m.slots p) x ≡ false = let e = is in cc in
-      subst (λ (t : Bool). Holds (record m { slots = cond t (replaced_at p y m.slots) m.slots }) (finished (knows a) r)) (sym lost) (still m (finished (knows a) r) refl ph refl)
-  held_after (Exchange p x y) still_so z r may is ph = absurd (let e = is in cc)
+      rw lost (still m (finished (knows a) r) refl ph refl)
+  held_after (Exchange p x y) still_so z r may is ph = absurd (cc)
   held_after (ReusePids w b) still_so x r may is ph = absurd (still_so tt)
   held_after (ReuseRows w b) still_so x r may is ph = absurd (still_so tt)
   held_after s still_so x r may is ph = still (memory_after a s m) (finished (learn (knows a) s x) r) refl ph refl

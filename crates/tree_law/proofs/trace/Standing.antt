@@ -1,52 +1,45 @@
 -- The pages and leaves that an operation has read stood at its own steps.
-use Rattle.tree_law.proofs.Words.{false, ◌⊎◌, [], ap, refl, cond, Option, suc, List, true, inl, length, ◌++◌, ◌≤◌, inr, ◌∷◌, subst, sym, ℕ, ◌≡◌, zero, ◌∙◌, ◌<◌, arith, Some, ⊎_elim, slice_get, Update}
-use Rattle.tree_law.proofs.Words.{Command, Reply, Limits, Answer, Whether, Content, Number, StepOf, Leave, TakePid, Row, TakeRow, Slot, Epoch, PidBits, Exchange, RowBits, Announce, Memory, Record}
-use Rattle.tree_law.proofs.Words.{take-push, take-push_whole, IsChainOf, IsChainFrom, right_in, low_in, is_removed, level_in, May, WasStanding, Knowledge, learn, Readings, LivePage, IsAnswer}
-use Rattle.tree_law.proofs.Words.{memory_after, memory_at, command_of, Entry, Begin, Step, Operation, Key, Linked, Owners, Reached, IsOut, HeadFits, OrderFits, InOrder, shared, slot_in, row_in}
-use Rattle.tree_law.proofs.Words.{Shared, operation_of, IsUnended, HaveStood, WasRead, WereRead, WasLeafWith, IsLeafWith, IsTree, spec, Level, InPlace}
+use Rattle.tree_law.proofs.Words.{false, ◌⊎◌, ap, refl, Option, suc, List, true, inl, length, ◌++◌, ◌≤◌, inr, ◌∷◌, subst, sym, ℕ, ◌≡◌, ◌∙◌, ◌<◌, arith, Some, slice_get, Update, Command, Reply, Limits}
+use Rattle.tree_law.proofs.Words.{Answer, Number, StepOf, Slot, Memory, Record, [], take-push, take-push_whole, IsChainFrom, right_in, low_in, is_removed, level_in, May, WasStanding}
+use Rattle.tree_law.proofs.Words.{Knowledge, learn, Readings, LivePage, IsAnswer, memory_after, memory_at, command_of, Entry, Begin, Step, Operation, Key, Linked, Owners, Reached}
+use Rattle.tree_law.proofs.Words.{InOrder, shared, slot_in, row_in, Shared, operation_of, IsUnended, HaveStood, WasRead, WereRead, WasLeafWith, IsLeafWith, IsTree, spec, Level, InPlace, same_Some}
 use Rattle.tree_law.proofs.links.Exchanged.{exchanged_alike}
 use Rattle.tree_law.proofs.links.Keeping.{alive_place, met_placed}
-use Rattle.tree_law.proofs.shape.{chain_unique, chain_stands, is_leaf, chain_at, same_memory, by_test, chain_was, in_level_as, right_page}
+use Rattle.tree_law.proofs.links.Learning.{learning, at_page, wins, leaves}
+use Rattle.tree_law.proofs.shape.{chain_unique, chain_stands, is_leaf, chain_at, same_memory, by_equal, chain_was, in_level_as, right_page}
 use Rattle.tree_law.proofs.trace.Owned.{own_step_kept, own_new, pushed_length, step_below, takes_new}
 use Rattle.tree_law.proofs.trace.Searches.{read_kept}
 
--- The page's slot was read before a step, or the step reads it now.
-abbrev ReadBefore : Knowledge → StepOf Record → Answer Record → ℕ → ℕ → Type 0
-ReadBefore k s x page row = (k.read.heads page ≡ Some row) × ((learn k s x).read.before page ≡ k.read.before page)
+-- The page's slot was read before a step, or the step reads it now: what the actor knew, and what it knows after the step.
+abbrev ReadBefore : Knowledge → Knowledge → ℕ → ℕ → Type 0
+ReadBefore k k' page row = (k.read.heads page ≡ Some row) × (k'.read.before page ≡ k.read.before page)
 
-record ReadsNow (k : Knowledge) (s : StepOf Record) (x : Answer Record) (page row : ℕ) : Type 0 where
+record ReadsNow (k : Knowledge) (s : StepOf Record) (x : Answer Record) (k' : Knowledge) (page row : ℕ) : Type 0 where
   number : ℕ
   held : ℕ
   page_is : page ≡ suc number
   row_is : row ≡ suc held
   step_is : s ≡ Slot (suc number)
   answer_is : x ≡ Number (suc held)
-  before_is : (learn k s x).read.before page ≡ k.read.heads
+  before_is : k'.read.before page ≡ k.read.heads
 
-read_cases : (k : Knowledge) (s : StepOf Record) (x : Answer Record) (page row : ℕ) → (learn k s x).read.heads page ≡ Some row → ReadBefore k s x page row ⊎ ReadsNow k s x page row
-read_cases k (Slot (suc p)) (Number (suc n)) page row e = by_test page (suc p)
-    (λ t. cond t (Some (suc n)) (k.read.heads page) ≡ Some row → (cond t k.read.heads (k.read.before page) ≡ (learn k (Slot (suc p)) (Number (suc n))).read.before page) → ReadBefore k (Slot (suc p)) (Number (suc n)) page row ⊎ ReadsNow k (Slot (suc p)) (Number (suc n)) page row)
-    (λ i f b. inr (record { number = p; held = n; page_is = i; row_is = (let same : suc n ≡ row = cc in sym same); step_is = refl; answer_is = refl; before_is = sym b }))
-    (λ ne f b. inl (f, sym b)) e refl
-read_cases k (Slot zero) (Number n) page row e = inl (e, refl)
-read_cases k (Row q) (Content v) page row e = inl (e, refl)
-read_cases k (PidBits v) (Number n) page row e = inl (e, refl)
-read_cases k (RowBits v) (Number n) page row e = inl (e, refl)
-read_cases k Epoch (Number n) page row e = inl (e, refl)
-read_cases k (Announce b) (Number n) page row e = inl (e, refl)
-read_cases k (TakePid q) (Whether true) page row e = inl (e, refl)
-read_cases k (TakeRow q) (Whether true) page row e = inl (e, refl)
-read_cases k (Exchange p y z) (Whether true) page row e = inl (subst (λ (r : Readings). r.heads page ≡ Some row) (exchanged_alike p y z k).read e, ap (λ (r : Readings). r.before page) (exchanged_alike p y z k).read)
-read_cases k Leave x page row e = absurd (cc)
-read_cases k s x page row e = inl (e, refl)
+read_cases : (k : Knowledge) (s : StepOf Record) (x : Answer Record) (page row : ℕ) → (learn k s x).read.heads page ≡ Some row → ReadBefore k (learn k s x) page row ⊎ ReadsNow k s x (learn k s x) page row
+read_cases k s x page row = elim (learning k s x) as (λ s x k' v. k'.read.heads page ≡ Some row → ReadBefore k k' page row ⊎ ReadsNow k s x k' page row) [
+  | at_page p n ↦ λ e. by_equal page (suc p)
+      (λ i t. inr (record { number = p; held = n; page_is = i; row_is = sym (same_Some (suc n) row (rw t at e)); step_is = refl; answer_is = refl; before_is = rw t }))
+      (λ ne t. inl (rw t at e, rw t))
+  | wins p y z ↦ λ e. inl (rw (exchanged_alike p y z k).read at e, ap (λ (r : Readings). r.before page) (exchanged_alike p y z k).read)
+  | leaves y ↦ λ e. absurd (cc)
+  | v ↦ λ e. inl (e, refl)
+]
 
 module _ {m : Shared} {log : List Update} {o : Owners} {knows : ℕ → Knowledge} {point : ℕ → Option (List Update)} {logs : ℕ → List (List Update)} (g : IsTree m log o knows point logs) (a : ℕ) where
   head_linked : (page row : ℕ) → (knows a).read.heads page ≡ Some row → o.row row ≡ Linked
-  head_linked page row e = (subst (λ (v : Option ℕ). HeadFits o m (logs a) page v) e ((g.sound a).heads_fit page)).2.linked
+  head_linked page row e = (rw e at ((g.sound a).heads_fit page)).2.linked
 
   order_linked : (page head other row : ℕ) → (knows a).read.heads page ≡ Some head → (knows a).read.before page other ≡ Some row → o.row row ≡ Linked
   order_linked page head other row e f =
-      let i : InOrder o m (logs a) page head other row = subst (λ (v : Option ℕ). OrderFits o m (logs a) page other (Some head) v) f (subst (λ (v : Option ℕ). OrderFits o m (logs a) page other v ((knows a).read.before page other)) e ((g.sound a).orders_fit page other)) in
+      let i : InOrder o m (logs a) page head other row = rw f at (rw e at ((g.sound a).orders_fit page other)) in
       i.above
 
 -- A page whose slot is read, and the removed page that is its right, as its slot was read before, are leaves.
@@ -56,37 +49,40 @@ module _ (memory : Memory) {log : List Update} {o : Owners} {knows : ℕ → Kno
   place = alive_place g a page level low reached head at basis is alive
 
   head_leaf : level_in basis ≡ 0 → IsLeafWith memory (record { pid = page; chain = basis })
-  head_leaf leaf = is_leaf memory g page head basis (subst (λ (l : ℕ). InPlace o (shared memory) l (spec log o.index l) (record { page = page; row = head; chain = basis })) leaf place)
+  head_leaf leaf = is_leaf memory g page head basis (rw leaf at place)
 
   beside_leaf : (other row : ℕ) (chain : List Record) → right_in basis ≡ Some other → (knows a).read.heads other ≡ Some row → IsChainFrom memory.rows row chain → level_in chain ≡ 0 → is_removed chain ≡ true → IsLeafWith memory (record { pid = other; chain = chain })
   beside_leaf other row chain right read stands leaf gone =
       let on : Level o (shared memory) (level_in basis) (spec log o.index (level_in basis)) (g.tree.first (level_in basis)) = g.tree.levels (level_in basis) (g.tree.exact.below page (level_in basis) (low_in basis) place.stage place.placed) in
       let n = right_page o (shared memory) (level_in basis) (spec log o.index (level_in basis)) (g.tree.first (level_in basis)) on (record { page = page; row = head; chain = basis }) place other right in
-      let h = subst (λ (v : Option ℕ). HeadFits o (shared memory) (logs a) other v) read ((g.sound a).heads_fit other) in
+      let h = rw read at ((g.sound a).heads_fit other) in
       let same : h.2.chain ≡ chain = chain_unique memory.rows h.2.chain chain (Some row) h.2.is_chain stands in
-      let slot : slot_in memory.slots other ≡ Some row = ⊎_elim (λ (u : slot_in memory.slots other ≡ Some row). u) (λ (u : IsOut (o.page other) (slot_in memory.slots other)). absurd (let t = sym n.3.placed ∙ ap o.page n.1 ∙ u.1.3 in cc)) (h.4 (ap is_removed same ∙ gone)) in
+      let slot : slot_in memory.slots other ≡ Some row = elim (h.4 (ap is_removed same ∙ gone)) [ inl u ↦ u | inr u ↦ absurd (cc (n.3.placed, n.1, u.1.3)) ] in
       let r = (in_level_as o (shared memory) (level_in basis) (spec log o.index (level_in basis)) (g.tree.first (level_in basis)) on other (low_in n.0.chain) n.3.stage (ap o.page (sym n.1) ∙ n.3.placed) n.3.on row slot chain stands).place in
       is_leaf memory g other row chain (subst (λ (l : ℕ). InPlace o (shared memory) l (spec log o.index l) (record { page = other; row = row; chain = chain })) (sym r.is_page.on_level ∙ leaf) r)
 
 module _ (limits : Limits) (entries : List Entry) (last : Entry) where
-  was_kept : (op : Operation) (page : LivePage) → WasLeafWith limits entries op page → WasLeafWith limits (entries ++ last ∷ []) op page
+  abbrev longer : List Entry
+  longer = entries ++ last ∷ []
+
+  was_kept : (op : Operation) (page : LivePage) → WasLeafWith limits entries op page → WasLeafWith limits longer op page
   was_kept op page h =
       let below : h.step < length entries = step_below entries last op h.step h.own in
       record {
         step = h.step;
         own = own_step_kept entries last op h.step h.own;
         asked = rw (take-push entries (last ∷ []) h.step (omega arith)) h.asked;
-        stood = subst (λ memory. IsLeafWith memory page) (sym (same_memory limits entries last h.step (omega arith))) h.stood;
+        stood = rw (same_memory limits entries last h.step (omega arith)) h.stood;
       }
 
   -- the leaf stood, and before it pages were read, whose chains were as they are
   leaf_kept : (op : Operation) (page : LivePage) (rows rows' : ℕ → Option Record) (before : ℕ → Option ℕ) → ((other row : ℕ) (chain : List Record) → before other ≡ Some row → IsChainFrom rows' row chain → IsChainFrom rows row chain)
-      → (h : WasLeafWith limits entries op page) → WereRead limits entries op rows before h.step → (w : WasLeafWith limits (entries ++ last ∷ []) op page) × WereRead limits (entries ++ last ∷ []) op rows' before w.step
+      → (h : WasLeafWith limits entries op page) → WereRead limits entries op rows before h.step → (w : WasLeafWith limits longer op page) × WereRead limits longer op rows' before w.step
   unfolding was_kept
   leaf_kept op page rows rows' before was h were = (was_kept op page h, λ other row chain order is. read_kept entries last limits op h.step h.step other row chain (omega arith) (were other row chain order (was other row chain order is)))
 
-  longer : length entries ≤ length (entries ++ last ∷ [])
-  longer = let long : length (entries ++ last ∷ []) ≡ suc (length entries) = pushed_length entries last in omega arith
+  not_less : length entries ≤ length longer
+  not_less = let long : length longer ≡ suc (length entries) = pushed_length entries last in omega arith
 
   module _ {m : Shared} {log : List Update} {o : Owners} {knows : ℕ → Knowledge} {point : ℕ → Option (List Update)} {logs : ℕ → List (List Update)} (g : IsTree m log o knows point logs) (rows' : ℕ → Option Record) (kept : (row : ℕ) → o.row row ≡ Linked → rows' row ≡ m.rows row) where
     -- the chain of a page as its slot was last read, and as it had been read before
@@ -97,9 +93,9 @@ module _ (limits : Limits) (entries : List Entry) (last : Entry) where
     order_was b page head read other row chain order = chain_was o m rows' g.closed kept row chain (order_linked g b page head other row read order)
 
     -- what an actor has read stood, after an entry that keeps the records of linked rows
-    pub stood_kept : (op : Operation) (b : ℕ) → HaveStood limits entries op m.rows (knows b).read → HaveStood limits (entries ++ last ∷ []) op rows' (knows b).read
+    pub stood_kept : (op : Operation) (b : ℕ) → HaveStood limits entries op m.rows (knows b).read → HaveStood limits longer op rows' (knows b).read
     stood_kept op b h = record {
-      reads = λ page row chain read is. read_kept entries last limits op (length entries) _ page row chain longer (h.reads page row chain read (head_was b page row chain read is));
+      reads = λ page row chain read is. read_kept entries last limits op (length entries) _ page row chain not_less (h.reads page row chain read (head_was b page row chain read is));
       heads = λ page row chain read is level alive. let was = h.heads page row chain read (head_was b page row chain read is) level alive in leaf_kept op _ m.rows rows' _ (order_was b page row read) was.0 was.1;
       beside = λ page head other row basis chain read is alive right order stands level gone. was_kept op _ (h.beside page head other row basis chain
           read (head_was b page head basis read is) alive right
@@ -114,12 +110,12 @@ module _ (limits : Limits) (entries : List Entry) (last : Entry) where
     abbrev op : Operation
     op = operation_of start a c
 
-    was_new : (page : LivePage) → IsLeafWith memory page → WasLeafWith limits (entries ++ last ∷ []) op page
+    was_new : (page : LivePage) → IsLeafWith memory page → WasLeafWith limits longer op page
     was_new page leaf = record {
       step = length entries;
       own = own_new entries last start a c step answer r begins unended last_is;
       asked = rw (take-push_whole entries (last ∷ [])) asks;
-      stood = subst (λ memory. IsLeafWith memory page) (sym (same_memory limits entries last (length entries) (omega arith) ∙ now)) leaf;
+      stood = rw (same_memory limits entries last (length entries) (omega arith) ∙ now) leaf;
     }
 
     -- the page whose slot the step reads
@@ -130,45 +126,45 @@ module _ (limits : Limits) (entries : List Entry) (last : Entry) where
       at : slot_in memory.slots page ≡ Some row
       rows : (x : ℕ) (chain : List Record) → IsChainFrom (memory_after a step memory).rows x chain → IsChainFrom memory.rows x chain
 
-    sees : (page row : ℕ) → ReadsNow (knows a) step answer page row → Sees page row
+    sees : (page row : ℕ) → ReadsNow (knows a) step answer (learn (knows a) step answer) page row → Sees page row
     sees page row n =
-        let told : Number (suc n.held) ≡ Number (memory.slots (suc n.number)) = subst (IsAnswer memory (Slot (suc n.number))) n.answer_is (subst (λ (s : StepOf Record). IsAnswer memory s answer) n.step_is is_answer) in
+        let told : Number (suc n.held) ≡ Number (memory.slots (suc n.number)) = subst (IsAnswer memory (Slot (suc n.number))) n.answer_is (rw n.step_is at is_answer) in
         let in_slot : memory.slots (suc n.number) ≡ suc n.held = cc in
         let placed = met_placed g a (suc n.number) (subst (May a (knows a)) n.step_is may).1 in
         record {
           level = placed.0;
           low = placed.1;
-          reached = subst (λ (p : ℕ). Reached 0 placed.0 placed.1 (o.page p)) (sym n.page_is) placed.2;
+          reached = rw n.page_is placed.2;
           at = ap (slot_in memory.slots) n.page_is ∙ ap row_in in_slot ∙ ap Some (sym n.row_is);
-          rows = λ x chain h. subst (λ (s : StepOf Record). IsChainFrom (memory_after a s memory).rows x chain) n.step_is h;
+          rows = λ x chain h. rw n.step_is at h;
         }
 
     abbrev rows' : ℕ → Option Record
     rows' = (memory_after a step memory).rows
 
     -- a slot's chain is read as it is
-    now_read : (page row : ℕ) (chain : List Record) → ReadsNow (knows a) step answer page row → IsChainFrom rows' row chain → WasRead limits (entries ++ last ∷ []) op (length (entries ++ last ∷ [])) page row chain
+    now_read : (page row : ℕ) (chain : List Record) → ReadsNow (knows a) step answer (learn (knows a) step answer) page row → IsChainFrom rows' row chain → WasRead limits longer op (length longer) page row chain
     now_read page row chain n is =
         let s = sees page row n in
-        let long : length (entries ++ last ∷ []) ≡ suc (length entries) = pushed_length entries last in
+        let long : length longer ≡ suc (length entries) = pushed_length entries last in
         let held : answer ≡ Number row = n.answer_is ∙ ap Number (sym n.row_is) in
         record {
           step = length entries;
           before = omega arith;
           own = takes_new entries last start a c (Slot page) (Number row) r begins unended (last_is ∙ λ d. Step a ((n.step_is ∙ ap Slot (sym n.page_is)) d) (held d) r);
-          stood = subst (λ (x : Memory). IsChainOf x page chain) (sym (same_memory limits entries last (length entries) (omega arith) ∙ now)) (chain_at memory page row chain s.at (s.rows row chain is));
+          stood = rw (same_memory limits entries last (length entries) (omega arith) ∙ now) (chain_at memory page row chain s.at (s.rows row chain is));
         }
 
     -- the leaf stands now, and before it pages were read
     leaf_new : (page : LivePage) → IsLeafWith memory page → ((row : ℕ) (chain : List Record) → IsChainFrom rows' row chain → IsChainFrom memory.rows row chain)
-        → WereRead limits entries op memory.rows (knows a).read.heads (length entries) → (w : WasLeafWith limits (entries ++ last ∷ []) op page) × WereRead limits (entries ++ last ∷ []) op rows' (knows a).read.heads w.step
+        → WereRead limits entries op memory.rows (knows a).read.heads (length entries) → (w : WasLeafWith limits longer op page) × WereRead limits longer op rows' (knows a).read.heads w.step
     unfolding was_new
     leaf_new page leaf was reads = (was_new page leaf, λ other row chain order is. read_kept entries last limits op (length entries) (length entries) other row chain (omega arith) (reads other row chain order (was row chain is)))
 
-    pub stood_own : HaveStood limits entries op memory.rows (knows a).read → HaveStood limits (entries ++ last ∷ []) op (memory_after a step memory).rows (learn (knows a) step answer).read
+    pub stood_own : HaveStood limits entries op memory.rows (knows a).read → HaveStood limits longer op (memory_after a step memory).rows (learn (knows a) step answer).read
     stood_own h = record {
       reads = λ page row chain read is. elim (read_cases (knows a) step answer page row read) [
-        | inl b ↦ read_kept entries last limits op (length entries) _ page row chain longer (h.reads page row chain b.0 (head_was g rows' kept a page row chain b.0 is))
+        | inl b ↦ read_kept entries last limits op (length entries) _ page row chain not_less (h.reads page row chain b.0 (head_was g rows' kept a page row chain b.0 is))
         | inr n ↦ now_read page row chain n is
       ];
       heads = λ page row chain read is level alive. elim (read_cases (knows a) step answer page row read) [

@@ -1,11 +1,10 @@
 -- A step keeps a state, and a state is linearized.
-use Rattle.tree_law.proofs.Words.{false, ◌⊎◌, [], ap, refl, cond, Option, suc, None, List, true, inl, ◌≢◌, length, ◌++◌, inr, ◌∷◌, subst, sym, ℕ, ◌≡◌, Bool, ◌∙◌, ◌<◌, arith, Some, same_Some}
-use Rattle.tree_law.proofs.Words.{slice_get, IsSome, IfSome, MatchOption, IsFalse, if◌then◌else◌, IsTrue, ◌↔◌, bytes_eq, Update, logged_value, command_key, reply_of, Command, Swap, Upsert, Insert}
-use Rattle.tree_law.proofs.Words.{Reply, Limits, Answer, Number, StepOf, ReuseRows, ReusePids, Leave, Slot, Memory, Record, slice_get_kept, slice_get-push_cases, IsRun-push, memory_of-push}
-use Rattle.tree_law.proofs.Words.{command_of-push, MayReply, IsAllowed, knows, Knowledge, finished, learn, IsAnswer, memory_after, command_of, memory_of, commands_after, Entry, Begin, Step}
-use Rattle.tree_law.proofs.Words.{same_operation, log_of-push, RepliesAt, IsOperation, Operation, Finishes, IsOwnStep, IsInPhase, MovesPhase, Phase, log_at, log_of, IsPoint, LinksUpdate, IsFirst}
-use Rattle.tree_law.proofs.Words.{IsReuse, After, IsDue, Indexed, put, shared, slot_in, IsReadyPage, Tells, operation_of, IsSearch, IsState, phase_of, IsInTree, IsUnended, IsAnsweredBy, HasFound}
-use Rattle.tree_law.proofs.Words.{HaveStood, Times, Timed, times_after, IsTree}
+use Rattle.tree_law.proofs.Words.{false, ◌⊎◌, ap, refl, cond, Option, suc, None, List, true, inl, ◌≢◌, length, ◌++◌, inr, ◌∷◌, subst, sym, ℕ, ◌≡◌, Bool, ◌∙◌, ◌<◌, arith, Some, same_Some, slice_get}
+use Rattle.tree_law.proofs.Words.{IsSome, IfSome, IsFalse, if◌then◌else◌, IsTrue, ◌↔◌, bytes_eq, Update, logged_value, command_key, reply_of, Command, Swap, Upsert, Insert, Reply, Limits, Answer}
+use Rattle.tree_law.proofs.Words.{Number, StepOf, ReuseRows, ReusePids, Leave, Slot, Memory, Record, slice_get_kept, slice_get-push_cases, IsRun-push, memory_of-push, command_of-push, MayReply}
+use Rattle.tree_law.proofs.Words.{IsAllowed, knows, Knowledge, finished, learn, IsAnswer, memory_after, command_of, memory_of, commands_after, Entry, Begin, Step, same_operation, log_of-push}
+use Rattle.tree_law.proofs.Words.{RepliesAt, IsOperation, Operation, IsOwnStep, IsInPhase, MovesPhase, Phase, log_of, IsPoint, LinksUpdate, IsFirst, IsReuse, After, IsDue, Indexed, put, shared}
+use Rattle.tree_law.proofs.Words.{slot_in, IsReadyPage, Tells, operation_of, IsSearch, IsState, phase_of, IsInTree, IsUnended, IsAnsweredBy, HasFound, HaveStood, Times, Timed, times_after, IsTree, []}
 use Rattle.std.specs.Option.{option_to_list}
 use Rattle.bw_model.specs.declared.command.Command.TheVariants.{Get, Delete, Page, Tidy}
 use Rattle.bw_model.specs.declared.command.Reply.TheVariants as reply
@@ -19,7 +18,7 @@ use Rattle.tree_law.proofs.epochs.Timewise.{timed_step}
 use Rattle.tree_law.proofs.epochs.Allowed.{after_of}
 use Rattle.tree_law.proofs.trace.Beginning.{knows-push}
 use Rattle.tree_law.proofs.trace.Ending.{ends_push, step_ends}
-use Rattle.tree_law.proofs.shape.{is_indexed, root_indexed, first_stays, grows, fitted_after, indexed_push, map_of, by_test, put_same, put_other}
+use Rattle.tree_law.proofs.shape.{is_indexed, root_indexed, first_stays, grows, fitted_after, indexed_push, map_of, by_equal, put_same, put_other}
 use Rattle.tree_law.proofs.trace.Roots.{learns_root}
 use Rattle.tree_law.proofs.epochs.Handed.{rows_in_limbo, pids_in_limbo, freed_after}
 use Rattle.tree_law.proofs.trace.Lives.{only_after, pid_below_after, steps_in_phase, steps_phases}
@@ -43,19 +42,22 @@ is_update (Some u) = true
 module _ (limits : Limits) (entries : List Entry) (a : ℕ) (step : StepOf Record) (answer : Answer Record) (r : Option Reply) (asked : Command) (state : IsState limits entries) (asks : command_of entries a ≡ Some asked)
     (allowed : IsAllowed limits a (knows entries a) step r) (is : IsAnswer (memory_of limits entries) step answer)
     (n : After a (shared (memory_of limits entries)) (shared (memory_after a step (memory_of limits entries))) (log_of entries state.points) state.owners (knows entries) state.point state.logs step answer r)
-    (numbers : Numbers limits entries state.owners (memory_of limits entries) (knows entries) (log_of entries state.points) state.point state.logs state.is_tree state.named a step answer r allowed.may is n.owners)
+    (numbers : Numbers state.is_tree state.named a step answer r allowed.may is n.owners)
     (held' : (p q : ℕ) → slot_in (memory_after a step (memory_of limits entries)).slots p ≡ Some q → IsInTree (n.owners.page p) ⊎ IsReadyPage n.owners (memory_after a step (memory_of limits entries)) (put (knows entries) a (finished (learn (knows entries a) step answer) r)) p q)
     (times' : Times) (timed' : Timed limits (memory_after a step (memory_of limits entries)) n.owners (put (knows entries) a (finished (learn (knows entries a) step answer) r)) (suc (length entries)) times')
     (z : Settled limits entries (log_of entries state.points) state.point state.logs a asked r) where
   abbrev last : Entry
   last = Step a step answer r
 
+  abbrev longer : List Entry
+  longer = entries ++ last ∷ []
+
   abbrev mark : Bool
   mark = is_update n.update
 
   -- a step with a reply is no point
   unpointed : (reply : Reply) → r ≡ Some reply → mark ≡ false
-  unpointed reply e = ap is_update (n.last (subst (λ o. IfSome o (λ y. (step ≡ Leave) × MayReply limits a (knows entries a) y)) e allowed.replied).0)
+  unpointed reply e = ap is_update (n.last (rw e at allowed.replied).0)
 
   -- an update is its operation's first
   alone : mark ≡ true → state.point a ≡ None
@@ -70,12 +72,12 @@ module _ (limits : Limits) (entries : List Entry) (a : ℕ) (step : StepOf Recor
 
   is_mine : (op : Operation) → IsOperation entries op → op.actor ≡ a → IsUnended entries op.start op.actor → op ≡ operation_of z.mine.start a asked
   is_mine op begun actor unended =
-      let begun' : slice_get entries op.start ≡ Some (Begin a op.command) = subst (λ b. slice_get entries op.start ≡ Some (Begin b op.command)) actor begun in
+      let begun' : slice_get entries op.start ≡ Some (Begin a op.command) = rw actor at begun in
       let start : op.start ≡ z.mine.start = same_start entries op.start z.mine.start a op.command asked begun' z.mine.begins (subst (IsUnended entries op.start) actor unended) z.mine.unended in
-      same_operation op (operation_of z.mine.start a asked) start actor (cc ((subst (λ s. slice_get entries s ≡ Some (Begin a op.command)) start begun'), z.mine.begins))
+      same_operation op (operation_of z.mine.start a asked) start actor (cc ((rw start at begun'), z.mine.begins))
 
   justified : (op : Operation) (reply : Reply) → IsOperation entries op → op.actor ≡ a → IsUnended entries op.start op.actor → r ≡ Some reply → IsAnsweredBy limits entries z.points op reply
-  justified op reply begun actor unended e = subst (λ o. IsAnsweredBy limits entries z.points o reply) (sym (is_mine op begun actor unended)) (z.replied reply e)
+  justified op reply begun actor unended e = rw (is_mine op begun actor unended) (z.replied reply e)
 
   -- what the step adds to the log is what its operation's command makes there
   logged : cond mark (log_of entries state.points ++ updates_by a (command_of entries a) (log_of entries state.points)) (log_of entries state.points) ≡ grown (log_of entries state.points) n.update
@@ -90,9 +92,9 @@ module _ (limits : Limits) (entries : List Entry) (a : ℕ) (step : StepOf Recor
   -- the step makes an update exactly where it links a put or a delete
   updated_now : UpdatesNow limits entries z.points last mark z.marked.beside ↔ LinksUpdate (memory_of limits entries) last
   updated_now =
-      let logged' : log_of (entries ++ last ∷ []) (z.points ++ mark ∷ []) ≡ grown (log_of entries z.points) n.update = rw (log_of-push entries z.points last mark z.marked.beside, z.log_is) logged in (
+      let logged' : log_of longer (z.points ++ mark ∷ []) ≡ grown (log_of entries z.points) n.update = rw (log_of-push entries z.points last mark z.marked.beside, z.log_is) logged in (
         λ h. let l = update_links (memory_of limits entries) state.is_tree a step answer r allowed.may is n (some_update n.update h.0) in (a, l.slot, l.old, l.new, l.kind, ((r, λ d. Step a (l.step d) (l.won d) r), l.link), l.update),
-        λ h. makes_one n.update (link_updates (memory_of limits entries) state.is_tree a step answer r allowed.may is n (let e = h.5.0.1 in record { slot = h.1; old = h.2; new = h.3; kind = h.4; step = cc; won = cc; link = h.5.1; update = h.6 })) (log_of entries z.points) (log_of (entries ++ last ∷ []) (z.points ++ mark ∷ [])) logged',
+        λ h. makes_one n.update (link_updates (memory_of limits entries) state.is_tree a step answer r allowed.may is n (let e = h.5.0.1 in record { slot = h.1; old = h.2; new = h.3; kind = h.4; step = cc; won = cc; link = h.5.1; update = h.6 })) (log_of entries z.points) (log_of longer (z.points ++ mark ∷ [])) logged',
       )
     where
       some_update : (u : Option Update) → is_update u ≡ true → IsSome u
@@ -107,8 +109,8 @@ module _ (limits : Limits) (entries : List Entry) (a : ℕ) (step : StepOf Recor
   point_after None = refl
   point_after (Some u) = refl
 
-  tree_after : IsTree (shared (memory_of limits (entries ++ last ∷ []))) (log_of (entries ++ last ∷ []) (z.points ++ mark ∷ [])) n.owners
-      (knows (entries ++ last ∷ [])) (put state.point a (cond mark (Some (log_of entries state.points)) (state.point a))) (put state.logs a (log_of entries state.points ∷ state.logs a))
+  tree_after : IsTree (shared (memory_of limits longer)) (log_of longer (z.points ++ mark ∷ [])) n.owners
+      (knows longer) (put state.point a (cond mark (Some (log_of entries state.points)) (state.point a))) (put state.logs a (log_of entries state.points ∷ state.logs a))
   tree_after = rw (memory_of-push limits entries last, log_of-push entries z.points last mark z.marked.beside, z.log_is, knows-push entries last, logged, sym (point_after n.update)) n.is_tree
 
   other_command : (o : Option Reply) (b : ℕ) → b ≢ a → commands_after (command_of entries) (Step a step answer o) b ≡ command_of entries b
@@ -116,22 +118,20 @@ module _ (limits : Limits) (entries : List Entry) (a : ℕ) (step : StepOf Recor
   other_command (Some y) b ne = put_other (command_of entries) a None b ne
 
   tells_mine : (o : Option Reply) → r ≡ o → (c : Command) → commands_after (command_of entries) (Step a step answer o) a ≡ Some c
-      → Tells (entries ++ last ∷ []) (z.points ++ mark ∷ []) a c (cond mark (Some (log_of entries state.points)) (state.point a)) (log_of entries state.points ∷ state.logs a)
+      → Tells longer (z.points ++ mark ∷ []) a c (cond mark (Some (log_of entries state.points)) (state.point a)) (log_of entries state.points ∷ state.logs a)
   tells_mine None i c f =
       let log = log_of entries state.points in
-      subst (λ d. Tells (entries ++ last ∷ []) (z.points ++ mark ∷ []) a d (cond mark (Some log) (state.point a)) (log ∷ state.logs a)) (same_Some asked c (sym asks ∙ f))
-      (tells_own entries z.points last mark z.marked.beside a step answer r asked (state.point a) (state.logs a) log refl z.log_is asks alone (subst (λ o. Tells entries z.points a asked o (state.logs a)) (z.quietly i) z.mine))
+      rw (same_Some asked c (sym asks ∙ f)) at (tells_own entries z.points last mark z.marked.beside a step answer r asked (state.point a) (state.logs a) log refl z.log_is asks alone (rw (z.quietly i) at z.mine))
   tells_mine (Some y) i c f = let e = put_same (command_of entries) a None in let g : None ≡ Some c = sym e ∙ f in absurd (cc)
 
   -- what is so of each unfinished operation: the actor's own, where it goes on, and those of others
   unfinished_after : (P : Operation → Knowledge → Type 0)
       → ((start : ℕ) (c : Command) → slice_get entries start ≡ Some (Begin a c) → IsUnended entries start a → command_of entries a ≡ Some c → r ≡ None → P (operation_of start a c) (finished (learn (knows entries a) step answer) r))
       → ((op : Operation) → op.actor ≢ a → IsOperation entries op → IsUnended entries op.start op.actor → command_of entries op.actor ≡ Some op.command → P op (knows entries op.actor))
-      → (op : Operation) → IsOperation (entries ++ last ∷ []) op → IsUnended (entries ++ last ∷ []) op.start op.actor → command_of (entries ++ last ∷ []) op.actor ≡ Some op.command → P op (knows (entries ++ last ∷ []) op.actor)
-  unfinished_after P goes_on others op begun' unended' asks' = subst (λ (ks : ℕ → Knowledge). P op (ks op.actor)) (sym (knows-push entries last)) (by_test op.actor a
-      (λ t. P op (cond t (finished (learn (knows entries a) step answer) r) (knows entries op.actor)))
-      (λ i. own r refl i)
-      (λ ne. others op ne begun unended (sym (other_command r op.actor ne) ∙ asked')))
+      → (op : Operation) → IsOperation longer op → IsUnended longer op.start op.actor → command_of longer op.actor ≡ Some op.command → P op (knows longer op.actor)
+  unfinished_after P goes_on others op begun' unended' asks' = rw (knows-push entries last) (by_equal op.actor a
+      (λ i t. rw t (own r refl i))
+      (λ ne t. rw t (others op ne begun unended (sym (other_command r op.actor ne) ∙ asked'))))
     where
       begun : IsOperation entries op
       begun = elim (slice_get-push_cases entries last op.start _ begun') [ inl before ↦ before | inr at ↦ let e = at.1 in absurd (cc) ]
@@ -140,29 +140,28 @@ module _ (limits : Limits) (entries : List Entry) (a : ℕ) (step : StepOf Recor
       unended later d low e = unended' later d low (slice_get_kept entries (last ∷ []) later _ e)
 
       asked' : commands_after (command_of entries) last op.actor ≡ Some op.command
-      asked' = subst (λ k. k op.actor ≡ Some op.command) (command_of-push entries last) asks'
+      asked' = rw (command_of-push entries last) at asks'
 
       own : (o : Option Reply) → r ≡ o → op.actor ≡ a → P op (finished (learn (knows entries a) step answer) r)
       own None no_reply i =
           let same : op ≡ operation_of op.start a op.command = same_operation op (operation_of op.start a op.command) refl i refl in
-          let begun_a : slice_get entries op.start ≡ Some (Begin a op.command) = subst (λ b. slice_get entries op.start ≡ Some (Begin b op.command)) i begun in
-          let asked_a : command_of entries a ≡ Some op.command = subst (λ b. command_of entries b ≡ Some op.command) i (subst (λ o. commands_after (command_of entries) (Step a step answer o) op.actor ≡ Some op.command) no_reply asked') in
-          subst (λ o. P o (finished (learn (knows entries a) step answer) r)) (sym same) (goes_on op.start op.command begun_a (subst (IsUnended entries op.start) i unended) asked_a no_reply)
+          let begun_a : slice_get entries op.start ≡ Some (Begin a op.command) = rw i at begun in
+          let asked_a : command_of entries a ≡ Some op.command = rw i at (rw no_reply at asked') in
+          rw same (goes_on op.start op.command begun_a (subst (IsUnended entries op.start) i unended) asked_a no_reply)
       own (Some y) replies i =
-          let e : commands_after (command_of entries) (Step a step answer (Some y)) a ≡ Some op.command = subst (λ b. commands_after (command_of entries) (Step a step answer (Some y)) b ≡ Some op.command) i (subst (λ o. commands_after (command_of entries) (Step a step answer o) op.actor ≡ Some op.command) replies asked') in
+          let e : commands_after (command_of entries) (Step a step answer (Some y)) a ≡ Some op.command = rw i at (rw replies at asked') in
           let g : None ≡ Some op.command = sym (put_same (command_of entries) a None) ∙ e in absurd (cc)
 
-  searches_after : (op : Operation) → IsOperation (entries ++ last ∷ []) op → IsUnended (entries ++ last ∷ []) op.start op.actor → command_of (entries ++ last ∷ []) op.actor ≡ Some op.command
-      → IsSearch (entries ++ last ∷ []) op (knows (entries ++ last ∷ []) op.actor)
-  searches_after = unfinished_after (IsSearch (entries ++ last ∷ []))
-      (λ start c begun unended asks no_reply. subst (λ o. IsSearch (entries ++ last ∷ []) (operation_of start a c) (finished (learn (knows entries a) step answer) o)) (sym no_reply)
+  searches_after : (op : Operation) → IsOperation longer op → IsUnended longer op.start op.actor → command_of longer op.actor ≡ Some op.command
+      → IsSearch longer op (knows longer op.actor)
+  searches_after = unfinished_after (IsSearch longer)
+      (λ start c begun unended asks no_reply. subst (λ o. IsSearch longer (operation_of start a c) (finished (learn (knows entries a) step answer) o)) (sym no_reply)
       (search_own entries last start a c step answer (knows entries a) begun unended (λ d. Step a step answer (no_reply d)) (state.searches (operation_of start a c) begun unended asks)))
       (λ op ne begun unended asks. search_other entries last op (knows entries op.actor) (state.searches op begun unended asks) (λ s x y e. ne (let j : a ≡ op.actor = cc in sym j)))
 
-  stood_after : (op : Operation) → IsOperation (entries ++ last ∷ []) op → IsUnended (entries ++ last ∷ []) op.start op.actor → command_of (entries ++ last ∷ []) op.actor ≡ Some op.command
-      → HaveStood limits (entries ++ last ∷ []) op (memory_of limits (entries ++ last ∷ [])).rows (knows (entries ++ last ∷ []) op.actor).read
-  stood_after op = subst (λ (m : Memory). IsOperation (entries ++ last ∷ []) op → IsUnended (entries ++ last ∷ []) op.start op.actor → command_of (entries ++ last ∷ []) op.actor ≡ Some op.command → HaveStood limits (entries ++ last ∷ []) op m.rows (knows (entries ++ last ∷ []) op.actor).read) (sym (memory_of-push limits entries last))
-      (unfinished_after (λ op k. HaveStood limits (entries ++ last ∷ []) op (memory_after a step (memory_of limits entries)).rows k.read)
+  stood_after : (op : Operation) → IsOperation longer op → IsUnended longer op.start op.actor → command_of longer op.actor ≡ Some op.command
+      → HaveStood limits longer op (memory_of limits longer).rows (knows longer op.actor).read
+  stood_after op = rw (memory_of-push limits entries last) (unfinished_after (λ op k. HaveStood limits longer op (memory_after a step (memory_of limits entries)).rows k.read)
       (λ start c begun unended asks no_reply. stood_own limits entries last (memory_of limits entries) state.is_tree a start c step answer r (ap (memory_of limits) (take_whole entries (length entries) refl)) begun unended asks refl allowed.may is n.same (state.stood (operation_of start a c) begun unended asks))
       (λ op ne begun unended asks. stood_kept limits entries last state.is_tree (memory_after a step (memory_of limits entries)).rows n.same op op.actor (state.stood op begun unended asks)) op)
 
@@ -172,27 +171,26 @@ module _ (limits : Limits) (entries : List Entry) (a : ℕ) (step : StepOf Recor
   lives : (pid : ℕ) → MovesPhase (memory_of limits entries) last pid (phase_of (state.owners.page pid)) (phase_of (n.owners.page pid)) ⊎ (phase_of (n.owners.page pid) ≡ phase_of (state.owners.page pid))
   lives = moves_or_rests (memory_of limits entries) state.is_tree state.named.in_slots a step answer r allowed.may is n.owners.page n.phased
 
-  in_phase_after : (pid : ℕ) → IsInPhase limits (entries ++ last ∷ []) (length (entries ++ last ∷ [])) pid (phase_of (n.owners.page pid))
+  in_phase_after : (pid : ℕ) → IsInPhase limits longer (length longer) pid (phase_of (n.owners.page pid))
   in_phase_after = steps_in_phase limits entries last state.owners.page n.owners.page state.in_phase between lives
 
-  only_phase_after : (pid : ℕ) (phase : Phase) → IsInPhase limits (entries ++ last ∷ []) (length (entries ++ last ∷ [])) pid phase → phase ≡ phase_of (n.owners.page pid)
-  only_phase_after pid phase h = only_after limits entries last state.owners.page n.owners.page state.in_phase between lives state.only_phase pid phase (subst (λ k. IsInPhase limits (entries ++ last ∷ []) k pid phase) (pushed_length entries last) h)
+  only_phase_after : (pid : ℕ) (phase : Phase) → IsInPhase limits longer (length longer) pid phase → phase ≡ phase_of (n.owners.page pid)
+  only_phase_after pid phase h = only_after limits entries last state.owners.page n.owners.page state.in_phase between lives state.only_phase pid phase (rw (pushed_length entries last) at h)
 
-  rooted_after : (b p : ℕ) → (knows (entries ++ last ∷ []) b).read.roots p ≡ true → (level : ℕ) × IsFirst n.owners level p
+  rooted_after : (b p : ℕ) → (knows longer b).read.roots p ≡ true → (level : ℕ) × IsFirst n.owners level p
   rooted_after b p e =
       let stays : (level : ℕ) × IsFirst state.owners level p → (level : ℕ) × IsFirst n.owners level p =
-      λ h. (h.0, first_stays (memory_of limits entries) (memory_of limits (entries ++ last ∷ [])) state.is_tree tree_after a step answer is n.phased h.0 p h.1) in
+      λ h. (h.0, first_stays (memory_of limits entries) (memory_of limits longer) state.is_tree tree_after a step answer is n.phased h.0 p h.1) in
       let at_root : (q : ℕ) → step ≡ Slot 0 → answer ≡ Number q → (level : ℕ) × IsFirst state.owners level q = λ q asked told.
-      let here : IsAnswer (memory_of limits entries) (Slot 0) (Number q) = subst (λ (s : StepOf Record). IsAnswer (memory_of limits entries) s (Number q)) asked (subst (IsAnswer (memory_of limits entries) step) told is) in
+      let here : IsAnswer (memory_of limits entries) (Slot 0) (Number q) = rw asked at (subst (IsAnswer (memory_of limits entries) step) told is) in
       let same : q ≡ (memory_of limits entries).slots 0 = (let e = here in cc) in
       let top = is_indexed (memory_of limits entries) state.is_tree in
       (top.top, (Indexed, rw same (root_indexed (memory_of limits entries) state.is_tree), omega arith)) in
-      by_test b a (λ t. (cond t (finished (learn (knows entries a) step answer) r) (knows entries b)).read.roots p ≡ true → (level : ℕ) × IsFirst n.owners level p)
-      (λ i f. elim (learns_root (knows entries a) step answer p f) [ inl before ↦ stays (state.rooted a p before) | inr now ↦ stays (at_root p now.0 now.1) ])
-      (λ ne f. stays (state.rooted b p f))
-      (subst (λ (ks : ℕ → Knowledge). (ks b).read.roots p ≡ true) (knows-push entries last) e)
+      by_equal b a
+      (λ i t. let f = rw t at (rw (knows-push entries last) at e) in elim (learns_root (knows entries a) step answer p f) [ inl before ↦ stays (state.rooted a p before) | inr now ↦ stays (at_root p now.0 now.1) ])
+      (λ ne t. let f = rw t at (rw (knows-push entries last) at e) in stays (state.rooted b p f))
 
-  state_after : IsState limits (entries ++ last ∷ [])
+  state_after : IsState limits longer
   state_after = record {
     points = z.points ++ mark ∷ [];
     owners = n.owners;
@@ -201,26 +199,26 @@ module _ (limits : Limits) (entries : List Entry) (a : ℕ) (step : StepOf Recor
     is_tree = tree_after;
     fitted = rw (memory_of-push limits entries last) (fitted_after state.owners (shared (memory_of limits entries)) state.is_tree.closed state.fitted n.owners (memory_after a step (memory_of limits entries)).rows n.same n.added);
     named = rw (memory_of-push limits entries last, knows-push entries last)
-        (named_steps limits entries state.owners (memory_of limits entries) (knows entries) (log_of entries state.points) state.point state.logs state.is_tree state.named a step answer r allowed.may is n.owners numbers (state.timed.holds a).learnt_inside (state.timed.epochs a)
+        (named_steps state.is_tree state.named a step answer r allowed.may is n.owners numbers (state.timed.holds a).learnt_inside (state.timed.epochs a)
         (pid_below_after limits state.owners.page n.owners.page is lives state.named.free_pid_below state.named.pid_below)
         held' (command_of-push entries last));
     searches = searches_after;
     stood = stood_after;
-    tells = λ b c e. by_test b a (λ t. Tells (entries ++ last ∷ []) (z.points ++ mark ∷ []) b c (cond t (cond mark (Some (log_of entries state.points)) (state.point a)) (state.point b)) (cond t (log_of entries state.points ∷ state.logs a) (state.logs b)))
-        (λ i. rw i (tells_mine r refl c (subst (λ k. commands_after (command_of entries) last k ≡ Some c) i (subst (λ k. k b ≡ Some c) (command_of-push entries last) e))))
-        (λ ne. tells_other entries z.points last mark z.marked.beside b c (state.point b) (state.logs b) (λ d i. absurd (cc)) (λ s x y i. ne (let j : a ≡ b = cc in sym j))
-        (z.others b c ne (sym (other_command r b ne) ∙ subst (λ k. k b ≡ Some c) (command_of-push entries last) e)));
+    tells = λ b c e. by_equal b a
+        (λ i t. rw t (rw i (tells_mine r refl c (rw i at (rw (command_of-push entries last) at e)))))
+        (λ ne t. rw t (tells_other entries z.points last mark z.marked.beside b c (state.point b) (state.logs b) (λ d i. absurd (cc)) (λ s x y i. ne (let j : a ≡ b = cc in sym j))
+        (z.others b c ne (sym (other_command r b ne) ∙ (rw (command_of-push entries last) at e)))));
     marked = marked_push entries z.points last mark z.marked.beside limits z.marked
         (λ e. (operation_of z.mine.start a asked, z.mine.begins, own_new entries last z.mine.start a asked step answer r z.mine.begins z.mine.unended refl))
         (λ e op begun own m own' p.
-        let same : op ≡ operation_of z.mine.start a asked = own_same (entries ++ last ∷ []) op (operation_of z.mine.start a asked) (length entries) (slice_get_kept entries (last ∷ []) op.start _ begun) (slice_get_kept entries (last ∷ []) z.mine.start _ z.mine.begins) own (own_new entries last z.mine.start a asked step answer r z.mine.begins z.mine.unended refl) in
-        let none = subst (λ o. MatchOption o ((k : ℕ) → IsOwnStep entries (operation_of z.mine.start a asked) k → IsPoint z.points k → ⊥) (λ l. (k : ℕ) × IsOwnStep entries (operation_of z.mine.start a asked) k × IsPoint z.points k × (log_at entries z.points k ≡ l))) (pointed e) z.mine.point_at in
-        none m (subst (λ o. IsOwnStep entries o m) same own') p)
+        let same : op ≡ operation_of z.mine.start a asked = own_same longer op (operation_of z.mine.start a asked) (length entries) (slice_get_kept entries (last ∷ []) op.start _ begun) (slice_get_kept entries (last ∷ []) z.mine.start _ z.mine.begins) own (own_new entries last z.mine.start a asked step answer r z.mine.begins z.mine.unended refl) in
+        let none = rw (pointed e) at z.mine.point_at in
+        none m (rw same at own') p)
         (λ op s x reply begun e unended. let same : r ≡ Some reply = cc in (justified op reply begun (let i : a ≡ op.actor = cc in sym i) unended same, unpointed reply same))
         (λ e op begun own m reply ends.
-        let same : op ≡ operation_of z.mine.start a asked = own_same (entries ++ last ∷ []) op (operation_of z.mine.start a asked) (length entries) (slice_get_kept entries (last ∷ []) op.start _ begun) (slice_get_kept entries (last ∷ []) z.mine.start _ z.mine.begins) own (own_new entries last z.mine.start a asked step answer r z.mine.begins z.mine.unended refl) in
-        (state.searches (operation_of z.mine.start a asked) z.mine.begins z.mine.unended asks).unfinished m reply (subst (λ o. Finishes entries o m reply) same ends));
-    run = IsRun-push limits entries last state.run (subst IsSome (sym asks) refl, may_take limits entries state.owners (memory_of limits entries) (knows entries) (log_of entries state.points) state.point state.logs state.is_tree state.named a step answer r allowed.may is refl step allowed.may, is);
+        let same : op ≡ operation_of z.mine.start a asked = own_same longer op (operation_of z.mine.start a asked) (length entries) (slice_get_kept entries (last ∷ []) op.start _ begun) (slice_get_kept entries (last ∷ []) z.mine.start _ z.mine.begins) own (own_new entries last z.mine.start a asked step answer r z.mine.begins z.mine.unended refl) in
+        (state.searches (operation_of z.mine.start a asked) z.mine.begins z.mine.unended asks).unfinished m reply (rw same at ends));
+    run = IsRun-push limits entries last state.run (subst IsSome (sym asks) refl, may_take state.is_tree state.named a step answer r allowed.may is refl step allowed.may, is);
     ends = ends_push entries last state.ends (step_ends limits (knows entries a) a step answer r allowed.replied allowed.ends);
     updates = updates_push limits entries z.points last mark z.marked.beside z.updates updated_now;
     quiet = quiet_push entries z.points last mark z.marked.beside limits z.quiet (map_of tree_after);
@@ -235,12 +233,12 @@ module _ (limits : Limits) (entries : List Entry) (a : ℕ) (step : StepOf Recor
     times = times';
     timed = rw (memory_of-push limits entries last, knows-push entries last, pushed_length entries last) timed';
     faithful = faithful_push limits entries last state.faithful
-        (reads_known limits entries state.owners (memory_of limits entries) (knows entries) (log_of entries state.points) state.point state.logs state.is_tree state.named a step answer r allowed.may is)
-        (touches_outside limits entries state.owners (memory_of limits entries) (knows entries) (log_of entries state.points) state.point state.logs state.is_tree state.named a step answer r allowed.may is);
+        (reads_known state.is_tree state.named a step answer r allowed.may is)
+        (touches_outside state.is_tree state.named a step answer r allowed.may is);
     rooted = rooted_after;
     indexed = indexed_push limits entries last state.is_tree tree_after
-        (first_stays (memory_of limits entries) (memory_of limits (entries ++ last ∷ [])) state.is_tree tree_after a step answer is n.phased)
-        (grows (memory_of limits entries) (memory_of limits (entries ++ last ∷ [])) state.is_tree tree_after a step answer is n.phased)
+        (first_stays (memory_of limits entries) (memory_of limits longer) state.is_tree tree_after a step answer is n.phased)
+        (grows (memory_of limits entries) (memory_of limits longer) state.is_tree tree_after a step answer is n.phased)
         in_phase_after only_phase_after state.indexed;
   }
 
@@ -266,7 +264,7 @@ steps limits entries a step answer r state busy allowed is = go (command_of entr
         calmly step calm r answer allowed is z =
             let n = one_step m state.is_tree a step calm r allowed.may answer is in
             state_after limits entries a step answer r asked state e allowed is (after_of n)
-            (calm_numbers limits entries state.owners m (knows entries) (log_of entries state.points) state.point state.logs state.is_tree state.named a step answer r allowed.may is calm n.owners n.moved)
+            (calm_numbers state.is_tree state.named a step answer r allowed.may is calm n.owners n.moved)
             (held_after m state.is_tree state.named.in_slots a n.owners (λ q l. (n.kept q l).0) n.moved step calm answer r allowed.may is n.phased)
             (times_after a m state.owners (length entries) step answer state.times)
             (timed_step state.is_tree state.timed a step calm answer r allowed.may is actor n)
@@ -275,15 +273,15 @@ steps limits entries a step answer r state busy allowed is = go (command_of entr
         by_kind : (step : StepOf Record) (r : Option Reply) (answer : Answer Record) (allowed : IsAllowed limits a (knows entries a) step r) (is : IsAnswer m step answer) → Settled limits entries (log_of entries state.points) state.point state.logs a asked r → IsState limits (entries ++ Step a step answer r ∷ [])
         by_kind (ReuseRows word bits) r answer allowed is z = state_after limits entries a (ReuseRows word bits) answer r asked state e allowed is
             (rows_after state.is_tree state.timed a allowed.may word bits allowed.frees r answer)
-            (rows_numbers limits entries state.owners m (knows entries) (log_of entries state.points) state.point state.logs state.is_tree state.timed state.named a allowed.may word bits answer r allowed.frees is)
-            (rows_held limits entries state.owners m (knows entries) (log_of entries state.points) state.point state.logs state.is_tree state.timed state.named a allowed.may word bits answer r allowed.frees is)
+            (rows_numbers state.is_tree state.timed state.named a allowed.may word bits answer r allowed.frees is)
+            (rows_held state.is_tree state.timed state.named a allowed.may word bits answer r allowed.frees is)
             (t1 state.is_tree state.timed a allowed.may word bits allowed.frees r answer)
             (rows_timed state.is_tree state.timed a allowed.may word bits allowed.frees r answer)
             z
         by_kind (ReusePids word bits) r answer allowed is z = state_after limits entries a (ReusePids word bits) answer r asked state e allowed is
             (pages_after state.is_tree state.timed a allowed.may word bits allowed.frees r answer)
-            (pages_numbers limits entries state.owners m (knows entries) (log_of entries state.points) state.point state.logs state.is_tree state.timed state.named a allowed.may word bits answer r allowed.frees is)
-            (pages_held limits entries state.owners m (knows entries) (log_of entries state.points) state.point state.logs state.is_tree state.timed state.named a allowed.may word bits answer r allowed.frees is)
+            (pages_numbers state.is_tree state.timed state.named a allowed.may word bits answer r allowed.frees is)
+            (pages_held state.is_tree state.timed state.named a allowed.may word bits answer r allowed.frees is)
             (t2 state.is_tree state.timed a allowed.may word bits allowed.frees r answer)
             (pages_timed state.is_tree state.timed a allowed.may word bits allowed.frees r answer)
             z
@@ -301,7 +299,7 @@ value_points (Tidy k) v = tt
 value_points c v = refl
 
 points_at : (memory : Memory) (log : List Update) (c : Command) (r : Reply) → RepliesAt memory log c r → has_point r ≡ true
-points_at memory log c r (inl e) = subst (λ (o : Option Reply). IfSome o (λ q. has_point q ≡ true)) e (value_points c (logged_value log (command_key c)))
+points_at memory log c r (inl e) = rw e at (value_points c (logged_value log (command_key c)))
 points_at memory log c r (inr shown) = ap has_point shown.is
 
 -- an operation without a point has replied one of the two
@@ -310,9 +308,9 @@ without_point limits entries op answer (inl h) = ap has_point h.0
 without_point limits entries op answer (inr h) = ap has_point h.0
 
 true_reply : (limits : Limits) (entries : List Entry) (points : List Bool) (op : Operation) (answer : Reply) → IsAnsweredBy limits entries points op answer → IsTrueReply limits entries points op answer
-true_reply limits entries points op reply.Full (inl h) = absurd (let e = points_at _ _ op.command reply.Full h.3 in cc)
+true_reply limits entries points op reply.Full (inl h) = absurd (cc (points_at _ _ op.command reply.Full h.3))
 true_reply limits entries points op reply.Full (inr h) = elim h.finds [ inl tidied ↦ let e = tidied.0 in absurd (cc) | inr full ↦ (full.1, full.2) ]
-true_reply limits entries points op reply.Tidied (inl h) = absurd (let e = points_at _ _ op.command reply.Tidied h.3 in cc)
+true_reply limits entries points op reply.Tidied (inl h) = absurd (cc (points_at _ _ op.command reply.Tidied h.3))
 true_reply limits entries points op reply.Tidied (inr h) = elim h.finds [ inl tidied ↦ tidied.1 | inr full ↦ let e = full.0 in absurd (cc) ]
 true_reply limits entries points op answer (inl h) = h
 true_reply limits entries points op answer (inr h) = let e = without_point limits entries op answer h.finds in absurd (cc)

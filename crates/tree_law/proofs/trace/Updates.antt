@@ -1,5 +1,5 @@
 -- One more entry: where updates are made.
-use Rattle.tree_law.proofs.Words.{[], ap, suc, List, true, inl, length, ◌++◌, ◌≤◌, inr, ◌∷◌, subst, sym, ℕ, ◌≡◌, Bool, ◌∙◌, ◌<◌, arith, Some, take, cases_lt, slice_get, ◌↔◌, Update, Limits}
+use Rattle.tree_law.proofs.Words.{[], ap, suc, List, true, inl, length, ◌++◌, ◌≤◌, inr, ◌∷◌, sym, ℕ, ◌≡◌, Bool, ◌∙◌, ◌<◌, arith, Some, take, cases_lt, slice_get, ◌↔◌, Update, Limits}
 use Rattle.tree_law.proofs.Words.{slice_get_below, slice_get_kept, slice_get-push_cases, slice_get-push, take-push_whole, memory_at-push, memory_at, memory_of, Entry, log_at-push, log_at, log_of}
 use Rattle.tree_law.proofs.Words.{UpdatesAtLinks, LinksUpdate}
 use Rattle.chain_search.specs.trace.Trace.{Happens}
@@ -33,23 +33,23 @@ module _ (limits : Limits) (entries : List Entry) (points : List Bool) (last : E
       let to : IsUpdating entries' points' n → Happens limits entries' n LinksUpdate = λ h. elim (cases_lt n (length entries)) [
         | inl lt ↦
             let was = (old n).0 (point_below points mark n (omega (arith, lt, beside)) h.0, (h.1.0, sym (log_same (suc n) (omega (arith, lt))) ∙ h.1.1 ∙ ap (λ l. l ++ h.1.0 ∷ []) (log_same n (omega (arith, lt))))) in
-            record { entry = was.entry; at = slice_get_kept entries (last ∷ []) n _ was.at; holds = subst (λ m. LinksUpdate m was.entry) (sym (memory_at-push limits entries (last ∷ []) n (omega (arith, lt)))) was.holds }
+            record { entry = was.entry; at = slice_get_kept entries (last ∷ []) n _ was.at; holds = rw (memory_at-push limits entries (last ∷ []) n (omega (arith, lt))) was.holds }
         | inr le ↦
             let at : n ≡ length entries = omega (arith, (slice_get_below points' n true h.0), (pushed_length points mark), beside, le) in
-            let grows : log_of entries' points' ≡ log_of entries points ++ h.1.0 ∷ [] = sym log_after ∙ subst (λ k. log_at entries' points' (suc k) ≡ log_at entries' points' k ++ h.1.0 ∷ []) at h.1.1 ∙ ap (λ l. l ++ h.1.0 ∷ []) log_before in
+            let grows : log_of entries' points' ≡ log_of entries points ++ h.1.0 ∷ [] = sym log_after ∙ (rw at at h.1.1) ∙ ap (λ l. l ++ h.1.0 ∷ []) log_before in
             record {
               entry = last;
               at = ap (slice_get entries') at ∙ slice_get-push entries last;
-              holds = subst (λ m. LinksUpdate m last) (sym (ap (memory_at limits entries') at ∙ ap (memory_of limits) (take-push_whole entries (last ∷ [])))) (now.0 (point_last points mark n (at ∙ sym beside) h.0, (h.1.0, grows)));
+              holds = rw (ap (memory_at limits entries') at ∙ ap (memory_of limits) (take-push_whole entries (last ∷ []))) (now.0 (point_last points mark n (at ∙ sym beside) h.0, (h.1.0, grows)));
             }
       ] in
       let from : Happens limits entries' n LinksUpdate → IsUpdating entries' points' n = λ h. elim (slice_get-push_cases entries last n h.entry h.at) [
         | inl before ↦
             let lt : n < length entries = slice_get_below entries n h.entry before in
-            let was = (old n).1 (record { entry = h.entry; at = before; holds = subst (λ m. LinksUpdate m h.entry) (memory_at-push limits entries (last ∷ []) n (omega (arith, lt))) h.holds }) in
+            let was = (old n).1 (record { entry = h.entry; at = before; holds = rw (memory_at-push limits entries (last ∷ []) n (omega (arith, lt))) at h.holds }) in
             (slice_get_kept points (mark ∷ []) n true was.0, (was.1.0, log_same (suc n) (omega (arith, lt)) ∙ was.1.1 ∙ ap (λ l. l ++ was.1.0 ∷ []) (sym (log_same n (omega (arith, lt))))))
         | inr here ↦
-            let made = now.1 (subst (λ m. LinksUpdate m last) (ap (memory_at limits entries') here.0 ∙ ap (memory_of limits) (take-push_whole entries (last ∷ []))) (subst (λ e. LinksUpdate (memory_at limits entries' n) e) here.1 h.holds)) in (
+            let made = now.1 (rw (ap (memory_at limits entries') here.0 ∙ ap (memory_of limits) (take-push_whole entries (last ∷ []))) at (rw here.1 at h.holds)) in (
               ap (slice_get points') (here.0 ∙ sym beside) ∙ slice_get-push points mark ∙ ap Some made.0,
               (made.1.0, ap (λ k. log_at entries' points' (suc k)) here.0 ∙ log_after ∙ made.1.1 ∙ ap (λ l. l ++ made.1.0 ∷ []) (sym log_before ∙ ap (log_at entries' points') (sym here.0))),
             )
