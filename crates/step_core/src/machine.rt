@@ -1,5 +1,5 @@
 //! The core: all actors over one memory, one turn at a time.
-ghost use Rattle.std.specs.Prelude.{◌≡◌, ◌<◌, ◌≤◌, ◌&&◌, [], length, map, nat_lt, is_some, IfOk, IfErr, IfSome, OnErr, Some, None};
+ghost use Rattle.std.specs.Prelude.{◌≡◌, ◌<◌, ◌≤◌, ◌&&◌, ◌⊎◌, [], length, map, nat_lt, is_some, IfOk, IfErr, IfSome, OnErr, Some, None};
 ghost use Rattle.chain_search.specs.discipline.Disciplined.{IsDisciplined};
 ghost use Rattle.chain_search.specs.trace.Trace.{command_of, turn_of};
 ghost use Rattle.listing.specs.Listed.{IsListing};
@@ -107,10 +107,11 @@ impl<A: Allocator + Copy> Core<A> {
     }
 
     /// Takes the step that an actor's operation wants, if it has one that isn't its last, and answers its link, if it is an exchange that won.
-    /// None where there is no such step, or no memory for it; then nothing changes. Most turns are such steps, and need no room for a reply.
+    /// None exactly where there is no such step, or no memory for it; then nothing changes. Most turns are such steps, and need no room for a reply.
     pub fn step_on(&mut self, actor: u8) -> Option<Option<Link>>
         ensures some { IfSome result (λ link. (refusal_of self.old (Turn.Step actor) ≡ None) × AddsTurn self.old (Turn.Step actor) (Event.Stepped link) self.new) }
         ensures none { result ≡ None → self.new ≡ self.old }
+        ensures why { result ≡ None → refusal_of self.old (Turn.Step actor) ≡ None → LeavesAt self.old actor ⊎ WantsMemory self.old (Turn.Step actor) }
         ensures linearized { IsLinearized self.new.limits (map turn_of self.new.entries) self.new.entries }
         ensures orderly { IsOrderly self.new.limits self.new.entries }
     {
@@ -123,6 +124,7 @@ impl<A: Allocator + Copy> Core<A> {
     fn stepped(&mut self, actor: u8) -> Option<Option<Link>>
         ensures some { IfSome result (λ link. (refusal_of self.old (Turn.Step actor) ≡ None) × AddsTurn self.old (Turn.Step actor) (Event.Stepped link) self.new) }
         ensures none { result ≡ None → self.new ≡ self.old }
+        ensures why { result ≡ None → refusal_of self.old (Turn.Step actor) ≡ None → LeavesAt self.old actor ⊎ WantsMemory self.old (Turn.Step actor) }
     {
         let turn = Turn::Step(actor);
         if self.refusal(&turn).is_some() {
