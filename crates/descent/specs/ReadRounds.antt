@@ -353,9 +353,9 @@ reading = record {
   way = λ round. record { limits = round.limits; state = round.state };
   at = at;
   Shows = Shows;
-  EndsRead = EndsRead;
-  CanTreatRead = CanTreatRead;
-  TreatsRead = TreatsRead;
+  Ends = EndsRead;
+  CanTreat = CanTreatRead;
+  Treats = TreatsRead;
   again = Again;
 }
 

@@ -227,7 +227,7 @@ writing = record {
   at = at;
   Shows = Shows;
   Ends = EndsWrite;
-  CanTreatWrite = CanTreatWrite;
-  TreatsWrite = TreatsWrite;
+  CanTreat = CanTreatWrite;
+  Treats = TreatsWrite;
   again = end.Again;
 }
