@@ -2,7 +2,7 @@
 use Rattle.tree_law.proofs.Words.{false, ◌⊎◌, ap, refl, Option, suc, None, List, true, inl, ◌≤◌, inr, ◌∷◌, subst, sym, ℕ, ◌≡◌, Bool, zero, ◌∙◌, ◌<◌, arith, Some, ◌+◌, ◌==◌, ◌*◌, eqb-true}
 use Rattle.tree_law.proofs.Words.{same_Some, bit_at, IfSome, if◌then◌else◌, Limits, Answer, Whether, Number, StepOf, TakePid, Row, TakeRow, Slot, Epoch, PidBits, Exchange, RowBits, Announce, Memory}
 use Rattle.tree_law.proofs.Words.{next_row, IsSpellable, Record, low_in, level_in, May, MayExchange, Fits, knows, Knowledge, Foreign, Empty, OwnPage, Taken, Other, Gone, Written, OwnRow, LimboMark}
-use Rattle.tree_law.proofs.Words.{Absent, IsAnswer, IsWordOf, memory_of, Entry, Key, Free, Linked, Reached, OwnFits, HeadFits, PageFits, SeenFits, Nobody, Placed, Indexed, PageOwner, Keeps}
+use Rattle.tree_law.proofs.Words.{Absent, IsAnswer, IsWordOf, memory_of, Entry, Key, Free, Linked, Reached, OwnFits, PageFits, Nobody, Placed, Indexed, PageOwner, Keeps}
 use Rattle.tree_law.proofs.Words.{Fresh, shared, slot_in, row_in, IsState, phase_of, IsInTree, LimboFits, Outing, []}
 use Rattle.tree_law.proofs.links.Merging.{frozen_as}
 use Rattle.chain_search.specs.discipline.Fitting.{FitsWord, ReadsRemoved}
@@ -58,7 +58,7 @@ module _ (limits : Limits) (entries : List Entry) (state : IsState limits entrie
   is_spellable : (q : ℕ) (w : Record) → state.owners.row q ≡ Linked → m.rows q ≡ Some w → IsSpellable w
   is_spellable q w linked e =
       let l = state.is_tree.closed q linked in
-      subst IsSpellable (same_Some l.content w (sym l.stands ∙ e)) (first_spellable l.content l.rest ((state.fitted q linked (l.content ∷ l.rest) (l.stands, l.is_rest)).fitted))
+      rw (same_Some l.content w (sym l.stands ∙ e)) at (first_spellable l.content l.rest ((state.fitted q linked (l.content ∷ l.rest) (l.stands, l.is_rest)).fitted))
 
   fits_row : (q : ℕ) (w : Record) → k.read.learnt q ≡ true → m.rows q ≡ Some w → FitsRow limits k q w
   fits_row q w learnt e = record {
@@ -92,7 +92,7 @@ module _ (limits : Limits) (entries : List Entry) (state : IsState limits entrie
         below = (free_some q e).1;
         foreign = is_foreign (k.own.rows q) (state.is_tree.owns a q);
         unlearnt = false_if (k.read.learnt q) (λ i. let f = was in let g : state.owners.row q ≡ Linked = (state.is_tree.sound a).learnt_fits q i in cc);
-        unseen = none_if (k.read.seen q) (λ w i. let f = was in let g = (subst (SeenFits (state.owners.row q) (m.rows q)) i ((state.is_tree.sound a).seen_fits q)).0 in cc);
+        unseen = none_if (k.read.seen q) (λ w i. let f = was in let g = (rw i at ((state.is_tree.sound a).seen_fits q)).0 in cc);
         freed = not_in_limbo (state.times.row_out q) row_in (k.limbo.rows q) (state.timed.limbo_rows a q);
       }
     where
@@ -109,7 +109,7 @@ module _ (limits : Limits) (entries : List Entry) (state : IsState limits entrie
     some = (state.named.free_pid_below q e).0;
     below = (state.named.free_pid_below q e).1;
     other = is_other (k.own.pages q) (state.is_tree.owns_pages a q);
-    unread = none_if (k.read.heads q) (λ x i. let h = subst (HeadFits state.owners (shared m) (state.logs a) q) i ((state.is_tree.sound a).heads_fit q) in subst (Reached 0 (level_in h.2.chain) (low_in h.2.chain)) was h.3);
+    unread = none_if (k.read.heads q) (λ x i. let h = rw i at ((state.is_tree.sound a).heads_fit q) in rw was at h.3);
     freed = not_in_limbo (state.times.page_out q) (none_if (state.times.page_out q) (λ w i. let v = (state.timed.pages q w i).0.2 in let f = was in cc)) (k.limbo.pids q) (state.timed.limbo_pids a q);
   }
     where
@@ -138,7 +138,7 @@ module _ (limits : Limits) (entries : List Entry) (state : IsState limits entrie
 
   -- a page in the tree is none that an actor took and has not set
   unowned : (p l : ℕ) (s : Key) → Reached 0 l s (state.owners.page (suc p)) → k.own.pages (suc p) ≡ Empty → ⊥
-  unowned p l s here e = subst (Reached 0 l s) (rw e at (state.is_tree.owns_pages a (suc p))).0 here
+  unowned p l s here e = rw (rw e at (state.is_tree.owns_pages a (suc p))).0 at here
 
   fits_slot : (p : ℕ) → May a k (Slot p) → Fits limits k (Slot p) (Number (m.slots p))
   fits_slot zero may = elim (state.named.pid_below (m.slots 0)) [
@@ -208,23 +208,23 @@ module _ (limits : Limits) (entries : List Entry) (state : IsState limits entrie
       )
 
   pub fits : (step : StepOf Record) (answer : Answer Record) → May a k step → IsAnswer m step answer → Fits limits k step answer
-  fits (Slot p) answer may is = subst (Fits limits k (Slot p)) (sym is) (fits_slot p may)
-  fits (Row q) answer may is = subst (Fits limits k (Row q)) (sym is.2) (fits_row q is.0 may.1 is.1)
+  fits (Slot p) answer may is = rw is (fits_slot p may)
+  fits (Row q) answer may is = rw is.2 (fits_row q is.0 may.1 is.1)
   fits Epoch answer may is = subst (Fits limits k Epoch) (sym is) (state.named.epoch.0, state.named.epoch.1, not_before k.limbo.epoch refl)
     where
       not_before : (o : Option ℕ) → k.limbo.epoch ≡ o → IfSome o (λ before. before ≤ m.epoch)
       not_before None e = tt
       not_before (Some before) e = state.timed.epochs a before e
-  fits (PidBits word) answer may is = subst (Fits limits k (PidBits word)) (sym is.2) (fits_word m.free_pids limits.pids word is.0 state.named.free_pid_below is.1)
-  fits (RowBits word) answer may is = subst (Fits limits k (RowBits word)) (sym is.2) (fits_word m.free_rows limits.rows word is.0 free_some is.1)
-  fits (Exchange p x y) answer may is = subst (Fits limits k (Exchange p x y)) (sym is) (fits_exchange p x y (m.slots p == x) may.1 refl)
-  fits (TakeRow q) answer may is = subst (Fits limits k (TakeRow q)) (sym is) (fits_take q (m.free_rows q) refl)
-  fits (TakePid q) answer may is = subst (Fits limits k (TakePid q)) (sym is) (fits_take_pid q (m.free_pids q) refl)
-  fits (Announce b) answer may is = subst (Fits limits k (Announce b)) (sym is) (at_most (state.named.posted b) state.named.epoch.1)
+  fits (PidBits word) answer may is = rw is.2 (fits_word m.free_pids limits.pids word is.0 state.named.free_pid_below is.1)
+  fits (RowBits word) answer may is = rw is.2 (fits_word m.free_rows limits.rows word is.0 free_some is.1)
+  fits (Exchange p x y) answer may is = rw is (fits_exchange p x y (m.slots p == x) may.1 refl)
+  fits (TakeRow q) answer may is = rw is (fits_take q (m.free_rows q) refl)
+  fits (TakePid q) answer may is = rw is (fits_take_pid q (m.free_pids q) refl)
+  fits (Announce b) answer may is = rw is (at_most (state.named.posted b) state.named.epoch.1)
     where
       at_most : {x y z : ℕ} → x ≤ y → y ≤ z → x ≤ z
       at_most i j = omega arith
-  fits step answer may is = subst (Fits limits k step) (sym is) tt
+  fits step answer may is = rw is tt
 
   -- a row that the actor may read has a record
   pub row_stands : (q : ℕ) → May a k (Row q) → (content : Record) × (m.rows q ≡ Some content)

@@ -1,5 +1,5 @@
 -- What an actor may count on of a chain while it reads it, and once it has read it whole.
-use Rattle.tree_law.proofs.Words.{false, ◌⊎◌, [], ap, refl, Option, None, List, inl, length, ◌++◌, inr, ◌∷◌, subst, sym, ℕ, ◌≡◌, ◌∙◌, ◌<◌, arith, Some, ◌+◌, Update, Limits, Child, next_row, Record}
+use Rattle.tree_law.proofs.Words.{false, ◌⊎◌, [], ap, Option, None, List, inl, length, ◌++◌, inr, ◌∷◌, sym, ℕ, ◌≡◌, ◌∙◌, ◌<◌, arith, Some, ◌+◌, Update, Limits, Child, next_row, Record}
 use Rattle.tree_law.proofs.Words.{IsChainFrom-unique, IsChainFrom, right_in, low_in, is_removed, level_in, IsFront, NamesChild, Knowledge, AreFitted, Key, Linked, Owners, Reached}
 use Rattle.tree_law.proofs.Words.{ChainNames, Placed, PageOwner, Cleared, rank_of, Shared, IsTree}
 use Rattle.std.proofs.lemmas.List.{length-append}
@@ -98,4 +98,4 @@ module _ {m : Shared} {log : List Update} {o : Owners} {knows : ℕ → Knowledg
 
     pub whole_chain : (limits : Limits) → ((r p l : ℕ) (s : Key) → Reached r l s (o.page p) → (0 < p) × (p < limits.pids)) → next_row w ≡ None → IsReadWhole limits (knows a) page (front ++ w ∷ [])
     whole_chain limits below last =
-        subst (IsReadWhole limits (knows a) page) (rest.2 ∙ ap (λ r. front ++ r) (IsChainFrom-unique m.rows q rest.0 (w ∷ []) rest.1 (stands, rw last refl))) (is_whole limits below page head at whole)
+        rw (rest.2 ∙ ap (λ r. front ++ r) (IsChainFrom-unique m.rows q rest.0 (w ∷ []) rest.1 (stands, rw last))) at (is_whole limits below page head at whole)

@@ -1,7 +1,7 @@
 -- A begin keeps a trace direct, and so does a step that its operation can afford.
 use Rattle.tree_law.proofs.Words.{false, ap, refl, Option, List, true, inl, ◌≢◌, length, ◌++◌, ◌≤◌, inr, ◌∷◌, subst, sym, ℕ, ◌≡◌, ◌∙◌, ◌<◌, arith, Some, ◌^◌, ◌==◌, eqb_tells, same_Some}
 use Rattle.tree_law.proofs.Words.{IsSome, Command, Reply, Limits, Answer, Whether, Content, Link, StepOf, Row, Exchange, replaced_at, Record, May, begun, knows, Knowledge, finished, Ready}
-use Rattle.tree_law.proofs.Words.{learn, recall, Recalled, blank, recalls, IsAnswer, memory_of, IsUseful, Entry, Begin, Step, is_step_of, Links, IsExchangeOf, Operation, IsUpdateLink, Accounts}
+use Rattle.tree_law.proofs.Words.{learn, recall, Recalled, blank, recalls, IsAnswer, memory_of, IsUseful, Entry, Begin, Step, is_step_of, Links, Operation, IsUpdateLink, Accounts}
 use Rattle.tree_law.proofs.Words.{IsLast, Affords, IsDirectState, Recollects, Walks, StaysDirect, IsState, Opens, []}
 use Rattle.chain_search.specs.discipline.Recalled.{IsStepSpent}
 use Rattle.tree_law.proofs.answering.Fitted.{fits}
@@ -133,7 +133,7 @@ module _ (limits : Limits) (entries : List Entry) (a : ℕ) (s : StepOf Record) 
   foreign_stepped : (actor : ℕ) → AreForeign (recalls grown actor) (knows grown actor)
   foreign_stepped actor =
       let own : AreForeign (recall (recalls entries a) s x) (learn (knows entries a) s x) = λ page head base e f. elim (heads_cases (recalls entries a) s x page head e) [
-        | inl now ↦ never_read limits entries state a page base (subst (May a (knows entries a)) now.0 may) (was_ready page base (knows entries a) s x (λ i. subst (IsExchangeOf page) now.0 i) f)
+        | inl now ↦ never_read limits entries state a page base (rw now.0 at may) (was_ready page base (knows entries a) s x (λ i. rw now.0 at i) f)
         | inr old ↦ kept.foreign a page head base old.0 (was_ready page base (knows entries a) s x old.1 f)
       ] in
       rw (recalls-push entries next) (rw (knows-push entries next) (by_equal actor a (λ same t. rw t own) (λ ne t. rw t (kept.foreign actor))))
@@ -156,7 +156,7 @@ module _ (limits : Limits) (entries : List Entry) (a : ℕ) (s : StepOf Record) 
           let made = (changes op.actor at.slot at.old at.new at.reply at.is).0 in
           let same : made.kind ≡ kind = same_Some _ _ (sym made.is ∙ at.link) in
           at_place (λ (k : Knowledge). IsSome k.asked.linked) a (finished (learn (knows entries a) s x) reply) (knows entries) op.actor
-          (λ e. subst Learns (sym at.is) (made.known (subst IsUpdateLink (sym same) is)))
+          (λ e. subst Learns (sym at.is) (made.known (rw same is)))
           (λ ne. absurd (ne (let f = at.is in let e : op.actor ≡ a = cc in e)))
         where
           Learns : Entry → Type 0

@@ -1,6 +1,5 @@
 -- A trace is direct where each actor obeys its discipline and each operation says how many steps it has left.
-use Rattle.tree_law.proofs.Words.{List, ◌++◌, ◌∷◌, subst, ℕ, append_assoc, append-nil, Limits, replaced_at, IsDisciplinedFrom, Entry, Begin, Step, IsDirect, Accounts, IsDirectState}
-use Rattle.tree_law.proofs.Words.{StaysDirect, IsState, []}
+use Rattle.tree_law.proofs.Words.{List, ◌++◌, ◌∷◌, ℕ, append_assoc, append-nil, Limits, replaced_at, IsDisciplinedFrom, Entry, Begin, Step, IsDirect, Accounts, IsDirectState, StaysDirect, IsState, []}
 use Rattle.tree_law.specs.Direct.{DirectRuns, SpendsFrom}
 use Rattle.tree_law.proofs.trace.Beginning as beginning
 use Rattle.tree_law.proofs.trace.Steps as growth
@@ -20,12 +19,10 @@ along : (limits : Limits) (before entries : List Entry) (left : ℕ → ℕ) →
 along limits before [] left state kept each h spends = rw (append-nil before) kept.direct
 along limits before (Begin actor command ∷ entries) left state kept each h (rest, few, more) =
     let stays = begins limits before actor command kept rest few in
-    subst (IsDirect limits) (append_assoc before (Begin actor command ∷ []) entries)
-    (along limits (before ++ Begin actor command ∷ []) entries (replaced_at actor rest left) (beginning.begins limits before actor command state h.0.0 h.0.1) stays.state (afford_after limits before (Begin actor command) actor rest left each stays) h.1 more)
+    rw (append_assoc before (Begin actor command ∷ []) entries) at (along limits (before ++ Begin actor command ∷ []) entries (replaced_at actor rest left) (beginning.begins limits before actor command state h.0.0 h.0.1) stays.state (afford_after limits before (Begin actor command) actor rest left each stays) h.1 more)
 along limits before (Step actor step answer reply ∷ entries) left state kept each h (rest, useful, spent, more) =
     let stays = steps limits before actor step answer reply state h.0.1.may useful h.0.2 kept (left actor) rest (each actor) spent in
-    subst (IsDirect limits) (append_assoc before (Step actor step answer reply ∷ []) entries)
-    (along limits (before ++ Step actor step answer reply ∷ []) entries (replaced_at actor rest left) (growth.steps limits before actor step answer reply state h.0.0 h.0.1 h.0.2) stays.state (afford_after limits before (Step actor step answer reply) actor rest left each stays) h.1 more)
+    rw (append_assoc before (Step actor step answer reply ∷ []) entries) at (along limits (before ++ Step actor step answer reply ∷ []) entries (replaced_at actor rest left) (growth.steps limits before actor step answer reply state h.0.0 h.0.1 h.0.2) stays.state (afford_after limits before (Step actor step answer reply) actor rest left each stays) h.1 more)
 
 pub direct_runs : DirectRuns
 direct_runs limits entries h spends = along limits [] entries (λ actor. 0) (beginning.opens limits) (opens limits) (λ actor op latest same. absurd (cc latest.begun)) h spends

@@ -1,8 +1,7 @@
 -- A direct trace stays direct with one entry more, where its operation can afford it.
-use Rattle.tree_law.proofs.Words.{[], ap, Option, suc, None, List, true, inl, length, ◌++◌, ◌≤◌, inr, ◌∷◌, subst, sym, ℕ, ◌≡◌, ◌∙◌, ◌<◌, arith, Some, take, ◌+◌, ◌^◌, drop, ◌*◌, ◌-◌, All-weaker}
-use Rattle.tree_law.proofs.Words.{same_Some, All, count_by, IsStrictlyIncreasing, IsSome, slice_range, Reply, Limits, Answer, Whether, Link, StepOf, Exchange, Record, IsChainOf, knows}
-use Rattle.tree_law.proofs.Words.{memory_at, memory_of, IsUseful, Entry, Step, is_step_of, Links, IsCause, IsDirect, link_of, IsOperation, Operation, IsOwnStep, TakesOwnStep, IsUpdateLink, IsLast}
-use Rattle.tree_law.proofs.Words.{Affords, IsDirectState}
+use Rattle.tree_law.proofs.Words.{[], ap, Option, suc, None, List, true, inl, length, ◌++◌, ◌≤◌, inr, ◌∷◌, sym, ℕ, ◌≡◌, ◌∙◌, ◌<◌, arith, Some, take, ◌+◌, ◌^◌, drop, ◌*◌, ◌-◌, All-weaker, same_Some}
+use Rattle.tree_law.proofs.Words.{All, count_by, IsStrictlyIncreasing, IsSome, slice_range, Reply, Limits, Answer, Whether, Link, StepOf, Exchange, Record, IsChainOf, knows, memory_at, memory_of}
+use Rattle.tree_law.proofs.Words.{IsUseful, Entry, Step, is_step_of, Links, IsCause, IsDirect, link_of, IsOperation, Operation, IsOwnStep, TakesOwnStep, IsUpdateLink, IsLast, Affords, IsDirectState}
 use Rattle.std.proofs.lemmas.List.{take_rest}
 use Rattle.bw_model.specs.declared.step.Link.TheVariants as link
 use Rattle.tree_law.proofs.trace.Owned.{pushed_length}
@@ -63,7 +62,7 @@ module _ (limits : Limits) (entries : List Entry) (last : Entry) (kept : IsDirec
     apart : (op : Operation) (m : ℕ) (first second : Link) → IsLast entries op → Links limits entries op m first → LinksLast limits entries last op second → IsUpdateLink first → IsUpdateLink second → ⊥
     apart op m first second latest before now one two =
         let made = (change op.actor now.slot now.old now.new now.reply now.is).0 in
-        let false : IsSome {T = ℕ} None = subst IsSome (made.once (subst IsUpdateLink (sym (same_Some _ _ (sym made.is ∙ now.link))) two)) (kept.linked op m first latest before one) in
+        let false : IsSome {T = ℕ} None = rw (made.once (rw (same_Some _ _ (sym made.is ∙ now.link)) two)) at (kept.linked op m first latest before one) in
         cc
 
     once : (op : Operation) (m n : ℕ) (first second : Link) → IsOperation longer op → Links limits longer op m first → Links limits longer op n second → IsUpdateLink first → IsUpdateLink second → m ≡ n

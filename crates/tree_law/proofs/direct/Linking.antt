@@ -2,7 +2,7 @@
 use Rattle.tree_law.proofs.Words.{◌⊎◌, [], ap, refl, Option, suc, None, List, true, inl, ◌≢◌, length, inr, ◌∷◌, subst, sym, ℕ, ◌≡◌, zero, ◌∙◌, ◌<◌, arith, Some, same_Some, option_map, IsSome}
 use Rattle.tree_law.proofs.Words.{Limits, Answer, Whether, Link, StepOf, Exchange, Page, record_link, Memory, Record, Remove, Base, Hold, Split, Put, Delete, Merge, Term, Unterm, IsChainFrom-unique}
 use Rattle.tree_law.proofs.Words.{IsChainOf, IsChainFrom, is_removed, MayExchange, IsFitted, knows, Knowledge, Ready, learn, Gone, Written, exchanged, forgotten, memory_of, IsUseful, Entry}
-use Rattle.tree_law.proofs.Words.{link_without, link_of, IsUpdateLink, row_in, IsState, IsInTree}
+use Rattle.tree_law.proofs.Words.{link_without, link_of, IsUpdateLink, row_in, IsState}
 use Rattle.bw_model.specs.declared.step.Link.TheVariants as link
 use Rattle.tree_law.proofs.trace.Phasing.{link_empty, link_front, link_ready}
 use Rattle.tree_law.proofs.links.Relinking.{found, placed_row}
@@ -79,7 +79,7 @@ module _ (limits : Limits) (entries : List Entry) (a : ℕ) where
     emptying p x at (inl ready) =
         let own = rw ready at (state.is_tree.owns_pages a (suc p)) in
         elim (state.named.in_slots (suc p) (suc x) (ap row_in at)) [
-          | inl tree ↦ absurd (subst IsInTree own.0 tree)
+          | inl tree ↦ absurd (rw own.0 at tree)
           | inr held ↦ (Base held.base, held.stands, λ never. absurd (never (suc x) ready))
         ]
     emptying p x at (inr gone) =

@@ -1,5 +1,5 @@
 -- A slot that an actor recalls to have read is not that of a page that it has made ready itself.
-use Rattle.tree_law.proofs.Words.{ap, suc, List, inl, ◌≢◌, inr, subst, sym, ℕ, ◌≡◌, zero, ◌∙◌, ◌<◌, arith, Limits, Answer, StepOf, Slot, Record, May, knows, Knowledge, Ready, learn, Empty}
+use Rattle.tree_law.proofs.Words.{ap, suc, List, inl, ◌≢◌, inr, sym, ℕ, ◌≡◌, zero, ◌∙◌, ◌<◌, arith, Limits, Answer, StepOf, Slot, Record, May, knows, Knowledge, Ready, learn, Empty}
 use Rattle.tree_law.proofs.Words.{OwnPage, Other, Gone, exchanged, Entry, IsExchangeOf, Key, Reached, PageOwner, Keeps, put, IsState, phase_of}
 use Rattle.op_machine.specs.theorem.Phases as phase
 use Rattle.tree_law.proofs.links.Keeping.{met_placed}
@@ -35,7 +35,7 @@ module _ (page base : ℕ) where
   ]) ne e
 
 keeps_nothing : (r l : ℕ) (s : Key) (a : ℕ) (w : PageOwner) → w ≡ Keeps a → Reached r l s w → ⊥
-keeps_nothing r l s a w e h = subst (Reached r l s) e h
+keeps_nothing r l s a w e h = rw e at h
 
 -- the slot of a page that the actor has made ready it may not read
 pub never_read : (limits : Limits) (entries : List Entry) → IsState limits entries → (a page base : ℕ) → May a (knows entries a) (Slot page) → (knows entries a).own.pages page ≡ Ready base → ⊥

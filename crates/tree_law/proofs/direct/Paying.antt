@@ -34,7 +34,8 @@ module _ (limits : Limits) (entries : List Entry) (last : Entry) (op : Operation
       )))
 
   -- the slot of a page that a record names, which holds 0
-  emptied : (page : ℕ) (r : Recalled) (seen : ℕ → Option Record) → last ≡ Step op.actor (Slot page) (Number 0) reply → Walks limits entries op seen r.walk → r.walk.removed ≡ false → IsUnread page r.walk.visited → AnyNames r.walk.records page → IsCause limits longer op (length entries)
+  emptied : (page : ℕ) (r : Recalled) (seen : ℕ → Option Record) → last ≡ Step op.actor (Slot page) (Number 0) reply → Walks limits entries op seen r.walk → r.walk.removed ≡ false
+      → IsUnread page r.walk.visited → AnyNames r.walk.records page → IsCause limits longer op (length entries)
   emptied page r seen is w fresh unread names =
       let f = w.named page names in inr (inr (inr (
         w.at,

@@ -1,5 +1,5 @@
 -- What an actor recalls of its last operation, that operation has read.
-use Rattle.tree_law.proofs.Words.{◌⊎◌, [], ap, cond, Option, suc, None, List, inl, ◌≢◌, length, ◌++◌, inr, ◌∷◌, subst, sym, ℕ, ◌≡◌, ◌∙◌, arith, Some, eqb_tells, Reply, Limits, Answer, Content, Number}
+use Rattle.tree_law.proofs.Words.{◌⊎◌, [], ap, cond, Option, suc, None, List, inl, ◌≢◌, length, ◌++◌, inr, ◌∷◌, sym, ℕ, ◌≡◌, ◌∙◌, arith, Some, eqb_tells, Reply, Limits, Answer, Content, Number}
 use Rattle.tree_law.proofs.Words.{StepOf, TakePid, Row, TakeRow, Slot, PidBits, Exchange, RowBits, replaced_at, Record, recall, Recalled, blank, Entry, Step, IsExchangeOf, IsTake, Operation, IsLast}
 use Rattle.tree_law.proofs.Words.{Recollects}
 use Rattle.tree_law.specs.Direct.{HasReadSince}
@@ -91,7 +91,7 @@ module _ (limits : Limits) (entries : List Entry) (last : Entry) (op : Operation
     read_cases : (recalled : ℕ → Option ℕ) (at n : ℕ) (wanted : ℕ → StepOf Record) (Kind : StepOf Record → Type 0) → Cases s x recalled at n wanted Kind → (recalled at ≡ Some n → HasReadSince limits entries op Kind (wanted at) n)
         → HasReadSince limits longer op Kind (wanted at) n
     read_cases recalled at n wanted Kind (inl now) before = read_last Kind (wanted at) n reply latest (is ∙ λ i. Step op.actor (now.0 i) (now.1 i) reply)
-    read_cases recalled at n wanted Kind (inr old) before = read_kept Kind (wanted at) n (before old.0) (λ step answer other own kind. old.1 (subst Kind (let same : Step op.actor step answer other ≡ Step op.actor s x reply = sym own ∙ is in let e : step ≡ s = cc in e) kind))
+    read_cases recalled at n wanted Kind (inr old) before = read_kept Kind (wanted at) n (before old.0) (λ step answer other own kind. old.1 (rw (let same : Step op.actor step answer other ≡ Step op.actor s x reply = sym own ∙ is in let e : step ≡ s = cc in e) at kind))
 
     pub recollects_own : (r : Recalled) → Recollects limits entries op r → Recollects limits longer op (recall r s x)
     recollects_own r h = record {

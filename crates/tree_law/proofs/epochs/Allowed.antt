@@ -7,7 +7,8 @@ use Rattle.tree_law.proofs.links.Stepping.{step as one_step}
 use Rattle.tree_law.proofs.epochs.Timewise.{timed_step}
 
 -- what a step but a reuse leaves
-abbrev pub after_of : {a : ℕ} {m m' : Shared} {log : List Update} {o : Owners} {knows : ℕ → Knowledge} {point : ℕ → Option (List Update)} {logs : ℕ → List (List Update)} {s : StepOf Record} {x : Answer Record} {r : Option Reply} → Next a m m' log o knows point logs s x r → After a m m' log o knows point logs s x r
+abbrev pub after_of : {a : ℕ} {m m' : Shared} {log : List Update} {o : Owners} {knows : ℕ → Knowledge} {point : ℕ → Option (List Update)} {logs : ℕ → List (List Update)} {s : StepOf Record} {x : Answer Record} {r : Option Reply}
+    → Next a m m' log o knows point logs s x r → After a m m' log o knows point logs s x r
 after_of n = record { update = n.update; due = n.due; last = n.last; owners = n.owners; phased = n.phased; added = n.added; same = λ q l. (n.kept q l).1; is_tree = n.is_tree }
 
 module _ {limits : Limits} {m : Memory} {log : List Update} {o : Owners} {knows : ℕ → Knowledge} {point : ℕ → Option (List Update)} {logs : ℕ → List (List Update)} {now : ℕ} {t : Times} (g : IsTree (shared m) log o knows point logs) (T : Timed limits m o knows now t) (a : ℕ) (actor : a < limits.actors) where

@@ -1,6 +1,6 @@
 -- An exchange of a page's slot to 0, and one of slot 0: what they take out of the tree, and what actors hold afterwards.
 use Rattle.tree_law.proofs.Words.{false, ◌⊎◌, ap, refl, cond, Option, suc, None, List, true, inl, inr, subst, sym, ℕ, ◌≡◌, Bool, ◌∙◌, arith, Some, eqb, and-false, same_Some, ◌&&◌}
-use Rattle.tree_law.proofs.Words.{Update, Reply, Limits, Exchange, Memory, replaced_at, next_row, Record, Base, IsOwn, IsOwnBase, Knowledge, finished, Ready, Foreign, Empty, Other, Gone}
+use Rattle.tree_law.proofs.Words.{Update, Reply, Limits, Exchange, Memory, replaced_at, next_row, Record, Base, IsOwn, Knowledge, finished, Ready, Foreign, Empty, Other, Gone}
 use Rattle.tree_law.proofs.Words.{Unstamped, handed_page, is_on_walk, set_page, Key, IsHomed, Linked, Owners, Reached, Spare, PageFits, PageOwner, Cleared, Keeps, put, shared, slot_in, Times}
 use Rattle.tree_law.proofs.Words.{Timed, times_after, LimboFits, Outing, is_linked, is_cleared, IsTree}
 use Rattle.bw_model.specs.declared.step.Answer.TheVariants as answer
@@ -29,7 +29,7 @@ module _ {limits : Limits} {m : Memory} {log : List Update} {o : Owners} {knows 
       pub spare : (r b : ℕ) → o.row r ≡ Spare b → o'.row r ≡ Spare b
 
     pub own_in : (b r : ℕ) → IsOwn ((knows b).own.rows r) → t2.row_out r ≡ None
-    own_in b r i = rw (T.own_rows b r i, spare_of g T a b r i) refl
+    own_in b r i = rw (T.own_rows b r i, spare_of g T a b r i)
 
     module _ (o' : Owners) (k' : Knowledge) (inside : k'.inside ≡ (knows a).inside) (f : Emptying o') where
       page_cases : (q : ℕ) (w : Outing) → t2.page_out q ≡ Some w → ((l : ℕ) × (s : Key) × (o'.page q ≡ Cleared w.who l s))
@@ -77,7 +77,7 @@ module _ {limits : Limits} {m : Memory} {log : List Update} {o : Owners} {knows 
         own_rows = λ b r ne i. own_in b r i;
         gone_pages = λ b q ne i. by_equal q (suc p)
             (λ e t. rw t (let own : PageFits b (o.page q) (slot_in m.slots q) Gone = rw i at (g.owns_pages b q) in absurd (ne (f.whose b own.0 own.1 (ap o.page (sym e) ∙ own.2)))))
-            (λ nq t. rw t (rw (T.gone_pages b q i) refl));
+            (λ nq t. rw t (rw (T.gone_pages b q i)));
       }
 
     -- the exchange leaves the actor this knowledge
@@ -107,7 +107,7 @@ module _ {limits : Limits} {m : Memory} {log : List Update} {o : Owners} {knows 
     undone_timed o' f own r =
         let k' : Knowledge = finished (set_page (suc p) Empty (knows a)) r in
         emptied_timed o' f k' refl refl refl refl refl
-        (λ q. by_equal q (suc p) (λ e t. rw t λ i. absurd (cc)) (λ ne t. rw t λ i. rw (T.gone_pages a q i) refl))
+        (λ q. by_equal q (suc p) (λ e t. rw t λ i. absurd (cc)) (λ ne t. rw t λ i. rw (T.gone_pages a q i)))
         (λ n. limbo_row n a)
         (λ n. limbo_pid n a)
         (λ q j. put_was (knows a).own.pages (suc p) Empty q (λ e. cc))
@@ -116,7 +116,7 @@ module _ {limits : Limits} {m : Memory} {log : List Update} {o : Owners} {knows 
     pub cleared_timed : (o' : Owners) (f : Emptying o') → (own : (knows a).own.pages (suc p) ≡ Gone) (r : Option Reply)
         → Timed limits m2 o' (put knows a (finished (cleared (suc p) x (knows a)) r)) (suc now) t2
     cleared_timed o' f own r = emptied_timed o' f k' refl refl refl refl refl
-        (λ q. by_equal q (suc p) (λ e t. rw t λ i. absurd (cc)) (λ ne t. rw t λ i. rw (T.gone_pages a q i) refl))
+        (λ q. by_equal q (suc p) (λ e t. rw t λ i. absurd (cc)) (λ ne t. rw t λ i. rw (T.gone_pages a q i)))
         (λ n j. rows n j (is_on_walk 13 (knows a).read.seen (Some x) j) refl)
         (λ n q. pids n q)
         (λ q j. put_was (knows a).own.pages (suc p) Other q (λ e. cc))
@@ -211,7 +211,7 @@ module _ {limits : Limits} {m : Memory} {log : List Update} {o : Owners} {knows 
         gone_pages = λ q i. T.gone_pages a q (put_was (knows a).own.pages y Other q (λ e. cc) i);
         limbo_rows = limbo_row turn3 a;
         limbo_pids = limbo_pid turn3 a;
-        ready = λ q j. by_equal q y (λ e t. rw t λ i. absurd (cc)) (λ ne t. rw t λ e. subst IsOwnBase (sym (put_other (knows a).own.rows f.base Foreign j (λ i. ne (T.apart a q y j e (f.ready ∙ ap Ready (sym i)))))) (T.ready a q j e));
+        ready = λ q j. by_equal q y (λ e t. rw t λ i. absurd (cc)) (λ ne t. rw t λ e. rw (put_other (knows a).own.rows f.base Foreign j (λ i. ne (T.apart a q y j e (f.ready ∙ ap Ready (sym i))))) (T.ready a q j e));
         apart = λ q s j e i. T.apart a q s j (was q j e) (was s j i);
       })
         where

@@ -86,7 +86,7 @@ module _ {limits : Limits} {m : Memory} {log : List Update} {o : Owners} {knows 
       pub cleared : (q b l : ℕ) (s : Key) → o.page q ≡ Cleared b l s → o'.page q ≡ Cleared b l s
 
     pub home_linked : (r : ℕ) → o.row r ≡ Linked → t1.home r ≡ t.home r
-    home_linked r l = rw l refl
+    home_linked r l = rw l
 
     pub in_own : (b r : ℕ) → IsOwn ((knows b).own.rows r) → t1.row_out r ≡ None
     in_own b r i = rw (T.own_rows b r i, spare_of b r i, and-false (is_base (m.rows (suc y)))) refl
@@ -120,7 +120,7 @@ module _ {limits : Limits} {m : Memory} {log : List Update} {o : Owners} {knows 
           new (inl h) =
               let at : m.rows (suc y) ≡ Some w = ap m.rows (sym h.1) ∙ e in
               let u = f.under n w at i in
-              let out : t1.row_out n ≡ None = rw (u.1, at, over_no_base w n i) refl in (
+              let out : t1.row_out n ≡ None = rw (u.1, at, over_no_base w n i) in (
                 home_linked n u.2 ∙ u.0 ∙ sym (ap t1.home h.1 ∙ home_new),
                 out ∙ sym (ap t1.row_out h.1 ∙ in_own a (suc y) f.own),
               )

@@ -40,7 +40,7 @@ module _ {limits : Limits} {m : Memory} {log : List Update} {o : Owners} {knows 
   -- a row is linked over another
   module _ (unset : IsUnset (knows a) (suc y)) (learnt_old : (knows a).read.learnt x ≡ true) (old_in : (o.row x ≡ Linked) × (t.home x ≡ suc p) × (t.row_out x ≡ None)) (r : Option Reply) where
     still_ready : (q j : ℕ) → (knows a).own.pages q ≡ Ready j → IsOwnBase (put (knows a).own.rows (suc y) Foreign j)
-    still_ready q j e = subst IsOwnBase (sym (put_other (knows a).own.rows (suc y) Foreign j (λ i. unset q (e ∙ ap Ready i)))) (T.ready a q j e)
+    still_ready q j e = rw (put_other (knows a).own.rows (suc y) Foreign j (λ i. unset q (e ∙ ap Ready i))) (T.ready a q j e)
 
     -- the row is handed over, and nothing else
     handed : (l : Option (Option ℕ)) → ((q : ℕ) → l ≡ Some (Some q) → (knows a).read.learnt q ≡ true) → Timed limits (m1 g T a p x y) o' (put knows a (finished (record (knows a) { own = record (knows a).own { rows = put (knows a).own.rows (suc y) Foreign }; asked = record (knows a).asked { linked = l } }) r)) (suc now) (t1 g T a p x y)
@@ -75,18 +75,19 @@ module _ {limits : Limits} {m : Memory} {log : List Update} {o : Owners} {knows 
         λ q j. put_was (knows a).own.pages w.page Other q (λ e. cc) in
         let b : (base : ℕ) × ((knows a).own.pages w.page ≡ Ready base) = ready w refl in
         let k' : Knowledge = finished (handed_page w.page Other (suc y) (handed_over b.0 (knows a))) r in
-        subst (λ (k : Knowledge). Timed limits (m1 g T a p x y) o' (put knows a (finished k r)) (suc now) (t1 g T a p x y)) (sym (rw b.1 refl))
+        subst (λ (k : Knowledge). Timed limits (m1 g T a p x y) o' (put knows a (finished k r)) (suc now) (t1 g T a p x y)) (sym (rw b.1))
         (filled_timed k' refl refl refl refl
         linked_before (λ j i. own_less (knows a).own.rows b.0 j (own_less (put (knows a).own.rows b.0 Foreign) (suc y) j i))
         (λ q i. T.gone_pages a q (put_was (knows a).own.pages w.page Other q (λ e. cc) i))
         (same_limbo k' refl)
         (λ q j. by_equal q w.page (λ e t. rw t λ i. absurd (cc))
-        (λ ne t. rw t λ e. subst IsOwnBase (sym (put_other (put (knows a).own.rows b.0 Foreign) (suc y) Foreign j (λ i. unset q (e ∙ ap Ready i)) ∙ put_other (knows a).own.rows b.0 Foreign j (λ i. ne (T.apart a q w.page j e (b.1 ∙ ap Ready (sym i)))))) (T.ready a q j e)))
+        (λ ne t. rw t λ e. rw (put_other (put (knows a).own.rows b.0 Foreign) (suc y) Foreign j (λ i. unset q (e ∙ ap Ready i)) ∙ put_other (knows a).own.rows b.0 Foreign j (λ i. ne (T.apart a q w.page j e (b.1 ∙ ap Ready (sym i))))) (T.ready a q j e)))
         (λ q s j e i. T.apart a q s j (was q j e) (was s j i)))
     linked_timed w is child ready = handed (knows a).asked.linked linked_before
 
   -- an own page is ready with an own base
-  pub ready_timed : (knows a).own.pages (suc p) ≡ Empty → IsOwnBase ((knows a).own.rows (suc y)) → IsUnset (knows a) (suc y) → (r : Option Reply) → Timed limits (m1 g T a p x y) o' (put knows a (finished (set_page (suc p) (Ready (suc y)) (knows a)) r)) (suc now) (t1 g T a p x y)
+  pub ready_timed : (knows a).own.pages (suc p) ≡ Empty → IsOwnBase ((knows a).own.rows (suc y)) → IsUnset (knows a) (suc y) → (r : Option Reply)
+      → Timed limits (m1 g T a p x y) o' (put knows a (finished (set_page (suc p) (Ready (suc y)) (knows a)) r)) (suc now) (t1 g T a p x y)
   ready_timed empty base unset r =
       let same_row : (i j : ℕ) → Ready i ≡ Ready j → i ≡ j = λ i j e. let f : i ≡ j = cc in f in
       filled_timed (finished (set_page (suc p) (Ready (suc y)) (knows a)) r) refl refl refl refl

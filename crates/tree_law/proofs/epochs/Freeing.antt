@@ -42,7 +42,11 @@ row_after first false v out = v
 
 row_same : (first : ℕ) (z : Bool) (v : Owner) (out : Option Outing) → z ≡ false → ((w : Outing) → out ≡ Some w → first ≤ w.at) → row_after first z v out ≡ v
 row_same first z Linked (Some w) e f = rw (e, le-ltb w.at first (f w refl)) refl
-row_same first z v out e f = rw e refl
+row_same first z v out e f = rw e
+
+pub row_free_after : (first : ℕ) (z : Bool) (v : Owner) (out : Option Outing) → v ≡ Free → row_after first z v out ≡ Free
+row_free_after first true v out e = refl
+row_free_after first false v out e = rw e
 
 -- a row that is linked afterwards was, and is not older
 pub row_linked : (first : ℕ) (z : Bool) (v : Owner) (out : Option Outing) → row_after first z v out ≡ Linked → (z ≡ false) × (v ≡ Linked) × ((w : Outing) → out ≡ Some w → first ≤ w.at)
@@ -51,8 +55,8 @@ row_linked first false Linked (Some w) e = (refl, refl, λ v i. subst (λ j. fir
 row_linked first z v out e = absurd (cc)
 
 row_of : (first : ℕ) (v : Owner) (w : Outing) → (v ≡ Linked) ⊎ (v ≡ Spare w.who) → (row_after first false v (Some w) ≡ Linked) ⊎ (row_after first false v (Some w) ≡ Spare w.who)
-row_of first v w (inl e) = rw e (elim (decided (ltb w.at first)) [ inl t ↦ inr (rw t refl) | inr f ↦ inl (rw f refl) ])
-row_of first v w (inr e) = inr (rw e refl)
+row_of first v w (inl e) = rw e (elim (decided (ltb w.at first)) [ inl t ↦ inr (rw t) | inr f ↦ inl (rw f) ])
+row_of first v w (inr e) = inr (rw e)
 
 freed_out : (z : Bool) (out : Option Outing) (w : Outing) → cond z None out ≡ Some w → (z ≡ false) × (out ≡ Some w)
 freed_out true out w e = absurd (cc)
@@ -88,7 +92,7 @@ module _ {limits : Limits} {m : Memory} {log : List Update} {o : Owners} {knows 
 
   -- an actor that is inside can hold nothing that may be freed
   unheld : (b : ℕ) (out : Option Outing) → (knows b).inside ≡ true → IsSince (t.entered b) out → Freed out → ⊥
-  unheld b out i s f = let h : t.entered b ≤ f.outing.at = subst (IsSince (t.entered b)) f.is s in let l = f.old b i in omega arith
+  unheld b out i s f = let h : t.entered b ≤ f.outing.at = rw f.is at s in let l = f.old b i in omega arith
 
   pub known : (b : ℕ) → Learnt (knows b)
   known b = let h = T.holds b in record { seen = h.seen_learnt; heads = λ p x e. (h.heads_since p x e).learnt_row; before = λ p f x e. (h.before_since p f x e).learnt_row; linked = h.linked_learnt }
@@ -171,7 +175,7 @@ module _ {limits : Limits} {m : Memory} {log : List Update} {o : Owners} {knows 
       pub held : (b r : ℕ) → (knows b).read.learnt r ≡ true → (w : Outing) → t.row_out r ≡ Some w → first.at ≤ w.at
       held b r e w i =
           let h = T.holds b in
-          let s : t.entered b ≤ w.at = subst (IsSince (t.entered b)) i (h.learnt_since r e) in
+          let s : t.entered b ≤ w.at = rw i at (h.learnt_since r e) in
           let f = first.first b (T.within b (h.learnt_inside r e)) (h.learnt_inside r e) in
           omega arith
 
@@ -188,14 +192,10 @@ module _ {limits : Limits} {m : Memory} {log : List Update} {o : Owners} {knows 
         next = λ r n w l e i. stays n (under r n w l e i);
         own = λ b r i. stays r (in_tree r (T.own_rows b r i));
         freed = λ r e. elim (or_cases (m.free_rows r) (is_among word bits r) e) [
-          | inl u ↦ let f = g.frees.row r u in free_after (is_among word bits r) (o.row r) (t.row_out r) f
-          | inr u ↦ rw u refl
+          | inl u ↦ let f = g.frees.row r u in row_free_after first.at (is_among word bits r) (o.row r) (t.row_out r) f
+          | inr u ↦ rw u
         ];
       }
-        where
-          free_after : (z : Bool) (v : Owner) (out : Option Outing) → v ≡ Free → row_after first.at z v out ≡ Free
-          free_after true v out e = refl
-          free_after false v out e = rw e refl
 
       pub rows_tree : IsTree (shared m1) log o1 (put knows a k1) (put point a (point a)) (put logs a (log ∷ logs a))
       rows_tree =
@@ -221,7 +221,7 @@ module _ {limits : Limits} {m : Memory} {log : List Update} {o : Owners} {knows 
       pub rows_timed : Timed limits m1 o1 (put knows a k1) (suc now) t1
       rows_timed =
           let holds : (b : ℕ) → HoldsBy m.rows t1.row_out t.page_out (t.entered b) (knows b) =
-          λ b. holds_later m.rows m.rows t.row_out t1.row_out t.page_out t.page_out (t.entered b) (knows b).inside (knows b).read.seen (knows b).read.learnt (knows b).read.roots (knows b).read.heads (knows b).read.before (knows b).asked.linked (λ i r. freed_since (is_among word bits r) (t.row_out r) (t.entered b)) (λ i p h. h) (λ x c e h. h) (T.holds b) in
+          λ b. holds_later (λ i r. freed_since (is_among word bits r) (t.row_out r) (t.entered b)) (λ i p h. h) (λ x c e h. h) (T.holds b) in
           let pids_still : (b p : ℕ) → LimboFits b (λ c. (put knows a k1 c).inside) t.entered (t.page_out p) ((knows b).limbo.pids p) =
           λ b p. limbo_still k1 refl t.page_out (λ q w e. (T.pages q w e).2) b p ((knows b).limbo.pids p) (T.limbo_pids b p) in
           record {
@@ -264,7 +264,7 @@ module _ {limits : Limits} {m : Memory} {log : List Update} {o : Owners} {knows 
       freed_page p e = freed_of (t.page_out p) ((knows a).limbo.pids p) (T.limbo_pids a p) (may p e)
 
       pub same_page : (p : ℕ) → (is_among word bits p ≡ true → ⊥) → page2 p ≡ o.page p
-      same_page p f = elim (decided (is_among word bits p)) [ inl e ↦ absurd (f e) | inr e ↦ rw e refl ]
+      same_page p f = elim (decided (is_among word bits p)) [ inl e ↦ absurd (f e) | inr e ↦ rw e ]
 
       page_in : (p : ℕ) → t.page_out p ≡ None → page2 p ≡ o.page p
       page_in p e = same_page p (λ i. let f = freed_page p i in absurd (cc f.is))
@@ -275,7 +275,8 @@ module _ {limits : Limits} {m : Memory} {log : List Update} {o : Owners} {knows 
       head_inside : (b p x : ℕ) → HeldHead m.rows t.page_out (t.entered b) (knows b).read.learnt p x → (knows b).inside ≡ true
       head_inside b p x h = (T.holds b).learnt_inside x h.learnt_row
 
-      head_items : (b p x : ℕ) (h : HeldHead m.rows t.page_out (t.entered b) (knows b).read.learnt p x) (l : ℕ) (s : Key) (i : ContentOf) (c : List Record) → IsChain m.rows c (Some x) → is_removed c ≡ false → level_in c ≡ suc l → Covers c s → content_in c s ≡ Some i → page2 (child_of i) ≡ o.page (child_of i)
+      head_items : (b p x : ℕ) (h : HeldHead m.rows t.page_out (t.entered b) (knows b).read.learnt p x) (l : ℕ) (s : Key) (i : ContentOf) (c : List Record) → IsChain m.rows c (Some x)
+          → is_removed c ≡ false → level_in c ≡ suc l → Covers c s → content_in c s ≡ Some i → page2 (child_of i) ≡ o.page (child_of i)
       head_items b p x h l s i c is alive at v d =
           let same : h.chain ≡ c = chain_unique m.rows h.chain c (Some x) h.is_chain is in
           page_held b (child_of i) (head_inside b p x h) ((rw same at (h.names (ap is_removed same ∙ alive))).items l s i at v d)
@@ -287,17 +288,18 @@ module _ {limits : Limits} {m : Memory} {log : List Update} {o : Owners} {knows 
 
       gone : (q : ℕ) → (page2 q ≡ o.page q) ⊎ ((page2 q ≡ Nobody) × IsCleared (o.page q))
       gone q = elim (decided (is_among word bits q)) [
-        | inl e ↦ let f = freed_page q e in let v = (T.pages q f.outing f.is).0 in inr (rw e refl, (f.outing.who, v.0, v.1, v.2))
-        | inr e ↦ inl (rw e refl)
+        | inl e ↦ let f = freed_page q e in let v = (T.pages q f.outing f.is).0 in inr (rw e, (f.outing.who, v.0, v.1, v.2))
+        | inr e ↦ inl (rw e)
       ]
 
       frees : (q : ℕ) → m2.free_pids q ≡ true → (page2 q ≡ Nobody) × (slot_in m.slots q ≡ None)
       frees q e = elim (or_cases (m.free_pids q) (is_among word bits q) e) [
-        | inl u ↦ let f = g.frees.page q u in (elim (decided (is_among word bits q)) [ inl i ↦ rw i refl | inr i ↦ rw i f.0 ], f.1)
-        | inr u ↦ let f = freed_page q u in (rw u refl, (T.pages q f.outing f.is).1)
+        | inl u ↦ let f = g.frees.page q u in (elim (decided (is_among word bits q)) [ inl i ↦ rw i | inr i ↦ rw i f.0 ], f.1)
+        | inr u ↦ let f = freed_page q u in (rw u, (T.pages q f.outing f.is).1)
       ]
 
-      beyond_held : (b p f y x : ℕ) (c d : List Record) → (knows b).read.heads p ≡ Some y → (knows b).read.before p f ≡ Some x → IsChain m.rows c (Some x) → IsChain m.rows d (Some y) → is_removed c ≡ true → is_removed d ≡ false → right_in d ≡ Some f → AreSame page2 o.page c
+      beyond_held : (b p f y x : ℕ) (c d : List Record) → (knows b).read.heads p ≡ Some y → (knows b).read.before p f ≡ Some x → IsChain m.rows c (Some x) → IsChain m.rows d (Some y)
+          → is_removed c ≡ true → is_removed d ≡ false → right_in d ≡ Some f → AreSame page2 o.page c
       beyond_held b p f y x c d i j ic id rc nd e =
           let h = (T.holds b).beside_since p f y x i j in
           let above : h.chain ≡ c = chain_unique m.rows h.chain c (Some x) h.is_chain ic in
@@ -329,7 +331,7 @@ module _ {limits : Limits} {m : Memory} {log : List Update} {o : Owners} {knows 
         due = tt;
         last = λ i. refl;
         owners = o2;
-        phased = λ q. (λ e. let f = freed_page q e in let v = (T.pages q f.outing f.is).0 in (f.outing.who, v.0, v.1, v.2, rw e refl), λ e. rw e refl);
+        phased = λ q. (λ e. let f = freed_page q e in let v = (T.pages q f.outing f.is).0 in (f.outing.who, v.0, v.1, v.2, rw e), λ e. rw e);
         added = λ row l. inl l;
         same = λ row l. refl;
         is_tree = pages_tree;
@@ -341,7 +343,7 @@ module _ {limits : Limits} {m : Memory} {log : List Update} {o : Owners} {knows 
       pub pages_timed : Timed limits m2 o2 (put knows a k2) (suc now) t2
       pages_timed =
           let holds : (b : ℕ) → HoldsBy m.rows t.row_out t2.page_out (t.entered b) (knows b) =
-          λ b. holds_later m.rows m.rows t.row_out t.row_out t.page_out t2.page_out (t.entered b) (knows b).inside (knows b).read.seen (knows b).read.learnt (knows b).read.roots (knows b).read.heads (knows b).read.before (knows b).asked.linked (λ i r h. h) (λ i p. freed_since (is_among word bits p) (t.page_out p) (t.entered b)) (λ x c e h. h) (T.holds b) in
+          λ b. holds_later (λ i r h. h) (λ i p. freed_since (is_among word bits p) (t.page_out p) (t.entered b)) (λ x c e h. h) (T.holds b) in
           let rows_still : (b r : ℕ) → LimboFits b (λ c. (put knows a k2 c).inside) t.entered (t.row_out r) ((knows b).limbo.rows r) =
           λ b r. limbo_still k2 refl t.row_out (λ q w e. (T.rows q w e).1) b r ((knows b).limbo.rows r) (T.limbo_rows b r) in
           record {

@@ -1,8 +1,8 @@
 -- One more step: what the limbos show of it, and that what it frees is freed by the rule.
 use Rattle.tree_law.proofs.Words.{false, ◌⊎◌, ap, refl, Option, suc, None, List, true, inl, length, ◌++◌, inr, ◌∷◌, subst, sym, ℕ, ◌≡◌, zero, ◌∙◌, ◌<◌, arith, Some, take, eqb, eqb-true, same_Some}
 use Rattle.tree_law.proofs.Words.{Contains, IfSome, MatchOption, unwrap_or, slice_index_or, Update, is_among, Reply, Limits, Answer, StepOf, ReuseRows, ReusePids, TakePid, TakeRow, Exchange, Memory}
-use Rattle.tree_law.proofs.Words.{next_row, Record, Base, slice_get_below, slice_get-push, take-push_whole, TakesStep-push_cases, memory_of-push, IsChainOf, IsOnChain, chain_rows, IsChainFrom, low_in}
-use Rattle.tree_law.proofs.Words.{level_in, May, MayExchange, IsAllowed, IsPassed, MayFree, knows, Knowledge, finished, learn, Other, Unstamped, LimboMark, Absent, Stamped, passed_by}
+use Rattle.tree_law.proofs.Words.{next_row, Record, slice_get_below, slice_get-push, take-push_whole, TakesStep-push_cases, memory_of-push, IsChainOf, IsOnChain, chain_rows, IsChainFrom, low_in}
+use Rattle.tree_law.proofs.Words.{level_in, MayExchange, IsAllowed, IsPassed, MayFree, knows, Knowledge, finished, learn, Other, Unstamped, LimboMark, Absent, Stamped, passed_by}
 use Rattle.tree_law.proofs.Words.{stamped, IsAnswer, memory_after, memory_at, memory_of, IsStep, Entry, Step, UnlinksPid, UnlinksRow, HandsPid, HandsRow, Key, IsInLimbo, Free, Linked, Owners, Reached}
 use Rattle.tree_law.proofs.Words.{Nobody, PageOwner, put, shared, slot_in, IsReadyPage, IsState, IsInTree, Times, Timed, LimboFits, Outing, IsTree, []}
 use Rattle.base_page.specs.Pages as pages
@@ -12,7 +12,7 @@ use Rattle.tree_law.proofs.links.Keeping.{slot_of}
 use Rattle.tree_law.proofs.epochs.Limbed.{LimboCase, as_it_was, is_stamped, is_passed, is_out, is_freed, RowOut, PageOut, FreesRows, FreesPids, limbo_case, walk_contained}
 use Rattle.tree_law.proofs.epochs.Limbos.{limbo_push, stamped_now, passed_now, freed_push, freed_now, pid_longer, row_longer}
 use Rattle.tree_law.proofs.shape.{slot_some, by_equal, put_same, next_linked, own_base}
-use Rattle.tree_law.proofs.trace.Names.{placed_at, slot_none, whether_same}
+use Rattle.tree_law.proofs.trace.Names.{placed_at, slot_none, whether_same, base_alone, on_chain}
 use Rattle.tree_law.proofs.trace.Owned.{pushed_length}
 
 -- what is in a limbo is there still when it was stamped, and when an actor was passed
@@ -38,31 +38,22 @@ module _ {limits : Limits} {m : Memory} {log : List Update} {o : Owners} {knows 
       under (Some n) j i0 below within at deeper = deeper n i0 ((T.together x n w l h.0 j).1 ∙ e) below row (k, within, at)
 
   pub off_chain : (row : ℕ) (w : Outing) → t.row_out row ≡ Some w → IsOnChain m row → ⊥
-  off_chain row w out (p, c, chain, among) = in_slot (slot_in m.slots p) refl
-    where
-      in_base : (x : ℕ) (base : pages.Page) (d : List Record) → IsChainFrom m.rows x d → Contains (chain_rows x d) row → m.rows x ≡ Some (Base base) → t.row_out x ≡ None → ⊥
-      in_base x base [] ch am e n = ch
-      in_base x base (v ∷ d) ch (suc k, lt, at) e n =
-          let none : d ≡ [] = rw (same_Some v (Base base) (sym ch.0 ∙ e)) at ch.1 in
-          let short : length (chain_rows (unwrap_or (next_row v) 0) d) ≡ 0 = ap (λ z. length (chain_rows (unwrap_or (next_row v) 0) z)) none in
-          absurd (omega arith)
-      in_base x base (v ∷ d) ch (zero, lt, at) e n = let f = sym n ∙ ap t.row_out at ∙ out in cc
-
-      in_slot : (v : Option ℕ) → slot_in m.slots p ≡ v → ⊥
-      in_slot None e = let z : m.slots p ≡ 0 = slot_none m.slots p chain.page e in let above : 0 < m.slots p = chain.linked in omega arith
-      in_slot (Some x) e =
-          let at : m.slots p ≡ x = (slot_some m.slots p x e).1 in
-          let chain' : IsChainFrom m.rows x c = rw at at chain.records in
-          let among' : Contains (chain_rows x c) row = rw at at among in
-          elim (held p x e) [
-            | inl tree ↦
-                let here = placed_at (o.page p) tree in
-                elim (slot_of g 0 p here.0 here.1 here.2) [
-                  | inl none ↦ (let f = sym none ∙ e in cc)
-                  | inr v ↦ (let l : o.row x ≡ Linked = rw (same_Some v.0 x (sym v.1 ∙ e)) at v.2.linked in let f = sym (in_chain x c l (T.slots p x here.0 here.1 here.2 e).1 chain' row among') ∙ out in cc)
-                ]
-            | inr ready ↦ in_base x ready.base c chain' among' ready.stands (T.own_rows ready.actor x (own_base ((knows ready.actor).own.rows x) (T.ready ready.actor p x ready.ready)))
-          ]
+  off_chain row w out on =
+      let c = on_chain m row on in
+      elim (held c.page c.first c.held) [
+        | inl tree ↦
+            let here = placed_at (o.page c.page) tree in
+            elim (slot_of g 0 c.page here.0 here.1 here.2) [
+              | inl none ↦ (let f = sym none ∙ c.held in cc)
+              | inr v ↦
+                  let l : o.row c.first ≡ Linked = rw (same_Some v.0 c.first (sym v.1 ∙ c.held)) at v.2.linked in
+                  (let f = sym (in_chain c.first c.chain l (T.slots c.page c.first here.0 here.1 here.2 c.held).1 c.records row c.among) ∙ out in cc)
+            ]
+        | inr ready ↦
+            let here = base_alone m c.first row ready.base c.chain c.records c.among ready.stands in
+            let own = T.own_rows ready.actor c.first (own_base ((knows ready.actor).own.rows c.first) (T.ready ready.actor c.page c.first ready.ready)) in
+            (let f = sym own ∙ ap t.row_out here ∙ out in cc)
+      ]
 
 module _ (limits : Limits) (entries : List Entry) (a : ℕ) (step : StepOf Record) (answer : Answer Record) (r : Option Reply) (state : IsState limits entries) (allowed : IsAllowed limits a (knows entries a) step r) (is : IsAnswer (memory_of limits entries) step answer) where
   abbrev last : Entry
@@ -125,10 +116,12 @@ module _ (limits : Limits) (entries : List Entry) (a : ℕ) (step : StepOf Recor
       let e = is_last other s x at in
       some (own (hands some (rw e.1 (rw e.0 handed))))
 
-  calm_row : (b q : ℕ) → ((b ≡ a) → (word bits : ℕ) → step ≡ ReuseRows word bits → is_among word bits q ≡ true → (knows entries b).limbo.rows q ≡ Absent) → ((knows entries b).limbo.rows q ≡ Absent → ⊥) → (other : ℕ) (s : StepOf Record) (x : Answer Record) → IsStep last other s x → HandsRow q s x → ⊥
+  calm_row : (b q : ℕ) → ((b ≡ a) → (word bits : ℕ) → step ≡ ReuseRows word bits → is_among word bits q ≡ true → (knows entries b).limbo.rows q ≡ Absent)
+      → ((knows entries b).limbo.rows q ≡ Absent → ⊥) → (other : ℕ) (s : StepOf Record) (x : Answer Record) → IsStep last other s x → HandsRow q s x → ⊥
   calm_row b q own = calm (HandsRow q) _ ((knows entries b).limbo.rows q) (hands_row b q) (λ h. own h.0 h.1.0 h.1.1 h.1.2 h.1.3)
 
-  calm_pid : (b q : ℕ) → ((b ≡ a) → (word bits : ℕ) → step ≡ ReusePids word bits → is_among word bits q ≡ true → (knows entries b).limbo.pids q ≡ Absent) → ((knows entries b).limbo.pids q ≡ Absent → ⊥) → (other : ℕ) (s : StepOf Record) (x : Answer Record) → IsStep last other s x → HandsPid q s x → ⊥
+  calm_pid : (b q : ℕ) → ((b ≡ a) → (word bits : ℕ) → step ≡ ReusePids word bits → is_among word bits q ≡ true → (knows entries b).limbo.pids q ≡ Absent)
+      → ((knows entries b).limbo.pids q ≡ Absent → ⊥) → (other : ℕ) (s : StepOf Record) (x : Answer Record) → IsStep last other s x → HandsPid q s x → ⊥
   calm_pid b q own = calm (HandsPid q) _ ((knows entries b).limbo.pids q) (hands_pid b q) (λ h. own h.0 h.1.0 h.1.1 h.1.2 h.1.3)
 
   whole_before : memory_at limits longer (length entries) ≡ m
@@ -136,10 +129,10 @@ module _ (limits : Limits) (entries : List Entry) (a : ℕ) (step : StepOf Recor
 
   -- the reuse of a row that is among the freed ones takes it out of the limbo
   freed_row : (word bits q : ℕ) → step ≡ ReuseRows word bits → is_among word bits q ≡ true → (learn k step answer).limbo.rows q ≡ Absent
-  freed_row word bits q i e = rw i (rw e refl)
+  freed_row word bits q i e = rw i (rw e)
 
   freed_pid : (word bits q : ℕ) → step ≡ ReusePids word bits → is_among word bits q ≡ true → (learn k step answer).limbo.pids q ≡ Absent
-  freed_pid word bits q i e = rw i (rw e refl)
+  freed_pid word bits q i e = rw i (rw e)
 
   -- no step comes after the last one
   none_after : (between other : ℕ) (s : StepOf Record) (x : Answer Record) → length entries < between → TakesStep longer between other s x → ⊥
@@ -153,11 +146,11 @@ module _ (limits : Limits) (entries : List Entry) (a : ℕ) (step : StepOf Recor
     Shows l = IsInLimbo longer a U' H l
 
     in_limbo : LimboCase step answer old new Out Freed → Shows new
-    in_limbo (as_it_was is) = subst Shows (sym is) (limbo_push entries last U U' H lasting a old (calm (λ gone. sym is ∙ gone)) was)
-    in_limbo (is_stamped e i j is) = subst Shows (sym is) (stamped_now entries last U U' H lasting a e r (λ d. Step a (i d) (j d) r) old (calm (λ gone. unstamped e old (sym is ∙ gone))) was)
-    in_limbo (is_passed c v i j is) = subst Shows (sym is) (passed_now entries last U U' H lasting a c v r (λ d. Step a (i d) (j d) r) old (calm (λ gone. unpassed c v old (sym is ∙ gone))) was)
-    in_limbo (is_out is h) = subst Shows (sym is) (record { at = length entries; below = (let e = pushed_length entries last in omega arith); unlinked = unlinks is h; kept = λ between other s x lt took hands. none_after between other s x lt took })
-    in_limbo (is_freed is f) = subst Shows (sym is) tt
+    in_limbo (as_it_was is) = rw is (limbo_push entries last U U' H lasting a old (calm (λ gone. sym is ∙ gone)) was)
+    in_limbo (is_stamped e i j is) = rw is (stamped_now entries last U U' H lasting a e r (λ d. Step a (i d) (j d) r) old (calm (λ gone. unstamped e old (sym is ∙ gone))) was)
+    in_limbo (is_passed c v i j is) = rw is (passed_now entries last U U' H lasting a c v r (λ d. Step a (i d) (j d) r) old (calm (λ gone. unpassed c v old (sym is ∙ gone))) was)
+    in_limbo (is_out is h) = rw is (record { at = length entries; below = (let e = pushed_length entries last in omega arith); unlinked = unlinks is h; kept = λ between other s x lt took hands. none_after between other s x lt took })
+    in_limbo (is_freed is f) = rw is tt
 
   module _ {log' : List Update} {o' : Owners} {point' : ℕ → Option (List Update)} {logs' : ℕ → List (List Update)} {t' : Times}
       (g' : IsTree (shared (memory_after a step m)) log' o' (put (knows entries) a (finished (learn k step answer) r)) point' logs')
@@ -184,7 +177,7 @@ module _ (limits : Limits) (entries : List Entry) (a : ℕ) (step : StepOf Recor
         )
       where
         may : MayExchange a k (suc h.page) h.old h.new
-        may = (subst (May a k) h.step allowed.may).1
+        may = (rw h.step at allowed.may).1
 
         reached : (l : ℕ) × (s : Key) × Reached 0 l s (state.owners.page (suc h.page))
         reached = elim h.whose [
@@ -237,7 +230,7 @@ module _ (limits : Limits) (entries : List Entry) (a : ℕ) (step : StepOf Recor
     unlinks_pid : (q : ℕ) → PageOut k step answer q → UnlinksPid limits longer a q (length entries)
     unlinks_pid q h =
         let named : step ≡ Exchange q h.old 0 = h.step ∙ ap (λ n. Exchange n h.old 0) (sym h.is) in
-        (h.old, by_zero h.old (subst (May a k) h.step allowed.may).1, (r, slice_get-push entries last ∙ (λ d. Some (Step a (named d) (h.won d) r))))
+        (h.old, by_zero h.old (rw h.step at allowed.may).1, (r, slice_get-push entries last ∙ (λ d. Some (Step a (named d) (h.won d) r))))
       where
         by_zero : (x : ℕ) → MayExchange a k (suc h.at) x 0 → 0 < x
         by_zero zero v = absurd v
@@ -262,12 +255,12 @@ module _ (limits : Limits) (entries : List Entry) (a : ℕ) (step : StepOf Recor
       | inl before ↦ freed_push entries last (UnlinksPid limits entries actor pid) (UnlinksPid limits longer actor pid) (HandsPid pid) (pid_longer entries last limits actor pid) limits actor n (slice_get_below entries n _ before.1) (state.freed.pids n actor word bits pid y before among)
       | inr at ↦
           let e = is_last actor (ReusePids word bits) y at.1 in
-          rw (at.0, sym (is_own actor (ReusePids word bits) y at.1)) (freed_now entries last (UnlinksPid limits entries a pid) (UnlinksPid limits longer a pid) (HandsPid pid) (pid_longer entries last limits a pid) limits a (k.limbo.pids pid) ((subst (MayFree limits a k) e.0 allowed.frees) pid among) (state.limbo_pids a pid))
+          rw (at.0, sym (is_own actor (ReusePids word bits) y at.1)) (freed_now entries last (UnlinksPid limits entries a pid) (UnlinksPid limits longer a pid) (HandsPid pid) (pid_longer entries last limits a pid) limits a (k.limbo.pids pid) ((rw e.0 at allowed.frees) pid among) (state.limbo_pids a pid))
     ];
     rows = λ n actor word bits row y takes among. elim (TakesStep-push_cases entries last n actor (ReuseRows word bits) y takes) [
       | inl before ↦ freed_push entries last (UnlinksRow limits entries actor row) (UnlinksRow limits longer actor row) (HandsRow row) (row_longer entries last limits actor row) limits actor n (slice_get_below entries n _ before.1) (state.freed.rows n actor word bits row y before among)
       | inr at ↦
           let e = is_last actor (ReuseRows word bits) y at.1 in
-          rw (at.0, sym (is_own actor (ReuseRows word bits) y at.1)) (freed_now entries last (UnlinksRow limits entries a row) (UnlinksRow limits longer a row) (HandsRow row) (row_longer entries last limits a row) limits a (k.limbo.rows row) ((subst (MayFree limits a k) e.0 allowed.frees) row among) (state.limbo_rows a row))
+          rw (at.0, sym (is_own actor (ReuseRows word bits) y at.1)) (freed_now entries last (UnlinksRow limits entries a row) (UnlinksRow limits longer a row) (HandsRow row) (row_longer entries last limits a row) limits a (k.limbo.rows row) ((rw e.0 at allowed.frees) row among) (state.limbo_rows a row))
     ];
   }

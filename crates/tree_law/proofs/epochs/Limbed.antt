@@ -51,7 +51,7 @@ Frees true s = FreesPids s
 Frees false s = FreesRows s
 
 walked : (k : Knowledge) (s : StepOf Record) (x : Answer Record) (row old : ℕ) → (is_on_walk 13 k.read.seen (Some old) row ≡ true → RowOut k s x row) → LimboCase s x (k.limbo.rows row) (taken_out k.read.seen old k.limbo.rows row) (RowOut k s x row) (FreesRows (s))
-walked k s x row old f = elim (decided (is_on_walk 13 k.read.seen (Some old) row)) [ inl e ↦ is_out (rw e refl) (f e) | inr e ↦ as_it_was (rw e refl) ]
+walked k s x row old f = elim (decided (is_on_walk 13 k.read.seen (Some old) row)) [ inl e ↦ is_out (rw e) (f e) | inr e ↦ as_it_was (rw e) ]
 
 module _ (k : Knowledge) where
   won_rows : (p x y row : ℕ) → LimboCase (Exchange p x y) (Whether true) (k.limbo.rows row) ((exchanged p x y k).limbo.rows row) (RowOut k (Exchange p x y) (Whether true) row) (FreesRows (Exchange p x y))

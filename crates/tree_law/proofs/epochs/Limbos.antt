@@ -1,5 +1,5 @@
 -- One more entry: what the limbos show, and what was freed by the rule.
-use Rattle.tree_law.proofs.Words.{false, ◌⊎◌, ap, refl, cond, ltb, Option, suc, List, true, inl, length, ◌++◌, inr, ◌∷◌, subst, ℕ, ◌≡◌, Bool, ◌∙◌, ◌<◌, arith, Some, eqb, ltb-true, eqb-true}
+use Rattle.tree_law.proofs.Words.{false, ◌⊎◌, ap, refl, cond, ltb, Option, suc, List, true, inl, length, ◌++◌, inr, ◌∷◌, ℕ, ◌≡◌, Bool, ◌∙◌, ◌<◌, arith, Some, eqb, ltb-true, eqb-true}
 use Rattle.tree_law.proofs.Words.{◌||◌, Reply, Limits, Answer, Number, StepOf, Epoch, Announce, replaced_at, Record, slice_get_below, slice_get-push, TakesStep-push_cases, memory_at-push}
 use Rattle.tree_law.proofs.Words.{IsPassed, Unstamped, LimboMark, Absent, Stamped, passed_by, stamped, IsStep, Entry, Step, UnlinksPid, UnlinksRow, IsInLimbo, []}
 use Rattle.chain_search.proofs.TraceLaws.{TakesStep-kept}
@@ -40,7 +40,8 @@ module _ (entries : List Entry) (last : Entry) where
     limbo_push a (Stamped epoch passed) calm h = stamped_push a epoch passed (calm (λ e. cc)) h
 
     -- the actor reads the epoch
-    pub stamped_now : (a epoch : ℕ) (r : Option Reply) → last ≡ Step a Epoch (Number epoch) r → (l : LimboMark) → ((l ≡ Absent → ⊥) → (other : ℕ) (s : StepOf Record) (x : Answer Record) → IsStep last other s x → H s x → ⊥) → IsInLimbo entries a U H l → IsInLimbo longer a U' H (stamped epoch l)
+    pub stamped_now : (a epoch : ℕ) (r : Option Reply) → last ≡ Step a Epoch (Number epoch) r → (l : LimboMark)
+        → ((l ≡ Absent → ⊥) → (other : ℕ) (s : StepOf Record) (x : Answer Record) → IsStep last other s x → H s x → ⊥) → IsInLimbo entries a U H l → IsInLimbo longer a U' H (stamped epoch l)
     unfolding out_push
     stamped_now a epoch r is Absent calm h = tt
     stamped_now a epoch r is Unstamped calm h = record {
@@ -54,7 +55,9 @@ module _ (entries : List Entry) (last : Entry) where
     stamped_now a epoch r is (Stamped e passed) calm h = stamped_push a e passed (calm (λ e. cc)) h
 
     -- the actor reads an announced epoch
-    pub passed_now : (a c value : ℕ) (r : Option Reply) → last ≡ Step a (Announce c) (Number value) r → (l : LimboMark) → ((l ≡ Absent → ⊥) → (other : ℕ) (s : StepOf Record) (x : Answer Record) → IsStep last other s x → H s x → ⊥) → IsInLimbo entries a U H l → IsInLimbo longer a U' H (passed_by c value l)
+    pub passed_now : (a c value : ℕ) (r : Option Reply) → last ≡ Step a (Announce c) (Number value) r → (l : LimboMark)
+        → ((l ≡ Absent → ⊥) → (other : ℕ) (s : StepOf Record) (x : Answer Record) → IsStep last other s x → H s x → ⊥) → IsInLimbo entries a U H l
+        → IsInLimbo longer a U' H (passed_by c value l)
     unfolding out_push stamped_push
     passed_now a c value r is Absent calm h = tt
     passed_now a c value r is Unstamped calm h = out_push (calm (λ e. cc)) h
@@ -97,7 +100,7 @@ module _ (entries : List Entry) (last : Entry) where
     -- what is freed now
     pub freed_now : (limits : Limits) (a : ℕ) (l : LimboMark) → IsPassed limits a l → IsInLimbo entries a U H l → IsFreed limits longer a (length entries) U' H
     freed_now limits a l p h =
-        let s : IsStamped entries a U H p.epoch p.passed = subst (IsInLimbo entries a U H) p.stamped h in
+        let s : IsStamped entries a U H p.epoch p.passed = rw p.stamped at h in
         record {
           unlinked_at = s.out.at;
           stamped_at = s.at;

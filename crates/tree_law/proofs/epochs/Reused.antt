@@ -1,15 +1,11 @@
 -- After a reuse: what numbers there are, and which slots hold rows.
-use Rattle.tree_law.proofs.Words.{false, ◌⊎◌, refl, Option, List, true, inl, inr, subst, sym, ℕ, ◌≡◌, Bool, ◌∙◌, ◌<◌, Some, ⊎_elim, Update, is_among, Reply, Limits, Answer, ReuseRows}
-use Rattle.tree_law.proofs.Words.{ReusePids, Memory, Record, IsOwn, IsOwnBase, IsPassed, Knowledge, finished, learn, Foreign, Taken, Written, OwnRow, IsAnswer, memory_after, Entry, Free}
-use Rattle.tree_law.proofs.Words.{Owners, Spare, Owner, OwnFits, put, shared, slot_in, IsReadyPage, IsInTree, IsNamed, Times, Timed, Outing, IsTree}
+use Rattle.tree_law.proofs.Words.{false, ◌⊎◌, Option, List, true, inl, inr, ℕ, ◌≡◌, ◌∙◌, ◌<◌, Some, ⊎_elim, Update, is_among, Reply, Limits, Answer, ReuseRows}
+use Rattle.tree_law.proofs.Words.{ReusePids, Memory, Record, IsOwn, IsOwnBase, IsPassed, Knowledge, finished, learn, Foreign, Taken, Written, OwnRow, IsAnswer, memory_after, Entry}
+use Rattle.tree_law.proofs.Words.{Owners, Spare, OwnFits, put, shared, slot_in, IsReadyPage, IsInTree, IsNamed, Times, Timed, IsTree}
 use Rattle.op_machine.specs.theorem.Phases as phase
-use Rattle.tree_law.proofs.epochs.Freeing.{or_cases, row_after, freed, freed_page, held, in_tree, not_among, stays, same_page, o1, page2, o2}
+use Rattle.tree_law.proofs.epochs.Freeing.{or_cases, row_free_after, freed, freed_page, held, in_tree, not_among, stays, same_page, o1, page2, o2}
 use Rattle.tree_law.proofs.trace.Names.{Numbers}
 use Rattle.tree_law.proofs.shape.Puts.{by_equal, decided}
-
-in_row_after : (first : ℕ) (z : Bool) (v : Owner) (out : Option Outing) → v ≡ Free → row_after first z v out ≡ Free
-in_row_after first true v out e = refl
-in_row_after first false v out e = rw e refl
 
 module _ {limits : Limits} {entries : List Entry} {o : Owners} {m : Memory} {knows : ℕ → Knowledge} {log : List Update} {point : ℕ → Option (List Update)} {logs : ℕ → List (List Update)} {now : ℕ} {t : Times}
     (g : IsTree (shared m) log o knows point logs) (T : Timed limits m o knows now t) (old : IsNamed limits entries o m knows) (a : ℕ) (outside : (knows a).inside ≡ false) (word bits : ℕ) (x : Answer Record) (r : Option Reply) where
@@ -29,13 +25,13 @@ module _ {limits : Limits} {entries : List Entry} {o : Owners} {m : Memory} {kno
     pub rows_numbers : Numbers g old a (ReuseRows word bits) x r outside is rows_owners
     rows_numbers = record {
       undisturbed = λ b q e d. let z = not_among g T a outside word bits may r x q (held g T a outside word bits may r x b q e) in absurd (cc);
-      zero_free = in_row_after _ (is_among word bits 0) (o.row 0) (t.row_out 0) old.zero_free;
+      zero_free = row_free_after _ (is_among word bits 0) (o.row 0) (t.row_out 0) old.zero_free;
       zero_taken = elim (decided (is_among word bits 0)) [
         | inl e ↦ absurd (let f = freed g T a outside word bits may r x 0 e in let u = old.zero_free in elim (T.rows 0 f.outing f.is).0 [ inl l ↦ (let z = u in cc) | inr l ↦ (let z = u in cc) ])
-        | inr e ↦ rw (old.zero_taken, e) refl
+        | inr e ↦ rw (old.zero_taken, e)
       ];
       free_row_below = λ q e. ⊎_elim (λ (u : m.free_rows q ≡ true). old.free_row_below q u) (freed_below q) (or_cases (m.free_rows q) (is_among word bits q) e);
-      row_below = λ q. elim (old.row_below q) [ inl u ↦ inl (in_row_after _ (is_among word bits q) (o.row q) (t.row_out q) u) | inr lt ↦ inr lt ];
+      row_below = λ q. elim (old.row_below q) [ inl u ↦ inl (row_free_after _ (is_among word bits q) (o.row q) (t.row_out q) u) | inr lt ↦ inr lt ];
       free_pid_below = old.free_pid_below;
     }
 
@@ -79,7 +75,7 @@ module _ {limits : Limits} {entries : List Entry} {o : Owners} {m : Memory} {kno
 
     pub pages_held : (p q : ℕ) → slot_in m.slots p ≡ Some q → IsInTree (page2 g T a outside word bits may r x p) ⊎ IsReadyPage pages_owners (memory_after a (ReusePids word bits) m) (put knows a (finished (learn (knows a) (ReusePids word bits) x) r)) p q
     pages_held p q e = elim (old.in_slots p q e) [
-      | inl h ↦ inl (subst IsInTree (sym (same_page g T a outside word bits may r x p (λ i. let f = freed_page g T a outside word bits may r x p i in absurd (cc (T.pages p f.outing f.is).1)))) h)
+      | inl h ↦ inl (rw (same_page g T a outside word bits may r x p (λ i. let f = freed_page g T a outside word bits may r x p i in absurd (cc (T.pages p f.outing f.is).1))) h)
       | inr h ↦ inr (record {
         actor = h.actor;
         ready = by_equal h.actor a (λ i t. rw t (rw i at h.ready)) (λ ne t. rw t h.ready);

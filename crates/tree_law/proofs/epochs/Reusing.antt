@@ -212,7 +212,7 @@ module _ {m : Shared} {log : List Update} {o : Owners} {knows : ℕ → Knowledg
           f.1,
           spells_free x f.0 f.2,
           rw (heads b p x e) f.3,
-          λ i. elim (f.4 i) [ inl u ↦ inl u | inr u ↦ inr (u.0, subst IsCleared (sym (heads b p x e)) u.1) ],
+          λ i. elim (f.4 i) [ inl u ↦ inl u | inr u ↦ inr (u.0, rw (heads b p x e) u.1) ],
           λ i. record {
             right = λ q j. let n = (f.5 i).right q j in (n.0, n.1, rw (heads_right b p x q f.2.chain e f.2.is_chain i j) n.2);
             items = λ l k c j v d. rw (heads_items b p x l k c f.2.chain e f.2.is_chain i j v d) ((f.5 i).items l k c j v d);

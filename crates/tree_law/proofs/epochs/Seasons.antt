@@ -1,6 +1,6 @@
 -- An actor enters and leaves, reads the epoch and announced epochs, takes and places: what actors hold stays so.
-use Rattle.tree_law.proofs.Words.{false, ◌⊎◌, ap, refl, cond, ltb, Option, suc, None, List, true, inl, ◌≤◌, inr, subst, sym, ℕ, ◌≡◌, Bool, ◌∙◌, ◌<◌, arith, Some, eqb, ltb-true, cases_lt}
-use Rattle.tree_law.proofs.Words.{eqb-true, same_Some, ◌||◌, Update, Reply, Limits, Answer, Leave, TakePid, Place, TakeRow, Enter, Epoch, Announce, Memory, Record, IsOwn, IsOwnBase, IsUnset}
+use Rattle.tree_law.proofs.Words.{false, ◌⊎◌, ap, refl, cond, ltb, Option, suc, None, List, true, inl, ◌≤◌, inr, ℕ, ◌≡◌, Bool, ◌∙◌, ◌<◌, arith, Some, eqb, ltb-true, cases_lt}
+use Rattle.tree_law.proofs.Words.{eqb-true, same_Some, ◌||◌, Update, Reply, Limits, Answer, Leave, TakePid, Place, TakeRow, Enter, Epoch, Announce, Memory, Record, IsOwn, IsUnset}
 use Rattle.tree_law.proofs.Words.{Knowledge, finished, Ready, learn, Empty, Taken, Written, forgotten, Unstamped, LimboMark, Absent, Stamped, passed_by, stamped, memory_after, Free}
 use Rattle.tree_law.proofs.Words.{Owners, put, shared, Times, Timed, LimboFits, Outing, Holds, IsTree, HoldsBy}
 use Rattle.bw_model.specs.declared.step.Answer.TheVariants as answer
@@ -15,7 +15,9 @@ stamped_fits a epoch inside entered out Unstamped old h = (h.0, h.1, h.2, old h.
 stamped_fits a epoch inside entered out (Stamped e p) old h = h
 
 -- an actor whose announced epoch was read as 0, or as a later one, cannot hold it
-passed_fits : (a b announced : ℕ) (inside : ℕ → Bool) (entered : ℕ → ℕ) (out : Option Outing) (l : LimboMark) → ((w : Outing) → out ≡ Some w → inside b ≡ true → (0 < announced) × (entered b ≤ w.at → announced ≤ w.epoch)) → LimboFits a inside entered out l → LimboFits a inside entered out (passed_by b announced l)
+passed_fits : (a b announced : ℕ) (inside : ℕ → Bool) (entered : ℕ → ℕ) (out : Option Outing) (l : LimboMark)
+    → ((w : Outing) → out ≡ Some w → inside b ≡ true → (0 < announced) × (entered b ≤ w.at → announced ≤ w.epoch)) → LimboFits a inside entered out l
+    → LimboFits a inside entered out (passed_by b announced l)
 passed_fits a b announced inside entered out Absent f h = tt
 passed_fits a b announced inside entered out Unstamped f h = h
 passed_fits a b announced inside entered out (Stamped e p) f h = (h.0, h.1, h.2, h.3, pass (eqb announced 0) (ltb e announced) refl refl)
@@ -103,7 +105,7 @@ module _ {limits : Limits} {m : Memory} {log : List Update} {o : Owners} {knows 
   pub leave_timed : (r : Option Reply) (o' : Owners) → Calm g T a (memory_after a Leave m) o' → Timed limits (memory_after a Leave m) o' (put knows a (finished (learn (knows a) Leave answer.Done) r)) (suc now) t
   leave_timed r o' c =
       let k' : Knowledge = finished (learn (knows a) Leave answer.Done) r in
-      let turn : Turn T (linked g T a) a (memory_after a Leave m) o' k' t = calm_turn g T a (memory_after a Leave m) o' k' c (λ i. absurd (cc)) in
+      let turn : Turn T (linked g T a) a (memory_after a Leave m) o' k' t = calm_turn k' c (λ i. absurd (cc)) in
       put_timed turn (record {
         within = λ i. absurd (cc);
         holds = record { learnt_inside = λ q i. absurd (cc); learnt_since = λ q i. absurd (cc); seen_learnt = λ q w i. absurd (cc); roots_inside = λ p i. absurd (cc); roots_since = λ p i. absurd (cc); heads_since = λ p x i. absurd (cc); before_since = λ p f x i. absurd (cc); beside_since = λ p f y x i. absurd (cc); linked_learnt = λ x i. absurd (forgotten_none (knows a).asked.linked x i) };
@@ -121,7 +123,7 @@ module _ {limits : Limits} {m : Memory} {log : List Update} {o : Owners} {knows 
   pub epoch_timed : (r : Option Reply) (o' : Owners) → Calm g T a m o' → Timed limits m o' (put knows a (finished (learn (knows a) Epoch (answer.Number m.epoch)) r)) (suc now) t
   epoch_timed r o' c =
       let k' : Knowledge = finished (learn (knows a) Epoch (answer.Number m.epoch)) r in
-      idle_timed g T a m o' k' c refl refl (λ n. held_later n a)
+      idle_timed k' c refl refl (λ n. held_later n a)
       (λ e i. let f = same_Some m.epoch e i in omega arith)
       (T.own_rows a) (T.gone_pages a)
       (λ n q. stamped_fits a m.epoch (λ b. (put knows a k' b).inside) t.entered (t.row_out q) ((knows a).limbo.rows q) (λ w e. (T.rows q w e).2) (limbo_row n a q))
@@ -134,7 +136,7 @@ module _ {limits : Limits} {m : Memory} {log : List Update} {o : Owners} {knows 
       let k' : Knowledge = finished (learn (knows a) (Announce b) (answer.Number (m.announced b))) r in
       let was_inside : (put knows a k' b).inside ≡ true → (knows b).inside ≡ true =
       by_equal b a (λ e t. rw (t, e) λ i. i) (λ ne t. rw t λ i. i) in
-      idle_timed g T a m o' k' c refl refl (λ n. held_later n a)
+      idle_timed k' c refl refl (λ n. held_later n a)
       (T.epochs a)
       (T.own_rows a) (T.gone_pages a)
       (λ n q. passed_fits a b (m.announced b) (λ c. (put knows a k' c).inside) t.entered (t.row_out q) ((knows a).limbo.rows q) (λ w e i. let h = T.announced b (was_inside i) in (h.some, h.rows q w e)) (limbo_row n a q))
@@ -142,17 +144,18 @@ module _ {limits : Limits} {m : Memory} {log : List Update} {o : Owners} {knows 
       (T.ready a) (T.apart a)
 
   -- a record is placed in an own row that stands in no slot
-  pub place_timed : (q : ℕ) (w : Record) (r : Option Reply) (o' : Owners) → Calm g T a (memory_after a (Place q w) m) o' → IsOwn ((knows a).own.rows q) → IsUnset (knows a) q → Timed limits (memory_after a (Place q w) m) o' (put knows a (finished (learn (knows a) (Place q w) answer.Done) r)) (suc now) t
+  pub place_timed : (q : ℕ) (w : Record) (r : Option Reply) (o' : Owners) → Calm g T a (memory_after a (Place q w) m) o' → IsOwn ((knows a).own.rows q) → IsUnset (knows a) q
+      → Timed limits (memory_after a (Place q w) m) o' (put knows a (finished (learn (knows a) (Place q w) answer.Done) r)) (suc now) t
   place_timed q w r o' c own unset =
       let m' : Memory = memory_after a (Place q w) m in
       let k' : Knowledge = finished (learn (knows a) (Place q w) answer.Done) r in
-      idle_timed g T a m' o' k' c refl refl (λ n. held_later n a)
+      idle_timed k' c refl refl (λ n. held_later n a)
       (T.epochs a)
       (λ j. by_equal j q (λ e is. rw is λ i. ap t.row_out e ∙ T.own_rows a q own) (λ ne is. rw is (T.own_rows a j)))
       (T.gone_pages a)
       (λ n. limbo_row n a)
       (λ n. limbo_pid n a)
-      (λ p j i. subst IsOwnBase (sym (put_other (knows a).own.rows q (Written w) j (λ e. unset p (rw e at i)))) (T.ready a p j i))
+      (λ p j i. rw (put_other (knows a).own.rows q (Written w) j (λ e. unset p (rw e at i))) (T.ready a p j i))
       (T.apart a)
 
   -- a row that was free is taken
@@ -162,13 +165,13 @@ module _ {limits : Limits} {m : Memory} {log : List Update} {o : Owners} {knows 
       let was : o.row q ≡ Free = g.frees.row q f in
       let m' : Memory = memory_after a (TakeRow q) m in
       let k' : Knowledge = finished (learn (knows a) (TakeRow q) (answer.Whether true)) r in
-      idle_timed g T a m' o' k' c refl refl (λ n. held_later n a)
+      idle_timed k' c refl refl (λ n. held_later n a)
       (T.epochs a)
       (λ j. by_equal j q (λ e is. rw is λ i. ap t.row_out e ∙ none_if (t.row_out q) (λ w d. elim (T.rows q w d).0 [ inl u ↦ let v = was in cc | inr u ↦ let v = was in cc ])) (λ ne is. rw is (T.own_rows a j)))
       (T.gone_pages a)
       (λ n. limbo_row n a)
       (λ n. limbo_pid n a)
-      (λ p j i. subst IsOwnBase (sym (put_other (knows a).own.rows q Taken j (λ e. absurd (cc (own_spare (m.rows j) ((knows a).own.rows j) (g.owns a j) (own_base ((knows a).own.rows j) (T.ready a p j i))))))) (T.ready a p j i))
+      (λ p j i. rw (put_other (knows a).own.rows q Taken j (λ e. absurd (cc (own_spare (m.rows j) ((knows a).own.rows j) (g.owns a j) (own_base ((knows a).own.rows j) (T.ready a p j i)))))) (T.ready a p j i))
       (T.apart a)
 
   -- a PID that was free is taken
@@ -178,7 +181,7 @@ module _ {limits : Limits} {m : Memory} {log : List Update} {o : Owners} {knows 
       λ p j. put_was (knows a).own.pages q Empty p (λ e. cc) in
       let m' : Memory = memory_after a (TakePid q) m in
       let k' : Knowledge = finished (learn (knows a) (TakePid q) (answer.Whether true)) r in
-      idle_timed g T a m' o' k' c refl refl (λ n. held_later n a)
+      idle_timed k' c refl refl (λ n. held_later n a)
       (T.epochs a) (T.own_rows a)
       (λ p i. T.gone_pages a p (put_was (knows a).own.pages q Empty p (λ e. cc) i))
       (λ n. limbo_row n a)

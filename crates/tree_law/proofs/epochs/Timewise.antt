@@ -77,9 +77,10 @@ module _ {limits : Limits} {m : Memory} {log : List Update} {o : Owners} {knows 
   spare_or b free v v' e (inr (inr i)) = inr i.1
 
   -- a step that takes nothing out and links nothing
-  pub calm_next : (s : StepOf Record) (x : Answer Record) (r : Option Reply) (m' : Memory) (n : Next a (shared m) (shared m') log o knows point logs s x r) → m'.slots ≡ m.slots → ((row : ℕ) → IsHomed (shared m) s x row → ⊥)
-      → ((p l : ℕ) (k : Key) → Reached 0 l k (n.owners.page p) → Reached 0 l k (o.page p)) → ((p b l : ℕ) (k : Key) → o.page p ≡ Cleared b l k → n.owners.page p ≡ Cleared b l k) → m.epoch ≤ m'.epoch → ((b : ℕ) → b ≢ a → m'.announced b ≡ m.announced b) → Calm g T a m' n.owners
-  calm_next s x r m' n slots homed reached cleared epoch announced =
+  pub calm_next : {s : StepOf Record} {x : Answer Record} {r : Option Reply} (m' : Memory) (n : Next a (shared m) (shared m') log o knows point logs s x r) → m'.slots ≡ m.slots → ((row : ℕ) → IsHomed (shared m) s x row → ⊥)
+      → ((p l : ℕ) (k : Key) → Reached 0 l k (n.owners.page p) → Reached 0 l k (o.page p)) → ((p b l : ℕ) (k : Key) → o.page p ≡ Cleared b l k → n.owners.page p ≡ Cleared b l k)
+      → m.epoch ≤ m'.epoch → ((b : ℕ) → b ≢ a → m'.announced b ≡ m.announced b) → Calm g T a m' n.owners
+  calm_next {s} {x} {r} m' n slots homed reached cleared epoch announced =
       let back : (j : ℕ) → n.owners.row j ≡ Linked → o.row j ≡ Linked = λ j l. elim (n.homed j l) [ inl u ↦ u | inr u ↦ absurd (homed j u) ] in
       record {
         slots = λ p. ap (λ f. slot_in f p) slots;
@@ -94,11 +95,12 @@ module _ {limits : Limits} {m : Memory} {log : List Update} {o : Owners} {knows 
       }
 
   -- one that leaves pages whose they are
-  calm_pages : (s : StepOf Record) (x : Answer Record) (r : Option Reply) (m' : Memory) (n : Next a (shared m) (shared m') log o knows point logs s x r) → m'.slots ≡ m.slots → ((row : ℕ) → IsHomed (shared m) s x row → ⊥) → n.owners.page ≡ o.page → m.epoch ≤ m'.epoch → ((b : ℕ) → b ≢ a → m'.announced b ≡ m.announced b) → Calm g T a m' n.owners
-  calm_pages s x r m' n slots homed same epoch announced = calm_next s x r m' n slots homed (λ p l k. subst (λ (f : ℕ → PageOwner). Reached 0 l k (f p)) same) (λ p b l k e. ap (λ (f : ℕ → PageOwner). f p) same ∙ e) epoch announced
+  calm_pages : {s : StepOf Record} {x : Answer Record} {r : Option Reply} (m' : Memory) (n : Next a (shared m) (shared m') log o knows point logs s x r) → m'.slots ≡ m.slots
+      → ((row : ℕ) → IsHomed (shared m) s x row → ⊥) → n.owners.page ≡ o.page → m.epoch ≤ m'.epoch → ((b : ℕ) → b ≢ a → m'.announced b ≡ m.announced b) → Calm g T a m' n.owners
+  calm_pages {s} {x} {r} m' n slots homed same epoch announced = calm_next m' n slots homed (λ p l k. subst (λ (f : ℕ → PageOwner). Reached 0 l k (f p)) same) (λ p b l k e. ap (λ (f : ℕ → PageOwner). f p) same ∙ e) epoch announced
 
   reads : (p : ℕ) (v : ℕ) (r : Option Reply) → May a (knows a) (Slot (suc p)) → m.slots (suc p) ≡ v → After m (Slot (suc p)) (answer.Number v) r
-  reads p zero r may e n = still_timed g T a m n.owners (finished (learn (knows a) (Slot (suc p)) (answer.Number 0)) r) (calm_pages (Slot (suc p)) (answer.Number 0) r m n refl (λ row h. h) n.phased (omega arith) (λ b ne. refl)) refl refl refl refl refl refl
+  reads p zero r may e n = still_timed (finished (learn (knows a) (Slot (suc p)) (answer.Number 0)) r) (calm_pages m n refl (λ row h. h) n.phased (omega arith) (λ b ne. refl)) refl refl refl refl refl refl
   reads p (suc x) r may e n =
       let Holds' : ℕ → Type 0 =
       λ j. Holds m.rows t.row_out t.page_out (t.entered a) (knows a).inside (knows a).read.seen (put (knows a).read.learnt j true) (knows a).read.roots (put (knows a).read.heads (suc p) (Some j)) (put (knows a).read.before (suc p) (knows a).read.heads) (knows a).asked.linked in
@@ -106,7 +108,7 @@ module _ {limits : Limits} {m : Memory} {log : List Update} {o : Owners} {knows 
       elim (slot_of g a (suc p) here.0 here.1 here.2) [
         | inl none ↦ absurd (cc)
         | inr v ↦ (let same : v.0 ≡ suc x = same_Some v.0 (suc x) (sym v.1 ∙ ap row_in e) in
-            read_timed g T a m n.owners (finished (learn (knows a) (Slot (suc p)) (answer.Number (suc x))) r) (calm_pages (Slot (suc p)) (answer.Number (suc x)) r m n refl (λ row h. h) n.phased (omega arith) (λ b ne. refl)) refl refl
+            read_timed (finished (learn (knows a) (Slot (suc p)) (answer.Number (suc x))) r) (calm_pages m n refl (λ row h. h) n.phased (omega arith) (λ b ne. refl)) refl refl
             (rw same at (head_holds g T a may.0 (suc p) v.0 v.1 here.0 here.1 here.2 v.2 v.3)) refl refl)
       ]
 
@@ -133,7 +135,9 @@ module _ {limits : Limits} {m : Memory} {log : List Update} {o : Owners} {knows 
   put_reach p y f' c l0 s0 st n was e at q l s r = inl (put_reached o.page f' c l0 s0 st n was e at q l s r)
 
   -- what a link does with pages
-  links_pages : (p x y : ℕ) (w : Record) (f' : ℕ → PageOwner) → m.rows (suc y) ≡ Some w → ((s : SplitOf) → w ≡ Split s → (base : ℕ) × ((knows a).own.pages s.page ≡ Ready base) × IsOwn ((knows a).own.rows base) × (base ≢ suc y)) → LinkMoves (shared m) a w (suc p) o.page f' → Reach p y f' × Clears f'
+  links_pages : (p x y : ℕ) (w : Record) (f' : ℕ → PageOwner) → m.rows (suc y) ≡ Some w
+      → ((s : SplitOf) → w ≡ Split s → (base : ℕ) × ((knows a).own.pages s.page ≡ Ready base) × IsOwn ((knows a).own.rows base) × (base ≢ suc y)) → LinkMoves (shared m) a w (suc p) o.page f'
+      → Reach p y f' × Clears f'
   unfolding Reach Clears
   links_pages p x y (Term w) f' st sp h = (put_reach p y f' w.child h.0 w.separator Fresh (Placed Indexed h.0 w.separator) h.1 h.2 (λ l s r. (r.0, r.1)), put_cleared o.page f' w.child h.0 w.separator Fresh (Placed Indexed h.0 w.separator) h.1 h.2)
   links_pages p x y (Hold w) f' st sp h = (put_reach p y f' w.child h.0 w.separator Indexed (Placed Held h.0 w.separator) h.1 h.2 (λ l s r. (r.0, r.1)), put_cleared o.page f' w.child h.0 w.separator Indexed (Placed Held h.0 w.separator) h.1 h.2)
@@ -188,7 +192,7 @@ module _ {limits : Limits} {m : Memory} {log : List Update} {o : Owners} {knows 
       let links = rw (same_Some n.phased.0 h.content (sym n.phased.1 ∙ own.1)) at n.phased.2 in
       let pages = links_pages p (suc x) y h.content n.owners.page own.1 h.split links in
       let at = T.slots (suc p) (suc x) (level_in h.basis.chain) (low_in h.basis.chain) f.reached held in
-      subst (λ (k : Knowledge). Timed limits m' n.owners (put knows a (finished k r)) (suc now) (times_after a m o now (Exchange (suc p) (suc x) (suc y)) (answer.Whether true) t)) (sym (rw (other, h.placed) refl))
+      subst (λ (k : Knowledge). Timed limits m' n.owners (put knows a (finished k r)) (suc now) (times_after a m o now (Exchange (suc p) (suc x) (suc y)) (answer.Whether true) t)) (sym (rw (other, h.placed)))
       (linked_timed g T a p (suc x) y n.owners (record {
         own = rw h.placed tt;
         page_in = not_out g T a (suc p) (suc x) held;
@@ -208,7 +212,9 @@ module _ {limits : Limits} {m : Memory} {log : List Update} {o : Owners} {knows 
       (λ u e. let l = rw e at links in placed_in g T a u.child l.0 u.separator Merged l.1)
       (λ s e. let b = h.split s e in (b.0, b.1)))
 
-  emptying_of : (p x : ℕ) (r : Option Reply) → slot_in m.slots (suc p) ≡ Some (suc x) → ((b l : ℕ) (s : Key) → o.page (suc p) ≡ Cleared b l s → b ≡ a) → (n : Next a (shared m) (shared (record m { slots = replaced_at (suc p) 0 m.slots })) log o knows point logs (Exchange (suc p) (suc x) 0) (answer.Whether true) r) → Emptying g T a p (suc x) n.owners
+  emptying_of : (p x : ℕ) (r : Option Reply) → slot_in m.slots (suc p) ≡ Some (suc x) → ((b l : ℕ) (s : Key) → o.page (suc p) ≡ Cleared b l s → b ≡ a)
+      → (n : Next a (shared m) (shared (record m { slots = replaced_at (suc p) 0 m.slots })) log o knows point logs (Exchange (suc p) (suc x) 0) (answer.Whether true) r)
+      → Emptying g T a p (suc x) n.owners
   emptying_of p x r held whose n = record {
     held = held;
     whose = whose;
@@ -254,8 +260,9 @@ module _ {limits : Limits} {m : Memory} {log : List Update} {o : Owners} {knows 
           (λ ne t. rw t (by_equal q e.0 (λ i t. rw t λ v. inl (placed_reached l s Fresh (o.page q) (ap o.page i ∙ e.4 ∙ ap (λ j. Placed Fresh j e.2) v.0 ∙ ap (λ (j : Key). Placed Fresh l j) v.1))) (λ nd t. rw t λ v. inl v)))
 
   -- an exchange that lost
-  loses : (p x y : ℕ) (r : Option Reply) → (m' : Memory) → m' ≡ m → times_after a m o now (Exchange p x y) (answer.Whether false) t ≡ t → ((row : ℕ) → IsHomed (shared m) (Exchange p x y) (answer.Whether false) row → ⊥) → After m' (Exchange p x y) (answer.Whether false) r
-  loses p x y r m' e same homed = subst (λ (v : Memory). After v (Exchange p x y) (answer.Whether false) r) (sym e) (λ n. rw same (still_timed g T a m n.owners (finished (knows a) r) (calm_pages (Exchange p x y) (answer.Whether false) r m n refl homed n.phased (omega arith) (λ b ne. refl)) refl refl refl refl refl refl))
+  loses : (p x y : ℕ) (r : Option Reply) → (m' : Memory) → m' ≡ m → times_after a m o now (Exchange p x y) (answer.Whether false) t ≡ t
+      → ((row : ℕ) → IsHomed (shared m) (Exchange p x y) (answer.Whether false) row → ⊥) → After m' (Exchange p x y) (answer.Whether false) r
+  loses p x y r m' e same homed = subst (λ (v : Memory). After v (Exchange p x y) (answer.Whether false) r) (sym e) (λ n. rw same (still_timed (finished (knows a) r) (calm_pages m n refl homed n.phased (omega arith) (λ b ne. refl)) refl refl refl refl refl refl))
 
   exchange : (p x y : ℕ) (r : Option Reply) → MayExchange a (knows a) p x y → After (memory_after a (Exchange p x y) m) (Exchange p x y) (answer.Whether (eqb (m.slots p) x)) r
   exchange zero x y r h = by_equal (m.slots 0) x (λ e t. rw t (roots x y r h)) (λ ne t. rw t (loses 0 x y r m refl refl (λ row i. i)))
@@ -263,11 +270,11 @@ module _ {limits : Limits} {m : Memory} {log : List Update} {o : Owners} {knows 
   exchange (suc p) x (suc y) r h = by_equal (m.slots (suc p)) x (λ e t. rw t (fills p x y r h (ap row_in e))) (λ ne t. rw t (loses (suc p) x (suc y) r m refl refl (λ row i. i)))
 
   takes_row : (q : ℕ) (r : Option Reply) (z : Bool) → m.free_rows q ≡ z → After (memory_after a (TakeRow q) m) (TakeRow q) (answer.Whether z) r
-  takes_row q r true e n = take_row_timed g T a q r e n.owners (calm_pages (TakeRow q) (answer.Whether true) r (memory_after a (TakeRow q) m) n refl (λ row i. i) n.phased (omega arith) (λ b ne. refl))
-  takes_row q r false e n = still_timed g T a (memory_after a (TakeRow q) m) n.owners (finished (knows a) r) (calm_pages (TakeRow q) (answer.Whether false) r (memory_after a (TakeRow q) m) n refl (λ row i. i) n.phased (omega arith) (λ b ne. refl)) refl refl refl refl refl refl
+  takes_row q r true e n = take_row_timed g T a q r e n.owners (calm_pages (memory_after a (TakeRow q) m) n refl (λ row i. i) n.phased (omega arith) (λ b ne. refl))
+  takes_row q r false e n = still_timed (finished (knows a) r) (calm_pages (memory_after a (TakeRow q) m) n refl (λ row i. i) n.phased (omega arith) (λ b ne. refl)) refl refl refl refl refl refl
 
   takes_pid : (q : ℕ) (r : Option Reply) (z : Bool) → m.free_pids q ≡ z → After (memory_after a (TakePid q) m) (TakePid q) (answer.Whether z) r
-  takes_pid q r true e n = take_pid_timed g T a q r n.owners (calm_next (TakePid q) (answer.Whether true) r (memory_after a (TakePid q) m) n refl (λ row i. i) reached cleared (omega arith) (λ b ne. refl))
+  takes_pid q r true e n = take_pid_timed g T a q r n.owners (calm_next (memory_after a (TakePid q) m) n refl (λ row i. i) reached cleared (omega arith) (λ b ne. refl))
     where
       reached : (p l : ℕ) (k : Key) → Reached 0 l k (n.owners.page p) → Reached 0 l k (o.page p)
       reached p l k h = go (rw n.phased at h)
@@ -277,24 +284,24 @@ module _ {limits : Limits} {m : Memory} {log : List Update} {o : Owners} {knows 
 
       cleared : (p b l : ℕ) (k : Key) → o.page p ≡ Cleared b l k → n.owners.page p ≡ Cleared b l k
       cleared p b l k i = ap (λ (f : ℕ → PageOwner). f p) n.phased ∙ put_other o.page q (Keeps a) p (λ j. absurd (cc (g.frees.page q e).0)) ∙ i
-  takes_pid q r false e n = still_timed g T a (memory_after a (TakePid q) m) n.owners (finished (knows a) r) (calm_pages (TakePid q) (answer.Whether false) r (memory_after a (TakePid q) m) n refl (λ row i. i) n.phased (omega arith) (λ b ne. refl)) refl refl refl refl refl refl
+  takes_pid q r false e n = still_timed (finished (knows a) r) (calm_pages (memory_after a (TakePid q) m) n refl (λ row i. i) n.phased (omega arith) (λ b ne. refl)) refl refl refl refl refl refl
 
   -- each allowed step but a reuse
   pub timed_step : (s : StepOf Record) → (IsReuse s → ⊥) → (x : Answer Record) (r : Option Reply) → May a (knows a) s → IsAnswer m s x → a < limits.actors → After (memory_after a s m) s x r
-  timed_step (Slot zero) calm x r may is actor = subst (λ v. After m (Slot 0) v r) (sym is) (λ n. read_timed g T a m n.owners (finished (learn (knows a) (Slot 0) (answer.Number (m.slots 0))) r) (calm_pages (Slot 0) (answer.Number (m.slots 0)) r m n refl (λ row i. i) n.phased (omega arith) (λ b ne. refl)) refl refl (root_holds g T a may) refl refl)
+  timed_step (Slot zero) calm x r may is actor = subst (λ v. After m (Slot 0) v r) (sym is) (λ n. read_timed (finished (learn (knows a) (Slot 0) (answer.Number (m.slots 0))) r) (calm_pages m n refl (λ row i. i) n.phased (omega arith) (λ b ne. refl)) refl refl (root_holds g T a may) refl refl)
   timed_step (Slot (suc p)) calm x r may is actor = rw is (reads p (m.slots (suc p)) r may refl)
-  timed_step (Row q) calm x r may is actor = subst (λ v. After m (Row q) v r) (sym is.2) (λ n. read_timed g T a m n.owners (finished (learn (knows a) (Row q) (answer.Content is.0)) r) (calm_pages (Row q) (answer.Content is.0) r m n refl (λ row i. i) n.phased (omega arith) (λ b ne. refl)) refl refl (row_holds g T a q is.0 may.1 is.1) refl refl)
-  timed_step Epoch calm x r may is actor = subst (λ v. After m Epoch v r) (sym is) (λ n. epoch_timed g T a r n.owners (calm_pages Epoch (answer.Number m.epoch) r m n refl (λ row i. i) n.phased (omega arith) (λ b ne. refl)))
-  timed_step (Announce c) calm x r may is actor = subst (λ v. After m (Announce c) v r) (sym is) (λ n. announce_timed g T a c r n.owners (calm_pages (Announce c) (answer.Number (m.announced c)) r m n refl (λ row i. i) n.phased (omega arith) (λ b ne. refl)))
-  timed_step (Place q w) calm x r may is actor = subst (λ v. After (memory_after a (Place q w) m) (Place q w) v r) (sym is) (λ n. place_timed g T a q w r n.owners (calm_pages (Place q w) answer.Done r (memory_after a (Place q w) m) n refl (λ row i. i) n.phased (omega arith) (λ b ne. refl)) may.1 may.2)
+  timed_step (Row q) calm x r may is actor = subst (λ v. After m (Row q) v r) (sym is.2) (λ n. read_timed (finished (learn (knows a) (Row q) (answer.Content is.0)) r) (calm_pages m n refl (λ row i. i) n.phased (omega arith) (λ b ne. refl)) refl refl (row_holds g T a q is.0 may.1 is.1) refl refl)
+  timed_step Epoch calm x r may is actor = subst (λ v. After m Epoch v r) (sym is) (λ n. epoch_timed g T a r n.owners (calm_pages m n refl (λ row i. i) n.phased (omega arith) (λ b ne. refl)))
+  timed_step (Announce c) calm x r may is actor = subst (λ v. After m (Announce c) v r) (sym is) (λ n. announce_timed g T a c r n.owners (calm_pages m n refl (λ row i. i) n.phased (omega arith) (λ b ne. refl)))
+  timed_step (Place q w) calm x r may is actor = subst (λ v. After (memory_after a (Place q w) m) (Place q w) v r) (sym is) (λ n. place_timed g T a q w r n.owners (calm_pages (memory_after a (Place q w) m) n refl (λ row i. i) n.phased (omega arith) (λ b ne. refl)) may.1 may.2)
   timed_step (Exchange p old new) calm x r may is actor = rw is (exchange p old new r may.1)
   timed_step (TakePid q) calm x r may is actor = rw is (takes_pid q r (m.free_pids q) refl)
   timed_step (TakeRow q) calm x r may is actor = rw is (takes_row q r (m.free_rows q) refl)
-  timed_step (Enter e) calm x r may is actor = λ n. enter_timed g T a e x r n.owners (calm_pages (Enter e) x r (memory_after a (Enter e) m) n refl (λ row i. i) n.phased (omega arith) (λ b ne. put_other m.announced a e b ne)) may.0 may.1 may.2 actor
-  timed_step Leave calm x r may is actor = subst (λ v. After (memory_after a Leave m) Leave v r) (sym is) (λ n. leave_timed g T a r n.owners (calm_pages Leave answer.Done r (memory_after a Leave m) n refl (λ row i. i) n.phased (omega arith) (λ b ne. put_other m.announced a 0 b ne)))
+  timed_step (Enter e) calm x r may is actor = λ n. enter_timed g T a e x r n.owners (calm_pages (memory_after a (Enter e) m) n refl (λ row i. i) n.phased (omega arith) (λ b ne. put_other m.announced a e b ne)) may.0 may.1 may.2 actor
+  timed_step Leave calm x r may is actor = subst (λ v. After (memory_after a Leave m) Leave v r) (sym is) (λ n. leave_timed g T a r n.owners (calm_pages (memory_after a Leave m) n refl (λ row i. i) n.phased (omega arith) (λ b ne. put_other m.announced a 0 b ne)))
   timed_step (Retire e) calm x r may is actor =
       let retired : (e : ℕ) → m.epoch ≤ (memory_after a (Retire e) m).epoch = λ e. by_equal m.epoch e (λ i t. rw t (omega arith)) (λ ne t. rw t (omega arith)) in
-      λ n. still_timed g T a (memory_after a (Retire e) m) n.owners (finished (knows a) r) (calm_pages (Retire e) x r (memory_after a (Retire e) m) n refl (λ row i. i) n.phased (retired e) (λ b ne. refl)) refl refl refl refl refl refl
+      λ n. still_timed (finished (knows a) r) (calm_pages (memory_after a (Retire e) m) n refl (λ row i. i) n.phased (retired e) (λ b ne. refl)) refl refl refl refl refl refl
   timed_step (ReusePids w b) calm x r may is actor = absurd (calm tt)
   timed_step (ReuseRows w b) calm x r may is actor = absurd (calm tt)
-  timed_step s calm x r may is actor = subst (λ v. After m s v r) (sym is.2) (λ n. still_timed g T a m n.owners (finished (learn (knows a) s (answer.Number is.0)) r) (calm_pages s (answer.Number is.0) r m n refl (λ row i. i) n.phased (omega arith) (λ b ne. refl)) refl refl refl refl refl refl)
+  timed_step s calm x r may is actor = subst (λ v. After m s v r) (sym is.2) (λ n. still_timed (finished (learn (knows a) s (answer.Number is.0)) r) (calm_pages m n refl (λ row i. i) n.phased (omega arith) (λ b ne. refl)) refl refl refl refl refl refl)

@@ -1,5 +1,5 @@
 -- What stays of the times, and of what each actor holds, at a step of one actor.
-use Rattle.tree_law.proofs.Words.{◌⊎◌, ap, Option, suc, None, List, true, inl, ◌≢◌, ◌≤◌, inr, subst, sym, ℕ, ◌≡◌, Bool, ◌∙◌, ◌<◌, arith, Some, same_Some, Limits, Memory, next_row}
+use Rattle.tree_law.proofs.Words.{◌⊎◌, ap, Option, suc, None, List, true, inl, ◌≢◌, ◌≤◌, inr, sym, ℕ, ◌≡◌, Bool, ◌∙◌, ◌<◌, arith, Some, same_Some, Limits, Memory, next_row}
 use Rattle.tree_law.proofs.Words.{Record, IsChainFrom, IsOwn, IsOwnBase, Knowledge, Ready, Gone, Unstamped, LimboMark, Absent, Stamped, Key, Linked, Owners, Reached, Spare, Cleared, put, slot_in}
 use Rattle.tree_law.proofs.Words.{Times, Timed, LimboFits, Outing, Holds, NamesSince, IsSince, HeldHead, HoldsBy}
 use Rattle.tree_law.specs.Times.{IsAnnounced}
@@ -10,44 +10,46 @@ abbrev pub IsLater : ℕ → ℕ → ℕ → Option Outing → Option Outing →
 IsLater now epoch who out out' = (out' ≡ out) ⊎ ((out ≡ None) × (out' ≡ Some (record { at = now; epoch = epoch; who = who })))
 
 pub since_later : (e now epoch who : ℕ) (out out' : Option Outing) → e ≤ now → IsLater now epoch who out out' → IsSince e out → IsSince e out'
-since_later e now epoch who out out' le (inl same) s = subst (IsSince e) (sym same) s
-since_later e now epoch who out out' le (inr f) s = subst (IsSince e) (sym f.1) le
+since_later e now epoch who out out' le (inl same) s = rw same s
+since_later e now epoch who out out' le (inr f) s = rw f.1 le
 
 pub none_since : (e : ℕ) (out : Option Outing) → out ≡ None → IsSince e out
-none_since e out i = subst (IsSince e) (sym i) tt
+none_since e out i = rw i tt
 
-pub names_later : (po po' : ℕ → Option Outing) (e : ℕ) → ((q : ℕ) → IsSince e (po q) → IsSince e (po' q)) → (c : List Record) → NamesSince po e c → NamesSince po' e c
-names_later po po' e f c n = record { right = λ q i. f q (n.right q i); items = λ l s i j v d. f _ (n.items l s i j v d) }
+pub names_later : {po po' : ℕ → Option Outing} {e : ℕ} → ((q : ℕ) → IsSince e (po q) → IsSince e (po' q)) → (c : List Record) → NamesSince po e c → NamesSince po' e c
+names_later {po} {po'} {e} f c n = record { right = λ q i. f q (n.right q i); items = λ l s i j v d. f _ (n.items l s i j v d) }
 
-pub head_later : (rows rows' : ℕ → Option Record) (po po' : ℕ → Option Outing) (e : ℕ) (learnt : ℕ → Bool) (p x : ℕ) → ((q : ℕ) → IsSince e (po q) → IsSince e (po' q)) → ((c : List Record) → IsChainFrom rows x c → IsChainFrom rows' x c) → HeldHead rows po e learnt p x → HeldHead rows' po' e learnt p x
-head_later rows rows' po po' e learnt p x f k h = record { learnt_row = h.learnt_row; page = f p h.page; chain = h.chain; is_chain = k h.chain h.is_chain; names = λ i. names_later po po' e f h.chain (h.names i) }
+pub head_later : {rows rows' : ℕ → Option Record} {po po' : ℕ → Option Outing} {e : ℕ} {learnt : ℕ → Bool} {p x : ℕ} → ((q : ℕ) → IsSince e (po q) → IsSince e (po' q))
+    → ((c : List Record) → IsChainFrom rows x c → IsChainFrom rows' x c) → HeldHead rows po e learnt p x → HeldHead rows' po' e learnt p x
+head_later {rows} {rows'} {po} {po'} {e} {learnt} {p} {x} f k h = record { learnt_row = h.learnt_row; page = f p h.page; chain = h.chain; is_chain = k h.chain h.is_chain; names = λ i. names_later f h.chain (h.names i) }
 
 -- one more name
-pub head_more : (rows : ℕ → Option Record) (po : ℕ → Option Outing) (e : ℕ) (learnt learnt' : ℕ → Bool) (p x : ℕ) → ((r : ℕ) → learnt r ≡ true → learnt' r ≡ true) → HeldHead rows po e learnt p x → HeldHead rows po e learnt' p x
-head_more rows po e learnt learnt' p x f h = record { learnt_row = f x h.learnt_row; page = h.page; chain = h.chain; is_chain = h.is_chain; names = h.names }
+pub head_more : {rows : ℕ → Option Record} {po : ℕ → Option Outing} {e : ℕ} {learnt learnt' : ℕ → Bool} {p x : ℕ} → ((r : ℕ) → learnt r ≡ true → learnt' r ≡ true) → HeldHead rows po e learnt p x → HeldHead rows po e learnt' p x
+head_more {rows} {po} {e} {learnt} {learnt'} {p} {x} f h = record { learnt_row = f x h.learnt_row; page = h.page; chain = h.chain; is_chain = h.is_chain; names = h.names }
 
-pub holds_later : (rows rows' : ℕ → Option Record) (ro ro' po po' : ℕ → Option Outing) (e : ℕ) (inside : Bool) (seen : ℕ → Option Record) (learnt roots : ℕ → Bool) (heads : ℕ → Option ℕ) (before : ℕ → ℕ → Option ℕ) (linked : Option (Option ℕ))
+pub holds_later : {rows rows' : ℕ → Option Record} {ro ro' po po' : ℕ → Option Outing} {e : ℕ} {inside : Bool} {seen : ℕ → Option Record} {learnt roots : ℕ → Bool} {heads : ℕ → Option ℕ} {before : ℕ → ℕ → Option ℕ} {linked : Option (Option ℕ)}
     → (inside ≡ true → (r : ℕ) → IsSince e (ro r) → IsSince e (ro' r)) → (inside ≡ true → (q : ℕ) → IsSince e (po q) → IsSince e (po' q)) → ((x : ℕ) (c : List Record) → learnt x ≡ true → IsChainFrom rows x c → IsChainFrom rows' x c)
     → Holds rows ro po e inside seen learnt roots heads before linked → Holds rows' ro' po' e inside seen learnt roots heads before linked
-holds_later rows rows' ro ro' po po' e inside seen learnt roots heads before linked f g k h = record {
+holds_later {rows} {rows'} {ro} {ro'} {po} {po'} {e} {inside} {seen} {learnt} {roots} {heads} {before} {linked} f g k h = record {
   learnt_inside = h.learnt_inside;
   learnt_since = λ r i. f (h.learnt_inside r i) r (h.learnt_since r i);
   seen_learnt = h.seen_learnt;
   roots_inside = h.roots_inside;
   roots_since = λ p i. g (h.roots_inside p i) p (h.roots_since p i);
-  heads_since = λ p x i. let d = h.heads_since p x i in head_later rows rows' po po' e learnt p x (g (h.learnt_inside x d.learnt_row)) (λ c. k x c d.learnt_row) d;
-  before_since = λ p q x i. let d = h.before_since p q x i in head_later rows rows' po po' e learnt q x (g (h.learnt_inside x d.learnt_row)) (λ c. k x c d.learnt_row) d;
+  heads_since = λ p x i. let d = h.heads_since p x i in head_later (g (h.learnt_inside x d.learnt_row)) (λ c. k x c d.learnt_row) d;
+  before_since = λ p q x i. let d = h.before_since p q x i in head_later (g (h.learnt_inside x d.learnt_row)) (λ c. k x c d.learnt_row) d;
   beside_since = λ p q y x i j. let d = h.beside_since p q y x i j in record {
     chain = d.chain;
     is_chain = k x d.chain (h.before_since p q x j).learnt_row d.is_chain;
     left = d.left;
     is_left = k y d.left (h.heads_since p y i).learnt_row d.is_left;
-    since = λ gone alive right. names_later po po' e (g (h.learnt_inside x (h.before_since p q x j).learnt_row)) d.chain (d.since gone alive right);
+    since = λ gone alive right. names_later (g (h.learnt_inside x (h.before_since p q x j).learnt_row)) d.chain (d.since gone alive right);
   };
   linked_learnt = h.linked_learnt;
 }
 
-pub limbo_later : (b now : ℕ) (inside inside' : ℕ → Bool) (entered entered' : ℕ → ℕ) (out out' : Option Outing) (l : LimboMark) → ((w : Outing) → out ≡ Some w → (out' ≡ Some w) × (w.at < now)) → ((c u : ℕ) → u < now → (inside c ≡ true → u < entered c) → inside' c ≡ true → u < entered' c)
+pub limbo_later : (b now : ℕ) (inside inside' : ℕ → Bool) (entered entered' : ℕ → ℕ) (out out' : Option Outing) (l : LimboMark)
+    → ((w : Outing) → out ≡ Some w → (out' ≡ Some w) × (w.at < now)) → ((c u : ℕ) → u < now → (inside c ≡ true → u < entered c) → inside' c ≡ true → u < entered' c)
     → LimboFits b inside entered out l → LimboFits b inside' entered' out' l
 limbo_later b now inside inside' entered entered' out out' Absent f g h = tt
 limbo_later b now inside inside' entered entered' out out' Unstamped f g h = (h.0, (f h.0 h.1).0, h.2)
@@ -62,7 +64,8 @@ pub out_was : (now epoch who : ℕ) (out out' : Option Outing) (w : Outing) → 
 out_was now epoch who out out' w (inl same) e = inl (sym same ∙ e)
 out_was now epoch who out out' w (inr f) e = let i : record { at = now; epoch = epoch; who = who } ≡ w = same_Some (record { at = now; epoch = epoch; who = who }) w (sym f.1 ∙ e) in inr (f.0, sym (ap (λ v. v.at) i), sym (ap (λ v. v.epoch) i), sym (ap (λ v. v.who) i))
 
-pub announced_later : (t t' : Times) (epoch epoch' an an' now a e : ℕ) → epoch ≤ epoch' → an' ≡ an → ((r : ℕ) → IsLater now epoch a (t.row_out r) (t'.row_out r)) → ((p : ℕ) → IsLater now epoch a (t.page_out p) (t'.page_out p)) → IsAnnounced t epoch an now e → IsAnnounced t' epoch' an' (suc now) e
+pub announced_later : (t t' : Times) (epoch epoch' an an' now a e : ℕ) → epoch ≤ epoch' → an' ≡ an → ((r : ℕ) → IsLater now epoch a (t.row_out r) (t'.row_out r))
+    → ((p : ℕ) → IsLater now epoch a (t.page_out p) (t'.page_out p)) → IsAnnounced t epoch an now e → IsAnnounced t' epoch' an' (suc now) e
 announced_later t t' epoch epoch' an an' now a e le same rows pages h = record {
   some = rw same h.some;
   old = rw same (let i = h.old in omega arith);
@@ -122,7 +125,7 @@ module _ {limits : Limits} {m : Memory} {o : Owners} {knows : ℕ → Knowledge}
 
   -- what an actor held it still holds
   pub held_later : (b : ℕ) → HoldsBy m'.rows t'.row_out t'.page_out (t.entered b) (knows b)
-  held_later b = holds_later m.rows m'.rows t.row_out t'.row_out t.page_out t'.page_out (t.entered b) (knows b).inside (knows b).read.seen (knows b).read.learnt (knows b).read.roots (knows b).read.heads (knows b).read.before (knows b).asked.linked
+  held_later b = holds_later
       (λ i r. since_later (t.entered b) now m.epoch a (t.row_out r) (t'.row_out r) (let p = (T.announced b i).past in omega arith) (n.rows_later r))
       (λ i p. since_later (t.entered b) now m.epoch a (t.page_out p) (t'.page_out p) (let q = (T.announced b i).past in omega arith) (n.pages_later p))
       (λ x c e. n.chains x c (linked b x e))

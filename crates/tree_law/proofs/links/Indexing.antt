@@ -31,11 +31,11 @@ module _ {m : Shared} {log : List Update} {o : Owners} {knows : ℕ → Knowledg
       let same : (key : Key) → Covers c key → content_in c key ≡ o.index lv key = λ key cv. place.is_page.same key cv ∙ ap (λ n. spec log o.index n key) level in
       relink_one g a p x y c f place alive s w placed place.stage (omega arith) place.on (put o.page q n) index' (put_other o.page q n p (λ i. apart (sym i)) ∙ place.placed)
       (λ j ne. by_equal j q (λ i t. rw (t, i) move) (λ i t. rw t (stay refl)))
-      (exact_moved o.page o.index g.tree.top m.root q lv sep st n v e (let i = g.tree.exact.below p (level_in c) (low_in c) place.stage place.placed in omega arith) had fits full clears g.tree.exact)
+      (exact_moved q lv sep st n v e (let i = g.tree.exact.below p (level_in c) (low_in c) place.stage place.placed in omega arith) had fits full clears g.tree.exact)
       (rw next f.linked) c (rw next f.stands)
       wl wlow wright whigh (wrem ∙ place.flagged)
       log
-      (λ key cv. rw level (finds key ∙ by_key key sep (λ t. cond t v (content_in c key) ≡ cond t v (o.index lv key)) (λ j. refl) (λ j. same key cv) ∙ sym (ap (λ (f : Key → Option ContentOf). f key) (put_same o.index lv (put_key (o.index lv) sep v)))))
+      (λ key cv. rw (level, finds key, put_same o.index lv (put_key (o.index lv) sep v)) (by_key key sep (λ j t. rw t) (λ j t. rw t (same key cv))))
       outside
       k learned rows pages read
       (point a) (rw linked (mine g a).linked_fits) r
@@ -57,7 +57,8 @@ module _ {m : Shared} {log : List Update} {o : Owners} {knows : ℕ → Knowledg
   term_goes : (p x y : ℕ) (basis : HasRead (knows a) p x) (s : m.slots p ≡ Some x) → (w : Record) → (knows a).own.rows y ≡ Written w
       → (lv : ℕ) (sep : Key) (q : ℕ) → level_in basis.chain ≡ suc lv → Covers basis.chain sep → (from to : Stage) → o.page q ≡ Placed from lv sep → content_in basis.chain sep ≡ mark from q
       → (v : ContentOf) → mark to q ≡ Some v → rank from ≤ rank to → rank to ≤ 3 → stage_removed from ≡ stage_removed to → rank_of v ≤ rank to
-      → next_row w ≡ Some x → level_in (w ∷ basis.chain) ≡ level_in basis.chain → low_in (w ∷ basis.chain) ≡ low_in basis.chain → right_in (w ∷ basis.chain) ≡ right_in basis.chain → high_in (w ∷ basis.chain) ≡ high_in basis.chain → is_removed (w ∷ basis.chain) ≡ is_removed basis.chain
+      → next_row w ≡ Some x → level_in (w ∷ basis.chain) ≡ level_in basis.chain → low_in (w ∷ basis.chain) ≡ low_in basis.chain → right_in (w ∷ basis.chain) ≡ right_in basis.chain
+      → high_in (w ∷ basis.chain) ≡ high_in basis.chain → is_removed (w ∷ basis.chain) ≡ is_removed basis.chain
       → ((k : Key) → content_in (w ∷ basis.chain) k ≡ cond (is_eq (key_cmp k sep)) (Some v) (content_in basis.chain k)) → linked_over (Written w) x y (knows a) ≡ handed_over y (knows a) → (r : Option Reply)
       → LinkedTree g a p x y r log (record { row = put o.row y Linked; page = put o.page q (Placed to lv sep); index = put o.index lv (put_key (o.index lv) sep (Some v)) }) (point a)
   term_goes p x y basis s w placed lv sep q level covers from to was has v marks le on flag high next wl wlow wright whigh wrem finds learned r =
@@ -193,11 +194,12 @@ module _ {m : Shared} {log : List Update} {o : Owners} {knows : ℕ → Knowledg
       -- the page's slot is not empty
       there : IsSome (put m.slots p (Some y) q)
       there = by_equal q p (λ e t. rw t)
-          (λ ne t. rw t (elim (g.tree.off q lv sep (inl was)) [ inl u ↦ absurd (let v = sym was ∙ u.1.3 in cc) | inr u ↦ rw u.head refl ]))
+          (λ ne t. rw t (elim (g.tree.off q lv sep (inl was)) [ inl u ↦ absurd (let v = sym was ∙ u.1.3 in cc) | inr u ↦ rw u.head ]))
 
-      guard : (f' x' : ℕ) (c' : List Record) → o.row x' ≡ Linked → IsChain m.rows c' (Some x') → Reached 0 (level_in c') (low_in c') (o.page f') → is_removed c' ≡ false → level_in c' ≡ suc lv → Covers c' sep → m.slots f' ≡ Some x' → put m.slots p (Some y) f' ≡ Some x' → ⊥
+      guard : (f' x' : ℕ) (c' : List Record) → o.row x' ≡ Linked → IsChain m.rows c' (Some x') → Reached 0 (level_in c') (low_in c') (o.page f') → is_removed c' ≡ false
+          → level_in c' ≡ suc lv → Covers c' sep → m.slots f' ≡ Some x' → put m.slots p (Some y) f' ≡ Some x' → ⊥
       guard f' x' c' l' ch' r' n' e' v' s' now =
           let i : level_in c' ≡ level_in c = e' ∙ sym h.level in
           let there = rw i at (alive_place g a f' (level_in c') (low_in c') r' x' s' c' ch' n') in
-          let same : p ≡ f' = same_page o m (level_in c) (spec log o.index (level_in c)) (g.tree.first (level_in c)) (g.tree.levels (level_in c) (g.tree.exact.below p (level_in c) (low_in c) place.stage place.placed)) (record { page = p; row = x; chain = c }) (record { page = f'; row = x'; chain = c' }) place there sep (covers_from c sep h.covers) v' in
+          let same : p ≡ f' = same_page (g.tree.levels (level_in c) (g.tree.exact.below p (level_in c) (low_in c) place.stage place.placed)) (record { page = p; row = x; chain = c }) (record { page = f'; row = x'; chain = c' }) place there sep (covers_from c sep h.covers) v' in
           absurd (let u = sym (owned_row g a y _ written).0 ∙ ap o.row (same_Some y x' (sym (put_same m.slots p (Some y)) ∙ ap (put m.slots p (Some y)) same ∙ now)) ∙ l' in cc)

@@ -40,13 +40,13 @@ module _ {m : Shared} {log : List Update} {o : Owners} {knows : ℕ → Knowledg
         tree = tree;
         owns = λ b. by_equal b a
             (λ e t. rw (t, e) own)
-            (λ ne t. rw t (owns_spared b o o' m m' (spared_change a b o o' m m' ne change) (knows b).own.rows (g.owns b)));
+            (λ ne t. rw t (owns_spared (spared_change ne change) (knows b).own.rows (g.owns b)));
         owns_pages = λ b. by_equal b a
             (λ e t. rw (t, e) pages)
-            (λ ne t. rw t (pages_spared b o o' m m' (spared_change a b o o' m m' ne change) (knows b).own.pages (g.owns_pages b)));
+            (λ ne t. rw t (pages_spared (spared_change ne change) (knows b).own.pages (g.owns_pages b)));
         sound = λ b. by_equal b a
             (λ e t. rw t kn)
-            (λ ne t. rw t (knows_kept o o' m m' g.closed (kept_change a o o' m m' change) (knows b).read.seen (knows b).read.learnt (knows b).read.roots (knows b).read.heads (knows b).read.before (knows b).asked.linked (point b) (logs b) (g.sound b)));
+            (λ ne t. rw t (knows_kept g.closed (kept_change change) (g.sound b)));
       }
 
   -- a step that leaves memory and log
@@ -55,11 +55,11 @@ module _ {m : Shared} {log : List Update} {o : Owners} {knows : ℕ → Knowledg
   quiet k p s own pages kn = put_tree m log o k p s (change_none a o m) g.frees g.closed g.tree own pages kn
 
   pub mine : KnowsBy o m (knows a) (point a) (log ∷ logs a)
-  mine = knows_more o m (knows a).read.seen (knows a).read.learnt (knows a).read.roots (knows a).read.heads (knows a).read.before (knows a).asked.linked (point a) (logs a) log (g.sound a)
+  mine = knows_more log (g.sound a)
 
   -- what the actor knows stays so at a step of its own
   pub mine_at : (o' : Owners) (m' : Shared) → Kept o o' m m' → KnowsBy o' m' (knows a) (point a) (log ∷ logs a)
-  mine_at o' m' kept = knows_kept o o' m m' g.closed kept (knows a).read.seen (knows a).read.learnt (knows a).read.roots (knows a).read.heads (knows a).read.before (knows a).asked.linked (point a) (log ∷ logs a) mine
+  mine_at o' m' kept = knows_kept g.closed kept mine
 
   pub begins : (c : Command) → IsTree m log o (put knows a (begun (knows a) c)) (put point a None) (put logs a [])
   begins c = quiet (begun (knows a) c) None [] (g.owns a) (g.owns_pages a) (record { seen_fits = mine.seen_fits; learnt_fits = mine.learnt_fits; roots_fit = mine.roots_fit; heads_fit = λ p. tt; orders_fit = λ p f. tt; linked_fits = refl })
@@ -87,7 +87,7 @@ module _ {m : Shared} {log : List Update} {o : Owners} {knows : ℕ → Knowledg
   alive_place p l s r y sy d h nd =
       elim (reached_placed 0 l s (o.page p) r) [
         | inl u ↦ elim (on_or_merged u.0) [
-          | inl on ↦ let e = (in_level_as o m l (spec log o.index l) (g.tree.first l) (g.tree.levels l (g.tree.exact.below p l s u.0 u.1)) p s u.0 u.1 on y sy d h).place in
+          | inl on ↦ let e = (in_level_as (g.tree.levels l (g.tree.exact.below p l s u.0 u.1)) p s u.0 u.1 on y sy d h).place in
               rw e.is_page.on_level e
           | inr e ↦ off (inl (u.1 ∙ ap (λ st. Placed st l s) e))
         ]
@@ -141,7 +141,7 @@ module _ {m : Shared} {log : List Update} {o : Owners} {knows : ℕ → Knowledg
   -- what a page on its side chain names
   pub place_names : (p : SidePage) → (e : InPlace o m (level_in p.chain) (spec log o.index (level_in p.chain)) p) → ChainNames o p.chain
   place_names p e = record {
-    right = λ q i. let n = right_page o m (level_in p.chain) (spec log o.index (level_in p.chain)) (g.tree.first (level_in p.chain)) (g.tree.levels (level_in p.chain) (g.tree.exact.below p.page (level_in p.chain) (low_in p.chain) e.stage e.placed)) p e q i in
+    right = λ q i. let n = right_page (g.tree.levels (level_in p.chain) (g.tree.exact.below p.page (level_in p.chain) (low_in p.chain) e.stage e.placed)) p e q i in
         (low_in n.0.chain, n.2, placed_reached (level_in p.chain) (low_in n.0.chain) n.3.stage (o.page q) (ap o.page (sym n.1) ∙ n.3.placed));
     items = λ l s i at v d.
         let n = (g.tree.exact.named l s i (sym (e.is_page.same s v ∙ ap (λ n. spec log o.index n s) at) ∙ d)).1 in
@@ -149,16 +149,17 @@ module _ {m : Shared} {log : List Update} {o : Owners} {knows : ℕ → Knowledg
   }
 
   -- a removed page that was read and stands right of a page is on its side chain, with the chain that was read
-  pub beyond_place : (p x : ℕ) → m.slots p ≡ Some x → (d : List Record) → IsChain m.rows d (Some x) → Reached 0 (level_in d) (low_in d) (o.page p) → is_removed d ≡ false → (f z : ℕ) → right_in d ≡ Some f → (knows a).read.heads f ≡ Some z → (c : List Record) → IsChain m.rows c (Some z) → is_removed c ≡ true
+  pub beyond_place : (p x : ℕ) → m.slots p ≡ Some x → (d : List Record) → IsChain m.rows d (Some x) → Reached 0 (level_in d) (low_in d) (o.page p) → is_removed d ≡ false → (f z : ℕ)
+      → right_in d ≡ Some f → (knows a).read.heads f ≡ Some z → (c : List Record) → IsChain m.rows c (Some z) → is_removed c ≡ true
       → OnSide f z c
   beyond_place p x sx d id e nd f z i ez c ic rc =
       let h = rw ez at (mine.heads_fit f) in
       let w = alive_place p (level_in d) (low_in d) e x sx d id nd in
       let on = g.tree.levels (level_in d) (g.tree.exact.below p (level_in d) (low_in d) w.stage w.placed) in
-      let n = right_page o m (level_in d) (spec log o.index (level_in d)) (g.tree.first (level_in d)) on (record { page = p; row = x; chain = d }) w f i in
+      let n = right_page on (record { page = p; row = x; chain = d }) w f i in
       let same : h.2.chain ≡ c = chain_unique m.rows h.2.chain c (Some z) h.2.is_chain ic in
       let slot : m.slots f ≡ Some z = elim (h.4 (ap is_removed same ∙ rc)) [ inl u ↦ u | inr u ↦ absurd (cc (n.3.placed, n.1, u.1.3)) ] in
-      let r = (in_level_as o m (level_in d) (spec log o.index (level_in d)) (g.tree.first (level_in d)) on f (low_in n.0.chain) n.3.stage (ap o.page (sym n.1) ∙ n.3.placed) n.3.on z slot c ic).place in
+      let r = (in_level_as on f (low_in n.0.chain) n.3.stage (ap o.page (sym n.1) ∙ n.3.placed) n.3.on z slot c ic).place in
       rw r.is_page.on_level r
 
   -- what that page names, once both were read
@@ -193,8 +194,8 @@ module _ {m : Shared} {log : List Update} {o : Owners} {knows : ℕ → Knowledg
 
   pub off_still : (o' : Owners) (m' : Shared) → Kept o o' m m' → (q l : ℕ) (k : Key) → m'.slots q ≡ m.slots q → IsOut (o.page q) (m.slots q) ⊎ Off o m q l k → IsOut (o'.page q) (m'.slots q) ⊎ Off o' m' q l k
   off_still o' m' kept q l k s (inl e) = inl (s ∙ e.0, cleared_forward (o.page q) (o'.page q) (kept.page q) e.1)
-  off_still o' m' kept q l k s (inr w) = inr (record { row = w.row; chain = w.chain; head = s ∙ w.head; linked = (kept.row w.row w.linked).0; is_chain = chain_kept o o' m m' g.closed kept w.chain (Some w.row) w.linked w.is_chain; flagged = w.flagged; level = w.level; low = w.low })
+  off_still o' m' kept q l k s (inr w) = inr (record { row = w.row; chain = w.chain; head = s ∙ w.head; linked = (kept.row w.row w.linked).0; is_chain = chain_kept g.closed kept w.chain (Some w.row) w.linked w.is_chain; flagged = w.flagged; level = w.level; low = w.low })
 
   -- at a step that touches no slot and no page
   pub tree_at : (row : ℕ → Owner) (m' : Shared) → Kept o (record o { row = row }) m m' → m'.slots ≡ m.slots → m'.root ≡ m.root → HasLevels (record o { row = row }) m' log
-  tree_at row m' kept s e = tree_kept o (record o { row = row }) m m' log g.closed kept (λ q l k st i on. (ap (λ f. f q) s, (st, i, on, refl))) e refl (λ p l k st i on. (st, i, on)) g.tree (rw e g.tree.exact) (λ q l k i. off_still (record o { row = row }) m' kept q l k (ap (λ f. f q) s) (g.tree.off q l k i))
+  tree_at row m' kept s e = tree_kept log g.closed kept (λ q l k st i on. (ap (λ f. f q) s, (st, i, on, refl))) e refl (λ p l k st i on. (st, i, on)) g.tree (rw e g.tree.exact) (λ q l k i. off_still (record o { row = row }) m' kept q l k (ap (λ f. f q) s) (g.tree.off q l k i))

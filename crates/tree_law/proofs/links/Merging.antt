@@ -1,8 +1,7 @@
 -- The exchanges that merge a removed page into its left one, and that clear a merged page's slot.
-use Rattle.tree_law.proofs.Words.{◌⊎◌, ap, refl, cond, Option, None, List, true, inl, ◌≢◌, ◌≤◌, inr, ◌∷◌, subst, sym, ℕ, ◌≡◌, ◌∙◌, arith, Some, same_Some, IsSome, Update, Reply, content_at}
-use Rattle.tree_law.proofs.Words.{Record, Merge, content_in, right_in, low_in, is_removed, level_in, high_in, HasRead, MayMerge, Knowledge, finished, Foreign, Gone, Written, filled}
-use Rattle.tree_law.proofs.Words.{emptied, handed_over, Key, IsBelow, Covers, Linked, Owners, Spare, IsOut, OwnFits, IsChain, Placed, PageOwner, Cleared}
-use Rattle.tree_law.proofs.Words.{rank, Removed, Merged, Stage, stage_removed, put, Shared, IsTree, spec, IsOff, SidePage, InPlace}
+use Rattle.tree_law.proofs.Words.{◌⊎◌, ap, refl, Option, None, List, true, inl, ◌≢◌, ◌≤◌, inr, ◌∷◌, subst, sym, ℕ, ◌≡◌, ◌∙◌, arith, Some, same_Some, IsSome, Update, Reply, Record, Merge, right_in}
+use Rattle.tree_law.proofs.Words.{low_in, is_removed, level_in, high_in, HasRead, MayMerge, Knowledge, finished, Foreign, Gone, Written, filled, emptied, handed_over, Key, IsBelow, Covers, Linked}
+use Rattle.tree_law.proofs.Words.{Owners, Spare, IsOut, OwnFits, IsChain, Placed, PageOwner, Cleared, rank, Removed, Merged, Stage, stage_removed, put, Shared, IsTree, spec, IsOff, SidePage, InPlace}
 use Rattle.chain_search.specs.discipline.Knowledge.{cleared}
 use Rattle.tree_law.proofs.shape.{not_below, upto_same, under_trans, by_range, covers_to, by_equal, put_same, put_other, put_all, chain_unique, chain_kept, in_level_as, one_chain, right_page}
 use Rattle.tree_law.proofs.shape.{tree_kept, tree_merged, placed_level, exact_going, row_own, row_same, page_same, page_stage, page_link, page_gone, Change, kept_change}
@@ -13,19 +12,20 @@ use Rattle.tree_law.proofs.links.Updating.{below_top}
 use Rattle.tree_law.proofs.shape.Kept.{Kept}
 
 module _ {m : Shared} {log : List Update} {o : Owners} {knows : ℕ → Knowledge} {point : ℕ → Option (List Update)} {logs : ℕ → List (List Update)} (g : IsTree m log o knows point logs) (a : ℕ) where
-  pub clears : (p x : ℕ) → m.slots p ≡ Some x → (knows a).own.pages p ≡ Gone → (r : Option Reply) → IsTree (record m { slots = put m.slots p None }) log o (put knows a (finished (emptied ((knows a).own.pages p) p x (knows a)) r)) (put point a (point a)) (put logs a (log ∷ logs a))
+  pub clears : (p x : ℕ) → m.slots p ≡ Some x → (knows a).own.pages p ≡ Gone → (r : Option Reply)
+      → IsTree (record m { slots = put m.slots p None }) log o (put knows a (finished (emptied ((knows a).own.pages p) p x (knows a)) r)) (put point a (point a)) (put logs a (log ∷ logs a))
   clears p x s own r =
       let was : (l : ℕ) × (k : Key) × (o.page p ≡ Cleared a l k) × IsSome (m.slots p) = rw own at (g.owns_pages a p) in
       let m' : Shared = record m { slots = put m.slots p None } in
       let change : Change a o o m m' =
       record { row = λ j. row_same refl refl; page = λ j. by_equal j p (λ e t. rw t (page_gone was.0 was.1 (ap o.page e ∙ was.2) (ap o.page e ∙ was.2) refl)) (λ e t. rw t (page_same refl refl)) } in
-      let kept : Kept o o m m' = kept_change a o o m m' change in
-      subst (λ (k : Knowledge). IsTree m' log o (put knows a (finished k r)) (put point a (point a)) (put logs a (log ∷ logs a))) (sym (rw own refl))
+      let kept : Kept o o m m' = kept_change change in
+      subst (λ (k : Knowledge). IsTree m' log o (put knows a (finished k r)) (put point a (point a)) (put logs a (log ∷ logs a))) (sym (rw own))
       (put_tree g a m' log o (finished k r) (point a) (log ∷ logs a)
       change
       (record { row = g.frees.row; page = λ j h. let f = g.frees.page j h in (f.0, put_other m.slots p None j (λ e. absurd (cc (f.0, was.2))) ∙ f.1) })
-      (closed_kept o o m m' kept g.closed (λ j l. inl l))
-      (tree_kept o o m m' log g.closed kept (λ j l k st e on. (put_other m.slots p None j (λ i. absurd (cc was.2)), (st, e, on, refl))) refl refl (λ j l k st e on. (st, e, on)) g.tree g.tree.exact
+      (closed_kept kept g.closed (λ j l. inl l))
+      (tree_kept log g.closed kept (λ j l k st e on. (put_other m.slots p None j (λ i. absurd (cc was.2)), (st, e, on, refl))) refl refl (λ j l k st e on. (st, e, on)) g.tree g.tree.exact
       (λ j l k i. by_equal j p (λ e t. rw t (inl (refl, (a, was.0, was.1, ap o.page e ∙ was.2))))
       (λ ne t. rw t (rw (put_other m.slots p None j ne) at (off_still g a o m' kept j l k (put_other m.slots p None j ne) (g.tree.off j l k i))))))
       (g.owns a)
@@ -42,7 +42,9 @@ module _ {m : Shared} {log : List Update} {o : Owners} {knows : ℕ → Knowledg
       f.4 (ap is_removed (chain_unique m.rows f.2.chain c (Some x) f.2.is_chain (chain_stands o m (knows a).read.seen (mine g a).seen_fits c (Some x) h)) ∙ n)
 
   -- the exchange that merges a page's right into it
-  pub merges : (p x y : ℕ) → m.slots p ≡ Some x → (basis : HasRead (knows a) p x) (content : Record) → (knows a).own.rows y ≡ Written content → (h : MayMerge (knows a) x basis.chain content) → (r : Option Reply) → LinkedTree g a p x y r log (record { row = put o.row y Linked; page = put o.page h.other (Placed Merged (level_in basis.chain) (low_in h.merged)); index = o.index }) (point a) × (o.page h.other ≡ Placed Removed (level_in basis.chain) (low_in h.merged))
+  pub merges : (p x y : ℕ) → m.slots p ≡ Some x → (basis : HasRead (knows a) p x) (content : Record) → (knows a).own.rows y ≡ Written content → (h : MayMerge (knows a) x basis.chain content)
+      → (r : Option Reply)
+      → LinkedTree g a p x y r log (record { row = put o.row y Linked; page = put o.page h.other (Placed Merged (level_in basis.chain) (low_in h.merged)); index = o.index }) (point a) × (o.page h.other ≡ Placed Removed (level_in basis.chain) (low_in h.merged))
   merges p x y s basis content written h r =
       let learned : filled ((knows a).own.pages p) p x y (knows a) ≡ handed_over y (knows a) =
       rw (not_own g a p lv (low_in c) place.stage place.placed ((knows a).own.pages p) (g.owns_pages a p), (written ∙ ap Written h.is)) refl in
@@ -54,17 +56,17 @@ module _ {m : Shared} {log : List Update} {o : Owners} {knows : ℕ → Knowledg
             (λ i t. rw t (page_link place.stage place.stage lv (low_in c) (ap o.page i ∙ place.placed) (ap o.page i ∙ place.placed) (omega arith) x y c (ap m.slots i ∙ s) f.stands basis.alive refl fits.0))
             (λ i t. rw t (page_same refl refl))));
       } in
-      let kept : Kept o o' m m' = kept_change a o o' m m' change in (
+      let kept : Kept o o' m m' = kept_change change in (
         rw learned (put_tree g a m' log o' (finished (handed_over y (knows a)) r) (point a) (log ∷ logs a)
             change
             (record {
               row = λ j f. put_other o.row y Linked j (λ i. absurd (cc (g.frees.row j f, fits.0))) ∙ g.frees.row j f;
               page = λ j n. let v = g.frees.page j n in (put_other o.page q gone j (λ i. absurd (let z = sym v.0 ∙ ap o.page i ∙ was in cc)) ∙ v.0, put_other m.slots p (Some y) j (λ i. absurd (cc (v.0, place.placed))) ∙ v.1);
             })
-            (closed_kept o o' m m' kept g.closed (λ j. by_equal j y
+            (closed_kept kept g.closed (λ j. by_equal j y
             (λ i t. rw t λ l. inr (rw i (record { linked = put_same o.row y Linked; content = w; stands = fits.1; next = (kept.row x f.linked).0; rest = c; is_rest = f.stands })))
             (λ i t. rw t λ l. inl l)))
-            (tree_merged o o' m m' log g.closed kept g.tree p lv (low_in c) q sq place.stage Removed place.placed place.on was above
+            (tree_merged log g.closed kept g.tree p lv (low_in c) q sq place.stage Removed place.placed place.on was above
             (λ j l k st np nq e on. (put_other m.slots p (Some y) j np, (st, put_other o.page q gone j nq ∙ e, on, refl))) refl refl
             (record { page = p; row = y; chain = w ∷ c }) refl
             (λ g1 k h1 e1 hk rk.
@@ -74,9 +76,9 @@ module _ {m : Shared} {log : List Update} {o : Owners} {knows : ℕ → Knowledg
             (λ g1 h1 e1. ap right_in (one_chain o m lv (spec log o.index lv) (spec log o.index lv) here g1 place h1 e1) ∙ h.right)
             (λ j l k st. by_equal j q
             (λ i t. rw t λ e on. absurd (let z : Merged ≡ st = cc in let u = ap rank z in omega arith)) (λ i t. rw t λ e on. ((λ z. i z), (st, e, on))))
-            (exact_going o.page o.index g.tree.top m.root q lv sq Removed Merged was (below_top g a q lv sq Removed was (omega arith)) refl g.tree.exact)
+            (exact_going q lv sq Removed Merged was (below_top g a q lv sq Removed was (omega arith)) refl g.tree.exact)
             (λ j l k. by_equal j q
-            (λ i t. rw t λ e. let z = at_off l k e in inr (record { row = h.row; chain = d; head = put_other m.slots p (Some y) j (λ u. apart (sym i ∙ u)) ∙ ap m.slots i ∙ slot; linked = (kept.row h.row fd.linked).0; is_chain = chain_kept o o' m m' g.closed kept d (Some h.row) fd.linked fd.stands; flagged = h.gone; level = level ∙ z.0; low = z.1 }))
+            (λ i t. rw t λ e. let z = at_off l k e in inr (record { row = h.row; chain = d; head = put_other m.slots p (Some y) j (λ u. apart (sym i ∙ u)) ∙ ap m.slots i ∙ slot; linked = (kept.row h.row fd.linked).0; is_chain = chain_kept g.closed kept d (Some h.row) fd.linked fd.stands; flagged = h.gone; level = level ∙ z.0; low = z.1 }))
             (λ i t e. let was = rw t at e in off_still g a o' m' kept j l k (put_other m.slots p (Some y) j (λ u. not_off place.stage lv (low_in c) l k place.on (rw (ap o.page u ∙ place.placed) at was))) (g.tree.off j l k was))))
             (put_all (λ j v. OwnFits a (o'.row j) (m.rows j) v) (knows a).own.rows y Foreign tt (λ j ne. rw (put_other o.row y Linked j ne) (g.owns a j)))
             (λ j. by_equal j q
@@ -116,13 +118,13 @@ module _ {m : Shared} {log : List Update} {o : Owners} {knows : ℕ → Knowledg
       fd = found_as g a q h.row h.head d h.read
 
       next : (k : SidePage) × (k.page ≡ q) × (high_in c ≡ Some (low_in k.chain)) × InPlace o m lv (spec log o.index lv) k
-      next = right_page o m lv (spec log o.index lv) (g.tree.first lv) (g.tree.levels lv (g.tree.exact.below p lv (low_in c) place.stage place.placed)) here place q h.right
+      next = right_page (g.tree.levels lv (g.tree.exact.below p lv (low_in c) place.stage place.placed)) here place q h.right
 
       slot : m.slots q ≡ Some h.row
       slot = elim (frozen_as q h.row h.head d h.read h.gone) [ inl u ↦ u | inr u ↦ absurd (cc (next.3.placed, next.1, u.1.3)) ]
 
       removed_place : InPlace o m lv (spec log o.index lv) (record { page = q; row = h.row; chain = d })
-      removed_place = (in_level_as o m lv (spec log o.index lv) (g.tree.first lv) (g.tree.levels lv (g.tree.exact.below p lv (low_in c) place.stage place.placed)) q (low_in next.0.chain) next.3.stage (ap o.page (sym next.1) ∙ next.3.placed) next.3.on h.row slot d fd.stands).place
+      removed_place = (in_level_as (g.tree.levels lv (g.tree.exact.below p lv (low_in c) place.stage place.placed)) q (low_in next.0.chain) next.3.stage (ap o.page (sym next.1) ∙ next.3.placed) next.3.on h.row slot d fd.stands).place
 
       is_frozen : (st : Stage) → rank st ≤ 3 → stage_removed st ≡ true → st ≡ Removed
       is_frozen Removed i e = refl
@@ -172,8 +174,8 @@ module _ {m : Shared} {log : List Update} {o : Owners} {knows : ℕ → Knowledg
           is_chain = (fits.1, f.stands);
           on_level = refl;
           some = under_trans (low_in c) sq (high_in d) above removed_place.is_page.some;
-          same = λ k v. by_range sq k (high_in d) v.high (λ t. cond t (content_at h.items k) (content_in c k) ≡ spec log o.index lv k)
-              (λ i. let v' : Covers d k = record { low = i; high = v.high } in h.alike k (covers_to d k v') ∙ removed_place.is_page.same k v')
-              (λ i. place.is_page.same k (record { low = v.low; high = rw h.high i }));
+          same = λ k v. by_range sq k (high_in d) v.high
+              (λ i t. rw t (let v' : Covers d k = record { low = i; high = v.high } in h.alike k (covers_to d k v') ∙ removed_place.is_page.same k v'))
+              (λ i t. rw t (place.is_page.same k (record { low = v.low; high = rw h.high i })));
         };
       }

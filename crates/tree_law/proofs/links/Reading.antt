@@ -1,7 +1,7 @@
 -- The reads keep the invariant. At the read of a slot it is known for is_tree what stood in the slots that were read before.
 use Rattle.tree_law.proofs.Words.{ap, refl, Option, None, List, true, inl, ◌≤◌, ◌∷◌, subst, sym, ℕ, ◌≡◌, ◌∙◌, arith, Some, same_Some, IfSome, Update, Reply, Row, Child, next_row}
 use Rattle.tree_law.proofs.Words.{Record, low_in, is_removed, level_in, Knowledge, finished, learn, learnt_next, learn_head, Linked, Owners, Reached, IsLinked, HeadFits, OrderFits, SpellsLog}
-use Rattle.tree_law.proofs.Words.{SeenFits, Placed, Indexed, PageOwner, put, Shared, IsTree, spec, [], inr}
+use Rattle.tree_law.proofs.Words.{SeenFits, Placed, Indexed, PageOwner, put, Shared, IsTree, [], inr}
 use Rattle.bw_model.specs.declared.step.Answer.TheVariants as answer
 use Rattle.tree_law.proofs.shape.{by_equal, put_all, chain_unique, reached_placed, placed_reached, in_level_as, no_gap, right_page, name_more}
 use Rattle.tree_law.proofs.links.Keeping.{spec_leaf, on_or_merged, quiet, mine, alive_place, beyond_place, place_names}
@@ -19,7 +19,8 @@ module _ {m : Shared} {log : List Update} {o : Owners} {knows : ℕ → Knowledg
         linked_fits = (mine g a).linked_fits;
       })
 
-  pub reads_slot : (p x : ℕ) → m.slots p ≡ Some x → (h : SpellsLog o m x log) → Reached 0 (level_in h.chain) (low_in h.chain) (o.page p) → (r : Option Reply) → IsTree m log o (put knows a (finished (learn_head p x (knows a)) r)) (put point a (point a)) (put logs a (log ∷ logs a))
+  pub reads_slot : (p x : ℕ) → m.slots p ≡ Some x → (h : SpellsLog o m x log) → Reached 0 (level_in h.chain) (low_in h.chain) (o.page p) → (r : Option Reply)
+      → IsTree m log o (put knows a (finished (learn_head p x (knows a)) r)) (put point a (point a)) (put logs a (log ∷ logs a))
   reads_slot p x sx s e r =
       quiet g a (finished (learn_head p x (knows a)) r) (point a) (log ∷ logs a) (g.owns a) (g.owns_pages a)
       (record {
@@ -44,10 +45,10 @@ module _ {m : Shared} {log : List Update} {o : Owners} {knows : ℕ → Knowledg
         uncleared = λ c d ic id nc nd i v sz cl. absurd (let w = alive_place g a p (level_in s.chain) (low_in s.chain) e x sx d id nd in let u = sym w.placed ∙ cl.3 in cc);
         spelled = λ c d ic id rc nd z i.
             let w = alive_place g a p (level_in s.chain) (low_in s.chain) e x sx d id nd in
-            let n = right_page o m (level_in d) (spec log o.index (level_in d)) (g.tree.first (level_in d)) (g.tree.levels (level_in d) (g.tree.exact.below p (level_in d) (low_in d) w.stage w.placed)) (record { page = p; row = x; chain = d }) w f i in
+            let n = right_page (g.tree.levels (level_in d) (g.tree.exact.below p (level_in d) (low_in d) w.stage w.placed)) (record { page = p; row = x; chain = d }) w f i in
             let same : h.2.chain ≡ c = chain_unique m.rows h.2.chain c (Some z') h.2.is_chain ic in
             let slot : m.slots f ≡ Some z' = elim (h.4 (ap is_removed same ∙ rc)) [ inl u ↦ u | inr u ↦ absurd (cc (n.3.placed, n.1, u.1.3)) ] in
-            let r = (in_level_as o m (level_in d) (spec log o.index (level_in d)) (g.tree.first (level_in d)) (g.tree.levels (level_in d) (g.tree.exact.below p (level_in d) (low_in d) w.stage w.placed)) f (low_in n.0.chain) n.3.stage (ap o.page (sym n.1) ∙ n.3.placed) n.3.on z' slot c ic).place in
+            let r = (in_level_as (g.tree.levels (level_in d) (g.tree.exact.below p (level_in d) (low_in d) w.stage w.placed)) f (low_in n.0.chain) n.3.stage (ap o.page (sym n.1) ∙ n.3.placed) n.3.on z' slot c ic).place in
             (log, inl refl, λ k v. r.is_page.same k v ∙ spec_leaf log o.index (level_in d) (sym r.is_page.on_level ∙ z) k);
         beyond = λ c d ic id rc nd i.
             let same : s.chain ≡ d = chain_unique m.rows s.chain d (Some x) s.is_chain id in
@@ -58,7 +59,7 @@ module _ {m : Shared} {log : List Update} {o : Owners} {knows : ℕ → Knowledg
             elim (reached_placed 2 (level_in d) k (o.page q) ((rw same at (h.5 (ap is_removed same ∙ nc))).items (level_in d) k (Child q true) i v fd)) [
               | inl u ↦ elim (on_or_merged u.0) [
                 | inl on ↦ absurd (
-                    let b = no_gap o m (level_in d) (spec log o.index (level_in d)) (g.tree.first (level_in d)) (g.tree.levels (level_in d) (g.tree.exact.below q (level_in d) k u.0 u.1)) (record { page = p; row = x; chain = d }) w q k u.0 u.1 on lo hi in
+                    let b = no_gap (g.tree.levels (level_in d) (g.tree.exact.below q (level_in d) k u.0 u.1)) (record { page = p; row = x; chain = d }) w q k u.0 u.1 on lo hi in
                     ne b.0 b.1)
                 | inr e ↦ subst (λ (v : PageOwner). Reached 4 (level_in d) k v) (sym (u.1 ∙ ap (λ st. Placed st (level_in d) k) e)) (refl, refl, (let z : 4 ≤ 4 = omega arith in z))
               ]

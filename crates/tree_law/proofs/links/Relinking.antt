@@ -25,7 +25,8 @@ pub data Moves (a : ℕ) (o : Owners) (m : Shared) (p y : ℕ) (w n : PageOwner)
   stay : n ≡ w → Moves a o m p y w n
   go : (st st' : Stage) (l : ℕ) (s : Key) → w ≡ Placed st l s → n ≡ Placed st' l s → rank st ≤ rank st' → rank st' ≤ 3 → stage_removed st ≡ stage_removed st' → Moves a o m p y w n
   clear : (l : ℕ) (s : Key) → w ≡ Placed Merged l s → n ≡ Cleared a l s
-      → ((f x : ℕ) (c : List Record) → o.row x ≡ Linked → IsChain m.rows c (Some x) → Reached 0 (level_in c) (low_in c) (o.page f) → is_removed c ≡ false → level_in c ≡ suc l → Covers c s → m.slots f ≡ Some x → put m.slots p (Some y) f ≡ Some x → ⊥) → Moves a o m p y w n
+      → ((f x : ℕ) (c : List Record) → o.row x ≡ Linked → IsChain m.rows c (Some x) → Reached 0 (level_in c) (low_in c) (o.page f) → is_removed c ≡ false → level_in c ≡ suc l → Covers c s → m.slots f ≡ Some x → put m.slots p (Some y) f ≡ Some x → ⊥)
+      → Moves a o m p y w n
 
 module _ {m : Shared} {log : List Update} {o : Owners} {knows : ℕ → Knowledge} {point : ℕ → Option (List Update)} {logs : ℕ → List (List Update)} (g : IsTree m log o knows point logs) (a : ℕ) where
   -- no actor's own page is placed in the tree
@@ -101,7 +102,8 @@ module _ {m : Shared} {log : List Update} {o : Owners} {knows : ℕ → Knowledg
       → IfSome (next_row w) (λ n. o.row n ≡ Linked) → (rest : List Record) → IsChain m.rows rest (next_row w)
       → level_in (w ∷ rest) ≡ level_in c → low_in (w ∷ rest) ≡ low_in c → right_in (w ∷ rest) ≡ right_in c → high_in (w ∷ rest) ≡ high_in c → is_removed (w ∷ rest) ≡ stage_removed stage'
       → (log' : List Update) → ((k : Key) → Covers c k → content_in (w ∷ rest) k ≡ spec log' index' (level_in c) k) → ((l : ℕ) (k : Key) → (l ≡ level_in c → Covers c k → ⊥) → spec log' index' l k ≡ spec log o.index l k)
-      → (k : Knowledge) → linked_over (Written w) x y (knows a) ≡ k → k.own.rows ≡ put (knows a).own.rows y Foreign → (OwnsPages a (record { row = put o.row y Linked; page = page'; index = index' }) (record m { slots = put m.slots p (Some y) }) (knows a).own.pages → OwnsPages a (record { row = put o.row y Linked; page = page'; index = index' }) (record m { slots = put m.slots p (Some y) }) k.own.pages)
+      → (k : Knowledge) → linked_over (Written w) x y (knows a) ≡ k → k.own.rows ≡ put (knows a).own.rows y Foreign
+      → (OwnsPages a (record { row = put o.row y Linked; page = page'; index = index' }) (record m { slots = put m.slots p (Some y) }) (knows a).own.pages → OwnsPages a (record { row = put o.row y Linked; page = page'; index = index' }) (record m { slots = put m.slots p (Some y) }) k.own.pages)
       → k.read ≡ (knows a).read → (ps : Option (List Update)) → LinkFits o m ps k.asked.linked → (r : Option Reply)
       → LinkedTree p x y r log' (record { row = put o.row y Linked; page = page'; index = index' }) ps
   relink_one p x y c f place alive s w placed stage' le on page' index' here moves exact next rest is_rest level low right high flagged log' same apart k learned rows pages read ps link r =
@@ -115,10 +117,10 @@ module _ {m : Shared} {log : List Update} {o : Owners} {knows : ℕ → Knowledg
         row = λ j f. put_other o.row y Linked j (λ i. absurd (cc (g.frees.row j f, own.0))) ∙ g.frees.row j f;
         page = λ j h. let n = g.frees.page j h in let ne : j ≢ p = (λ i. absurd (cc (n.0, place.placed))) in (moved_free p y (o.page j) (page' j) (moves j ne) n.0, put_other m.slots p (Some y) j ne ∙ n.1);
       })
-      (closed_kept o o' m m' kept g.closed (λ j. by_equal j y
+      (closed_kept kept g.closed (λ j. by_equal j y
       (λ i t. rw t λ l. inr (rw i (record { linked = put_same o.row y Linked; content = w; stands = own.1; next = nexts (next_row w) next; rest = rest; is_rest = is_rest })))
       (λ i t. rw t λ l. inl l)))
-      (tree_relinked o o' m m' log log' g.closed kept g.tree p (level_in c) (low_in c) place.stage place.placed place.on x s c f.stands
+      (tree_relinked log log' g.closed kept g.tree p (level_in c) (low_in c) place.stage place.placed place.on x s c f.stands
       (λ q l n st ne e i. (put_other m.slots p (Some y) q ne, moved_rest p y (o.page q) (page' q) (moves q ne) st l n e i)) refl apart
       (record { page = p; row = y; chain = w ∷ rest } ∷ []) (
         refl,
@@ -149,7 +151,7 @@ module _ {m : Shared} {log : List Update} {o : Owners} {knows : ℕ → Knowledg
       (λ ne t. rw t (rw (put_other m.slots p (Some y) q ne) at (off_still g a o' m' kept q l n (put_other m.slots p (Some y) q ne) (g.tree.off q l n (moved_off p y (o.page q) (page' q) (moves q ne) l n i)))))))
       (rw rows (put_all (λ j v. OwnFits a (o'.row j) (m.rows j) v) (knows a).own.rows y Foreign tt (λ j ne. rw (put_other o.row y Linked j ne) (g.owns a j))))
       (pages owned)
-      (rw read (record { seen_fits = mine'.seen_fits; learnt_fits = mine'.learnt_fits; roots_fit = mine'.roots_fit; heads_fit = mine'.heads_fit; orders_fit = mine'.orders_fit; linked_fits = link_kept o o' m m' g.closed kept ps k.asked.linked link })))
+      (rw read (record { seen_fits = mine'.seen_fits; learnt_fits = mine'.learnt_fits; roots_fit = mine'.roots_fit; heads_fit = mine'.heads_fit; orders_fit = mine'.orders_fit; linked_fits = link_kept g.closed kept ps k.asked.linked link })))
     where
       own : (o.row y ≡ Spare a) × (m.rows y ≡ Some w)
       own = owned_row y w placed
@@ -172,7 +174,7 @@ module _ {m : Shared} {log : List Update} {o : Owners} {knows : ℕ → Knowledg
       }
 
       kept : Kept o o' m m'
-      kept = kept_change a o o' m m' change
+      kept = kept_change change
 
       nexts : (v : Option ℕ) → IfSome v (λ n. o.row n ≡ Linked) → IfSome v (λ n. put o.row y Linked n ≡ Linked)
       nexts None i = tt

@@ -20,7 +20,7 @@ module _ {m : Shared} {log : List Update} {o : Owners} {knows : ℕ → Knowledg
         page = λ j. by_equal j y (λ i is. rw is (page_own (ap o.page i ∙ ready.0)))
             (λ i is. rw is (by_equal j b (λ i t. rw t (page_stage Fresh Indexed top h.separator (ap o.page i ∙ was) refl (omega arith) refl)) (λ i t. rw t (page_same refl refl))));
       } in
-      let kept : Kept o o' m m' = kept_change a o o' m m' change in
+      let kept : Kept o o' m m' = kept_change change in
       let top_level : Level o' m' (suc top) (spec log o'.index (suc top)) y = record {
         side = page ∷ [];
         whole = (
@@ -46,14 +46,14 @@ module _ {m : Shared} {log : List Update} {o : Owners} {knows : ℕ → Knowledg
             (λ i is. rw is (by_equal q b (λ i t. rw t λ e on. absurd (let u = (placed_level Indexed st top (suc top) h.separator k e).0 in omega arith))
             (λ i t. rw t λ e on. absurd (let u = g.tree.exact.below q (suc top) k st e in omega arith))));
       } in (
-        subst (λ (k : Knowledge). IsTree m' log o' (put knows a (finished k r)) (put point a (point a)) (put logs a (log ∷ logs a))) (sym (rw h.ready refl))
+        subst (λ (k : Knowledge). IsTree m' log o' (put knows a (finished k r)) (put point a (point a)) (put logs a (log ∷ logs a))) (sym (rw h.ready))
             (put_tree g a m' log o' (finished (handed_page y Other h.base_row (knows a)) r) (point a) (log ∷ logs a)
             change
             (record {
               row = λ j n. put_other o.row h.base_row Linked j (λ i. absurd (cc (g.frees.row j n, fits.0))) ∙ g.frees.row j n;
               page = λ j n. let v = g.frees.page j n in (put_other (put o.page b old) y new j (λ i. absurd (cc (ready.0, v.0))) ∙ put_other o.page b old j (λ i. absurd (let w = sym v.0 ∙ ap o.page i ∙ was in cc)) ∙ v.0, v.1);
             })
-            (closed_kept o o' m m' kept g.closed (λ j. by_equal j h.base_row
+            (closed_kept kept g.closed (λ j. by_equal j h.base_row
             (λ i t. rw t λ l. inr (rw i (record { linked = put_same o.row h.base_row Linked; content = base; stands = fits.1; next = tt; rest = []; is_rest = refl })))
             (λ i t. rw t λ l. inl l)))
             (record {
@@ -63,8 +63,8 @@ module _ {m : Shared} {log : List Update} {o : Owners} {knows : ℕ → Knowledg
               root = sym (put_same g.tree.first (suc top) y);
               levels = λ l le. by_equal l (suc top)
                   (λ i t. rw (t, i) top_level)
-                  (λ ne t. rw t (level_kept o o' m m' l (spec log o.index l) (spec log o'.index l) (g.tree.first l) g.closed kept (λ q k st e on. (refl, forth q l k st e on)) (others l ne) (λ q k st e on. old_page q l k st ne e on) (g.tree.levels l (omega arith))));
-              exact = exact_root o.page o.index top m.root b h.separator y was h.some (keeps_not g a y ready.0) g.tree.exact;
+                  (λ ne t. rw t (level_kept l (spec log o.index l) (spec log o'.index l) (g.tree.first l) g.closed kept (λ q k st e on. (refl, forth q l k st e on)) (others l ne) (λ q k st e on. old_page q l k st ne e on) (g.tree.levels l (omega arith))));
+              exact = exact_root b h.separator y was h.some (keeps_not g a y ready.0) g.tree.exact;
               off = λ q l k. by_equal q y (λ i is. rw is λ e. absurd (not_off Indexed (suc top) [] l k (omega arith) e))
                   (λ i is e. let rest = rw is at e in by_equal q b (λ i t. absurd (not_off Indexed top h.separator l k (omega arith) (rw t at rest))) (λ i t. off_still g a o' m' kept q l k refl (g.tree.off q l k (rw t at rest))));
             })

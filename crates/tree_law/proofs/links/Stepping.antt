@@ -1,5 +1,5 @@
 -- Each allowed step with the memory's answer keeps the invariant.
-use Rattle.tree_law.proofs.Words.{false, ◌⊎◌, ap, refl, Option, suc, None, List, true, inl, inr, ◌∷◌, subst, sym, ℕ, ◌≡◌, Bool, zero, ◌∙◌, Some, eqb, same_Some, IfSome, IsTrue, Update, set, unset}
+use Rattle.tree_law.proofs.Words.{false, ◌⊎◌, ap, refl, Option, suc, None, List, true, inl, inr, ◌∷◌, sym, ℕ, ◌≡◌, Bool, zero, ◌∙◌, Some, eqb, same_Some, IfSome, IsTrue, Update, set, unset}
 use Rattle.tree_law.proofs.Words.{Reply, Answer, Whether, Number, StepOf, ReuseRows, ReusePids, Leave, TakePid, Row, Place, TakeRow, Slot, Enter, Epoch, Exchange, Announce, Retire, Page, ContentOf}
 use Rattle.tree_law.proofs.Words.{Child, Memory, replaced_at, next_row, Record, Remove, Base, Hold, Split, Merge, Term, Unterm, low_in, level_in, May, root_over, MayExchange, FitsOn, MayLink, MayRoot}
 use Rattle.tree_law.proofs.Words.{base_from, HasRead, update_record, MayPost, IsMet, MayUpdate, MayUnterm, MayHold, MayMerge, MaySplit, MayConsolidate, MayRemove, IsFitted, Knowledge, finished, Ready}
@@ -63,7 +63,8 @@ module _ (memory : Memory) {log : List Update} {o : Owners} {knows : ℕ → Kno
   rests phased rows is_tree = record { update = None; due = tt; last = λ i. refl; owners = o; phased = phased; moved = same_moved; added = same_added; homed = λ row l. inl l; kept = λ row l. (l, rows row l); is_tree = is_tree }
 
   -- one after which the actor holds what it held, and has read no more
-  idle : {s : StepOf Record} {x : Answer Record} {r : Option Reply} → Phased a (shared memory) s x o.page o.page → (learn (knows a) s x).own ≡ (knows a).own → (learn (knows a) s x).read ≡ (knows a).read → (learn (knows a) s x).asked.linked ≡ (knows a).asked.linked → After memory s x r
+  idle : {s : StepOf Record} {x : Answer Record} {r : Option Reply} → Phased a (shared memory) s x o.page o.page → (learn (knows a) s x).own ≡ (knows a).own
+      → (learn (knows a) s x).read ≡ (knows a).read → (learn (knows a) s x).asked.linked ≡ (knows a).asked.linked → After memory s x r
   idle {s} {x} {r} phased own read linked = rests phased (λ row l. refl) (idles g a (finished (learn (knows a) s x) r) own read linked)
 
   spare_of : {w : Record} (y : ℕ) → (knows a).own.rows y ≡ Written w → o.row y ≡ Spare a
@@ -91,7 +92,7 @@ module _ (memory : Memory) {log : List Update} {o : Owners} {knows : ℕ → Kno
   based {page} y placed fits = record { content = Base page; stands = placed_row g a y (Base page) placed; under = []; is_under = refl; next = tt; fits = fits }
 
   linked_added : (y : ℕ) → IsAdded o memory.rows y → (row : ℕ) → put o.row y Linked row ≡ Linked → (o.row row ≡ Linked) ⊎ IsAdded o memory.rows row
-  linked_added y h row l = by_equal row y (λ e t. inr (subst (IsAdded o memory.rows) (sym e) h)) (λ ne t. let i = rw t at l in inl i)
+  linked_added y h row l = by_equal row y (λ e t. inr (rw e h)) (λ ne t. let i = rw t at l in inl i)
 
   -- the new row of a slot is linked
   linked_homed : (p x y : ℕ) (w : Record) → (knows a).own.rows (suc y) ≡ Written w → IfSome (next_row w) (λ n. n ≡ x) → (row : ℕ) → put o.row (suc y) Linked row ≡ Linked → (o.row row ≡ Linked) ⊎ IsHomed (shared memory) (Exchange (suc p) x (suc y)) (Whether true) row
@@ -141,7 +142,8 @@ module _ (memory : Memory) {log : List Update} {o : Owners} {knows : ℕ → Kno
 
     -- the row is linked, some pages go on, and no update is made
     one : (w : Record) → (knows a).own.rows (suc y) ≡ Written w → IfSome (next_row w) (λ n. n ≡ suc x) → IsAdded o memory.rows (suc y) → (page : ℕ → PageOwner) (index : ℕ → Key → Option ContentOf) → LinkMoves (shared memory) a w (suc p) o.page page
-        → IsTree (record (shared memory) { slots = put (slot_in memory.slots) (suc p) (Some (suc y)) }) log (record { row = put o.row (suc y) Linked; page = page; index = index }) (put knows a (finished (filled ((knows a).own.pages (suc p)) (suc p) (suc x) (suc y) (knows a)) r)) (put point a (point a)) (put logs a (log ∷ logs a)) → Linking
+        → IsTree (record (shared memory) { slots = put (slot_in memory.slots) (suc p) (Some (suc y)) }) log (record { row = put o.row (suc y) Linked; page = page; index = index }) (put knows a (finished (filled ((knows a).own.pages (suc p)) (suc p) (suc x) (suc y) (knows a)) r)) (put point a (point a)) (put logs a (log ∷ logs a))
+        → Linking
     one w placed next added page index moves is_tree = record {
       update = None;
       due = tt;
@@ -157,8 +159,9 @@ module _ (memory : Memory) {log : List Update} {o : Owners} {knows : ℕ → Kno
 
     -- the same of a delta over the old row
     delta : (w : Record) → content ≡ w → next_row w ≡ Some (suc x) → (page : ℕ → PageOwner) (index : ℕ → Key → Option ContentOf) → LinkMoves (shared memory) a w (suc p) o.page page
-        → IsTree (record (shared memory) { slots = put (slot_in memory.slots) (suc p) (Some (suc y)) }) log (record { row = put o.row (suc y) Linked; page = page; index = index }) (put knows a (finished (filled ((knows a).own.pages (suc p)) (suc p) (suc x) (suc y) (knows a)) r)) (put point a (point a)) (put logs a (log ∷ logs a)) → Linking
-    delta w is next = one w (written ∙ ap Written is) (rw next refl) (adds (suc p) (suc x) (suc y) w (written ∙ ap Written is) next basis (subst (FitsOn basis.chain) is fits))
+        → IsTree (record (shared memory) { slots = put (slot_in memory.slots) (suc p) (Some (suc y)) }) log (record { row = put o.row (suc y) Linked; page = page; index = index }) (put knows a (finished (filled ((knows a).own.pages (suc p)) (suc p) (suc x) (suc y) (knows a)) r)) (put point a (point a)) (put logs a (log ∷ logs a))
+        → Linking
+    delta w is next = one w (written ∙ ap Written is) (rw next) (adds (suc p) (suc x) (suc y) w (written ∙ ap Written is) next basis (rw is at fits))
 
     by_update : MayUpdate a (knows a) (suc x) basis.chain content → Linking
     by_update h = let n = updates g a (suc p) (suc x) (suc y) s basis content written h r in record {
@@ -168,14 +171,14 @@ module _ (memory : Memory) {log : List Update} {o : Owners} {knows : ℕ → Kno
       owners = record o { row = put o.row (suc y) Linked };
       phased = (update_record h.update (suc x), placed_row g a (suc y) (update_record h.update (suc x)) (written ∙ ap Written h.is), links_same (shared memory) a h.update (suc x) (suc p) o.page);
       moved = linked_moved (suc y) (spare_of (suc y) (written ∙ ap Written h.is));
-      added = linked_added (suc y) (adds (suc p) (suc x) (suc y) (update_record h.update (suc x)) (written ∙ ap Written h.is) (record_next h.update (suc x)) basis (subst (FitsOn basis.chain) h.is fits));
+      added = linked_added (suc y) (adds (suc p) (suc x) (suc y) (update_record h.update (suc x)) (written ∙ ap Written h.is) (record_next h.update (suc x)) basis (rw h.is at fits));
       homed = linked_homed p (suc x) y (update_record h.update (suc x)) (written ∙ ap Written h.is) (rw (record_next h.update (suc x)) refl);
       kept = linked_rows (suc y);
       is_tree = n.0;
     }
 
     by_base : MayConsolidate basis.chain content → Linking
-    by_base h = one (base_from basis.chain (low_in basis.chain) h.items) (written ∙ ap Written h.is) tt (based (suc y) (written ∙ ap Written h.is) (subst (FitsOn basis.chain) h.is fits)) o.page o.index refl (consolidates g a (suc p) (suc x) (suc y) s basis content written h r)
+    by_base h = one (base_from basis.chain (low_in basis.chain) h.items) (written ∙ ap Written h.is) tt (based (suc y) (written ∙ ap Written h.is) (rw h.is at fits)) o.page o.index refl (consolidates g a (suc p) (suc x) (suc y) s basis content written h r)
 
     by_split : MaySplit (knows a) (suc x) basis.chain content → Linking
     by_split h = let n = splits g a (suc p) (suc x) (suc y) s basis content written h r in record {
@@ -195,31 +198,32 @@ module _ (memory : Memory) {log : List Update} {o : Owners} {knows : ℕ → Kno
           (λ e t. rw t λ i. inr (inr (record { level = level_in basis.chain; next = suc x; separator = h.separator; page = h.right }, _, placed_row g a (suc y) (Split (record { level = level_in basis.chain; next = suc x; separator = h.separator; page = h.right })) (written ∙ ap Written h.is), ready_slot h.right h.row h.ready ∙ ap Some (sym e), ap memory.rows e ∙ placed_row g a h.row (base_from basis.chain h.separator h.items) h.base)))
           (λ ne t. rw t λ i. inl i)));
       added = λ row. by_equal row (suc y)
-          (λ e t. rw t λ i. inr (subst (IsAdded o memory.rows) (sym e) (adds (suc p) (suc x) (suc y) (Split (record { level = level_in basis.chain; next = suc x; separator = h.separator; page = h.right })) (written ∙ ap Written h.is) refl basis (subst (FitsOn basis.chain) h.is fits))))
+          (λ e t. rw t λ i. inr (rw e (adds (suc p) (suc x) (suc y) (Split (record { level = level_in basis.chain; next = suc x; separator = h.separator; page = h.right })) (written ∙ ap Written h.is) refl basis (rw h.is at fits))))
           (λ ne t. rw t (linked_added h.row (based h.row h.base h.ruled) row));
       kept = λ row l. (by_equal row (suc y) (λ e t. rw t) (λ ne t. rw t (linked_rows h.row row l).0), refl);
       is_tree = n.0;
     }
 
     by_post : MayPost (knows a) (suc p) (suc x) basis.chain content → Linking
-    by_post h = let n = posts g a (suc p) (suc x) (suc y) s basis content written h r in delta _ h.is refl (put o.page h.child (Placed Indexed (level_in h.below.chain) (low_in h.below.chain))) (put o.index (level_in h.below.chain) (put_key (o.index (level_in h.below.chain)) (low_in h.below.chain) (Some (Child h.child false)))) (level_in h.below.chain, n.1, refl) n.0
+    by_post h = let n = posts g a (suc p) (suc x) (suc y) s basis content written h r in delta _ h.is refl _ _ (level_in h.below.chain, n.1, refl) n.0
 
     by_hold : MayHold (suc x) basis.chain content → Linking
-    by_hold h = let n = holds g a (suc p) (suc x) (suc y) s basis content written h r in delta _ h.is refl (put o.page h.child (Placed Held h.level h.key)) (put o.index h.level (put_key (o.index h.level) h.key (Some (Child h.child true)))) (h.level, n.1, refl) n.0
+    by_hold h = let n = holds g a (suc p) (suc x) (suc y) s basis content written h r in delta _ h.is refl _ _ (h.level, n.1, refl) n.0
 
     by_remove : MayRemove (knows a) (suc p) (suc x) basis.chain content → Linking
-    by_remove h = let n = removes g a (suc p) (suc x) (suc y) s basis content written h r in delta _ h.is refl (put o.page (suc p) (Placed Removed (level_in basis.chain) (low_in basis.chain))) o.index (level_in basis.chain, low_in basis.chain, n.1, refl, (suc x, basis.chain, s, chain_stands o (shared memory) (knows a).read.seen (g.sound a).seen_fits basis.chain (Some (suc x)) basis.read, h.unheld)) n.0
+    by_remove h = let n = removes g a (suc p) (suc x) (suc y) s basis content written h r in delta _ h.is refl _ _ (level_in basis.chain, low_in basis.chain, n.1, refl, (suc x, basis.chain, s, chain_stands o (shared memory) (knows a).read.seen (g.sound a).seen_fits basis.chain (Some (suc x)) basis.read, h.unheld)) n.0
 
     by_merge : MayMerge (knows a) (suc x) basis.chain content → Linking
     by_merge h =
         let n = merges g a (suc p) (suc x) (suc y) s basis content written h r in
-        delta _ h.is refl (put o.page h.other (Placed Merged (level_in basis.chain) (low_in h.merged))) o.index (h.other, level_in basis.chain, n.1, refl, (suc x, basis.chain, s, chain_stands o (shared memory) (knows a).read.seen (g.sound a).seen_fits basis.chain (Some (suc x)) basis.read, h.right)) n.0
+        delta _ h.is refl _ _ (h.other, level_in basis.chain, n.1, refl, (suc x, basis.chain, s, chain_stands o (shared memory) (knows a).read.seen (g.sound a).seen_fits basis.chain (Some (suc x)) basis.read, h.right)) n.0
 
     by_unterm : MayUnterm (knows a) (suc p) (suc x) basis.chain content → Linking
-    by_unterm h = let n = unterms g a (suc p) (suc x) (suc y) s basis content written h r in delta _ h.is refl (put o.page h.child (Cleared a (level_in h.below.chain) h.key)) (put o.index (level_in h.below.chain) (put_key (o.index (level_in h.below.chain)) h.key None)) (level_in h.below.chain, n.1, refl) n.0
+    by_unterm h = let n = unterms g a (suc p) (suc x) (suc y) s basis content written h r in delta _ h.is refl _ _ (level_in h.below.chain, n.1, refl) n.0
 
   -- what is placed is linked, by its kind
-  links : (p x y : ℕ) (r : Option Reply) (s : slot_in memory.slots (suc p) ≡ Some (suc x)) (basis : HasRead (knows a) (suc p) (suc x)) (content : Record) (written : (knows a).own.rows (suc y) ≡ Written content) (fits : FitsOn basis.chain content) → MayLink a (knows a) (suc p) (suc x) basis.chain content → Linking p x y r s basis content written fits
+  links : (p x y : ℕ) (r : Option Reply) (s : slot_in memory.slots (suc p) ≡ Some (suc x)) (basis : HasRead (knows a) (suc p) (suc x)) (content : Record) (written : (knows a).own.rows (suc y) ≡ Written content) (fits : FitsOn basis.chain content)
+      → MayLink a (knows a) (suc p) (suc x) basis.chain content → Linking p x y r s basis content written fits
   links p x y r s basis (Base base) = by_base p x y r s basis (Base base)
   links p x y r s basis (Split split) = by_split p x y r s basis (Split split)
   links p x y r s basis (Term term) = by_post p x y r s basis (Term term)
@@ -233,7 +237,8 @@ module _ (memory : Memory) {log : List Update} {o : Owners} {knows : ℕ → Kno
   own_kept p v e = rw e at (g.owns_pages a p)
 
   -- an exchange of a page's slot that won
-  exchanges : (p x y : ℕ) (r : Option Reply) → slot_in memory.slots (suc p) ≡ row_in x → MayExchange a (knows a) (suc p) x y → Next a (shared memory) (record (shared memory) { slots = put (slot_in memory.slots) (suc p) (row_in y) }) log o knows point logs (Exchange (suc p) x y) (Whether true) r
+  exchanges : (p x y : ℕ) (r : Option Reply) → slot_in memory.slots (suc p) ≡ row_in x → MayExchange a (knows a) (suc p) x y
+      → Next a (shared memory) (record (shared memory) { slots = put (slot_in memory.slots) (suc p) (row_in y) }) log o knows point logs (Exchange (suc p) x y) (Whether true) r
   exchanges p zero zero r s h = absurd h
   exchanges p zero (suc y) r s h = rests ((refl, (own_kept (suc p) Empty h.0).0)) (λ row l. refl) (rw h.0 (own_slot g a (suc p) (Some (suc y)) (Ready (suc y)) (own_kept (suc p) Empty h.0).0 ((own_kept (suc p) Empty h.0).0, refl) (finished (filled Empty (suc p) zero (suc y) (knows a)) r) refl refl refl refl))
   exchanges p (suc x) zero r s (inl h) = rests ((refl, inl (own_kept (suc p) (Ready (suc x)) h).0)) (λ row l. refl) (rw h (own_slot g a (suc p) None Empty (own_kept (suc p) (Ready (suc x)) h).0 ((own_kept (suc p) (Ready (suc x)) h).0, refl) (finished (emptied (Ready (suc x)) (suc p) (suc x) (knows a)) r) refl refl refl refl))

@@ -50,7 +50,7 @@ no_front_update (Some (Base w)) kind e u = elim u [ inl f ↦ cc | inr f ↦ cc 
 no_front_update v kind e u = elim u [ inl f ↦ cc | inr f ↦ cc ]
 
 no_update : (kind other : Link) → Some other ≡ Some kind → (IsUpdateLink other → ⊥) → IsUpdateLink kind → ⊥
-no_update kind other e f u = f (subst IsUpdateLink (sym (same_Some other kind e)) u)
+no_update kind other e f u = f (rw (same_Some other kind e) u)
 
 update_due : (a : ℕ) (k : Knowledge) (page old : ℕ) (chain : List Record) (content : Record) → MayLink a k page old chain content → IsUpdateLink (record_link content) → k.asked.linked ≡ None
 update_due a k page old chain (Put w) h u = h.unlinked
@@ -80,7 +80,8 @@ module _ (m : Memory) {log : List Update} {o : Owners} {knows : ℕ → Knowledg
   stands row content e = (rw e at (g.owns a row)).1
 
   -- what an exchange that links an update leaves known
-  pub learns_update : (page old new : ℕ) (kind : Link) → MayExchange a (knows a) page old new → m.slots page ≡ old → link_of m page old new ≡ Some kind → IsUpdateLink kind → ((knows a).asked.linked ≡ None) × IsLinked (learn (knows a) (Exchange page old new) (Whether true))
+  pub learns_update : (page old new : ℕ) (kind : Link) → MayExchange a (knows a) page old new → m.slots page ≡ old → link_of m page old new ≡ Some kind → IsUpdateLink kind
+      → ((knows a).asked.linked ≡ None) × IsLinked (learn (knows a) (Exchange page old new) (Whether true))
   learns_update zero old new kind may at e u = absurd (no_update kind link.Root e (λ v. elim v [ inl f ↦ cc | inr f ↦ cc ]) u)
   learns_update (suc page) zero new kind may at e u = absurd (no_update kind link.Ready (sym (link_ready m page new) ∙ e) (λ v. elim v [ inl f ↦ cc | inr f ↦ cc ]) u)
   learns_update (suc page) (suc old) zero kind may at e u = absurd (no_front_update (m.rows (suc old)) kind (sym (link_empty m page old) ∙ e) u)
@@ -88,7 +89,7 @@ module _ (m : Memory) {log : List Update} {o : Owners} {knows : ℕ → Knowledg
       let place = place_of g a (suc page) (suc old) may.basis.chain (found g a (suc page) (suc old) may.basis) may.basis.alive (ap row_in at) in
       let other : (knows a).own.pages (suc page) ≡ Other = not_own g a (suc page) (level_in may.basis.chain) (low_in may.basis.chain) place.stage place.placed ((knows a).own.pages (suc page)) (g.owns_pages a (suc page)) in
       let kind_is : Some (record_link may.content) ≡ Some kind = ap (option_map record_link) (sym (stands (suc new) may.content may.placed)) ∙ sym (link_front m page old new) ∙ e in
-      let update : IsUpdateLink (record_link may.content) = subst IsUpdateLink (sym (same_Some (record_link may.content) kind kind_is)) u in (
+      let update : IsUpdateLink (record_link may.content) = rw (same_Some (record_link may.content) kind kind_is) u in (
         update_due a (knows a) (suc page) (suc old) may.basis.chain may.content may.due update,
         rw other (rw may.placed (row_linked may.content (suc old) (suc new) (knows a) update)),
       )
@@ -128,7 +129,7 @@ module _ (m : Memory) {log : List Update} {o : Owners} {knows : ℕ → Knowledg
         by_old h.old h h.step
       where
         by_old : (old : ℕ) (h : LinksOwn (knows a) s x) → s ≡ Exchange (suc h.page) old (suc h.new) → LinksNow m s x
-        by_old zero h e = absurd (let v : MayExchange a (knows a) (suc h.page) zero (suc h.new) = (subst (May a (knows a)) e may).1 in let f = sym h.other ∙ v.0 in cc)
+        by_old zero h e = absurd (let v : MayExchange a (knows a) (suc h.page) zero (suc h.new) = (rw e at may).1 in let f = sym h.other ∙ v.0 in cc)
         by_old (suc old) h e = record {
           slot = suc h.page;
           old = suc old;
@@ -143,5 +144,5 @@ module _ (m : Memory) {log : List Update} {o : Owners} {knows : ℕ → Knowledg
     pub link_updates : LinksNow m s x → IsSome n.update
     link_updates h =
         let told : Whether true ≡ Whether (eqb (m.slots h.slot) h.old) = sym h.won ∙ (rw h.step at is) in
-        let l = learns_update h.slot h.old h.new h.kind ((subst (May a (knows a)) h.step may).1) (eqb_true (m.slots h.slot) h.old (let e = told in cc)) h.link h.update in
+        let l = learns_update h.slot h.old h.new h.kind ((rw h.step at may).1) (eqb_true (m.slots h.slot) h.old (let e = told in cc)) h.link h.update in
         makes l.0 (subst (λ (t : StepOf Record × Answer Record). IsLinked (learn (knows a) t.0 t.1)) (λ i. (sym h.step i, sym h.won i)) l.1)

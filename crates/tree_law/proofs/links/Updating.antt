@@ -33,16 +33,17 @@ logged_value_push : (log : List Update) (u : Update) (key : Key) → logged_valu
 logged_value_push log u key = fold-append _ _ log (u ∷ [])
 
 over_decides : (u : Update) (x : ℕ) (c : List Record) (l : List Update) (k : Key) → content_in c k ≡ leaf_map l k → content_in (update_record u x ∷ c) k ≡ leaf_map (l ++ u ∷ []) k
-over_decides (set b j v) x c l k e = by_key k j (λ t. cond t (Some (Value v)) (content_in c k) ≡ option_map Value (cond t (Some v) (logged_value l k))) (λ i. refl) (λ i. e) ∙ sym (ap (option_map Value) (logged_value_push l (set b j v) k))
-over_decides (unset b j) x c l k e = by_key k j (λ t. cond t None (content_in c k) ≡ option_map Value (cond t None (logged_value l k))) (λ i. refl) (λ i. e) ∙ sym (ap (option_map Value) (logged_value_push l (unset b j) k))
+over_decides (set b j v) x c l k e = rw (logged_value_push l (set b j v) k) (by_key k j (λ i t. rw t) (λ i t. rw t e))
+over_decides (unset b j) x c l k e = rw (logged_value_push l (unset b j) k) (by_key k j (λ i t. rw t) (λ i t. rw t e))
 
 -- an update's key is in its page, so the log changes there only
-log_outside : (u : Update) (log : List Update) (index : ℕ → Key → Option ContentOf) (lv : ℕ) (c : List Record) → lv ≡ 0 → ((k : Key) → (Covers c k → ⊥) → leaf_map (log ++ u ∷ []) k ≡ leaf_map log k) → (l : ℕ) (k : Key) → (l ≡ lv → Covers c k → ⊥) → spec (log ++ u ∷ []) index l k ≡ spec log index l k
+log_outside : (u : Update) (log : List Update) (index : ℕ → Key → Option ContentOf) (lv : ℕ) (c : List Record) → lv ≡ 0
+    → ((k : Key) → (Covers c k → ⊥) → leaf_map (log ++ u ∷ []) k ≡ leaf_map log k) → (l : ℕ) (k : Key) → (l ≡ lv → Covers c k → ⊥) → spec (log ++ u ∷ []) index l k ≡ spec log index l k
 log_outside u log index lv c z f zero k n = f k (n (sym z))
 log_outside u log index lv c z f (suc l) k n = refl
 
 key_apart : (u : Update) (l : List Update) (k : Key) → k ≢ updated_key u → leaf_map (l ++ u ∷ []) k ≡ leaf_map l k
-key_apart u l k ne = ap (option_map Value) (logged_value_push l u k ∙ by_key k (updated_key u) (λ t. cond t (updated_value u) (logged_value l k) ≡ logged_value l k) (λ e. absurd (ne e)) (λ e. refl))
+key_apart u l k ne = rw (logged_value_push l u k) (by_key k (updated_key u) (λ e t. absurd (ne e)) (λ e t. rw t))
 
 -- an update that a test decides
 chosen_key : (test : Bool) (b : ℕ) (k v : Key) (u : Update) → (if test then Some (set b k v) else None) ≡ Some u → updated_key u ≡ k
@@ -88,7 +89,8 @@ module _ {m : Shared} {log : List Update} {o : Owners} {knows : ℕ → Knowledg
       )
 
   -- the exchange that puts a base in the chain's place
-  pub consolidates : (p x y : ℕ) → m.slots p ≡ Some x → (basis : HasRead (knows a) p x) (content : Record) → (knows a).own.rows y ≡ Written content → MayConsolidate basis.chain content → (r : Option Reply) → LinkedTree g a p x y r log (record o { row = put o.row y Linked }) (point a)
+  pub consolidates : (p x y : ℕ) → m.slots p ≡ Some x → (basis : HasRead (knows a) p x) (content : Record) → (knows a).own.rows y ≡ Written content → MayConsolidate basis.chain content
+      → (r : Option Reply) → LinkedTree g a p x y r log (record o { row = put o.row y Linked }) (point a)
   consolidates p x y s basis content written h r =
       let c = basis.chain in
       let f = found g a p x basis in
@@ -110,7 +112,9 @@ module _ {m : Shared} {log : List Update} {o : Owners} {knows : ℕ → Knowledg
       (λ ne is. grind (arith, nat_tests))
 
   -- the exchange that removes a page
-  pub removes : (p x y : ℕ) → m.slots p ≡ Some x → (basis : HasRead (knows a) p x) (content : Record) → (knows a).own.rows y ≡ Written content → (h : MayRemove (knows a) p x basis.chain content) → (r : Option Reply) → LinkedTree g a p x y r log (record { row = put o.row y Linked; page = put o.page p (Placed Removed (level_in basis.chain) (low_in basis.chain)); index = o.index }) (point a) × (o.page p ≡ Placed Held (level_in basis.chain) (low_in basis.chain))
+  pub removes : (p x y : ℕ) → m.slots p ≡ Some x → (basis : HasRead (knows a) p x) (content : Record) → (knows a).own.rows y ≡ Written content
+      → (h : MayRemove (knows a) p x basis.chain content) → (r : Option Reply)
+      → LinkedTree g a p x y r log (record { row = put o.row y Linked; page = put o.page p (Placed Removed (level_in basis.chain) (low_in basis.chain)); index = o.index }) (point a) × (o.page p ≡ Placed Held (level_in basis.chain) (low_in basis.chain))
   removes p x y s basis content written h r =
       let ranked : (r l : ℕ) (s : Key) (l' : ℕ) (s' : Key) (st : Stage) (w : PageOwner) → w ≡ Placed st l' s' → Reached r l s w → r ≤ rank st =
       λ r l s l' s' st w e h. (rw e at h).2 in
@@ -123,7 +127,7 @@ module _ {m : Shared} {log : List Update} {o : Owners} {knows : ℕ → Knowledg
       let was : o.page p ≡ Placed Held (level_in c) (low_in c) = place.placed ∙ ap (λ st. Placed st (level_in c) (low_in c)) held in
       let lt : level_in c < g.tree.top = below_top p (level_in c) (low_in c) place.stage place.placed least in (
         relink_one g a p x y c f place basis.alive s (Remove (record { level = level_in c; next = x })) (written ∙ ap Written h.is) Removed (let i = ap rank held in omega arith) (omega arith) (put o.page p (Placed Removed (level_in c) (low_in c))) o.index (put_same o.page p (Placed Removed (level_in c) (low_in c))) (λ q ne. stay (put_other o.page p (Placed Removed (level_in c) (low_in c)) q ne))
-            (exact_going o.page o.index g.tree.top m.root p (level_in c) (low_in c) Held Removed was lt refl g.tree.exact) f.linked c f.stands
+            (exact_going p (level_in c) (low_in c) Held Removed was lt refl g.tree.exact) f.linked c f.stands
             refl refl refl refl refl
             log (λ k v. place.is_page.same k v) (λ l k n. refl)
             (handed_over y (knows a)) refl refl (λ v. v) refl

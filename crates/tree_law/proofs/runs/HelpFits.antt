@@ -1,6 +1,6 @@
 -- What each link of the helped split puts over a chain fits it.
-use Rattle.tree_law.proofs.Words.{false, [], refl, Option, None, true, ◌≤◌, ◌∷◌, ℕ, ◌≡◌, Bool, arith, Some, All-from_recursion, is_eq, if◌then◌else◌, not, key_cmp, IsPage-from, Page, content_at}
-use Rattle.tree_law.proofs.Words.{IsPage, IsRuled, held_count, ContentOf, Child, Item, Applies, IsSpellablePage, HasPid, Split, Term, FitsOn, IsFitted, opening_leaf, right_term, root_a, a, hold_a}
+use Rattle.tree_law.proofs.Words.{false, [], refl, Option, None, true, ◌≤◌, ◌∷◌, ℕ, Bool, arith, Some, All-from_recursion, IsPage-from, Page}
+use Rattle.tree_law.proofs.Words.{IsPage, IsRuled, held_count, Child, Item, Applies, IsSpellablePage, HasPid, Split, Term, FitsOn, IsFitted, opening_leaf, right_term, root_a, a, hold_a}
 use Rattle.tree_law.proofs.Words.{other_put, helped_term, Key, upper_b, second_split, first_split, upper_c, b}
 use Rattle.std.specs.List.Sorted.{IsStrictlySortedBy}
 use Rattle.tree_law.specs.HelpedSplit.{item_b}
@@ -10,7 +10,7 @@ use Rattle.tree_law.proofs.runs.Making.{base_makes, fits_over}
 
 pub leaf_splits : (low : Key) (high : Option Key) (right : Option ℕ) (next page : ℕ) (key : Key) → Applies (leaf low high right) (Split (record { level = 0; next = next; separator = key; page = page })) (leaf low (Some key) (Some page))
 unfolding IsStrictlySortedBy
-leaf_splits low high right next page key = record { ascending = tt; contents = λ k. by_below k key (λ t. ◌≡◌ {A = Option ContentOf} None (if not t then None else None)) (λ below. refl) (λ above. refl); level = refl; low = refl; high = refl; right = refl; removed = refl }
+leaf_splits low high right next page key = record { ascending = tt; contents = λ k. by_below k key (λ below. rw below) (λ above. rw above); level = refl; low = refl; high = refl; right = refl; removed = refl }
 
 -- the leaf with the key put, and the root with its term
 abbrev put : Page
@@ -43,8 +43,8 @@ put_applies = record { ascending = put_page.ordered.ascending; contents = λ key
 pub term_applies : (held : Bool) (next : ℕ) → Applies (both 2 held) (Term (record { level = 1; next = next; separator = b; child = 4 })) (grown held)
 term_applies held next = record {
   ascending = (grown_page held).ordered.ascending;
-  contents = λ key. by_key key b (λ t. (if is_eq (key_cmp key []) then Some first.content else (if is_eq (key_cmp key a) then Some (Child 2 held) else (if t then Some third.content else None))) ≡ (if t then Some third.content else content_at (both 2 held).items key))
-      (λ same. rw same refl) (λ ne. refl);
+  contents = λ key. by_key key b
+      (λ same t. rw t (rw same)) (λ ne t. rw t);
   level = refl;
   low = refl;
   high = refl;

@@ -1,5 +1,5 @@
 -- What each link of the run puts over a chain fits it.
-use Rattle.tree_law.proofs.Words.{false, [], refl, cond, Option, None, true, ◌≢◌, ◌≤◌, ◌∷◌, sym, ℕ, ◌≡◌, Bool, arith, Some, All-from_recursion, is_eq, if◌then◌else◌, IsTrue, not, is_some}
+use Rattle.tree_law.proofs.Words.{false, [], refl, Option, None, true, ◌≢◌, ◌≤◌, ◌∷◌, sym, ℕ, ◌≡◌, Bool, arith, Some, All-from_recursion, is_eq, if◌then◌else◌, IsTrue, is_some}
 use Rattle.tree_law.proofs.Words.{key_cmp, is_under, IsPage-from, empty_leaf, Page, content_at, IsPage, IsRuled, held_count, ContentOf, Child, Item, Applies, IsSpellablePage, HasPid, FitsOn, IsFitted}
 use Rattle.tree_law.proofs.Words.{Makes, opening_leaf, put_a, split_a, term_b, item_a, base_b, unterm_a, split_b, upper_a, deletion_a, merge_a, root_a, a, hold_a, remove_a, Key, IsBelow}
 use Rattle.std.specs.List.Sorted.{IsStrictlySortedBy}
@@ -90,7 +90,7 @@ linked level next key page top over above names = record { top = top; over = ove
 
 -- below the key the item is not
 below_none : (key : Key) → IsBelow key a → content_at (item_a ∷ []) key ≡ None
-below_none key below = by_key key a (λ t. cond t (Some item_a.content) None ≡ None) (λ same. absurd (not_self a (rw same at below))) (λ ne. refl)
+below_none key below = by_key key a (λ same t. rw t (absurd (not_self a (rw same at below)))) (λ ne t. rw t)
 
 put_applies : Applies empty_leaf put_a full
 unfolding IsStrictlySortedBy
@@ -98,15 +98,15 @@ put_applies = record { ascending = (tt, tt); contents = λ key. refl; level = re
 
 split_applies : Applies full split_a (lower 2)
 unfolding IsStrictlySortedBy
-split_applies = record { ascending = tt; contents = λ key. by_below key a (λ t. None ≡ (if not t then None else content_at (item_a ∷ []) key)) (λ below. sym (below_none key below)) (λ above. refl); level = refl; low = refl; high = refl; right = refl; removed = refl }
+split_applies = record { ascending = tt; contents = λ key. by_below key a (λ below. rw below (sym (below_none key below))) (λ above. rw above); level = refl; low = refl; high = refl; right = refl; removed = refl }
 
 second_applies : Applies full split_b (lower 4)
 unfolding IsStrictlySortedBy
-second_applies = record { ascending = tt; contents = λ key. by_below key a (λ t. None ≡ (if not t then None else content_at (item_a ∷ []) key)) (λ below. sym (below_none key below)) (λ above. refl); level = refl; low = refl; high = refl; right = refl; removed = refl }
+second_applies = record { ascending = tt; contents = λ key. by_below key a (λ below. rw below (sym (below_none key below))) (λ above. rw above); level = refl; low = refl; high = refl; right = refl; removed = refl }
 
 merge_applies : Applies (lower 2) merge_a full
 unfolding IsStrictlySortedBy
-merge_applies = record { ascending = (tt, tt); contents = λ key. by_range a key None refl (λ t. content_at (item_a ∷ []) key ≡ (if t then content_at (item_a ∷ []) key else None)) (λ above. refl) (λ below. below_none key below); level = refl; low = refl; high = refl; right = refl; removed = refl }
+merge_applies = record { ascending = (tt, tt); contents = λ key. by_range a key None refl (λ above t. rw t) (λ below t. rw t (below_none key below)); level = refl; low = refl; high = refl; right = refl; removed = refl }
 
 remove_applies : Applies upper remove_a (record upper { removed = true })
 unfolding IsStrictlySortedBy
@@ -114,20 +114,20 @@ remove_applies = record { ascending = (tt, tt); contents = λ key. refl; level =
 
 deletion_applies : Applies upper deletion_a (leaf a None None)
 unfolding IsStrictlySortedBy
-deletion_applies = record { ascending = tt; contents = λ key. by_key key a (λ t. ◌≡◌ {A = Option ContentOf} None (if t then None else (if t then Some item_a.content else None))) (λ same. refl) (λ ne. refl); level = refl; low = refl; high = refl; right = refl; removed = refl }
+deletion_applies = record { ascending = tt; contents = λ key. by_key key a (λ same t. rw t) (λ ne t. rw t); level = refl; low = refl; high = refl; right = refl; removed = refl }
 
 -- the term at the key is changed, taken out, and put in
 changed : (old new : ContentOf) (key : Key) → content_at (first ∷ record { key = a; content = new } ∷ []) key ≡ (if is_eq (key_cmp key a) then Some new else content_at (first ∷ record { key = a; content = old } ∷ []) key)
-changed old new key = by_key key a (λ t. (if is_eq (key_cmp key []) then Some first.content else (if t then Some new else None)) ≡ (if t then Some new else (if is_eq (key_cmp key []) then Some first.content else (if t then Some old else None))))
-    (λ same. rw same refl) (λ ne. refl)
+changed old new key = by_key key a
+    (λ same t. rw t (rw same)) (λ ne t. rw t)
 
 taken : (old : ContentOf) (key : Key) → content_at (first ∷ []) key ≡ (if is_eq (key_cmp key a) then None else content_at (first ∷ record { key = a; content = old } ∷ []) key)
-taken old key = by_key key a (λ t. (if is_eq (key_cmp key []) then Some first.content else None) ≡ (if t then None else (if is_eq (key_cmp key []) then Some first.content else (if t then Some old else None))))
-    (λ same. rw same refl) (λ ne. refl)
+taken old key = by_key key a
+    (λ same t. rw t (rw same)) (λ ne t. rw t)
 
 given : (new : ContentOf) (key : Key) → content_at (first ∷ record { key = a; content = new } ∷ []) key ≡ (if is_eq (key_cmp key a) then Some new else content_at (first ∷ []) key)
-given new key = by_key key a (λ t. (if is_eq (key_cmp key []) then Some first.content else (if t then Some new else None)) ≡ (if t then Some new else (if is_eq (key_cmp key []) then Some first.content else None)))
-    (λ same. rw same refl) (λ ne. refl)
+given new key = by_key key a
+    (λ same t. rw t (rw same)) (λ ne t. rw t)
 
 hold_applies : Applies (both 2 false) hold_a (both 2 true)
 hold_applies = record { ascending = (both_page 2 true).ordered.ascending; contents = changed (Child 2 false) (Child 2 true); level = refl; low = refl; high = refl; right = refl; removed = refl }

@@ -74,7 +74,7 @@ unterms = adds (whole (hold_a ∷ root_a ∷ []) (refl, (refl, refl)) refl refl)
 -- the second split
 splits_again : MayAdd 0 (before 62 0) 1 8 11
 splits_again = adds (whole (merge_a ∷ split_a ∷ put_a ∷ opening_leaf ∷ []) (refl, (refl, (refl, (refl, refl)))) refl refl) split_b refl second_fits
-    (record { separator = a; above = refl; below = refl; right = 4; row = 10; ready = refl; items = item_a ∷ []; alike = λ key c n. rw n refl; base = refl; ruled = upper_fitted; is = refl })
+    (record { separator = a; above = refl; below = refl; right = 4; row = 10; ready = refl; items = item_a ∷ []; alike = λ key c n. rw n; base = refl; ruled = upper_fitted; is = refl })
     (is_unset (drop 4 became) refl)
 
 -- the term of the new leaf

@@ -1,6 +1,6 @@
 -- Each step of the runs with cursor pages is allowed.
 use Rattle.tree_law.proofs.Words.{false, [], refl, cond, suc, None, List, true, inl, ◌++◌, inr, ◌∷◌, subst, sym, ℕ, ◌≡◌, zero, ◌<◌, arith, Some, take, lit<, Contains, IsTrue, not, slice_index_or}
-use Rattle.tree_law.proofs.Words.{codes, is_in_range, is_below, ArePairsOf, Value, Record, MayReply, found, value_of, MayAdd, IsMet, IsDisciplined, HoldsBack, knows, Knowledge, small, right_term}
+use Rattle.tree_law.proofs.Words.{codes, is_in_range, is_below, ArePairsOf, Record, MayReply, found, value_of, MayAdd, IsMet, IsDisciplined, HoldsBack, knows, Knowledge, small, right_term}
 use Rattle.tree_law.proofs.Words.{root_a, a, hold_a, other_put, helped_term, helped_split, Key, removal, upper_c, b}
 use Rattle.std.specs.List.Sorted.{IsStrictlySortedBy}
 use Rattle.bw_model.specs.declared.command.Reply.TheVariants as reply
@@ -44,9 +44,9 @@ one_pair = record { ascending = (tt, tt); exact = λ key value. (λ c. there key
     there key value (suc n) lt e = absurd (omega arith)
 
     pair : (key value : Key) → found last key ≡ Some value → Contains {X = Key × Key} ((b, codes "2") ∷ []) (key, value)
-    pair key value = by_key key b (λ t. value_of (cond t (Some (Value (codes "2"))) None) ≡ Some value → Contains {X = Key × Key} ((b, codes "2") ∷ []) (key, value))
-        (λ same e. let is : codes "2" ≡ value = cc in (0, lit< tt, λ i. (sym same i, is i)))
-        (λ ne e. absurd (cc))
+    pair key value = by_key key b
+        (λ same t. rw t λ e. let is : codes "2" ≡ value = cc in (0, lit< tt, λ i. (sym same i, is i)))
+        (λ ne t. rw t λ e. absurd (cc))
 
 -- the last leaf was named as a child
 last_child : IsMet (before_last 6) 4

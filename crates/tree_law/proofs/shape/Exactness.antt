@@ -69,7 +69,7 @@ module _ (memory : Memory) {log : List Update} {o : Owners} {knows : ℕ → Kno
             let f = front l le in
             let h = locate o (shared memory) l (spec log o.index l) t.side (Some (g.tree.first l)) (Some []) None None q t.whole (t.listed q [] st e on) in
             let low : low_in h.page.chain ≡ [] = placed_low h.here.stage st l l (low_in h.page.chain) [] (sym h.here.placed ∙ ap o.page h.is ∙ e) in
-            sym h.is ∙ same_page o (shared memory) l (spec log o.index l) (g.tree.first l) t h.page f.0 h.here f.3 [] (from_empty h.page.chain low h.here.is_page.some) (from_empty f.0.chain f.2 f.3.is_page.some) ∙ f.1;
+            sym h.is ∙ same_page t h.page f.0 h.here f.3 [] (from_empty h.page.chain low h.here.is_page.some) (from_empty f.0.chain f.2 f.3.is_page.some) ∙ f.1;
         begins = λ l le. let f = front l le in page_at (g.tree.first l) l [] f.3.stage (ap o.page (sym f.1) ∙ f.3.placed ∙ ap (λ (k : Key). Placed f.3.stage l k) f.2);
         pages = λ l le. map live (g.tree.levels l le).side;
         side = λ l le. side_from memory o l (spec log o.index l) (g.tree.levels l le).side (Some (g.tree.first l)) (Some []) (g.tree.levels l le).whole;

@@ -29,7 +29,7 @@ module _ (o : Owners) (m : Shared) (closed : IsClosed o m) (fitted : AreFitted o
   pub fitted_after : ((row : ℕ) → o'.row row ≡ Linked → (o.row row ≡ Linked) ⊎ IsAdded o rows' row) → AreFitted o' rows'
   fitted_after added row l c h = elim (added row l) [
     | inl was ↦ fitted row was c (chain_was o m rows' closed kept row c was h)
-    | inr new ↦ subst IsPageChain (IsChainFrom-unique rows' row (new.content ∷ new.under) c (new.stands, new.is_under) h) (page_chain new.content new.under new.fits (under_fits new.under (next_row new.content) new.is_under new.next))
+    | inr new ↦ rw (IsChainFrom-unique rows' row (new.content ∷ new.under) c (new.stands, new.is_under) h) at (page_chain new.content new.under new.fits (under_fits new.under (next_row new.content) new.is_under new.next))
   ]
 
 empty_ruled : IsRuled empty_leaf

@@ -1,5 +1,5 @@
 -- The order of keys is total, and the empty key is lowest.
-use Rattle.tree_law.proofs.Words.{false, [], ap, refl, cond, Option, None, List, true, inl, ◌≢◌, inr, ◌∷◌, subst, ◌≡◌, Bool, ◌∙◌, Some, is_eq, IsTrue, ◌&&◌, not, key_cmp, is_under, is_in_range}
+use Rattle.tree_law.proofs.Words.{false, [], ap, refl, Option, None, List, true, inl, ◌≢◌, inr, ◌∷◌, subst, ◌≡◌, Bool, ◌∙◌, Some, is_eq, IsTrue, ◌&&◌, not, key_cmp, is_under, is_in_range}
 use Rattle.tree_law.proofs.Words.{is_below, Record, low_in, high_in, covers, Key, IsBelow, IsUpTo, Covers, IsUnder, put_key}
 use Rattle.std.specs.declared.cmp.Ordering.TheVariants.{Less, Equal, Greater}
 use Rattle.std.specs.Ordering.{is_lt, ordering_reverse}
@@ -60,26 +60,27 @@ pub under_trans : (k s : Key) (b : Option Key) → IsBelow k s → IsUnder s b �
 under_trans k s None h i = refl
 under_trans k s (Some x) h i = below_trans k s x h i
 
--- tests on keys, by cases
-pub by_key : (j i : Key) (P : Bool → Type 0) → (j ≡ i → P true) → (j ≢ i → P false) → P (is_eq (key_cmp j i))
-by_key j i P same other = (elim (key_cmp j i) as (λ o. key_cmp j i ≡ o → P (is_eq o)) [
-  | Less ↦ λ e. other (λ s. not_self i (rw s at (less_below j i e)))
-  | Equal ↦ λ e. same (exact_bytes j i e)
-  | Greater ↦ λ e. other (λ s. let i2 : key_cmp i j ≡ Less = nat_list_cmp_total.antisymm i j ∙ ap ordering_reverse e in not_self i (rw s at (less_below i j i2)))
+-- by cases: the same key or another one, and what the test of the two then says
+pub by_key : {P : Type 0} (j i : Key) → (j ≡ i → is_eq (key_cmp j i) ≡ true → P) → (j ≢ i → is_eq (key_cmp j i) ≡ false → P) → P
+by_key {P} j i same other = (elim (key_cmp j i) as (λ o. key_cmp j i ≡ o → P) [
+  | Less ↦ λ e. other (λ s. not_self i (rw s at (less_below j i e))) (ap is_eq e)
+  | Equal ↦ λ e. same (exact_bytes j i e) (ap is_eq e)
+  | Greater ↦ λ e. other (λ s. let i2 : key_cmp i j ≡ Less = nat_list_cmp_total.antisymm i j ∙ ap ordering_reverse e in not_self i (rw s at (less_below i j i2))) (ap is_eq e)
 ]) refl
 
-pub by_below : (j i : Key) (P : Bool → Type 0) → (IsBelow j i → P true) → (IsUpTo i j → P false) → P (is_below j i)
-by_below j i P below other = elim (decided (is_below j i)) [ inl e ↦ rw e (below e) | inr e ↦ rw e (other e) ]
+-- by cases: a key is below another one, or not
+pub by_below : {P : Type 0} (j i : Key) → (IsBelow j i → P) → (IsUpTo i j → P) → P
+by_below j i below other = elim (decided (is_below j i)) [ inl e ↦ below e | inr e ↦ other e ]
 
--- of a key under the bound of a range, whether it is in the range
-pub by_range : (low k : Key) (high : Option Key) → IsUnder k high → (P : Bool → Type 0) → (IsUpTo low k → P true) → (IsBelow k low → P false) → P (is_in_range low high k)
-by_range low k high under P inside below = rw under (by_below k low (λ t. P (not t && true)) below inside)
+-- of a key under the bound of a range: it is in the range, or below it
+pub by_range : {P : Type 0} (low k : Key) (high : Option Key) → IsUnder k high → (IsUpTo low k → is_in_range low high k ≡ true → P) → (IsBelow k low → is_in_range low high k ≡ false → P) → P
+by_range low k high under inside below = by_below k low (λ e. below e (rw (under, e))) (λ e. inside e (rw (under, e)))
 
 pub key_same : {X : Type 0} (f : Key → X) (s : Key) (v : X) → put_key f s v s ≡ v
-key_same {X} f s v = by_key s s (λ t. cond t v (f s) ≡ v) (λ e. refl) (λ ne. absurd (ne refl))
+key_same {X} f s v = by_key s s (λ e t. rw t) (λ ne t. absurd (ne refl))
 
 pub key_other : {X : Type 0} (f : Key → X) (s : Key) (v : X) (k : Key) → k ≢ s → put_key f s v k ≡ f k
-key_other {X} f s v k ne = by_key k s (λ t. cond t v (f k) ≡ f k) (λ e. absurd (ne e)) (λ i. refl)
+key_other {X} f s v k ne = by_key k s (λ e t. absurd (ne e)) (λ i t. rw t)
 
 pub both : (a b : Bool) → not a && b ≡ true → (a ≡ false) × (b ≡ true)
 both true b e = absurd (cc)
@@ -90,4 +91,4 @@ pub covers_from : (chain : List Record) (key : Key) → IsTrue (covers chain key
 covers_from chain key e = let h = both (is_below key (low_in chain)) (is_under key (high_in chain)) e in record { low = h.0; high = h.1 }
 
 pub covers_to : (chain : List Record) (key : Key) → Covers chain key → IsTrue (covers chain key)
-covers_to chain key v = rw (v.low, v.high) refl
+covers_to chain key v = rw (v.low, v.high)

@@ -1,5 +1,5 @@
 -- A page in its place on the lowest level is a leaf, and no other leaf has its keys; and what such a leaf has, the log has.
-use Rattle.tree_law.proofs.Words.{[], ap, refl, Option, suc, None, List, inl, inr, ◌∷◌, subst, ℕ, ◌≡◌, zero, ◌∙◌, arith, Some, map, Contains, option_map, IsTrue, is_in_range, Update, ArePairsOf}
+use Rattle.tree_law.proofs.Words.{[], ap, refl, Option, suc, None, List, inl, inr, ◌∷◌, ℕ, ◌≡◌, zero, ◌∙◌, arith, Some, map, Contains, option_map, IsTrue, is_in_range, Update, ArePairsOf}
 use Rattle.tree_law.proofs.Words.{ContentOf, Value, Memory, Record, content_in, right_in, low_in, high_in, covers, found, value_of, Knowledge, LivePage, HasMapOf, Key, Owners, leaf_map, Placed}
 use Rattle.tree_law.proofs.Words.{shared, IsLeafWith, IsTree, HasSidePage, SidePage, InPlace, IsPart}
 use Rattle.op_machine.specs.theorem.Answered.{IsCursorPage}
@@ -22,7 +22,7 @@ module _ (memory : Memory) {log : List Update} {o : Owners} {knows : ℕ → Kno
   is_leaf page row chain place = record {
     leaves = map live (leaves memory g).side;
     are = is_leaves memory g;
-    among = subst (Contains (map live (leaves memory g).side)) same there.2;
+    among = rw same at there.2;
     only = λ key value inside spells. place.is_page.same key (covers_from chain key inside) ∙ ap (option_map Value) (((map_of g).same key value).0 spells);
     first = λ e. (is_indexed memory g).only page 0 place.stage (omega arith) (place.placed ∙ ap (λ (low : Key). Placed place.stage 0 low) e) place.on ∙ (is_indexed memory g).leftmost;
   }

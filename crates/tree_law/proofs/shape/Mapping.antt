@@ -64,7 +64,7 @@ module _ (memory : Memory) (o : Owners) (lv : ℕ) (mp : Key → Option ContentO
       test rest high e false u = later (rest (rw e u))
 
       go : (StartsFrom (high_in g.chain) key → Covering gs key) → (high : Option Key) → high_in g.chain ≡ high → Covering (g ∷ gs) key
-      go rest None e = here (rw e refl)
+      go rest None e = here (rw e)
       go rest (Some high) e = test rest high e (is_under key (Some high)) refl
 
 module _ (memory : Memory) {log : List Update} {o : Owners} {knows : ℕ → Knowledge} {point : ℕ → Option (List Update)} {logs : ℕ → List (List Update)} (g : IsTree (shared memory) log o knows point logs) where
@@ -85,7 +85,7 @@ module _ (memory : Memory) {log : List Update} {o : Owners} {knows : ℕ → Kno
   spells : (key value : Key) → logged_value log key ≡ Some value → Spells memory key value
   spells key value e =
       let f = covering memory o 0 (leaf_map log) leaves.side (Some 1) (Some []) leaves.whole key (empty_lowest key) in
-      (map live leaves.side, live f.0, is_leaves, f.1, covers_to f.0.chain key f.3, f.2.is_page.same key f.3 ∙ rw e refl)
+      (map live leaves.side, live f.0, is_leaves, f.1, covers_to f.0.chain key f.3, f.2.is_page.same key f.3 ∙ rw e)
 
   has_map : HasMapOf memory log
   has_map = record {

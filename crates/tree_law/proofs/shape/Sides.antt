@@ -20,7 +20,8 @@ pub all_map : (P Q : SidePage → Type 0) → ((g : SidePage) → P g → Q g) �
 all_map P Q f [] h = tt
 all_map P Q f (g ∷ gs) h = (f g h.0, all_map P Q f gs h.1)
 
-pub part_join : (o : Owners) (m : Shared) (lv : ℕ) (mp : Key → Option ContentOf) (xs ys : List SidePage) (p : Option ℕ) (low : Option Key) (q : Option ℕ) (high : Option Key) (r : Option ℕ) (top : Option Key) → IsPart o m lv mp xs p low q high → IsPart o m lv mp ys q high r top → IsPart o m lv mp (xs ++ ys) p low r top
+pub part_join : (o : Owners) (m : Shared) (lv : ℕ) (mp : Key → Option ContentOf) (xs ys : List SidePage) (p : Option ℕ) (low : Option Key) (q : Option ℕ) (high : Option Key) (r : Option ℕ) (top : Option Key)
+    → IsPart o m lv mp xs p low q high → IsPart o m lv mp ys q high r top → IsPart o m lv mp (xs ++ ys) p low r top
 part_join o m lv mp [] ys p low q high r top h g = rw (h.0, h.1) g
 part_join o m lv mp (x ∷ xs) ys p low q high r top h g = (h.0, h.1, h.2, part_join o m lv mp xs ys (right_in x.chain) (high_in x.chain) q high r top h.3 g)
 
@@ -97,7 +98,8 @@ beside_after o m lv mp g f hg hf u =
     }
 
 -- with what is so of each page of a part
-pub all_in : (o : Owners) (m : Shared) (lv : ℕ) (mp : Key → Option ContentOf) (P Q : SidePage → Type 0) → ((g : SidePage) → InPlace o m lv mp g → P g → Q g) → (gs : List SidePage) (p : Option ℕ) (low : Option Key) (q : Option ℕ) (high : Option Key) → IsPart o m lv mp gs p low q high → AllPages P gs → AllPages Q gs
+pub all_in : (o : Owners) (m : Shared) (lv : ℕ) (mp : Key → Option ContentOf) (P Q : SidePage → Type 0) → ((g : SidePage) → InPlace o m lv mp g → P g → Q g)
+    → (gs : List SidePage) (p : Option ℕ) (low : Option Key) (q : Option ℕ) (high : Option Key) → IsPart o m lv mp gs p low q high → AllPages P gs → AllPages Q gs
 all_in o m lv mp P Q f [] p low q high part h = tt
 all_in o m lv mp P Q f (g ∷ gs) p low q high part h = (f g part.2 h.0, all_in o m lv mp P Q f gs (right_in g.chain) (high_in g.chain) q high part.3 h.1)
 
@@ -111,8 +113,8 @@ pub record Stays (o' : Owners) (m m' : Shared) (lv : ℕ) (mp mp' : Key → Opti
   pub values : (k : Key) → Covers g.chain k → mp' k ≡ mp k
   pub on : (st : Stage) × (o'.page g.page ≡ Placed st lv (low_in g.chain)) × (rank st ≤ 3) × (is_removed g.chain ≡ stage_removed st)
 
-pub place_kept : (o o' : Owners) (m m' : Shared) (lv : ℕ) (mp mp' : Key → Option ContentOf) → IsClosed o m → Kept o o' m m' → (g : SidePage) → Stays o' m m' lv mp mp' g → InPlace o m lv mp g → InPlace o' m' lv mp' g
-place_kept o o' m m' lv mp mp' closed kept g s h =
+pub place_kept : {o o' : Owners} {m m' : Shared} (lv : ℕ) (mp mp' : Key → Option ContentOf) → IsClosed o m → Kept o o' m m' → (g : SidePage) → Stays o' m m' lv mp mp' g → InPlace o m lv mp g → InPlace o' m' lv mp' g
+place_kept {o} {o'} {m} {m'} lv mp mp' closed kept g s h =
     record {
       stage = s.on.0;
       placed = s.on.1;
@@ -122,16 +124,18 @@ place_kept o o' m m' lv mp mp' closed kept g s h =
       is_page = record {
         head = s.slot ∙ h.is_page.head;
         on_level = h.is_page.on_level;
-        is_chain = chain_kept o o' m m' closed kept g.chain (Some g.row) h.linked h.is_page.is_chain;
+        is_chain = chain_kept closed kept g.chain (Some g.row) h.linked h.is_page.is_chain;
         some = h.is_page.some;
         same = λ k c. h.is_page.same k c ∙ sym (s.values k c);
       };
     }
 
-pub part_kept : (o o' : Owners) (m m' : Shared) (lv : ℕ) (mp mp' : Key → Option ContentOf) → IsClosed o m → Kept o o' m m' → (gs : List SidePage) (p : Option ℕ) (low : Option Key) (q : Option ℕ) (high : Option Key) → AllPages (Stays o' m m' lv mp mp') gs → IsPart o m lv mp gs p low q high → IsPart o' m' lv mp' gs p low q high
-part_kept o o' m m' lv mp mp' closed kept [] p low q high s h = h
-part_kept o o' m m' lv mp mp' closed kept (g ∷ gs) p low q high s h =
-    (h.0, h.1, place_kept o o' m m' lv mp mp' closed kept g s.0 h.2, part_kept o o' m m' lv mp mp' closed kept gs (right_in g.chain) (high_in g.chain) q high s.1 h.3)
+pub part_kept : {o o' : Owners} {m m' : Shared} (lv : ℕ) (mp mp' : Key → Option ContentOf) → IsClosed o m → Kept o o' m m'
+    → (gs : List SidePage) (p : Option ℕ) (low : Option Key) (q : Option ℕ) (high : Option Key) → AllPages (Stays o' m m' lv mp mp') gs → IsPart o m lv mp gs p low q high
+    → IsPart o' m' lv mp' gs p low q high
+part_kept {o} {o'} {m} {m'} lv mp mp' closed kept [] p low q high s h = h
+part_kept {o} {o'} {m} {m'} lv mp mp' closed kept (g ∷ gs) p low q high s h =
+    (h.0, h.1, place_kept lv mp mp' closed kept g s.0 h.2, part_kept lv mp mp' closed kept gs (right_in g.chain) (high_in g.chain) q high s.1 h.3)
 
 pub has_left : (p : ℕ) (xs ys : List SidePage) → HasSidePage p xs → HasSidePage p (xs ++ ys)
 has_left p [] ys h = absurd h
@@ -153,28 +157,28 @@ stays_by : (o o' : Owners) (m m' : Shared) (lv : ℕ) (mp mp' : Key → Option C
 stays_by o o' m m' lv mp mp' f h r v = record { slot = r.0; values = v; on = (r.1.0, r.1.1, r.1.2, h.flagged ∙ r.1.3) }
 
 -- pages in the place of one, on the same keys
-pub replaced : (o o' : Owners) (m m' : Shared) (lv : ℕ) (mp mp' : Key → Option ContentOf) → IsClosed o m → Kept o o' m m' → (gs : List SidePage) (p : Option ℕ) (low : Option Key) (q : Option ℕ) (high : Option Key) (at : ℕ) (l : Located o m lv mp gs p low q high at)
+pub replaced : {o o' : Owners} {m m' : Shared} (lv : ℕ) (mp mp' : Key → Option ContentOf) → IsClosed o m → Kept o o' m m' → (gs : List SidePage) (p : Option ℕ) (low : Option Key) (q : Option ℕ) (high : Option Key) (at : ℕ) (l : Located o m lv mp gs p low q high at)
     → ((f : SidePage) → (h : InPlace o m lv mp f) → Beside l.page f → Rest o o' m m' f.page lv (low_in f.chain) h.stage)
     → ((k : Key) → (Covers l.page.chain k → ⊥) → mp' k ≡ mp k)
     → (news : List SidePage) → IsPart o' m' lv mp' news (Some l.page.page) (Some (low_in l.page.chain)) (right_in l.page.chain) (high_in l.page.chain)
     → IsPart o' m' lv mp' (l.before ++ (news ++ l.after)) p low q high
-replaced o o' m m' lv mp mp' closed kept gs p low q high at l rests logs news new =
+replaced {o} {o'} {m} {m'} lv mp mp' closed kept gs p low q high at l rests logs news new =
     let g = l.page in
     let stays = λ (f : SidePage) (h : InPlace o m lv mp f) (b : Beside g f). (let r : Stays o' m m' lv mp mp' f = stays_by o o' m m' lv mp mp' f h (rests f h b) (λ k c. logs k (b.apart k c)) in r) in
     let first = all_in o m lv mp (λ f. StartsFrom (high_in f.chain) (low_in g.chain)) (Stays o' m m' lv mp mp') (λ f h u. stays f h (beside_before o m lv mp g f l.here h u)) l.before p low (Some g.page) (Some (low_in g.chain)) l.first (ends_before o m lv mp l.before p low (Some g.page) (low_in g.chain) l.first).1 in
     let rest = all_in o m lv mp (λ f. StartsFrom (high_in g.chain) (low_in f.chain)) (Stays o' m m' lv mp mp') (λ f h u. stays f h (beside_after o m lv mp g f l.here h u)) l.after (right_in g.chain) (high_in g.chain) q high l.rest (begins_after o m lv mp l.after (right_in g.chain) (high_in g.chain) q high l.rest) in
     part_join o' m' lv mp' l.before (news ++ l.after) p low (Some g.page) (Some (low_in g.chain)) q high
-    (part_kept o o' m m' lv mp mp' closed kept l.before p low (Some g.page) (Some (low_in g.chain)) first l.first)
+    (part_kept lv mp mp' closed kept l.before p low (Some g.page) (Some (low_in g.chain)) first l.first)
     (part_join o' m' lv mp' news l.after (Some g.page) (Some (low_in g.chain)) (right_in g.chain) (high_in g.chain) q high new
-    (part_kept o o' m m' lv mp mp' closed kept l.after (right_in g.chain) (high_in g.chain) q high rest l.rest))
+    (part_kept lv mp mp' closed kept l.after (right_in g.chain) (high_in g.chain) q high rest l.rest))
 
 -- a level stays where its slots do
-pub level_kept : (o o' : Owners) (m m' : Shared) (lv : ℕ) (mp mp' : Key → Option ContentOf) (first : ℕ) → IsClosed o m → Kept o o' m m' → ((p : ℕ) (s : Key) (st : Stage) → o.page p ≡ Placed st lv s → rank st ≤ 3 → Rest o o' m m' p lv s st) → ((k : Key) → mp' k ≡ mp k)
+pub level_kept : {o o' : Owners} {m m' : Shared} (lv : ℕ) (mp mp' : Key → Option ContentOf) (first : ℕ) → IsClosed o m → Kept o o' m m' → ((p : ℕ) (s : Key) (st : Stage) → o.page p ≡ Placed st lv s → rank st ≤ 3 → Rest o o' m m' p lv s st) → ((k : Key) → mp' k ≡ mp k)
     → ((p : ℕ) (s : Key) (st : Stage) → o'.page p ≡ Placed st lv s → rank st ≤ 3 → (st' : Stage) × (o.page p ≡ Placed st' lv s) × (rank st' ≤ 3)) → Level o m lv mp first → Level o' m' lv mp' first
-level_kept o o' m m' lv mp mp' first closed kept rests same old t =
+level_kept {o} {o'} {m} {m'} lv mp mp' first closed kept rests same old t =
     record {
       side = t.side;
-      whole = part_kept o o' m m' lv mp mp' closed kept t.side (Some first) (Some []) None None
+      whole = part_kept lv mp mp' closed kept t.side (Some first) (Some []) None None
           (all_in o m lv mp (λ f. ⊤) (Stays o' m m' lv mp mp') (λ f h u. stays_by o o' m m' lv mp mp' f h (rests f.page (low_in f.chain) h.stage h.placed h.on) (λ k c. same k)) t.side (Some first) (Some []) None None t.whole (all_pages (λ f. ⊤) (λ f. tt) t.side))
           t.whole;
       listed = λ p s st e on. let f = old p s st e on in t.listed p s f.0 f.1 f.2;
@@ -184,8 +188,9 @@ level_kept o o' m m' lv mp mp' first closed kept rests same old t =
 pub record InLevelAs (o : Owners) (m : Shared) (lv : ℕ) (mp : Key → Option ContentOf) (p x : ℕ) (c : List Record) : Type 0 where
   pub place : InPlace o m lv mp (record { page = p; row = x; chain = c })
 
-pub in_level_as : (o : Owners) (m : Shared) (lv : ℕ) (mp : Key → Option ContentOf) (first : ℕ) → (t : Level o m lv mp first) → (p : ℕ) (s : Key) (st : Stage) → o.page p ≡ Placed st lv s → rank st ≤ 3 → (x : ℕ) → m.slots p ≡ Some x → (c : List Record) → IsChain m.rows c (Some x) → InLevelAs o m lv mp p x c
-in_level_as o m lv mp first t p s st e on x i c h =
+pub in_level_as : {o : Owners} {m : Shared} {lv : ℕ} {mp : Key → Option ContentOf} {first : ℕ} → (t : Level o m lv mp first) → (p : ℕ) (s : Key) (st : Stage) → o.page p ≡ Placed st lv s
+    → rank st ≤ 3 → (x : ℕ) → m.slots p ≡ Some x → (c : List Record) → IsChain m.rows c (Some x) → InLevelAs o m lv mp p x c
+in_level_as {o} {m} {lv} {mp} {first} t p s st e on x i c h =
     let l = locate o m lv mp t.side (Some first) (Some []) None None p t.whole (t.listed p s st e on) in
     let r : l.page.row ≡ x = same_Some l.page.row x (sym l.here.is_page.head ∙ ap m.slots l.is ∙ i) in
     let d : l.page.chain ≡ c = chain_unique m.rows l.page.chain c (Some x) (rw r at l.here.is_page.is_chain) h in
@@ -193,18 +198,19 @@ in_level_as o m lv mp first t p s st e on x i c h =
     record { place = rw q at l.here }
 
 -- pages in the place of one
-level_relinked : (o o' : Owners) (m m' : Shared) (lv : ℕ) (mp mp' : Key → Option ContentOf) (first : ℕ) → IsClosed o m → Kept o o' m m' → (t : Level o m lv mp first) → (p : ℕ) (s : Key) (st : Stage) → o.page p ≡ Placed st lv s → rank st ≤ 3 → (x : ℕ) → m.slots p ≡ Some x → (c : List Record) → IsChain m.rows c (Some x)
+level_relinked : {o o' : Owners} {m m' : Shared} (lv : ℕ) (mp mp' : Key → Option ContentOf) (first : ℕ) → IsClosed o m → Kept o o' m m' → (t : Level o m lv mp first)
+    → (p : ℕ) (s : Key) (st : Stage) → o.page p ≡ Placed st lv s → rank st ≤ 3 → (x : ℕ) → m.slots p ≡ Some x → (c : List Record) → IsChain m.rows c (Some x)
     → ((q : ℕ) (s : Key) (st : Stage) → q ≢ p → o.page q ≡ Placed st lv s → rank st ≤ 3 → Rest o o' m m' q lv s st)
     → ((k : Key) → (Covers c k → ⊥) → mp' k ≡ mp k)
     → (news : List SidePage) → IsPart o' m' lv mp' news (Some p) (Some (low_in c)) (right_in c) (high_in c) → HasSidePage p news
     → ((q : ℕ) (s : Key) (st : Stage) → o'.page q ≡ Placed st lv s → rank st ≤ 3 → ((st' : Stage) × (o.page q ≡ Placed st' lv s) × (rank st' ≤ 3)) ⊎ HasSidePage q news) → Level o' m' lv mp' first
-level_relinked o o' m m' lv mp mp' first closed kept t p s st e on x i c h rests outside news new has listed =
+level_relinked {o} {o'} {m} {m'} lv mp mp' first closed kept t p s st e on x i c h rests outside news new has listed =
     let l = locate o m lv mp t.side (Some first) (Some []) None None p t.whole (t.listed p s st e on) in
     let r : l.page.row ≡ x = same_Some l.page.row x (sym l.here.is_page.head ∙ ap m.slots l.is ∙ i) in
     let d : l.page.chain ≡ c = chain_unique m.rows l.page.chain c (Some x) (rw r at l.here.is_page.is_chain) h in
     record {
       side = l.before ++ (news ++ l.after);
-      whole = replaced o o' m m' lv mp mp' closed kept t.side (Some first) (Some []) None None p l
+      whole = replaced lv mp mp' closed kept t.side (Some first) (Some []) None None p l
           (λ f h b. rests f.page (low_in f.chain) h.stage (λ i. b.other (i ∙ sym l.is)) h.placed h.on)
           (λ k n. outside k (λ v. n (rw d v)))
           news
@@ -221,36 +227,38 @@ pub placed_level : (st st' : Stage) (l l' : ℕ) (s s' : Key) → Placed st l s 
 placed_level st st' l l' s s' e = ((let f : l ≡ l' = cc in f), (let f : s ≡ s' = cc in f))
 
 -- the tree stays where its slots do
-pub tree_kept : (o o' : Owners) (m m' : Shared) (log : List Update) → IsClosed o m → Kept o o' m m' → ((p l : ℕ) (s : Key) (st : Stage) → o.page p ≡ Placed st l s → rank st ≤ 3 → Rest o o' m m' p l s st) → m'.root ≡ m.root → o'.index ≡ o.index
-    → ((p l : ℕ) (s : Key) (st : Stage) → o'.page p ≡ Placed st l s → rank st ≤ 3 → (st' : Stage) × (o.page p ≡ Placed st' l s) × (rank st' ≤ 3)) → (t : HasLevels o m log) → Exact o'.page o'.index t.top m'.root → ((q l : ℕ) (s : Key) → IsOff (o'.page q) l s → IsOut (o'.page q) (m'.slots q) ⊎ Off o' m' q l s) → HasLevels o' m' log
-tree_kept o o' m m' log closed kept rests root index old t exact off =
+pub tree_kept : {o o' : Owners} {m m' : Shared} (log : List Update) → IsClosed o m → Kept o o' m m' → ((p l : ℕ) (s : Key) (st : Stage) → o.page p ≡ Placed st l s → rank st ≤ 3 → Rest o o' m m' p l s st) → m'.root ≡ m.root → o'.index ≡ o.index
+    → ((p l : ℕ) (s : Key) (st : Stage) → o'.page p ≡ Placed st l s → rank st ≤ 3 → (st' : Stage) × (o.page p ≡ Placed st' l s) × (rank st' ≤ 3)) → (t : HasLevels o m log)
+    → Exact o'.page o'.index t.top m'.root → ((q l : ℕ) (s : Key) → IsOff (o'.page q) l s → IsOut (o'.page q) (m'.slots q) ⊎ Off o' m' q l s) → HasLevels o' m' log
+tree_kept {o} {o'} {m} {m'} log closed kept rests root index old t exact off =
     record {
       top = t.top;
       first = t.first;
       leaf = t.leaf;
       root = root ∙ t.root;
-      levels = λ l le. level_kept o o' m m' l (spec log o.index l) (spec log o'.index l) (t.first l) closed kept (λ p s st. rests p l s st) (λ k. ap (λ (f : ℕ → Key → Option ContentOf). spec log f l k) index) (λ p s st. old p l s st) (t.levels l le);
+      levels = λ l le. level_kept l (spec log o.index l) (spec log o'.index l) (t.first l) closed kept (λ p s st. rests p l s st) (λ k. ap (λ (f : ℕ → Key → Option ContentOf). spec log f l k) index) (λ p s st. old p l s st) (t.levels l le);
       exact = exact;
       off = off;
     }
 
 -- pages in the place of one
-pub tree_relinked : (o o' : Owners) (m m' : Shared) (log log' : List Update) → IsClosed o m → Kept o o' m m' → (t : HasLevels o m log) → (p lv : ℕ) (s : Key) (st : Stage) → o.page p ≡ Placed st lv s → rank st ≤ 3 → (x : ℕ) → m.slots p ≡ Some x → (c : List Record) → IsChain m.rows c (Some x)
+pub tree_relinked : {o o' : Owners} {m m' : Shared} (log log' : List Update) → IsClosed o m → Kept o o' m m' → (t : HasLevels o m log) → (p lv : ℕ) (s : Key) (st : Stage)
+    → o.page p ≡ Placed st lv s → rank st ≤ 3 → (x : ℕ) → m.slots p ≡ Some x → (c : List Record) → IsChain m.rows c (Some x)
     → ((q l : ℕ) (s : Key) (st : Stage) → q ≢ p → o.page q ≡ Placed st l s → rank st ≤ 3 → Rest o o' m m' q l s st) → m'.root ≡ m.root
     → ((l : ℕ) (k : Key) → (l ≡ lv → Covers c k → ⊥) → spec log' o'.index l k ≡ spec log o.index l k)
     → (news : List SidePage) → IsPart o' m' lv (spec log' o'.index lv) news (Some p) (Some (low_in c)) (right_in c) (high_in c) → HasSidePage p news
     → ((q l : ℕ) (s : Key) (st : Stage) → o'.page q ≡ Placed st l s → rank st ≤ 3 → ((st' : Stage) × (o.page q ≡ Placed st' l s) × (rank st' ≤ 3)) ⊎ ((l ≡ lv) × HasSidePage q news))
     → Exact o'.page o'.index t.top m'.root → ((q l : ℕ) (s : Key) → IsOff (o'.page q) l s → IsOut (o'.page q) (m'.slots q) ⊎ Off o' m' q l s) → HasLevels o' m' log'
-tree_relinked o o' m m' log log' closed kept t p lv s st e on x i c h rests root outside news new has listed exact off =
+tree_relinked {o} {o'} {m} {m'} log log' closed kept t p lv s st e on x i c h rests root outside news new has listed exact off =
     record {
       top = t.top;
       first = t.first;
       leaf = t.leaf;
       root = root ∙ t.root;
       levels = λ l le. by_equal l lv
-          (λ j is. rw j (level_relinked o o' m m' lv (spec log o.index lv) (spec log' o'.index lv) (t.first lv) closed kept (t.levels lv (t.exact.below p lv s st e)) p s st e on x i c h (λ q s' st'. rests q lv s' st') (λ k n. outside lv k (λ j. n)) news new has
+          (λ j is. rw j (level_relinked lv (spec log o.index lv) (spec log' o'.index lv) (t.first lv) closed kept (t.levels lv (t.exact.below p lv s st e)) p s st e on x i c h (λ q s' st'. rests q lv s' st') (λ k n. outside lv k (λ j. n)) news new has
           (λ q s' st' f on'. elim (listed q lv s' st' f on') [ inl u ↦ inl u | inr u ↦ inr u.1 ])))
-          (λ ne is. level_kept o o' m m' l (spec log o.index l) (spec log' o'.index l) (t.first l) closed kept
+          (λ ne is. level_kept l (spec log o.index l) (spec log' o'.index l) (t.first l) closed kept
           (λ q s' st' f. rests q l s' st' (λ j. ne (placed_level st' st l lv s' s (sym f ∙ ap o.page j ∙ e)).0) f)
           (λ k. outside l k (λ j. absurd (ne j)))
           (λ q s' st' f on'. elim (listed q l s' st' f on') [ inl u ↦ u | inr u ↦ absurd (ne u.0) ])
@@ -260,8 +268,8 @@ tree_relinked o o' m m' log log' closed kept t p lv s st e on x i c h rests root
     }
 
 -- two pages of a level that have a key in common are one
-pub same_page : (o : Owners) (m : Shared) (lv : ℕ) (mp : Key → Option ContentOf) (first : ℕ) → Level o m lv mp first → (g f : SidePage) → InPlace o m lv mp g → InPlace o m lv mp f → (k : Key) → Covers g.chain k → Covers f.chain k → g.page ≡ f.page
-same_page o m lv mp first t g f hg hf k cg cf = go t.side (Some first) (Some []) t.whole (t.listed g.page (low_in g.chain) hg.stage hg.placed hg.on) (t.listed f.page (low_in f.chain) hf.stage hf.placed hf.on)
+pub same_page : {o : Owners} {m : Shared} {lv : ℕ} {mp : Key → Option ContentOf} {first : ℕ} → Level o m lv mp first → (g f : SidePage) → InPlace o m lv mp g → InPlace o m lv mp f → (k : Key) → Covers g.chain k → Covers f.chain k → g.page ≡ f.page
+same_page {o} {m} {lv} {mp} {first} t g f hg hf k cg cf = go t.side (Some first) (Some []) t.whole (t.listed g.page (low_in g.chain) hg.stage hg.placed hg.on) (t.listed f.page (low_in f.chain) hf.stage hf.placed hf.on)
   where
     moved : (h e : SidePage) → InPlace o m lv mp h → InPlace o m lv mp e → h.page ≡ e.page → Covers e.chain k → Covers h.chain k
     moved h e ih ie i c = rw (one_chain o m lv mp mp e h ie ih i) c
@@ -288,8 +296,9 @@ same_page o m lv mp first t g f hg hf k cg cf = go t.side (Some first) (Some [])
     go (h ∷ gs) p low part (inr a) (inr b) = go gs (right_in h.chain) (high_in h.chain) part.3 a b
 
 -- a page of a level with its low beyond another's, and not beyond its end, is its right
-pub no_gap : (o : Owners) (m : Shared) (lv : ℕ) (mp : Key → Option ContentOf) (first : ℕ) → Level o m lv mp first → (g : SidePage) → InPlace o m lv mp g → (q : ℕ) (s : Key) (st : Stage) → o.page q ≡ Placed st lv s → rank st ≤ 3 → IsBelow (low_in g.chain) s → IsWithinEnd s (high_in g.chain) → (high_in g.chain ≡ Some s) × (right_in g.chain ≡ Some q)
-no_gap o m lv mp first t g hg q s st e on lo hi = go t.side (Some first) (Some []) t.whole (t.listed g.page (low_in g.chain) hg.stage hg.placed hg.on) (t.listed q s st e on)
+pub no_gap : {o : Owners} {m : Shared} {lv : ℕ} {mp : Key → Option ContentOf} {first : ℕ} → Level o m lv mp first → (g : SidePage) → InPlace o m lv mp g → (q : ℕ) (s : Key) (st : Stage)
+    → o.page q ≡ Placed st lv s → rank st ≤ 3 → IsBelow (low_in g.chain) s → IsWithinEnd s (high_in g.chain) → (high_in g.chain ≡ Some s) × (right_in g.chain ≡ Some q)
+no_gap {o} {m} {lv} {mp} {first} t g hg q s st e on lo hi = go t.side (Some first) (Some []) t.whole (t.listed g.page (low_in g.chain) hg.stage hg.placed hg.on) (t.listed q s st e on)
   where
     low_is : (f : SidePage) → InPlace o m lv mp f → f.page ≡ q → low_in f.chain ≡ s
     low_is f h i = let w : Placed h.stage lv (low_in f.chain) ≡ Placed st lv s = sym h.placed ∙ ap o.page i ∙ e in cc
@@ -324,8 +333,9 @@ no_gap o m lv mp first t g hg q s st e on lo hi = go t.side (Some first) (Some [
     go (h ∷ gs) p low part (inr a) (inr b) = go gs (right_in h.chain) (high_in h.chain) part.3 a b
 
 -- the page right of a page
-pub right_page : (o : Owners) (m : Shared) (lv : ℕ) (mp : Key → Option ContentOf) (first : ℕ) → Level o m lv mp first → (g : SidePage) → InPlace o m lv mp g → (q : ℕ) → right_in g.chain ≡ Some q → (f : SidePage) × (f.page ≡ q) × (high_in g.chain ≡ Some (low_in f.chain)) × InPlace o m lv mp f
-right_page o m lv mp first t g hg q r = go t.side (Some first) (Some []) t.whole (t.listed g.page (low_in g.chain) hg.stage hg.placed hg.on)
+pub right_page : {o : Owners} {m : Shared} {lv : ℕ} {mp : Key → Option ContentOf} {first : ℕ} → Level o m lv mp first → (g : SidePage) → InPlace o m lv mp g → (q : ℕ)
+    → right_in g.chain ≡ Some q → (f : SidePage) × (f.page ≡ q) × (high_in g.chain ≡ Some (low_in f.chain)) × InPlace o m lv mp f
+right_page {o} {m} {lv} {mp} {first} t g hg q r = go t.side (Some first) (Some []) t.whole (t.listed g.page (low_in g.chain) hg.stage hg.placed hg.on)
   where
     next : (gs : List SidePage) → IsPart o m lv mp gs (right_in g.chain) (high_in g.chain) None None → (f : SidePage) × (f.page ≡ q) × (high_in g.chain ≡ Some (low_in f.chain)) × InPlace o m lv mp f
     next [] part = absurd (cc part.0)
@@ -337,12 +347,13 @@ right_page o m lv mp first t g hg q r = go t.side (Some first) (Some []) t.whole
     go (h ∷ gs) p low part (inr a) = go gs (right_in h.chain) (high_in h.chain) part.3 a
 
 -- one page in the place of two
-level_merged : (o o' : Owners) (m m' : Shared) (lv : ℕ) (mp mp' : Key → Option ContentOf) (first : ℕ) → IsClosed o m → Kept o o' m m' → (t : Level o m lv mp first) → (p : ℕ) (sp : Key) (q : ℕ) (sq : Key) (st st2 : Stage) → o.page p ≡ Placed st lv sp → rank st ≤ 3 → o.page q ≡ Placed st2 lv sq → IsBelow sp sq
+level_merged : {o o' : Owners} {m m' : Shared} (lv : ℕ) (mp mp' : Key → Option ContentOf) (first : ℕ) → IsClosed o m → Kept o o' m m' → (t : Level o m lv mp first)
+    → (p : ℕ) (sp : Key) (q : ℕ) (sq : Key) (st st2 : Stage) → o.page p ≡ Placed st lv sp → rank st ≤ 3 → o.page q ≡ Placed st2 lv sq → IsBelow sp sq
     → ((r : ℕ) (s : Key) (st : Stage) → r ≢ p → r ≢ q → o.page r ≡ Placed st lv s → rank st ≤ 3 → Rest o o' m m' r lv s st) → ((k : Key) → mp' k ≡ mp k)
     → (new : SidePage) → new.page ≡ p → ((g k : SidePage) → InPlace o m lv mp g → g.page ≡ p → InPlace o m lv mp k → right_in g.chain ≡ Some k.page → (k.page ≡ q) × IsPart o' m' lv mp' (new ∷ []) (Some p) (Some sp) (right_in k.chain) (high_in k.chain))
     → ((g : SidePage) → InPlace o m lv mp g → g.page ≡ p → right_in g.chain ≡ Some q)
     → ((r : ℕ) (s : Key) (st : Stage) → o'.page r ≡ Placed st lv s → rank st ≤ 3 → (r ≢ q) × ((st' : Stage) × (o.page r ≡ Placed st' lv s) × (rank st' ≤ 3))) → Level o' m' lv mp' first
-level_merged o o' m m' lv mp mp' first closed kept t p sp q sq st st2 ep on eq lt rests same new is pair right old =
+level_merged {o} {o'} {m} {m'} lv mp mp' first closed kept t p sp q sq st st2 ep on eq lt rests same new is pair right old =
     let r = go t.side (Some first) (Some []) t.whole (t.listed p sp st ep on) in
     record { side = r.0; whole = r.1; listed = λ z s' st' e i. let f = old z s' st' e i in r.2 z f.0 (t.listed z s' f.1.0 f.1.1 f.1.2) }
   where
@@ -358,7 +369,7 @@ level_merged o o' m m' lv mp mp' first closed kept t p sp q sq st st2 ep on eq l
     stays f h np nq = stays_by o o' m m' lv mp mp' f h (rests f.page (low_in f.chain) h.stage np nq h.placed h.on) (λ k c. same k)
 
     tail : (k : SidePage) → InPlace o m lv mp k → k.page ≡ q → (gs : List SidePage) → IsPart o m lv mp gs (right_in k.chain) (high_in k.chain) None None → IsPart o' m' lv mp' gs (right_in k.chain) (high_in k.chain) None None
-    tail k hk i gs part = part_kept o o' m m' lv mp mp' closed kept gs (right_in k.chain) (high_in k.chain) None None
+    tail k hk i gs part = part_kept lv mp mp' closed kept gs (right_in k.chain) (high_in k.chain) None None
         (all_in o m lv mp (λ f. StartsFrom (high_in k.chain) (low_in f.chain)) (Stays o' m m' lv mp mp')
         (λ f h u. let v = under_start (low_in k.chain) (low_in f.chain) (high_in k.chain) hk.is_page.some u in let w = low_at q sq st2 eq k hk i in
         stays f h (λ j. not_below (low_in k.chain) (low_in f.chain) v (upto_trans (low_in f.chain) sp (low_in k.chain) (upto_same (low_in f.chain) sp (low_at p sp st ep f h j)) (upto_trans sp sq (low_in k.chain) (below_not sp sq lt) (upto_same sq (low_in k.chain) (sym w)))))
@@ -388,27 +399,29 @@ level_merged o o' m m' lv mp mp' first closed kept t p sp q sq st st2 ep on eq l
         let r = go gs (right_in h.chain) (high_in h.chain) part.3 i in
         let s = stays h part.2 (λ j. not_below (low_in h.chain) sp u (upto_same sp (low_in h.chain) (sym (low_at p sp st ep h part.2 j))))
         (λ j. not_below (low_in h.chain) sp u (upto_trans sp sq (low_in h.chain) (below_not sp sq lt) (upto_same sq (low_in h.chain) (sym (low_at q sq st2 eq h part.2 j))))) in
-        (h ∷ r.0, (part.0, part.1, place_kept o o' m m' lv mp mp' closed kept h s part.2, r.1), λ z ne has. more z ne r.0 r.2 has)
+        (h ∷ r.0, (part.0, part.1, place_kept lv mp mp' closed kept h s part.2, r.1), λ z ne has. more z ne r.0 r.2 has)
       where
         more : (z : ℕ) → z ≢ q → (gs' : List SidePage) → ((r : ℕ) → r ≢ q → HasSidePage r gs → HasSidePage r gs') → HasSidePage z (h ∷ gs) → HasSidePage z (h ∷ gs')
         more z ne gs' f (inl e) = inl e
         more z ne gs' f (inr e) = inr (f z ne e)
 
-pub tree_merged : (o o' : Owners) (m m' : Shared) (log : List Update) → IsClosed o m → Kept o o' m m' → (t : HasLevels o m log) → (p lv : ℕ) (sp : Key) (q : ℕ) (sq : Key) (st st2 : Stage) → o.page p ≡ Placed st lv sp → rank st ≤ 3 → o.page q ≡ Placed st2 lv sq → IsBelow sp sq
+pub tree_merged : {o o' : Owners} {m m' : Shared} (log : List Update) → IsClosed o m → Kept o o' m m' → (t : HasLevels o m log) → (p lv : ℕ) (sp : Key) (q : ℕ) (sq : Key) (st st2 : Stage)
+    → o.page p ≡ Placed st lv sp → rank st ≤ 3 → o.page q ≡ Placed st2 lv sq → IsBelow sp sq
     → ((r l : ℕ) (s : Key) (st : Stage) → r ≢ p → r ≢ q → o.page r ≡ Placed st l s → rank st ≤ 3 → Rest o o' m m' r l s st) → m'.root ≡ m.root → o'.index ≡ o.index
-    → (new : SidePage) → new.page ≡ p → ((g k : SidePage) → InPlace o m lv (spec log o.index lv) g → g.page ≡ p → InPlace o m lv (spec log o.index lv) k → right_in g.chain ≡ Some k.page → (k.page ≡ q) × IsPart o' m' lv (spec log o'.index lv) (new ∷ []) (Some p) (Some sp) (right_in k.chain) (high_in k.chain))
+    → (new : SidePage) → new.page ≡ p
+    → ((g k : SidePage) → InPlace o m lv (spec log o.index lv) g → g.page ≡ p → InPlace o m lv (spec log o.index lv) k → right_in g.chain ≡ Some k.page → (k.page ≡ q) × IsPart o' m' lv (spec log o'.index lv) (new ∷ []) (Some p) (Some sp) (right_in k.chain) (high_in k.chain))
     → ((g : SidePage) → InPlace o m lv (spec log o.index lv) g → g.page ≡ p → right_in g.chain ≡ Some q)
     → ((r l : ℕ) (s : Key) (st : Stage) → o'.page r ≡ Placed st l s → rank st ≤ 3 → (r ≢ q) × ((st' : Stage) × (o.page r ≡ Placed st' l s) × (rank st' ≤ 3)))
     → Exact o'.page o'.index t.top m'.root → ((q l : ℕ) (s : Key) → IsOff (o'.page q) l s → IsOut (o'.page q) (m'.slots q) ⊎ Off o' m' q l s) → HasLevels o' m' log
-tree_merged o o' m m' log closed kept t p lv sp q sq st st2 ep on eq lt rests root index new is pair right old exact off =
+tree_merged {o} {o'} {m} {m'} log closed kept t p lv sp q sq st st2 ep on eq lt rests root index new is pair right old exact off =
     record {
       top = t.top;
       first = t.first;
       leaf = t.leaf;
       root = root ∙ t.root;
       levels = λ l le. by_equal l lv
-          (λ j says. rw j (level_merged o o' m m' lv (spec log o.index lv) (spec log o'.index lv) (t.first lv) closed kept (t.levels lv (t.exact.below p lv sp st ep)) p sp q sq st st2 ep on eq lt (λ r s. rests r lv s) (λ k. ap (λ (f : ℕ → Key → Option ContentOf). spec log f lv k) index) new is pair right (λ r s. old r lv s)))
-          (λ ne says. level_kept o o' m m' l (spec log o.index l) (spec log o'.index l) (t.first l) closed kept
+          (λ j says. rw j (level_merged lv (spec log o.index lv) (spec log o'.index lv) (t.first lv) closed kept (t.levels lv (t.exact.below p lv sp st ep)) p sp q sq st st2 ep on eq lt (λ r s. rests r lv s) (λ k. ap (λ (f : ℕ → Key → Option ContentOf). spec log f lv k) index) new is pair right (λ r s. old r lv s)))
+          (λ ne says. level_kept l (spec log o.index l) (spec log o'.index l) (t.first l) closed kept
           (λ r s' st' f. rests r l s' st' (λ j. ne (placed_level st' st l lv s' sp (sym f ∙ ap o.page j ∙ ep)).0) (λ j. ne (placed_level st' st2 l lv s' sq (sym f ∙ ap o.page j ∙ eq)).0) f)
           (λ k. ap (λ (f : ℕ → Key → Option ContentOf). spec log f l k) index)
           (λ r s' st' f i. (old r l s' st' f i).1)

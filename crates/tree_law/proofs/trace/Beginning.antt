@@ -48,10 +48,11 @@ opening_timed limits = record {
 }
 
 -- what an actor holds when it begins it held before
-begin_timed : {limits : Limits} {m : Memory} {log : List Update} {o : Owners} {knows : ℕ → Knowledge} {point : ℕ → Option (List Update)} {logs : ℕ → List (List Update)} {now : ℕ} {t : Times} (g : IsTree (shared m) log o knows point logs) (T : Timed limits m o knows now t) (a : ℕ) (c : Command) → Timed limits m o (put knows a (begun (knows a) c)) (suc now) t
+begin_timed : {limits : Limits} {m : Memory} {log : List Update} {o : Owners} {knows : ℕ → Knowledge} {point : ℕ → Option (List Update)} {logs : ℕ → List (List Update)} {now : ℕ} {t : Times} (g : IsTree (shared m) log o knows point logs) (T : Timed limits m o knows now t) (a : ℕ) (c : Command)
+    → Timed limits m o (put knows a (begun (knows a) c)) (suc now) t
 begin_timed {m = m} {o = o} {knows = knows} g T a c =
     let h = T.holds a in
-    read_timed g T a m o (begun (knows a) c) (calm_same g T a) refl refl
+    read_timed (begun (knows a) c) (calm_same g T a) refl refl
     (record { learnt_inside = h.learnt_inside; learnt_since = h.learnt_since; seen_learnt = h.seen_learnt; roots_inside = h.roots_inside; roots_since = h.roots_since; heads_since = λ p x e. absurd (cc); before_since = λ p f x e. absurd (cc); beside_since = λ p f y x e. absurd (cc); linked_learnt = λ x e. absurd (cc) })
     refl refl
 

@@ -1,5 +1,5 @@
 -- Operations end at their leaves.
-use Rattle.tree_law.proofs.Words.{[], refl, Option, None, List, inl, ◌++◌, inr, ◌∷◌, subst, sym, ℕ, ◌≡◌, Some, IsSome, IfSome, Reply, Limits, Answer, StepOf, Leave, Record, slice_get-push_cases}
+use Rattle.tree_law.proofs.Words.{[], refl, Option, None, List, inl, ◌++◌, inr, ◌∷◌, ℕ, ◌≡◌, Some, IsSome, IfSome, Reply, Limits, Answer, StepOf, Leave, Record, slice_get-push_cases}
 use Rattle.tree_law.proofs.Words.{MayReply, Knowledge, Entry, Step}
 use Rattle.op_machine.specs.theorem.Operations.{EndAtLeaves, RepliesAtLeave}
 
@@ -10,7 +10,7 @@ pub ends_push : (entries : List Entry) (last : Entry) → EndAtLeaves entries �
 ends_push entries last ends now = record {
   each = λ n entry e. elim (slice_get-push_cases entries last n entry e) [
     | inl before ↦ ends.each n entry before
-    | inr at ↦ subst RepliesAtLeave (sym at.1) now
+    | inr at ↦ rw at.1 now
   ];
 }
 

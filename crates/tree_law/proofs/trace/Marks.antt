@@ -59,7 +59,7 @@ module _ (entries : List Entry) (points : List Bool) (last : Entry) (mark : Bool
   answers_kept limits op reply is never (inr h) = inr (record {
     unmarked = λ m own p. elim (step_cases entries last op m own) [
       | inl own' ↦ h.unmarked m own' (point_old op m own' p)
-      | inr at ↦ never (point_last points mark m (at.0 ∙ sym beside) p) (subst (IsOwnStep entries' op) at.0 own)
+      | inr at ↦ never (point_last points mark m (at.0 ∙ sym beside) p) (rw at.0 at own)
     ];
     finds = finds_kept limits op reply h.finds;
   })
@@ -84,10 +84,10 @@ module _ (entries : List Entry) (points : List Bool) (last : Entry) (mark : Bool
     one = λ op m n is om on pm pn. elim (step_cases entries last op m om) [
       | inl om' ↦ elim (step_cases entries last op n on) [
         | inl on' ↦ old.one op m n (operation_old entries last op m is om) om' on' (point_old op m om' pm) (point_old op n on' pn)
-        | inr at ↦ absurd (fresh (point_last points mark n (at.0 ∙ sym beside) pn) op (operation_old entries last op m is om) (subst (IsOwnStep entries' op) at.0 on) m om' (point_old op m om' pm))
+        | inr at ↦ absurd (fresh (point_last points mark n (at.0 ∙ sym beside) pn) op (operation_old entries last op m is om) (rw at.0 at on) m om' (point_old op m om' pm))
       ]
       | inr at ↦ elim (step_cases entries last op n on) [
-        | inl on' ↦ absurd (fresh (point_last points mark m (at.0 ∙ sym beside) pm) op (operation_old entries last op m is om) (subst (IsOwnStep entries' op) at.0 om) n on' (point_old op n on' pn))
+        | inl on' ↦ absurd (fresh (point_last points mark m (at.0 ∙ sym beside) pm) op (operation_old entries last op m is om) (rw at.0 at om) n on' (point_old op n on' pn))
         | inr at' ↦ at.0 ∙ sym at'.0
       ]
     ];
@@ -152,7 +152,8 @@ module _ (entries : List Entry) (points : List Bool) (last : Entry) (mark : Bool
           let lt : m < length entries = step_below entries last (operation_of t.start a asked) m own in
           (m, own_step_kept entries last (operation_of t.start a asked) m own, log_same (operation_of t.start a asked) m own ∙ same, rw (take-push entries (last ∷ []) m (omega arith)) asks')
 
-      point_kept : (k : Bool) → mark ≡ k → (o : Option (List Update)) → MatchOption o ((m : ℕ) → IsOwnStep entries (operation_of t.start a asked) m → IsPoint points m → ⊥) (λ l. (m : ℕ) × IsOwnStep entries (operation_of t.start a asked) m × IsPoint points m × (log_at entries points m ≡ l))
+      point_kept : (k : Bool) → mark ≡ k → (o : Option (List Update))
+          → MatchOption o ((m : ℕ) → IsOwnStep entries (operation_of t.start a asked) m → IsPoint points m → ⊥) (λ l. (m : ℕ) × IsOwnStep entries (operation_of t.start a asked) m × IsPoint points m × (log_at entries points m ≡ l))
           → MatchOption (cond k (Some log) o) ((m : ℕ) → IsOwnStep entries' (operation_of t.start a asked) m → IsPoint points' m → ⊥) (λ l. (m : ℕ) × IsOwnStep entries' (operation_of t.start a asked) m × IsPoint points' m × (log_at entries' points' m ≡ l))
       point_kept true k o h = (length entries, new, rw beside at (slice_get-push points mark ∙ ap Some k), last_log)
       point_kept false k None h = λ m own p. elim (step_cases entries last (operation_of t.start a asked) m own) [

@@ -96,10 +96,10 @@ learnt_cases k s x r e = (elim (learning k s x) as (λ s x k' v. k'.read.learnt 
         (λ j t. inr (inr (q, w, refl, refl, i ∙ ap Some (sym j)))) (λ ne t. let g = rw t at f in inl (g, tt))
 
 stays_no_enter : (s : StepOf Record) (e : ℕ) → Stays s → s ≡ Enter e → ⊥
-stays_no_enter s e h i = subst Stays i h
+stays_no_enter s e h i = rw i at h
 
 stays_no_leave : (s : StepOf Record) → Stays s → s ≡ Leave → ⊥
-stays_no_leave s h i = subst Stays i h
+stays_no_leave s h i = rw i at h
 
 pub whether_same : (b c : Bool) (y : Answer Record) → y ≡ Whether b → y ≡ Whether c → b ≡ c
 whether_same b c y e f = cc
@@ -137,6 +137,31 @@ row_none (suc n) e = absurd (cc)
 pub slot_none : (slots : ℕ → ℕ) (p : ℕ) → 0 < p → slot_in slots p ≡ None → slots p ≡ 0
 slot_none slots zero above e = absurd (omega arith)
 slot_none slots (suc p) above e = row_none (slots (suc p)) e
+
+-- a chain that begins with a base has no other row
+pub base_alone : (m : Memory) (x row : ℕ) (base : pages.Page) (c : List Record) → IsChainFrom m.rows x c → Contains (chain_rows x c) row → m.rows x ≡ Some (Base base) → x ≡ row
+base_alone m x row base [] chain among e = absurd chain
+base_alone m x row base (v ∷ c) chain (zero, lt, at) e = at
+base_alone m x row base (v ∷ c) chain (suc k, lt, at) e =
+    let none : c ≡ [] = rw (same_Some v (Base base) (sym chain.0 ∙ e)) at chain.1 in
+    let short : length (chain_rows (unwrap_or (next_row v) 0) c) ≡ 0 = ap (λ d. length (chain_rows (unwrap_or (next_row v) 0) d)) none in
+    absurd (omega arith)
+
+-- the slot from which a row is on a chain
+pub record OnChain (m : Memory) (row : ℕ) : Type 0 where
+  pub page : ℕ
+  pub first : ℕ
+  pub chain : List Record
+  pub held : slot_in m.slots page ≡ Some first
+  pub records : IsChainFrom m.rows first chain
+  pub among : Contains (chain_rows first chain) row
+
+pub on_chain : (m : Memory) (row : ℕ) → IsOnChain m row → OnChain m row
+on_chain m row (p, c, chain, among) = go (slot_in m.slots p) refl
+  where
+    go : (v : Option ℕ) → slot_in m.slots p ≡ v → OnChain m row
+    go None e = absurd (let z : m.slots p ≡ 0 = slot_none m.slots p chain.page e in let above : 0 < m.slots p = chain.linked in omega arith)
+    go (Some x) e = let at = (slot_some m.slots p x e).1 in record { page = p; first = x; chain = c; held = e; records = rw at at chain.records; among = rw at at among }
 
 module _ {limits : Limits} {entries : List Entry} {o : Owners} {m : Memory} {knows : ℕ → Knowledge} {log : List Update} {points : ℕ → Option (List Update)} {logs : ℕ → List (List Update)}
     (g : IsTree (shared m) log o knows points logs) (old : IsNamed limits entries o m knows) (a : ℕ) (s : StepOf Record) (x : Answer Record) (r : Option Reply) (may : May a (knows a) s) (is : IsAnswer m s x) where
@@ -330,7 +355,7 @@ module _ {limits : Limits} {entries : List Entry} {o : Owners} {m : Memory} {kno
       let i = h.1 in
       let ab : a ≡ b = cc in
       let st : s ≡ Row row = cc in
-      rw ab at (old.known a row (subst (May a (knows a)) st may).1)
+      rw ab at (old.known a row (rw st at may).1)
 
   pub touches_outside : (b : ℕ) (t : StepOf Record) (y : Answer Record) → IsStep last b t y → m.announced b ≡ 0 → IsFalse (touches_pages t)
   touches_outside b t y h z =
@@ -360,34 +385,21 @@ module _ {limits : Limits} {entries : List Entry} {o : Owners} {m : Memory} {kno
       apart x c chain among l = let l' : o.row row ≡ Linked = chain_linked o (shared m) g.closed x c l chain row among in let sp = spare in cc
 
       -- nor is it the base in the slot of a page that is ready
-      in_base : (b : ℕ) (page : pages.Page) (p x : ℕ) (c : List Record) → IsChainFrom m.rows x c → Contains (chain_rows x c) row → m.rows x ≡ Some (Base page) → o.row x ≡ Spare b → (knows b).own.pages p ≡ Ready x → ⊥
-      in_base b page p x [] chain among e sp ready = chain
-      in_base b page p x (v ∷ c) chain (suc k, lt, at) e sp ready =
-          let same : v ≡ Base page = cc (chain.0, e) in
-          let none : c ≡ [] = rw same at chain.1 in
-          let short : length (chain_rows (unwrap_or (next_row v) 0) c) ≡ 0 = ap (λ d. length (chain_rows (unwrap_or (next_row v) 0) d)) none in
-          absurd (omega arith)
-      in_base b page p x (v ∷ c) chain (zero, lt, at) e sp ready =
-          let here : x ≡ row = at in
+      in_base : (b p x : ℕ) → o.row x ≡ Spare b → (knows b).own.pages p ≡ Ready x → x ≡ row → ⊥
+      in_base b p x sp ready here =
           let owner : o.row row ≡ Spare b = rw here at sp in
           let sp' = spare in
           let mine : b ≡ a = cc in
           h.2 p (rw mine at (ready ∙ ap Ready here))
 
       unlinked : IsOnChain m row → ⊥
-      unlinked (p, c, chain, among) = in_slot (slot_in m.slots p) refl
-        where
-          in_slot : (v : Option ℕ) → slot_in m.slots p ≡ v → ⊥
-          in_slot None e = let z : m.slots p ≡ 0 = slot_none m.slots p chain.page e in let above : 0 < m.slots p = chain.linked in omega arith
-          in_slot (Some x) e =
-              let at : m.slots p ≡ x = (slot_some m.slots p x e).1 in
-              let chain' : IsChainFrom m.rows x c = rw at at chain.records in
-              let among' : Contains (chain_rows x c) row = rw at at among in
-              elim (old.in_slots p x e) [
-                | inl in_tree ↦ apart x c chain' among' (tree_slot p in_tree x e)
-                | inr ready ↦ elim ready.owned [
-                  | inl l ↦ apart x c chain' among' l
-                  | inr own ↦ in_base ready.actor ready.base p x c chain' among' ready.stands own ready.ready
-                ]
-              ]
+      unlinked on =
+          let c = on_chain m row on in
+          elim (old.in_slots c.page c.first c.held) [
+            | inl in_tree ↦ apart c.first c.chain c.records c.among (tree_slot c.page in_tree c.first c.held)
+            | inr ready ↦ elim ready.owned [
+              | inl l ↦ apart c.first c.chain c.records c.among l
+              | inr own ↦ in_base ready.actor c.page c.first own ready.ready (base_alone m c.first row ready.base c.chain c.records c.among ready.stands)
+            ]
+          ]
   may_take same t h = tt

@@ -62,14 +62,14 @@ abbrev children : List ℕ → ℕ → ℕ → List ℕ → Option ContentOf
 children separator page right key = if is_eq (key_cmp key []) then Some (Child page false) else (if is_eq (key_cmp key separator) then Some (Child right false) else None)
 
 at_second : (separator : List ℕ) (page right : ℕ) → IsBelow [] separator → children separator page right separator ≡ Some (Child right false)
-at_second separator page right above = by_key separator [] (λ t. (if t then Some (Child page false) else (if is_eq (key_cmp separator separator) then Some (Child right false) else None)) ≡ Some (Child right false))
-    (λ same. absurd (not_self [] (subst (IsBelow []) same above)))
-    (λ ne. by_key separator separator (λ t. (if t then Some (Child right false) else None) ≡ Some (Child right false)) (λ same. refl) (λ other. absurd (other refl)))
+at_second separator page right above = by_key separator []
+    (λ same t. absurd (not_self [] (rw same at above)))
+    (λ ne t. by_key separator separator (λ same u. rw (t, u)) (λ other u. absurd (other refl)))
 
 second_child : (key separator : List ℕ) (page right pid : ℕ) (mark : Bool) → IsBelow [] key → children separator page right key ≡ Some (Child pid mark) → right ≡ pid
-second_child key separator page right pid mark above = by_key key [] (λ t. (if t then Some (Child page false) else (if is_eq (key_cmp key separator) then Some (Child right false) else None)) ≡ Some (Child pid mark) → right ≡ pid)
-    (λ same. absurd (not_self [] (subst (IsBelow []) same above)))
-    (λ ne. by_key key separator (λ t. (if t then Some (Child right false) else None) ≡ Some (Child pid mark) → right ≡ pid) (λ same e. cc) (λ other e. absurd (cc)))
+second_child key separator page right pid mark above said = by_key key []
+    (λ same t. absurd (not_self [] (rw same at above)))
+    (λ ne t. by_key key separator (λ same u. let e = rw (t, u) at said in cc) (λ other u. absurd (let e = rw (t, u) at said in cc)))
 
 module _ (m : Memory) {log : List Update} {o : Owners} {knows : ℕ → Knowledge} {point : ℕ → Option (List Update)} {logs : ℕ → List (List Update)} (g : IsTree (shared m) log o knows point logs)
     (inhabited : (p q : ℕ) → slot_in m.slots p ≡ Some q → IsInTree (o.page p) ⊎ IsReadyPage o m knows p q) (a : ℕ) (s : StepOf Record) (x : Answer Record) (r : Option Reply) (may : May a (knows a) s) (is : IsAnswer m s x) (f' : ℕ → PageOwner) (ph : Phased a (shared m) s x o.page f') where
@@ -154,7 +154,7 @@ module _ (m : Memory) {log : List Update} {o : Owners} {knows : ℕ → Knowledg
       let i = installed pid (Remove remove) installs in
       let bare = i.2.4 in
       let at : m.slots (suc i.0) ≡ bare.0 = (slot_some m.slots (suc i.0) bare.0 bare.2).1 in
-      subst IsUnheld (IsChainFrom-unique m.rows bare.0 bare.1 chain bare.3 (rw at at (rw i.1 at stood).records)) bare.4
+      rw (IsChainFrom-unique m.rows bare.0 bare.1 chain bare.3 (rw at at (rw i.1 at stood).records)) at bare.4
 
   -- the slot of a removed page is emptied only when it is cleared
   pub clears_cleared : (b pid old : ℕ) → Wins m last b pid old 0 link.Clear → phase_of (o.page pid) ≡ cleared
@@ -167,7 +167,7 @@ module _ (m : Memory) {log : List Update} {o : Owners} {knows : ℕ → Knowledg
           let at : m.slots (suc p) ≡ suc old = eqb_true (m.slots (suc p)) (suc old) (cc ((rw i at is), j)) in
           elim (rw j at (rw i at ph)).1 [
             | inl keeps ↦ elim (inhabited (suc p) (suc old) (ap row_in at)) [
-              | inl tree ↦ absurd (subst IsInTree keeps tree)
+              | inl tree ↦ absurd (rw keeps at tree)
               | inr ready ↦ absurd (clear_base ready.base (m.rows (suc old)) ready.stands (sym (link_empty m p old) ∙ kind))
             ]
             | inr out ↦ ap phase_of out.2

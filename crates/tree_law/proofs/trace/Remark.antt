@@ -1,5 +1,5 @@
 -- A mark set later, at an own step at which the command makes no update: each log stays.
-use Rattle.tree_law.proofs.Words.{false, ◌⊎◌, ap, refl, Option, suc, None, List, true, inl, ◌≢◌, length, ◌++◌, ◌≤◌, inr, ◌∷◌, subst, sym, ℕ, ◌≡◌, Bool, zero, ◌∙◌, ◌<◌, arith, Some, take, cases_lt}
+use Rattle.tree_law.proofs.Words.{false, ◌⊎◌, ap, refl, Option, suc, None, List, true, inl, ◌≢◌, length, ◌++◌, ◌≤◌, inr, ◌∷◌, sym, ℕ, ◌≡◌, Bool, zero, ◌∙◌, ◌<◌, arith, Some, take, cases_lt}
 use Rattle.tree_law.proofs.Words.{slice_get, MatchOption, Update, logged_value, update_of, command_key, Command, Reply, Limits, slice_get_below, command_of, Entry, Begin, Step, same_operation}
 use Rattle.tree_law.proofs.Words.{IsOperation, Operation, Finishes, IsOwnStep, log_at, log_of, IsPoint, IsQuiet, UpdatesAtLinks, Tells, operation_of, IsMarked, []}
 use Rattle.std.proofs.Common.{set}
@@ -75,7 +75,7 @@ module _ (limits : Limits) (entries : List Entry) (points : List Bool) (a : ℕ)
   was_unmarked = unmarked points place below (t.point_at place mine)
 
   no_update : updates_at (take place entries) (Step a mine.0 mine.1 mine.2.0) (log_at entries points place) ≡ []
-  no_update = rw (asks, none) refl
+  no_update = rw (asks, none)
 
   pub log_of_same : log_of entries remarked ≡ log_of entries points
   log_of_same = log_of-marked entries points place _ mine.2.1.entry was_unmarked no_update
@@ -85,14 +85,14 @@ module _ (limits : Limits) (entries : List Entry) (points : List Bool) (a : ℕ)
     | inl lt ↦ rw (take_set_above points place true n lt)
         (log_of-marked (take n entries) (take n points) place (Step a mine.0 mine.1 mine.2.0) (get_take entries place n lt ∙ mine.2.1.entry) (get_take points place n lt ∙ was_unmarked)
         (rw (take_take entries place n (omega arith), take_take points place n (omega arith)) no_update))
-    | inr le ↦ rw (take_set_below points place true n le) refl
+    | inr le ↦ rw (take_set_below points place true n le)
   ]
 
   pub beside' : length remarked ≡ length entries
   beside' = set_length points place true ∙ marked.beside
 
   point_kept : (n : ℕ) → IsPoint points n → IsPoint remarked n
-  point_kept n p = by_equal n place (λ e t. subst (IsPoint remarked) (sym e) (get_set_same points place true below)) (λ ne t. get_set_other points place true n ne ∙ p)
+  point_kept n p = by_equal n place (λ e t. rw e (get_set_same points place true below)) (λ ne t. get_set_other points place true n ne ∙ p)
 
   point_cases : (n : ℕ) → IsPoint remarked n → (n ≡ place) ⊎ IsPoint points n
   point_cases n p = by_equal n place (λ e t. inl e) (λ ne t. inr (sym (get_set_other points place true n ne) ∙ p))
@@ -100,12 +100,12 @@ module _ (limits : Limits) (entries : List Entry) (points : List Bool) (a : ℕ)
   -- no own step of the operation was marked
   alone : (op : Operation) (i j : ℕ) → IsOperation entries op → IsOwnStep entries op i → i ≡ place → IsOwnStep entries op j → IsPoint points j → ⊥
   alone op i j is own e own' p =
-      t.point_at j (rw (own_same entries op (operation_of t.start a asked) place is t.begins (subst (IsOwnStep entries op) e own) mine) at own') p
+      t.point_at j (rw (own_same entries op (operation_of t.start a asked) place is t.begins (rw e at own) mine) at own') p
 
   pub marked' : ((n : ℕ) (reply : Reply) → Finishes entries (operation_of t.start a asked) n reply → ⊥) → IsMarked limits entries remarked
   marked' unfinished = record {
     beside = beside';
-    own = λ n p. elim (point_cases n p) [ inl e ↦ (operation_of t.start a asked, t.begins, subst (IsOwnStep entries (operation_of t.start a asked)) (sym e) mine) | inr p' ↦ marked.own n p' ];
+    own = λ n p. elim (point_cases n p) [ inl e ↦ (operation_of t.start a asked, t.begins, rw e mine) | inr p' ↦ marked.own n p' ];
     one = λ op i j is oi oj pi pj. elim (point_cases i pi) [
       | inl ei ↦ elim (point_cases j pj) [ inl ej ↦ ei ∙ sym ej | inr pj' ↦ absurd (alone op i j is oi ei oj pj') ]
       | inr pi' ↦ elim (point_cases j pj) [ inl ej ↦ absurd (alone op j i is oj ej oi pi') | inr pj' ↦ marked.one op i j is oi oj pi' pj' ]
@@ -115,7 +115,7 @@ module _ (limits : Limits) (entries : List Entry) (points : List Bool) (a : ℕ)
       | inr h ↦ inr (record {
         unmarked = λ m own p. elim (point_cases m p) [
           | inl e ↦
-              unfinished n reply (rw (own_same entries op (operation_of t.start a asked) place is t.begins (subst (IsOwnStep entries op) e own) mine) at ends)
+              unfinished n reply (rw (own_same entries op (operation_of t.start a asked) place is t.begins (rw e at own) mine) at ends)
           | inr p' ↦ h.unmarked m own p'
         ];
         finds = h.finds;
@@ -152,7 +152,7 @@ module _ (limits : Limits) (entries : List Entry) (points : List Bool) (a : ℕ)
       go : (o : Option (List Update)) → MatchOption o ((m : ℕ) → IsOwnStep entries (operation_of u.start b c) m → IsPoint points m → ⊥) (λ k. (m : ℕ) × IsOwnStep entries (operation_of u.start b c) m × IsPoint points m × (log_at entries points m ≡ k))
           → MatchOption o ((m : ℕ) → IsOwnStep entries (operation_of u.start b c) m → IsPoint remarked m → ⊥) (λ k. (m : ℕ) × IsOwnStep entries (operation_of u.start b c) m × IsPoint remarked m × (log_at entries remarked m ≡ k))
       go None h = λ m own p. elim (point_cases m p) [
-        | inl e ↦ let e1 = (subst (IsOwnStep entries (operation_of u.start b c)) e own).2.1.entry in let e2 = mine.2.1.entry in absurd (ne (cc (e1, e2)))
+        | inl e ↦ let e1 = (rw e at own).2.1.entry in let e2 = mine.2.1.entry in absurd (ne (cc (e1, e2)))
         | inr p' ↦ h m own p'
       ]
       go (Some k) h = (h.0, h.1, point_kept h.0 h.2, log_at_same h.0 ∙ h.3)

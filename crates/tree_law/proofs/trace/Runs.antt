@@ -1,5 +1,5 @@
 -- In a trace in which each actor obeys its discipline, the state stands after each entry.
-use Rattle.tree_law.proofs.Words.{[], List, ◌++◌, ◌∷◌, subst, append_assoc, map, append-nil, Limits, IsDisciplined, IsDisciplinedFrom, turn_of, Entry, Begin, Step, IsLinearized, IsState}
+use Rattle.tree_law.proofs.Words.{[], List, ◌++◌, ◌∷◌, append_assoc, map, append-nil, Limits, IsDisciplined, IsDisciplinedFrom, turn_of, Entry, Begin, Step, IsLinearized, IsState}
 use Rattle.chain_search.specs.discipline.Disciplined.{MayStand}
 use Rattle.tree_law.specs.TraceLaws.{DisciplinedRuns}
 use Rattle.tree_law.proofs.trace.Beginning.{opens, begins}
@@ -11,7 +11,7 @@ one_more limits before (Step actor step answer reply) state may = steps limits b
 
 pub state_along : (limits : Limits) (before entries : List Entry) → IsState limits before → IsDisciplinedFrom limits before entries → IsState limits (before ++ entries)
 state_along limits before [] state h = rw append-nil state
-state_along limits before (entry ∷ entries) state h = subst (IsState limits) (append_assoc before (entry ∷ []) entries) (state_along limits (before ++ entry ∷ []) entries (one_more limits before entry state h.0) h.1)
+state_along limits before (entry ∷ entries) state h = rw (append_assoc before (entry ∷ []) entries) at (state_along limits (before ++ entry ∷ []) entries (one_more limits before entry state h.0) h.1)
 
 pub disciplined : DisciplinedRuns
 disciplined limits entries h = state_along limits [] entries (opens limits) h

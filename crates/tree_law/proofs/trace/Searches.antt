@@ -38,7 +38,8 @@ words_cases false k s x word e = (elim (learning k s x) as (λ s x k' v. k'.aske
 ]) e
 
 -- a page above the leaf was read, which held it back
-pub held_back : {limits : Limits} {entries : List Entry} {op : Operation} {n : ℕ} (leaf : LivePage) (page row : ℕ) (chain : List Record) → WasRead limits entries op n page row chain → is_removed chain ≡ false → HoldsBack chain leaf.pid (low_in leaf.chain) → WasHeldBack limits entries op n leaf
+pub held_back : {limits : Limits} {entries : List Entry} {op : Operation} {n : ℕ} (leaf : LivePage) (page row : ℕ) (chain : List Record) → WasRead limits entries op n page row chain
+    → is_removed chain ≡ false → HoldsBack chain leaf.pid (low_in leaf.chain) → WasHeldBack limits entries op n leaf
 held_back leaf page row chain read alive holds = record { step = read.step; before = read.before; parent = page; row = row; own = read.own; chain = chain; stood = read.stood; alive = alive; holds = holds }
 
 module _ (entries : List Entry) (last : Entry) where

@@ -1,5 +1,5 @@
 -- Why a reply is right: where an actor may reply, its operation is answered by the points before that step.
-use Rattle.tree_law.proofs.Words.{[], ap, refl, Option, None, List, inl, ◌≢◌, length, inr, subst, sym, ℕ, ◌≡◌, Bool, ◌∙◌, ◌<◌, arith, Some, take, ⊎_elim, same_Some, IfSome, MatchOption, Update}
+use Rattle.tree_law.proofs.Words.{[], ap, refl, Option, None, List, inl, ◌≢◌, length, inr, sym, ℕ, ◌≡◌, Bool, ◌∙◌, ◌<◌, arith, Some, take, ⊎_elim, same_Some, IfSome, MatchOption, Update}
 use Rattle.tree_law.proofs.Words.{logged_value, update_of, command_key, Command, Reply, Limits, Record, slice_get_below, IsChainFrom, low_in, level_in, high_in, MayReply, MayAnswer, knows}
 use Rattle.tree_law.proofs.Words.{memory_at, command_of, memory_of, Entry, WasHeldBack, RepliesAt, Operation, IsOwnStep, log_at, log_of, IsPoint, IsQuiet, UpdatesAtLinks, IsRepliedAt}
 use Rattle.tree_law.proofs.Words.{shared, Tells, operation_of, IsState, IsAnsweredBy, IsMarked, HasFound, HaveStood, WereRead, WasLeafWith}
@@ -54,7 +54,8 @@ module _ (limits : Limits) (entries : List Entry) (a : ℕ) (asked : Command) (s
 
   -- where a mark is set late, at an own step at which the command makes no update and has this reply
   marked_late : (reply : Reply) → state.point a ≡ None → (m : ℕ) (own : IsOwnStep entries mine m) → command_of (take m entries) a ≡ Some asked
-      → update_of a asked (logged_value (log_at entries state.points m) (command_key asked)) ≡ None → RepliesAt (memory_at limits entries m) (log_at entries state.points m) asked reply → Settled limits entries (log_of entries state.points) state.point state.logs a asked (Some reply)
+      → update_of a asked (logged_value (log_at entries state.points m) (command_key asked)) ≡ None → RepliesAt (memory_at limits entries m) (log_at entries state.points m) asked reply
+      → Settled limits entries (log_of entries state.points) state.point state.logs a asked (Some reply)
   marked_late reply none m own asked_then changeless replies = record {
     points = remarked limits entries state.points a asked (state.logs a) state.marked t m own asked_then changeless;
     log_is = log_of_same limits entries state.points a asked (state.logs a) state.marked t m own asked_then changeless;
@@ -107,7 +108,7 @@ module _ (limits : Limits) (entries : List Entry) (a : ℕ) (asked : Command) (s
 
   -- what an operation without a point may reply
   pointlessly : (reply : Reply) → (knows entries a).asked.linked ≡ None → HasFound limits entries mine reply → Settled limits entries (log_of entries state.points) state.point state.logs a asked (Some reply)
-  pointlessly reply unlinked finds = as_they_are (Some reply) (λ y e. let same : reply ≡ y = cc in inr (record { unmarked = point_told None (no_point unlinked); finds = subst (HasFound limits entries mine) same finds }))
+  pointlessly reply unlinked finds = as_they_are (Some reply) (λ y e. let same : reply ≡ y = cc in inr (record { unmarked = point_told None (no_point unlinked); finds = rw same at finds }))
 
   by_tidying : (reply : Reply) → MayCallTidy (knows entries a) asked reply → Settled limits entries (log_of entries state.points) state.point state.logs a asked (Some reply)
   by_tidying reply may = pointlessly reply may.unlinked (inl (

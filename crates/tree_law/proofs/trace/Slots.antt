@@ -16,7 +16,7 @@ put_cleared : (f : ℕ → PageOwner) (q p b l : ℕ) (k : Key) → IsInTree (f 
 put_cleared f q p b l k h = by_equal p q (λ e t. rw t tt) (λ ne t. rw t h)
 
 here_in_tree : (f : ℕ → PageOwner) (q : ℕ) (st : Stage) (l : ℕ) (k : Key) → IsInTree (put f q (Placed st l k) q)
-here_in_tree f q st l k = subst IsInTree (sym (put_same f q (Placed st l k))) tt
+here_in_tree f q st l k = rw (put_same f q (Placed st l k)) tt
 
 -- what is in the tree stays in it when a record is linked
 links_in_tree : (m : Shared) (a : ℕ) (w : Record) (q : ℕ) (f f' : ℕ → PageOwner) → LinkMoves m a w q f f' → (p : ℕ) → IsInTree (f p) → IsInTree (f' p)
@@ -82,7 +82,7 @@ module _ (m : Memory) {log : List Update} {o : Owners} {knows : ℕ → Knowledg
     linked_ready (Written (Unterm unterm)) fits p q e =
         let h = rw (same_Some w (Unterm unterm) (sym stands ∙ fits.1)) at links in
         by_equal p unterm.child
-        (λ i t. rw t (inl (rw h.2 (rw i (subst IsInTree (sym (put_same o.page unterm.child (Cleared a h.0 unterm.separator))) tt)))))
+        (λ i t. rw t (inl (rw h.2 (rw i (rw (put_same o.page unterm.child (Cleared a h.0 unterm.separator)) tt)))))
         (λ ne t. rw t (inr e))
     linked_ready (Written (Base page)) fits p q e = inr e
     linked_ready v fits p q e = inr e
@@ -148,7 +148,8 @@ module _ (m : Memory) {log : List Update} {o : Owners} {knows : ℕ → Knowledg
   rooted_ready (Ready base) n p q ne e = with_other Other n p q ne e
   rooted_ready v n p q ne e = e
 
-  roots : (x y : ℕ) (r : Option Reply) (m' : Memory) → m'.rows ≡ m.rows → (b l : ℕ) (k : Key) → o'.page ≡ put (put o.page b (Placed Indexed l k)) y (Placed Indexed (suc l) []) → (p q : ℕ) → slot_in m.slots p ≡ Some q → IsInTree (o'.page p) ⊎ IsReadyPage o' m' (put knows a (finished (exchanged zero x y (knows a)) r)) p q
+  roots : (x y : ℕ) (r : Option Reply) (m' : Memory) → m'.rows ≡ m.rows → (b l : ℕ) (k : Key) → o'.page ≡ put (put o.page b (Placed Indexed l k)) y (Placed Indexed (suc l) []) → (p q : ℕ)
+      → slot_in m.slots p ≡ Some q → IsInTree (o'.page p) ⊎ IsReadyPage o' m' (put knows a (finished (exchanged zero x y (knows a)) r)) p q
   roots x y r m' rows b l k same p q e = elim (held p q e) [
     | inl h ↦ inl (rw same (put_in_tree (put o.page b (Placed Indexed l k)) y p Indexed (suc l) [] (put_in_tree o.page b p Indexed l k h)))
     | inr h ↦ by_equal p y
@@ -169,7 +170,7 @@ module _ (m : Memory) {log : List Update} {o : Owners} {knows : ℕ → Knowledg
   takes n r free same p q e = by_equal p n
       (λ i t. absurd (let none = (g.frees.page n free).1 in let f : slot_in m.slots n ≡ Some q = rw i at e in cc))
       (λ ne t. elim (held p q e) [
-        | inl h ↦ inl (rw same (subst IsInTree (sym (put_other o.page n (Keeps a) p ne)) h))
+        | inl h ↦ inl (rw same (rw (put_other o.page n (Keeps a) p ne) h))
         | inr h ↦ inr (ready_after (memory_after a (TakePid n) m) (finished (learn (knows a) (TakePid n) (Whether true)) r) p q h (λ j. refl) (λ j. with_other Empty n p q ne (rw j at h.ready)))
       ])
 

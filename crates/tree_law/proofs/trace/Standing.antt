@@ -54,11 +54,11 @@ module _ (memory : Memory) {log : List Update} {o : Owners} {knows : ℕ → Kno
   beside_leaf : (other row : ℕ) (chain : List Record) → right_in basis ≡ Some other → (knows a).read.heads other ≡ Some row → IsChainFrom memory.rows row chain → level_in chain ≡ 0 → is_removed chain ≡ true → IsLeafWith memory (record { pid = other; chain = chain })
   beside_leaf other row chain right read stands leaf gone =
       let on : Level o (shared memory) (level_in basis) (spec log o.index (level_in basis)) (g.tree.first (level_in basis)) = g.tree.levels (level_in basis) (g.tree.exact.below page (level_in basis) (low_in basis) place.stage place.placed) in
-      let n = right_page o (shared memory) (level_in basis) (spec log o.index (level_in basis)) (g.tree.first (level_in basis)) on (record { page = page; row = head; chain = basis }) place other right in
+      let n = right_page on (record { page = page; row = head; chain = basis }) place other right in
       let h = rw read at ((g.sound a).heads_fit other) in
       let same : h.2.chain ≡ chain = chain_unique memory.rows h.2.chain chain (Some row) h.2.is_chain stands in
       let slot : slot_in memory.slots other ≡ Some row = elim (h.4 (ap is_removed same ∙ gone)) [ inl u ↦ u | inr u ↦ absurd (cc (n.3.placed, n.1, u.1.3)) ] in
-      let r = (in_level_as o (shared memory) (level_in basis) (spec log o.index (level_in basis)) (g.tree.first (level_in basis)) on other (low_in n.0.chain) n.3.stage (ap o.page (sym n.1) ∙ n.3.placed) n.3.on row slot chain stands).place in
+      let r = (in_level_as on other (low_in n.0.chain) n.3.stage (ap o.page (sym n.1) ∙ n.3.placed) n.3.on row slot chain stands).place in
       is_leaf memory g other row chain (subst (λ (l : ℕ). InPlace o (shared memory) l (spec log o.index l) (record { page = other; row = row; chain = chain })) (sym r.is_page.on_level ∙ leaf) r)
 
 module _ (limits : Limits) (entries : List Entry) (last : Entry) where
@@ -128,9 +128,9 @@ module _ (limits : Limits) (entries : List Entry) (last : Entry) where
 
     sees : (page row : ℕ) → ReadsNow (knows a) step answer (learn (knows a) step answer) page row → Sees page row
     sees page row n =
-        let told : Number (suc n.held) ≡ Number (memory.slots (suc n.number)) = subst (IsAnswer memory (Slot (suc n.number))) n.answer_is (rw n.step_is at is_answer) in
+        let told : Number (suc n.held) ≡ Number (memory.slots (suc n.number)) = rw n.answer_is at (rw n.step_is at is_answer) in
         let in_slot : memory.slots (suc n.number) ≡ suc n.held = cc in
-        let placed = met_placed g a (suc n.number) (subst (May a (knows a)) n.step_is may).1 in
+        let placed = met_placed g a (suc n.number) (rw n.step_is at may).1 in
         record {
           level = placed.0;
           low = placed.1;

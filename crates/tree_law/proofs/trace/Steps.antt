@@ -73,7 +73,7 @@ module _ (limits : Limits) (entries : List Entry) (a : ℕ) (step : StepOf Recor
   is_mine : (op : Operation) → IsOperation entries op → op.actor ≡ a → IsUnended entries op.start op.actor → op ≡ operation_of z.mine.start a asked
   is_mine op begun actor unended =
       let begun' : slice_get entries op.start ≡ Some (Begin a op.command) = rw actor at begun in
-      let start : op.start ≡ z.mine.start = same_start entries op.start z.mine.start a op.command asked begun' z.mine.begins (subst (IsUnended entries op.start) actor unended) z.mine.unended in
+      let start : op.start ≡ z.mine.start = same_start entries op.start z.mine.start a op.command asked begun' z.mine.begins (rw actor at unended) z.mine.unended in
       same_operation op (operation_of z.mine.start a asked) start actor (cc ((rw start at begun'), z.mine.begins))
 
   justified : (op : Operation) (reply : Reply) → IsOperation entries op → op.actor ≡ a → IsUnended entries op.start op.actor → r ≡ Some reply → IsAnsweredBy limits entries z.points op reply
@@ -147,7 +147,7 @@ module _ (limits : Limits) (entries : List Entry) (a : ℕ) (step : StepOf Recor
           let same : op ≡ operation_of op.start a op.command = same_operation op (operation_of op.start a op.command) refl i refl in
           let begun_a : slice_get entries op.start ≡ Some (Begin a op.command) = rw i at begun in
           let asked_a : command_of entries a ≡ Some op.command = rw i at (rw no_reply at asked') in
-          rw same (goes_on op.start op.command begun_a (subst (IsUnended entries op.start) i unended) asked_a no_reply)
+          rw same (goes_on op.start op.command begun_a (rw i at unended) asked_a no_reply)
       own (Some y) replies i =
           let e : commands_after (command_of entries) (Step a step answer (Some y)) a ≡ Some op.command = rw i at (rw replies at asked') in
           let g : None ≡ Some op.command = sym (put_same (command_of entries) a None) ∙ e in absurd (cc)
@@ -182,7 +182,7 @@ module _ (limits : Limits) (entries : List Entry) (a : ℕ) (step : StepOf Recor
       let stays : (level : ℕ) × IsFirst state.owners level p → (level : ℕ) × IsFirst n.owners level p =
       λ h. (h.0, first_stays (memory_of limits entries) (memory_of limits longer) state.is_tree tree_after a step answer is n.phased h.0 p h.1) in
       let at_root : (q : ℕ) → step ≡ Slot 0 → answer ≡ Number q → (level : ℕ) × IsFirst state.owners level q = λ q asked told.
-      let here : IsAnswer (memory_of limits entries) (Slot 0) (Number q) = rw asked at (subst (IsAnswer (memory_of limits entries) step) told is) in
+      let here : IsAnswer (memory_of limits entries) (Slot 0) (Number q) = rw asked at (rw told at is) in
       let same : q ≡ (memory_of limits entries).slots 0 = (let e = here in cc) in
       let top = is_indexed (memory_of limits entries) state.is_tree in
       (top.top, (Indexed, rw same (root_indexed (memory_of limits entries) state.is_tree), omega arith)) in
@@ -218,7 +218,7 @@ module _ (limits : Limits) (entries : List Entry) (a : ℕ) (step : StepOf Recor
         (λ e op begun own m reply ends.
         let same : op ≡ operation_of z.mine.start a asked = own_same longer op (operation_of z.mine.start a asked) (length entries) (slice_get_kept entries (last ∷ []) op.start _ begun) (slice_get_kept entries (last ∷ []) z.mine.start _ z.mine.begins) own (own_new entries last z.mine.start a asked step answer r z.mine.begins z.mine.unended refl) in
         (state.searches (operation_of z.mine.start a asked) z.mine.begins z.mine.unended asks).unfinished m reply (rw same at ends));
-    run = IsRun-push limits entries last state.run (subst IsSome (sym asks) refl, may_take state.is_tree state.named a step answer r allowed.may is refl step allowed.may, is);
+    run = IsRun-push limits entries last state.run (rw asks refl, may_take state.is_tree state.named a step answer r allowed.may is refl step allowed.may, is);
     ends = ends_push entries last state.ends (step_ends limits (knows entries a) a step answer r allowed.replied allowed.ends);
     updates = updates_push limits entries z.points last mark z.marked.beside z.updates updated_now;
     quiet = quiet_push entries z.points last mark z.marked.beside limits z.quiet (map_of tree_after);
@@ -260,7 +260,9 @@ steps limits entries a step answer r state busy allowed is = go (command_of entr
         actor : a < limits.actors
         actor = (state.run.each (state.tells a asked e).start (Begin a asked) (state.tells a asked e).begins).0
 
-        calmly : (step : StepOf Record) → (IsReuse step → ⊥) → (r : Option Reply) (answer : Answer Record) (allowed : IsAllowed limits a (knows entries a) step r) (is : IsAnswer m step answer) → Settled limits entries (log_of entries state.points) state.point state.logs a asked r → IsState limits (entries ++ Step a step answer r ∷ [])
+        calmly : (step : StepOf Record) → (IsReuse step → ⊥)
+            → (r : Option Reply) (answer : Answer Record) (allowed : IsAllowed limits a (knows entries a) step r) (is : IsAnswer m step answer)
+            → Settled limits entries (log_of entries state.points) state.point state.logs a asked r → IsState limits (entries ++ Step a step answer r ∷ [])
         calmly step calm r answer allowed is z =
             let n = one_step m state.is_tree a step calm r allowed.may answer is in
             state_after limits entries a step answer r asked state e allowed is (after_of n)
@@ -270,7 +272,8 @@ steps limits entries a step answer r state busy allowed is = go (command_of entr
             (timed_step state.is_tree state.timed a step calm answer r allowed.may is actor n)
             z
 
-        by_kind : (step : StepOf Record) (r : Option Reply) (answer : Answer Record) (allowed : IsAllowed limits a (knows entries a) step r) (is : IsAnswer m step answer) → Settled limits entries (log_of entries state.points) state.point state.logs a asked r → IsState limits (entries ++ Step a step answer r ∷ [])
+        by_kind : (step : StepOf Record) (r : Option Reply) (answer : Answer Record) (allowed : IsAllowed limits a (knows entries a) step r) (is : IsAnswer m step answer)
+            → Settled limits entries (log_of entries state.points) state.point state.logs a asked r → IsState limits (entries ++ Step a step answer r ∷ [])
         by_kind (ReuseRows word bits) r answer allowed is z = state_after limits entries a (ReuseRows word bits) answer r asked state e allowed is
             (rows_after state.is_tree state.timed a allowed.may word bits allowed.frees r answer)
             (rows_numbers state.is_tree state.timed state.named a allowed.may word bits answer r allowed.frees is)
