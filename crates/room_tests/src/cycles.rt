@@ -1,0 +1,139 @@
+//! Trees of the limits that are proposed for so many keys: the keys come and go again and again, and nothing is refused.
+ghost use Rattle.bw_tree.specs.Trees.{AreSeatsOf};
+
+use crate::orders::{Order, but_eighths, numbers};
+use crate::turns::done;
+use crate::works::Work;
+use bw_model::Limits;
+use bw_tree::{BwSeat, Tree};
+use std::alloc::Global;
+use workers::opened;
+
+/// How often the keys come and go.
+const CYCLES: u64 = 3;
+
+/// Numbers of keys, each with a number of seats: few, many, and the most for one seat and for sixteen.
+const SIZES: [(u64, u32); 6] = [
+    (1, 1),
+    (1, 440),
+    (4, 3_000),
+    (16, 1_000),
+    (1, 12_247),
+    (16, 10_959),
+];
+
+/// Does the work for all keys below a number, in an order, and tells whether it was done for each.
+fn all(
+    alloc: Global,
+    tree: &Tree,
+    seats: &mut Vec<BwSeat>,
+    work: Work,
+    keys: u32,
+    order: Order,
+    seed: u64,
+) -> bool
+    requires own { AreSeatsOf tree.now seats.old.items }
+    ensures own { AreSeatsOf tree.now seats.new.items }
+{
+    match numbers(alloc, keys, order, seed) {
+        Ok(list) => done(tree, seats, work, list.as_slice()) == keys,
+        Err(_) => false,
+    }
+}
+
+/// Inserts all keys, and deletes them in the same order, or in another drawn one; tells whether nothing was refused.
+fn cycle(
+    alloc: Global,
+    tree: &Tree,
+    seats: &mut Vec<BwSeat>,
+    keys: u32,
+    order: Order,
+    seed: u64,
+) -> bool
+    requires own { AreSeatsOf tree.now seats.old.items }
+    ensures own { AreSeatsOf tree.now seats.new.items }
+{
+    let filled = all(alloc, tree, seats, Work::Insert, keys, order, seed);
+    let emptied = all(alloc, tree, seats, Work::Delete, keys, order, !seed);
+    filled && emptied
+}
+
+/// Does all cycles, and tells whether nothing was refused.
+fn come_and_go(alloc: Global, tree: &Tree, seats: &mut Vec<BwSeat>, keys: u32, order: Order) -> bool
+    requires own { AreSeatsOf tree.now seats.old.items }
+    ensures own { AreSeatsOf tree.now seats.new.items }
+{
+    for seed in 0..CYCLES {
+        if !cycle(alloc, tree, seats, keys, order, seed) {
+            return false;
+        }
+    }
+    true
+}
+
+/// Whether that is so in a tree of the limits that are proposed, which then has no pair.
+fn are_held(alloc: Global, actors: u64, keys: u32, order: Order) -> Option<bool> {
+    let limits = Limits::for_keys(actors, u64::from(keys)).ok()?;
+    let (tree, mut seats) = opened(alloc, limits).ok()?;
+    let held = come_and_go(alloc, &tree, &mut seats, keys, order);
+    let pairs = tree.close(alloc, seats).ok()?;
+    Some(held && pairs.is_empty())
+}
+
+/// Updates all but each eighth key, twice: so a leaf of eight keys has a chain of the greatest length. Tells whether nothing was refused.
+fn update_most(alloc: Global, tree: &Tree, seats: &mut Vec<BwSeat>, keys: u32) -> bool
+    requires own { AreSeatsOf tree.now seats.old.items }
+    ensures own { AreSeatsOf tree.now seats.new.items }
+{
+    let Ok(most) = but_eighths(alloc, keys) else {
+        return false;
+    };
+    let once = done(tree, seats, Work::Update, most.as_slice());
+    let twice = done(tree, seats, Work::Update, most.as_slice());
+    once as usize == most.len() && twice as usize == most.len()
+}
+
+/// Whether a tree of those limits with all keys holds its longest chains, and then lets the keys go, come, and go again.
+fn hold_deltas(alloc: Global, actors: u64, keys: u32) -> Option<bool> {
+    let limits = Limits::for_keys(actors, u64::from(keys)).ok()?;
+    let (tree, mut seats) = opened(alloc, limits).ok()?;
+    let filled = all(alloc, &tree, &mut seats, Work::Insert, keys, Order::Up, 0);
+    let updated = update_most(alloc, &tree, &mut seats, keys);
+    let emptied = all(alloc, &tree, &mut seats, Work::Delete, keys, Order::Up, 0);
+    let again = cycle(alloc, &tree, &mut seats, keys, Order::Drawn, 0);
+    let pairs = tree.close(alloc, seats).ok()?;
+    Some(filled && updated && emptied && again && pairs.is_empty())
+}
+
+/// The first size at which something was refused.
+fn refused(alloc: Global, order: Order) -> Option<(u64, u32)> {
+    for (actors, keys) in SIZES {
+        if are_held(alloc, actors, keys, order) != Some(true) {
+            return Some((actors, keys));
+        }
+    }
+    None
+}
+
+#[test]
+fn ascending_keys_are_held(rt: HostRuntime) {
+    assert!(rt; refused(rt.alloc(), Order::Up).is_none());
+}
+
+#[test]
+fn descending_keys_are_held(rt: HostRuntime) {
+    assert!(rt; refused(rt.alloc(), Order::Down).is_none());
+}
+
+#[test]
+fn drawn_keys_are_held(rt: HostRuntime) {
+    assert!(rt; refused(rt.alloc(), Order::Drawn).is_none());
+}
+
+#[test]
+fn the_longest_chains_are_held(rt: HostRuntime) {
+    for (actors, keys) in SIZES {
+        let held = hold_deltas(rt.alloc(), actors, keys);
+        assert!(rt; held == Some(true), "{actors} {keys}");
+    }
+}

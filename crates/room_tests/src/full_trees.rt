@@ -1,0 +1,133 @@
+//! What helps where a writer is refused: a tidying on each seat, and a larger tree.
+ghost use Rattle.std.specs.Prelude.{IfOk, IfSome};
+ghost use Rattle.bw_tree.specs.Trees.{AreSeatsOf};
+
+use crate::turns::{in_turn, is_done};
+use crate::works::{Work, key};
+use bw_model::{Command, Key, Limits, Value};
+use bw_tree::{BwSeat, LoadError, Tree};
+use std::alloc::Global;
+use workers::opened;
+
+/// More keys than the small tree holds.
+const KEYS: u32 = 1_000;
+
+/// Inserts the keys from a number on, until one is refused or all are there; tells how many are.
+fn insert_from(tree: &Tree, seats: &mut Vec<BwSeat>, first: u32) -> u32
+    requires own { AreSeatsOf tree.now seats.old.items }
+    ensures own { AreSeatsOf tree.now seats.new.items }
+{
+    for number in first..KEYS {
+        if !is_done(tree, seats, Work::Insert, number) {
+            return number;
+        }
+    }
+    KEYS
+}
+
+/// A tree with the pairs, with its seats.
+fn opened_from(
+    alloc: Global,
+    limits: Limits,
+    pairs: &[(Key, Value)],
+) -> Result<(Tree, Vec<BwSeat>), LoadError>
+    ensures own { IfOk result (λ opened. AreSeatsOf opened.0 opened.1.items) }
+{
+    Tree::<Global>::open_from(alloc, limits, pairs)
+}
+
+/// A tree of these limits with the same pairs, and its seats; the old tree's seats are idle.
+fn moved(
+    alloc: Global,
+    tree: Tree,
+    seats: Vec<BwSeat>,
+    limits: Limits,
+) -> Option<(Tree, Vec<BwSeat>)>
+    requires own { AreSeatsOf tree seats.items }
+    ensures own { IfSome result (λ moved. AreSeatsOf moved.0 moved.1.items) }
+{
+    let pairs = tree.close(alloc, seats).ok()?;
+    match opened_from(alloc, limits, pairs.as_slice()) {
+        Ok(moved) => Some(moved),
+        Err(_) => None,
+    }
+}
+
+/// How many keys a small tree takes, and how many a larger one has that begins with these and takes the others.
+fn filled_and_moved(alloc: Global) -> Option<(u32, usize)> {
+    let small = Limits::new(1, 64, 64, 1).ok()?;
+    let larger = Limits::for_keys(1, u64::from(KEYS)).ok()?;
+    let (tree, mut seats) = opened(alloc, small).ok()?;
+    let count = insert_from(&tree, &mut seats, 0);
+    let (tree, mut seats) = moved(alloc, tree, seats, larger)?;
+    insert_from(&tree, &mut seats, count);
+    let pairs = tree.close(alloc, seats).ok()?;
+    Some((count, pairs.len()))
+}
+
+#[test]
+fn a_full_tree_is_moved(rt: HostRuntime) {
+    let Some((before, after)) = filled_and_moved(rt.alloc()) else {
+        assert!(rt; false);
+        return;
+    };
+    assert!(rt; before < KEYS && after == KEYS as usize);
+}
+
+/// The other seat of two looks a key up, so that the first one is next again.
+fn other_reads(tree: &Tree, seats: &mut Vec<BwSeat>)
+    requires own { AreSeatsOf tree.now seats.old.items }
+    ensures own { AreSeatsOf tree.now seats.new.items }
+{
+    let _ = in_turn(tree, seats, Command::Get(key(0)));
+}
+
+/// One seat of two works on, until it is refused or has done so many; tells how many.
+fn works_alone(tree: &Tree, seats: &mut Vec<BwSeat>, work: Work, first: u32, count: u32) -> u32
+    requires own { AreSeatsOf tree.now seats.old.items }
+    ensures own { AreSeatsOf tree.now seats.new.items }
+{
+    for place in 0..count {
+        let went = is_done(tree, seats, work, first.wrapping_add(place));
+        other_reads(tree, seats);
+        if !went {
+            return place;
+        }
+    }
+    count
+}
+
+/// One seat takes a chain out of the tree and is idle; the other one inserts until it is refused, and again after a tidying of the first. Tells
+/// how often it was done each time.
+fn one_holds_back(tree: &Tree, seats: &mut Vec<BwSeat>) -> (u32, u32)
+    requires own { AreSeatsOf tree.now seats.old.items }
+    ensures own { AreSeatsOf tree.now seats.new.items }
+{
+    works_alone(tree, seats, Work::Insert, 0, 9);
+    other_reads(tree, seats);
+    let before = works_alone(tree, seats, Work::Insert, 9, KEYS);
+    other_reads(tree, seats);
+    works_alone(tree, seats, Work::Tidy, 0, 1);
+    other_reads(tree, seats);
+    let after = works_alone(tree, seats, Work::Insert, before.saturating_add(9), KEYS);
+    (before, after)
+}
+
+/// The same in a small tree with two seats.
+fn held_back(alloc: Global) -> Option<(u32, u32)> {
+    let limits = Limits::new(2, 64, 64, 1).ok()?;
+    let (tree, mut seats) = opened(alloc, limits).ok()?;
+    let counts = one_holds_back(&tree, &mut seats);
+    tree.close(alloc, seats).ok()?;
+    Some(counts)
+}
+
+#[test]
+fn a_tidying_gives_rows_back(rt: HostRuntime) {
+    let Some((before, after)) = held_back(rt.alloc()) else {
+        assert!(rt; false);
+        return;
+    };
+    assert!(rt; 0 < before && before < KEYS);
+    assert!(rt; 0 < after && after < KEYS);
+}
