@@ -1,5 +1,5 @@
 -- Laws of lines, and of what is run of them.
-use Rattle.std.proofs.Common.{◌≡◌, ◌≢◌, ℕ, ◌+◌, ◌<◌, List, [], ◌∷◌, ◌++◌, length, refl, sym, ap, ◌∙◌, arith, inl, Bool, true, false, length-append, take, drop, get_or, subst, MatchBool}
+use Rattle.std.proofs.Common.{◌≡◌, ◌≢◌, ℕ, ◌+◌, ◌<◌, List, [], ◌∷◌, ◌++◌, length, refl, sym, ap, ◌∙◌, arith, inl, Bool, true, false, Option, Some, None, length-append, take, drop, get_or, subst, MatchBool}
 use Rattle.std.proofs.lemmas.List.{append_assoc, append-nil, take-append-drop, drop_more, take_more}
 use Rattle.std.proofs.lemmas.Bool.{ne_eqb}
 use Rattle.std.proofs.lemmas.Grind.{flat_map-append}
@@ -8,10 +8,10 @@ use Rattle.shell_lines.specs.declared.request.Language.{Language}
 use Rattle.bw_shell.specs.Turns.{Trace}
 use Rattle.bw_shell.specs.Lines.{lines_of, HasNoFeed, ended}
 use Rattle.bw_shell.specs.declared.refusal.Refusal.TheVariants.{Malformed}
-use Rattle.bw_shell.specs.Text.{refused_text}
+use Rattle.bw_shell.specs.declared.refusal.RefusedLine.{RefusedLine}
 use Rattle.bw_shell.specs.Transcript.{Transcript}
 use Rattle.bw_shell.specs.Weave.{Weaves, StopsAmong}
-use Rattle.bw_shell.proofs.Transcripts.{transcript_then, refused}
+use Rattle.bw_shell.proofs.Transcripts.{transcript_then, refused, refused_at}
 
 all_then : {A : Type 0} (P : A → Type 0) (xs ys : List A) → AllByRecursion P xs → AllByRecursion P ys → AllByRecursion P (xs ++ ys)
 all_then P [] ys p q = q
@@ -50,7 +50,7 @@ line_last (b ∷ c ∷ bs) h some = rw (ne_eqb b 10 h.0, line_last (c ∷ bs) h.
 
 -- ---- steps
 
-pub one_line : {language : Language} (n : ℕ) (m : Trace) (q : List ℕ) (after : Trace) (u : List ℕ) → HasNoFeed q → Transcript language n m (q ∷ []) after u false → Weaves language n m q (10 ∷ []) (n + 1) after [] u
+pub one_line : {language : Language} (n : ℕ) (m : Trace) (q : List ℕ) (after : Trace) (u : List ℕ) → HasNoFeed q → Transcript language n m (q ∷ []) after u None → Weaves language n m q (10 ∷ []) (n + 1) after [] u
 one_line n m q after u h t = record {
   lines = q ∷ [];
   splits = record { whole = sym (append-nil (q ++ 10 ∷ [])) ∙ sym (append-nil ((q ++ 10 ∷ []) ++ [])); each = (h, tt); open_end = tt };
@@ -76,7 +76,7 @@ no_bytes n m q h = record {
   count = omega arith;
 }
 
-pub stop_line : (language : Language) (n : ℕ) (m : Trace) (q more : List ℕ) (after : Trace) (u : List ℕ) (r : Bool) → HasNoFeed q → Transcript language n m (q ∷ []) after u r → StopsAmong language n m q (10 ∷ more) after u r
+pub stop_line : (language : Language) (n : ℕ) (m : Trace) (q more : List ℕ) (after : Trace) (u : List ℕ) (r : Option RefusedLine) → HasNoFeed q → Transcript language n m (q ∷ []) after u r → StopsAmong language n m q (10 ∷ more) after u r
 stop_line language n m q more after u r h t rest = (
   q ∷ [],
   lines_of (more ++ rest),
@@ -84,18 +84,18 @@ stop_line language n m q more after u r h t rest = (
   t,
 )
 
-long_line : (language : Language) (n : ℕ) (m : Trace) (line : List ℕ) → 1024 < length line → Transcript language n m (line ∷ []) m (refused_text n Malformed) true
+long_line : (language : Language) (n : ℕ) (m : Trace) (line : List ℕ) → 1024 < length line → Transcript language n m (line ∷ []) m [] (Some (refused_at n Malformed))
 long_line language n m line long = refused language n m line Malformed m [] (omega arith) (inl (refl, refl, refl, λ request says. let fits = says.0 in omega arith))
 
 pub stop_long : (language : Language) (n : ℕ) (m : Trace) (q : List ℕ) (b : ℕ) (more : List ℕ) → HasNoFeed q → (b ≡ 10 → ⊥) → 1024 < length (q ++ b ∷ [])
-    → StopsAmong language n m q (b ∷ more) m (refused_text n Malformed) true
+    → StopsAmong language n m q (b ∷ more) m [] (Some (refused_at n Malformed))
 stop_long language n m q b more h other long rest = at (q ++ b ∷ []) refl (all_then (λ x. x ≢ 10) q (b ∷ []) h (other, tt))
   where
     regroup : (q ++ b ∷ more) ++ rest ≡ (q ++ b ∷ []) ++ (more ++ rest)
     regroup = append_assoc q (b ∷ more) rest ∙ sym (append_assoc q (b ∷ []) (more ++ rest))
 
     at : (x : List ℕ) → q ++ b ∷ [] ≡ x → HasNoFeed x
-        → (front : List (List ℕ)) × (others : List (List ℕ)) × (lines_of ((q ++ b ∷ more) ++ rest) ≡ front ++ others) × Transcript language n m front m (refused_text n Malformed) true
+        → (front : List (List ℕ)) × (others : List (List ℕ)) × (lines_of ((q ++ b ∷ more) ++ rest) ≡ front ++ others) × Transcript language n m front m [] (Some (refused_at n Malformed))
     at [] e clean = let len = ap length e in absurd (omega (arith, long, len))
     at (y ∷ ys) e clean =
         let opened = line_open y ys (more ++ rest) clean in
@@ -122,11 +122,11 @@ weaves_then n m p bs n' m' q t cs n'' m'' q' u v w = record {
     each = all_then HasNoFeed v.lines w.lines v.splits.each w.splits.each;
     open_end = w.splits.open_end;
   };
-  says = transcript_then _ n m v.lines m' t n' w.lines m'' u false v.says v.count w.says;
+  says = transcript_then _ n m v.lines m' t n' w.lines m'' u None v.says v.count w.says;
   count = let len = length-append v.lines w.lines in let a = v.count in let b = w.count in omega arith;
 }
 
-pub weaves_stops : {language : Language} (n : ℕ) (m : Trace) (p bs : List ℕ) (n' : ℕ) (m' : Trace) (q t : List ℕ) (tail : List ℕ) (m'' : Trace) (u : List ℕ) (r : Bool)
+pub weaves_stops : {language : Language} (n : ℕ) (m : Trace) (p bs : List ℕ) (n' : ℕ) (m' : Trace) (q t : List ℕ) (tail : List ℕ) (m'' : Trace) (u : List ℕ) (r : Option RefusedLine)
     → Weaves language n m p bs n' m' q t → StopsAmong language n' m' q tail m'' u r → StopsAmong language n m p (bs ++ tail) m'' (t ++ u) r
 weaves_stops n m p bs n' m' q t tail m'' u r v s rest =
     let end = s rest in
@@ -141,12 +141,12 @@ weaves_stops n m p bs n' m' q t tail m'' u r v s rest =
 
 -- ---- the end of the input
 
-pub end_whole : {language : Language} (m : Trace) (taken : List ℕ) (n : ℕ) (after : Trace) (t : List ℕ) → Weaves language 1 m [] taken n after [] t → Transcript language 1 m (lines_of taken) after t false
+pub end_whole : {language : Language} (m : Trace) (taken : List ℕ) (n : ℕ) (after : Trace) (t : List ℕ) → Weaves language 1 m [] taken n after [] t → Transcript language 1 m (lines_of taken) after t None
 end_whole m taken n after t v =
     let e : lines_of taken ≡ v.lines = ap lines_of v.splits.whole ∙ lines_whole v.lines [] v.splits.each ∙ append-nil v.lines in
     rw e v.says
 
-pub end_part : {language : Language} (m : Trace) (taken : List ℕ) (n : ℕ) (mid : Trace) (q t : List ℕ) (after : Trace) (u : List ℕ) (r : Bool)
+pub end_part : {language : Language} (m : Trace) (taken : List ℕ) (n : ℕ) (mid : Trace) (q t : List ℕ) (after : Trace) (u : List ℕ) (r : Option RefusedLine)
     → Weaves language 1 m [] taken n mid q t → 0 < length q → Transcript language n mid (q ∷ []) after u r → Transcript language 1 m (lines_of taken) after (t ++ u) r
 end_part m taken n mid q t after u r v some last =
     let e : lines_of taken ≡ v.lines ++ q ∷ []
@@ -160,7 +160,7 @@ piece bytes i b h is =
     let d : drop i bytes ≡ get_or bytes i 0 ∷ drop (i + 1) bytes = drop_more bytes i 0 h in
     rw (sym is, sym d) (take-append-drop i bytes)
 
-pub stop_at : {language : Language} (n : ℕ) (m : Trace) (p bytes : List ℕ) (i b : ℕ) (n' : ℕ) (m' : Trace) (q t : List ℕ) (m'' : Trace) (u : List ℕ) (r : Bool)
+pub stop_at : {language : Language} (n : ℕ) (m : Trace) (p bytes : List ℕ) (i b : ℕ) (n' : ℕ) (m' : Trace) (q t : List ℕ) (m'' : Trace) (u : List ℕ) (r : Option RefusedLine)
     → i < length bytes → get_or bytes i 0 ≡ b → Weaves language n m p (take i bytes) n' m' q t → StopsAmong language n' m' q (b ∷ drop (i + 1) bytes) m'' u r → StopsAmong language n m p bytes m'' (t ++ u) r
 stop_at {language} n m p bytes i b n' m' q t m'' u r h is v s =
     subst (λ (bs : List ℕ). StopsAmong language n m p bs m'' (t ++ u) r) (piece bytes i b h is) (weaves_stops n m p (take i bytes) n' m' q t (b ∷ drop (i + 1) bytes) m'' u r v s)

@@ -1,5 +1,5 @@
 -- Laws of transcripts.
-use Rattle.std.proofs.Common.{◌≡◌, ℕ, ◌+◌, ◌<◌, List, [], ◌∷◌, ◌++◌, length, refl, sym, ap, ◌∙◌, arith, add-one, inl, inr, Bool, true, false, Option, Some, None, Result, Ok, Err, IfErr, OnOk}
+use Rattle.std.proofs.Common.{◌≡◌, ℕ, ◌+◌, ◌<◌, List, [], ◌∷◌, ◌++◌, length, refl, sym, ap, ◌∙◌, arith, add-one, inl, inr, Option, Some, None, Result, Ok, Err, IfErr, OnOk}
 use Rattle.std.proofs.lemmas.List.{append_assoc, append-nil}
 use Rattle.bw_model.specs.declared.command.Command.{Command}
 use Rattle.bw_model.specs.declared.step.Link.{Link}
@@ -13,7 +13,8 @@ use Rattle.shell_lines.specs.declared.request.Request.TheVariants.{Begin, Finish
 use Rattle.bw_shell.specs.declared.turns.Progress.{Progress}
 use Rattle.bw_shell.specs.declared.turns.Progress.TheVariants.{GoesOn}
 use Rattle.bw_shell.specs.declared.refusal.Refusal.{Refusal}
-use Rattle.bw_shell.specs.Text.{finished_text, refused_text}
+use Rattle.bw_shell.specs.declared.refusal.RefusedLine.{RefusedLine}
+use Rattle.bw_shell.specs.Text.{finished_text}
 use Rattle.bw_shell.specs.Transcript.{StepsOn, TakesOne, TakesUpTo, RefusedWithin, Performs, RefusesRequest, RefusesLine, Transcript, LineTold, RequestTold}
 
 pub no_steps : (until : Option Link) (m : Trace) (actor : ℕ) → StepsOn until m actor 0 m
@@ -50,22 +51,26 @@ run_told a b c command (Err refusal) text begun told = inr (b, begun, told.0, to
 
 -- ---- one line
 
-pub skipped : (language : Language) (n : ℕ) (m : Trace) (line : List ℕ) → length line ≡ 0 → Transcript language n m (line ∷ []) m [] false
+pub skipped : (language : Language) (n : ℕ) (m : Trace) (line : List ℕ) → length line ≡ 0 → Transcript language n m (line ∷ []) m [] None
 unfolding Transcript
 skipped language n m [] h = (refl, refl, refl)
 skipped language n m (b ∷ bs) h = absurd (omega arith)
 
 pub performed : (language : Language) (n : ℕ) (m : Trace) (line : List ℕ) (request : Request) (after : Trace) (text : List ℕ) → 0 < length line
-    → Says language line request → IsShortRequest request → Performs m request after text → Transcript language n m (line ∷ []) after text false
+    → Says language line request → IsShortRequest request → Performs m request after text → Transcript language n m (line ∷ []) after text None
 unfolding Transcript
 performed language n m [] request after text some says short p = absurd (omega arith)
 performed language n m (b ∷ bs) request after text some says short p = inl (request, after, text, [], says, short, p, (refl, refl, refl), sym (append-nil text))
 
+-- line n is refused for this reason
+abbrev pub refused_at : ℕ → Refusal → RefusedLine
+refused_at n refusal = record { number = n; refusal = refusal }
+
 pub refused : (language : Language) (n : ℕ) (m : Trace) (line : List ℕ) (refusal : Refusal) (after : Trace) (shown : List ℕ) → 0 < length line
-    → RefusesLine language m line refusal after shown → Transcript language n m (line ∷ []) after (shown ++ refused_text n refusal) true
+    → RefusesLine language m line refusal after shown → Transcript language n m (line ∷ []) after shown (Some (refused_at n refusal))
 unfolding Transcript
 refused language n m [] refusal after shown some r = absurd (omega arith)
-refused language n m (b ∷ bs) refusal after shown some r = inr (refusal, shown, r, refl, refl)
+refused language n m (b ∷ bs) refusal after shown some r = inr (refusal, r, refl)
 
 -- what was asked for, as a line of a run
 pub asked : (language : Language) (m : Trace) (line : List ℕ) (request : Request) (after : Trace) (result : Result (Unit {0}) Refusal) (text : List ℕ)
@@ -75,8 +80,8 @@ asked language m line request after (Err refusal) text says short told = inr (in
 
 -- ---- lines behind lines
 
-pub transcript_then : (language : Language) (n : ℕ) (a : Trace) (ls : List (List ℕ)) (b : Trace) (t : List ℕ) (k : ℕ) (ms : List (List ℕ)) (c : Trace) (u : List ℕ) (r : Bool)
-    → Transcript language n a ls b t false → k ≡ n + length ls → Transcript language k b ms c u r → Transcript language n a (ls ++ ms) c (t ++ u) r
+pub transcript_then : (language : Language) (n : ℕ) (a : Trace) (ls : List (List ℕ)) (b : Trace) (t : List ℕ) (k : ℕ) (ms : List (List ℕ)) (c : Trace) (u : List ℕ) (r : Option RefusedLine)
+    → Transcript language n a ls b t None → k ≡ n + length ls → Transcript language k b ms c u r → Transcript language n a (ls ++ ms) c (t ++ u) r
 unfolding Transcript
 transcript_then language n a [] b t k ms c u r first at second =
     let same : k ≡ n = omega arith in
@@ -94,4 +99,4 @@ transcript_then language n a ((x ∷ xs) ∷ ls) b t k ms c u r (inl p) at secon
       transcript_then language (n + 1) p.1 ls b p.3 k ms c u r p.7 (omega arith) second,
       ap (λ (l : List ℕ). l ++ u) p.8 ∙ append_assoc p.2 p.3 u,
     )
-transcript_then language n a ((x ∷ xs) ∷ ls) b t k ms c u r (inr p) at second = cc p.4
+transcript_then language n a ((x ∷ xs) ∷ ls) b t k ms c u r (inr p) at second = cc p.2

@@ -1,11 +1,13 @@
 -- Laws of whole runs.
-use Rattle.std.proofs.Common.{◌≡◌, ℕ, List, [], ◌∷◌, ◌++◌, length, refl, sym, ap, ◌∙◌, arith, ◌⊎◌, inl, inr, Bool, true, false, not, Option, Some, None, append_assoc, ◌↔◌}
+use Rattle.std.proofs.Common.{◌≡◌, ℕ, List, [], ◌∷◌, ◌++◌, length, refl, sym, ap, ◌∙◌, arith, ◌⊎◌, inl, inr, Bool, true, false, not, Option, Some, None, append_assoc, ◌↔◌, is_some}
 use Rattle.std.specs.Io.KnownBytes.{Consumes, Keeps}
 use Rattle.shell_lines.specs.declared.request.Language.{Language}
 use Rattle.bw_shell.specs.Turns.{Trace, IsOneMap, opening_trace}
 use Rattle.bw_model.specs.declared.limits.Limits.{Limits}
 use Rattle.std.proofs.lemmas.List.{append-nil}
+use Rattle.bw_shell.specs.declared.refusal.RefusedLine.{RefusedLine}
 use Rattle.bw_shell.specs.Output.{Sink, Puts, Prints, Writes}
+use Rattle.bw_shell.specs.Text.{last_line}
 use Rattle.bw_shell.specs.Weave.{IsTranscriptFrom, HasRun, IsWholeRun}
 use Rattle.bw_shell.proofs.Showing.{shows_then}
 
@@ -30,7 +32,7 @@ keeps_same None = tt
 keeps_same (Some xs) = refl
 
 -- a writer that fails later fails too
-pub later_cut : (language : Language) (m : Trace) (left : Option (List ℕ)) (taken : List ℕ) (failed : Bool) (after : Trace) (text : List ℕ) (r cut cut' : Bool)
+pub later_cut : (language : Language) (m : Trace) (left : Option (List ℕ)) (taken : List ℕ) (failed : Bool) (after : Trace) (text : List ℕ) (r : Option RefusedLine) (cut cut' : Bool)
     → (cut ≡ true → cut' ≡ true) → IsTranscriptFrom language m left taken failed after text r cut → IsTranscriptFrom language m left taken failed after text r cut'
 later_cut language m left taken failed after text r cut cut' more (inl p) = inl p
 later_cut language m left taken failed after text r cut cut' more (inr (inl p)) = inr (inl p)
@@ -71,18 +73,19 @@ writes_whole a b t s sound fresh ends = at b.failed refl
       all = λ h. splits ∙ ap (λ (l : List ℕ). p.written ++ l) (p.all h ∙ ends e) ∙ append-nil p.written;
     }
 
-pub is_whole_run : {language : Language} (limits : Limits) (in_old in_new : Option (List ℕ)) (rf : Bool) (a b c : Sink) (after : Trace) (refused : Bool) (status : ℕ)
-    → HasRun language (opening_trace limits) in_old in_new rf a b after refused → IsOneMap after → Prints b c [] → a.failed ≡ false → a.held ≡ [] → (c.failed ≡ false → c.held ≡ [])
-    → (status ≡ 0) ↔ ((rf ≡ false) × (c.failed ≡ false) × (refused ≡ false)) → (status ≡ 0) ⊎ (status ≡ 1)
-    → IsWholeRun language limits in_old in_new rf a.contents c.contents c.failed status
-is_whole_run limits in_old in_new rf a b c after refused status h one last sound fresh ends is either = record {
+pub is_whole_run : {language : Language} (limits : Limits) (in_old in_new : Option (List ℕ)) (rf : Bool) (a b c d : Sink) (after : Trace) (line : Option RefusedLine) (status : ℕ)
+    → HasRun language (opening_trace limits) in_old in_new rf a b after line → IsOneMap after → Prints b c (last_line line) → Prints c d []
+    → a.failed ≡ false → a.held ≡ [] → (d.failed ≡ false → d.held ≡ [])
+    → (status ≡ 0) ↔ ((rf ≡ false) × (d.failed ≡ false) × (is_some line ≡ false)) → (status ≡ 0) ⊎ (status ≡ 1)
+    → IsWholeRun language limits in_old in_new rf a.contents d.contents d.failed status
+is_whole_run limits in_old in_new rf a b c d after line status h one last end sound fresh ends is either = record {
   taken = h.taken;
   after = after;
-  text = h.text;
-  refused = refused;
+  text = h.text ++ last_line line;
+  refused = is_some line;
   reads = h.reads;
-  says = inr (later_cut _ (opening_trace limits) in_new h.taken rf after h.text refused b.failed c.failed (λ e. (last.stays e).1) h.says, one);
-  writes = writes_whole a c h.text (shows_then h.shows last) sound fresh ends;
+  says = inr (h.text, line, later_cut _ (opening_trace limits) in_new h.taken rf after h.text line b.failed d.failed (λ e. (end.stays (last.stays e).1).1) h.says, one, refl, refl);
+  writes = writes_whole a d (h.text ++ last_line line) (shows_then (shows_then h.shows last) end) sound fresh ends;
   status_is = is;
   status_else = either;
 }

@@ -7,6 +7,7 @@ use Rattle.bw_shell.specs.declared.turns.Progress.{Progress}
 use Rattle.bw_shell.specs.declared.turns.Progress.TheVariants.{GoesOn, Linked, Done}
 use Rattle.shell_lines.specs.Token.{printed}
 use Rattle.bw_shell.specs.declared.refusal.Refusal.{Refusal}
+use Rattle.bw_shell.specs.declared.refusal.RefusedLine.{RefusedLine}
 use Rattle.bw_shell.specs.Refusal.{code_of}
 
 -- a pair, as it stands in a cursor page
@@ -55,6 +56,11 @@ listing_text pairs = codes "pairs " ++ decimal (length pairs) ++ codes "\n" ++ f
 -- a refused line
 abbrev pub refused_text : ℕ → Refusal → List ℕ
 refused_text number refusal = codes "refused line " ++ decimal number ++ codes ": " ++ decimal (code_of refusal) ++ codes "\n"
+
+-- the refused line, if a line is refused
+abbrev pub last_line : Option RefusedLine → List ℕ
+last_line None = []
+last_line (Some line) = refused_text line.number line.refusal
 
 -- a refusal that belongs to no line
 abbrev pub lone_refusal_text : Refusal → List ℕ

@@ -1,5 +1,5 @@
 -- A text is a transcript of lines, for a trace of the core.
-use Rattle.std.specs.Prelude.{◌≡◌, ℕ, ◌+◌, ◌<◌, suc, zero, ◌⊎◌, List, [], ◌∷◌, ◌++◌, Bool, true, false, Option, Some, None, Result, Ok, Err}
+use Rattle.std.specs.Prelude.{◌≡◌, ℕ, ◌+◌, ◌<◌, suc, zero, ◌⊎◌, List, [], ◌∷◌, ◌++◌, true, false, Option, Some, None, Result, Ok, Err}
 use Rattle.bw_model.specs.declared.step.Link.{Link}
 use Rattle.bw_model.specs.Schedules.{drawn, schedule_of}
 use Rattle.chain_search.specs.declared.trace.Turn.TheVariants.{Begin as BeginTurn, Step}
@@ -15,8 +15,9 @@ use Rattle.bw_shell.specs.declared.turns.Progress.{Progress}
 use Rattle.bw_shell.specs.declared.turns.Progress.TheVariants.{GoesOn, Linked, Done}
 use Rattle.bw_shell.specs.declared.refusal.Refusal.{Refusal}
 use Rattle.bw_shell.specs.declared.refusal.Refusal.TheVariants.{TooLong, Memory, Malformed}
+use Rattle.bw_shell.specs.declared.refusal.RefusedLine.{RefusedLine}
 use Rattle.bw_shell.specs.Refusal.{refusal_by}
-use Rattle.bw_shell.specs.Text.{turned_text, finished_text, listing_text, refused_text}
+use Rattle.bw_shell.specs.Text.{turned_text, finished_text, listing_text}
 use Rattle.bw_shell.specs.Turns.{Trace, is_busy, IsOneMap, TakesTurn, Refuses}
 
 -- What a turn comes to, where turns are to stop at an exchange that won with the link, if one is given: the operation goes on, and
@@ -113,14 +114,14 @@ RefusesLine language before line refusal after shown =
     ⊎ ((refusal ≡ TooLong) × (after ≡ before) × (shown ≡ []) × (request : Request) × Says language line request × (IsShortRequest request → ⊥))
     ⊎ ((request : Request) × Says language line request × IsShortRequest request × RefusesRequest before request refusal after shown)
 
--- From line number n on: an empty line is skipped; another is performed, and the rest goes on from there; or it is refused, perhaps
--- after a part of it was printed, which is the last line of the text, and nothing behind it counts.
-unfoldable pub Transcript : Language → ℕ → Trace → List (List ℕ) → Trace → List ℕ → Bool → Type 0
-Transcript language n before [] after text refused = (after ≡ before) × (text ≡ []) × (refused ≡ false)
+-- What the lines print from line number n on: an empty line is skipped; another is performed, and the rest goes on from there; or it
+-- is the refused line, perhaps after a part of it was printed, and nothing behind it counts.
+unfoldable pub Transcript : Language → ℕ → Trace → List (List ℕ) → Trace → List ℕ → Option RefusedLine → Type 0
+Transcript language n before [] after text refused = (after ≡ before) × (text ≡ []) × (refused ≡ None)
 Transcript language n before ([] ∷ lines) after text refused = Transcript language (n + 1) before lines after text refused
 Transcript language n before ((b ∷ bs) ∷ lines) after text refused =
     ((request : Request) × (mid : Trace) × (shown : List ℕ) × (rest : List ℕ) × Says language (b ∷ bs) request × IsShortRequest request × Performs before request mid shown × Transcript language (n + 1) mid lines after rest refused × (text ≡ shown ++ rest))
-    ⊎ ((refusal : Refusal) × (shown : List ℕ) × RefusesLine language before (b ∷ bs) refusal after shown × (text ≡ shown ++ refused_text n refusal) × (refused ≡ true))
+    ⊎ ((refusal : Refusal) × RefusesLine language before (b ∷ bs) refusal after text × (refused ≡ Some (record { number = n; refusal = refusal })))
 
 -- what one turn answers
 abbrev pub StepTold : Option Link → Trace → ℕ → Result Progress Refusal → Trace → Type 0

@@ -13,7 +13,7 @@ mod whole;
 
 pub use lines::lines_are_exact;
 pub use over_std::{HELD, READS, Reader, Writer};
-pub use refusal::Refusal;
+pub use refusal::{Refusal, RefusedLine};
 pub use streams::{Failed, Input, Output, outputs_add_up};
 pub use texts::{show_listing, show_lone_refusal, show_number, show_refused, show_reply};
 pub use whole::{Woven, script, status, weave, weave_core};

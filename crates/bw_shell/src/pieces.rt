@@ -1,15 +1,14 @@
 //! Lines out of pieces.
 
-ghost use Rattle.std.specs.Prelude.{◌≡◌, ◌+◌, ◌≤◌, ◌<◌, ◌^◌, length, false};
+ghost use Rattle.std.specs.Prelude.{◌≡◌, ◌+◌, ◌≤◌, ◌<◌, ◌^◌, length, false, None};
 ghost use Rattle.arrayvec.specs.ArrayVec.{array_vec_len};
 ghost use Rattle.bw_shell.specs.Lines.{HasNoFeed};
 ghost use Rattle.bw_shell.specs.Turns.{seen};
 ghost use Rattle.bw_shell.specs.Weave.{Feeds};
 
-use crate::refusal::Refusal;
+use crate::refusal::{Refusal, RefusedLine};
 use crate::run::run_line;
 use crate::streams::Output;
-use crate::texts::show_refused;
 use arrayvec::ArrayVec;
 use shell_lines::Language;
 use std::alloc::Global;
@@ -23,26 +22,26 @@ pub struct Weaver {
     pub part: ArrayVec<u8, 1025>,
 }
 
-/// Runs each line that ends among the bytes, and answers whether one was refused.
+/// Runs each line that ends among the bytes, up to the first one that is refused, which is answered.
 pub fn feed<O: Output>(
     alloc: Global,
     language: Language,
     weaver: &mut Weaver,
     bytes: &[u8],
     out: &mut O,
-) -> bool
+) -> Option<RefusedLine>
     requires sound { (O.state out.old).failed ≡ false }
     requires part { HasNoFeed weaver.old.part.items }
     requires short { array_vec_len weaver.old.part ≤ 1024 }
     requires count { weaver.old.number + length bytes.now < 2 ^ 64 }
     ensures fed { Feeds language weaver.old.number (seen weaver.old.core) weaver.old.part.items bytes.now
         weaver.new.number (seen weaver.new.core) weaver.new.part.items (O.state out.old) (O.state out.new) result }
-    ensures short { result ≡ false → array_vec_len weaver.new.part ≤ 1024 }
+    ensures short { result ≡ None → array_vec_len weaver.new.part ≤ 1024 }
     ensures count { weaver.new.number ≤ weaver.old.number + length bytes.now }
 {
     for b in bytes {
         if *b == b'\n' {
-            if run_line(
+            if let Some(line) = run_line(
                 alloc,
                 language,
                 &mut weaver.core,
@@ -50,20 +49,22 @@ pub fn feed<O: Output>(
                 weaver.part.as_slice(),
                 out,
             ) {
-                return true;
+                return Some(line);
             }
             if out.has_failed() {
-                return false;
+                return None;
             }
             weaver.number += 1;
             weaver.part.clear();
         } else {
             weaver.part.push(*b);
             if weaver.part.len() > 1024 {
-                show_refused(out, weaver.number, Refusal::Malformed);
-                return true;
+                return Some(RefusedLine {
+                    number: weaver.number,
+                    refusal: Refusal::Malformed,
+                });
             }
         }
     }
-    false
+    None
 }

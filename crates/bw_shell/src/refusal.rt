@@ -34,6 +34,14 @@ pub enum Refusal {
     WrongResults,
 }
 
+/// A refused line: its number, from 1, skipped lines counted, and why it is refused.
+#[derive(Clone, Copy, Debug, PartialEq, Eq, Error)]
+#[error("line {number} is refused: {refusal}")]
+pub struct RefusedLine {
+    pub number: u64,
+    pub refusal: Refusal,
+}
+
 impl Refusal {
     /// The number that is printed for it.
     pub fn code(self) -> u64

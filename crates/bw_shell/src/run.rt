@@ -5,9 +5,9 @@ ghost use Rattle.shell_lines.specs.Request.{until_done};
 ghost use Rattle.bw_shell.specs.Turns.{seen};
 ghost use Rattle.bw_shell.specs.Weave.{AskedRuns, RequestRuns, DrawRuns, LineRuns};
 
-use crate::refusal::Refusal;
+use crate::refusal::{Refusal, RefusedLine};
 use crate::streams::Output;
-use crate::texts::{show_finished, show_listing, show_refused, show_turned};
+use crate::texts::{show_finished, show_listing, show_turned};
 use crate::turns::{begin, pairs_of, schedule_over, step, steps};
 use bw_model::{Command, Link};
 use shell_lines::{Language, LineError, Request, parse};
@@ -138,7 +138,7 @@ fn run_asked<O: Output>(
     }
 }
 
-/// Runs a line, and answers whether it was refused, which is shown here.
+/// Runs a line, and answers it if it was refused.
 pub fn run_line<O: Output>(
     alloc: Global,
     language: Language,
@@ -146,17 +146,14 @@ pub fn run_line<O: Output>(
     number: u64,
     line: &[u8],
     out: &mut O,
-) -> bool
+) -> Option<RefusedLine>
     ensures { LineRuns language number (seen core.old) line.now (seen core.new) (O.state out.old) (O.state out.new) result }
 {
     if line.is_empty() {
-        return false;
+        return None;
     }
     match run_asked(alloc, language, core, line, out) {
-        Ok(()) => false,
-        Err(refusal) => {
-            show_refused(out, number, refusal);
-            true
-        }
+        Ok(()) => None,
+        Err(refusal) => Some(RefusedLine { number, refusal }),
     }
 }

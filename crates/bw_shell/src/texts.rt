@@ -6,9 +6,9 @@ ghost use Rattle.bw_model.specs.Bytes.{longest};
 ghost use Rattle.hex.specs.Hex.{encode_lower};
 ghost use Rattle.shell_lines.specs.Token.{printed};
 ghost use Rattle.bw_shell.specs.Output.{Prints};
-ghost use Rattle.bw_shell.specs.Text.{item_text, next_text, reply_text, turned_text, finished_text, pair_text, listing_text, refused_text, lone_refusal_text};
+ghost use Rattle.bw_shell.specs.Text.{item_text, next_text, reply_text, turned_text, finished_text, pair_text, listing_text, refused_text, last_line, lone_refusal_text};
 
-use crate::refusal::Refusal;
+use crate::refusal::{Refusal, RefusedLine};
 use crate::streams::Output;
 use crate::turns::Progress;
 use bw_model::{Key, MAX_LENGTH, Reply, Value};
@@ -161,14 +161,24 @@ pub fn show_finished<O: Output>(out: &mut O, actor: u64, progress: &Progress)
 }
 
 /// A refused line.
-pub fn show_refused<O: Output>(out: &mut O, number: u64, refusal: Refusal)
-    ensures { Prints (O.state out.old) (O.state out.new) (refused_text number refusal) }
+pub fn show_refused<O: Output>(out: &mut O, line: RefusedLine)
+    ensures { Prints (O.state out.old) (O.state out.new) (refused_text line.number line.refusal) }
 {
     out.show(b"refused line ");
-    show_number(out, number);
+    show_number(out, line.number);
     out.show(b": ");
-    show_number(out, refusal.code());
+    show_number(out, line.refusal.code());
     out.show(b"\n");
+}
+
+/// The refused line, if a line was refused.
+pub fn show_last_line<O: Output>(out: &mut O, refused: Option<RefusedLine>)
+    ensures { Prints (O.state out.old) (O.state out.new) (last_line refused) }
+{
+    match refused {
+        None => {}
+        Some(line) => show_refused(out, line),
+    }
 }
 
 /// A refusal that belongs to no line.

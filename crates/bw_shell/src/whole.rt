@@ -5,24 +5,24 @@ ghost use Rattle.bw_shell.specs.Turns.{opening_trace, seen};
 ghost use Rattle.bw_shell.specs.Weave.{HasRun, IsWholeRun};
 
 use crate::pieces::{Weaver, feed};
-use crate::refusal::Refusal;
+use crate::refusal::{Refusal, RefusedLine};
 use crate::run::run_line;
 use crate::streams::{Input, Output};
-use crate::texts::show_lone_refusal;
+use crate::texts::{show_last_line, show_lone_refusal};
 use arrayvec::ArrayVec;
 use bw_model::Limits;
 use shell_lines::Language;
 use std::alloc::Global;
 use step_core::Core;
 
-// Reads to the end of the input, or as far as it goes, and answers whether a line was refused.
+// Reads to the end of the input, or as far as it goes, and answers the line that was refused, if one was.
 fn run<I: Input, O: Output>(
     alloc: Global,
     language: Language,
     weaver: &mut Weaver,
     input: &mut I,
     out: &mut O,
-) -> bool
+) -> Option<RefusedLine>
     requires sound_in { I.failed input.old ≡ false }
     requires sound_out { (O.state out.old).failed ≡ false }
     requires bounded { I.reads_left input.old ≤ 2 ^ 31 }
@@ -34,22 +34,22 @@ fn run<I: Input, O: Output>(
     let mut bytes = [0u8; 4096];
     'reads: loop {
         match input.read(&mut bytes) {
-            Err(_) => return false,
+            Err(_) => return None,
             Ok(n) => {
                 if n == 0 {
                     break;
                 }
-                if feed(alloc, language, weaver, bytes.split_at(n).0, out) {
-                    return true;
+                if let Some(line) = feed(alloc, language, weaver, bytes.split_at(n).0, out) {
+                    return Some(line);
                 }
                 if out.has_failed() {
-                    return false;
+                    return None;
                 }
             }
         }
     }
     if weaver.part.is_empty() {
-        return false;
+        return None;
     }
     run_line(
         alloc,
@@ -65,12 +65,12 @@ fn run<I: Input, O: Output>(
 #[derive(Drop)]
 pub struct Woven {
     pub core: Core,
-    /// Whether a line was refused.
-    pub refused: bool,
+    /// The line that was refused, if one was.
+    pub refused: Option<RefusedLine>,
 }
 
 /// Reads lines, runs them turn by turn on a core of these limits, as `weave` does, and gives the core away. What the lines answer is
-/// shown, but not finished. None where memory for the core is refused; then nothing is read or shown.
+/// shown, but neither the refused line nor the finish of the writer. None where memory for the core is refused; then nothing is read or shown.
 pub fn weave_core<I: Input, O: Output>(
     alloc: Global,
     limits: Limits,
@@ -134,8 +134,9 @@ fn run_program<I: Input, O: Output>(
     };
     let refused = run(alloc, language, &mut weaver, input, out);
     weaver.core.linearized();
+    show_last_line(out, refused);
     out.finish();
-    status(refused, input.has_failed(), out.has_failed())
+    status(refused.is_some(), input.has_failed(), out.has_failed())
 }
 
 /// Reads commands, runs each to its end by actor 0 of a core of these limits, and writes a transcript. Answers the status: 0

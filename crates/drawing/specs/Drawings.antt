@@ -1,14 +1,20 @@
 -- What is drawn of a tree, and what a run that draws it writes.
-use Rattle.std.specs.Prelude.{◌≡◌, ℕ, ◌⊎◌, List}
+use Rattle.std.specs.Prelude.{◌≡◌, ℕ, ◌⊎◌, ◌↔◌, List, [], Bool, true, false, not, Option, Some, None}
+use Rattle.std.specs.Io.KnownBytes.{Consumes}
+use Rattle.bw_model.specs.declared.limits.Limits.{Limits}
 use Rattle.chain_search.specs.trace.Trace.{memory_of}
 use Rattle.scene.specs.Scenes.{Scene, IsSceneOf}
 use Rattle.shapes.specs.declared.shape.Shape.{Shape}
 use Rattle.shapes.specs.Document.{IsWellFormed}
 use Rattle.shapes.specs.Elements.{document_text, pids_of}
+use Rattle.shell_lines.specs.declared.request.Language.TheVariants.{Weave}
 use Rattle.tree_picture.specs.Pids.{all_pids}
-use Rattle.bw_shell.specs.declared.refusal.Refusal.TheVariants.{Memory}
-use Rattle.bw_shell.specs.Text.{lone_refusal_text}
-use Rattle.bw_shell.specs.Turns.{Trace}
+use Rattle.bw_shell.specs.declared.refusal.Refusal.TheVariants.{Memory, NotOpened}
+use Rattle.bw_shell.specs.declared.refusal.RefusedLine.{RefusedLine}
+use Rattle.bw_shell.specs.Output.{Writes}
+use Rattle.bw_shell.specs.Text.{lone_refusal_text, refused_text}
+use Rattle.bw_shell.specs.Turns.{Trace, IsOneMap, opening_trace}
+use Rattle.bw_shell.specs.Weave.{IsTranscriptFrom}
 
 -- The pages among the shapes are exactly those of the side chains of the memory after the trace, level by level from the root's level
 -- down, each from left to right.
@@ -26,6 +32,36 @@ pub record IsPictureOf (trace : Trace) (text : List ℕ) : Type 0 where
   pub spells : text ≡ document_text width height shapes
   pub well_formed : IsWellFormed text
 
--- the picture, or that there was no memory for it
-abbrev pub IsDrawn : Trace → List ℕ → Type 0
-IsDrawn trace text = IsPictureOf trace text ⊎ (text ≡ lone_refusal_text Memory)
+-- the picture, where it is drawn; else that there was no memory for it
+abbrev pub IsDrawn : Trace → List ℕ → Bool → Type 0
+IsDrawn trace text true = IsPictureOf trace text
+IsDrawn trace text false = text ≡ lone_refusal_text Memory
+
+-- What is written of lines that were run, and whether that is a picture: the refused line alone, if a line was refused; nothing, after
+-- a failed read; else the tree is drawn as it stands.
+abbrev pub IsDrawnBehind : Option RefusedLine → Bool → Trace → List ℕ → Bool → Type 0
+IsDrawnBehind (Some line) read_failed trace text drawn = (text ≡ refused_text line.number line.refusal) × (drawn ≡ false)
+IsDrawnBehind None true trace text drawn = (text ≡ []) × (drawn ≡ false)
+IsDrawnBehind None false trace text drawn = IsDrawn trace text drawn
+
+-- What is written for what was read, and whether that is a picture.
+abbrev pub IsDrawingOf : Limits → Option (List ℕ) → List ℕ → Bool → List ℕ → Bool → Type 0
+IsDrawingOf limits left taken read_failed text drawn =
+    -- no core could be opened
+    ((taken ≡ []) × (read_failed ≡ false) × (text ≡ lone_refusal_text NotOpened) × (drawn ≡ false))
+    -- the lines were run as `weave` runs them, by turns that took effect one at a time, on one ordered map; what they print is not written
+    ⊎ ((after : Trace) × (printed : List ℕ) × (refused : Option RefusedLine)
+    × IsTranscriptFrom Weave (opening_trace limits) left taken read_failed after printed refused false × IsOneMap after
+    × IsDrawnBehind refused read_failed after text drawn)
+
+-- The whole run: what is taken from the reader, the text for it, whether that is a picture, and how much of it was written. The status
+-- is 0 exactly where a whole picture was.
+pub record IsWholeDrawing (limits : Limits) (in_old in_new : Option (List ℕ)) (read_failed : Bool) (out_old out_new : Option (List ℕ)) (write_failed : Bool) (status : ℕ) : Type 0 where
+  pub taken : List ℕ
+  pub text : List ℕ
+  pub drawn : Bool
+  pub reads : Consumes in_old in_new taken
+  pub tells : IsDrawingOf limits in_new taken read_failed text drawn
+  pub writes : Writes out_old out_new text (not write_failed)
+  pub status_is : (status ≡ 0) ↔ ((drawn ≡ true) × (write_failed ≡ false))
+  pub status_else : (status ≡ 0) ⊎ (status ≡ 1)

@@ -5,18 +5,9 @@ ghost use Rattle.bw_shell.specs.Lines.{HasNoFeed};
 ghost use Rattle.race.specs.Asked.{AskFor, AsksBehind, RefuseAt, RefusesJobLine};
 ghost use Rattle.race.specs.Looked.{AreLinesOf};
 
-use bw_shell::{Refusal, lines_are_exact};
+use bw_shell::{Refusal, RefusedLine, lines_are_exact};
 use shell_lines::{JobCommand, LineError, parse_job_command};
 use std::alloc::Global;
-use thiserror::Error;
-
-/// A refused line.
-#[derive(Clone, Copy, Debug, PartialEq, Eq, Error)]
-#[error("line {number} is refused: {refusal}")]
-pub struct RefusedLine {
-    pub number: u64,
-    pub refusal: Refusal,
-}
 
 /// The bytes up to the first LF, and those behind it.
 fn next_line<'a>(rest: &'a [u8]) -> Option<(&'a [u8], &'a [u8])>
@@ -51,7 +42,7 @@ fn look_at(asked: &mut Vec<JobCommand>, line: &[u8]) -> Result<(), Refusal>
 /// What the lines ask for; without `ended` the whole lines alone.
 pub fn look(alloc: Global, bytes: &[u8], ended: bool) -> Result<Vec<JobCommand>, RefusedLine>
     ensures ok { IfOk result (λ asked. (lines : List (List ℕ)) × AreLinesOf bytes.now ended lines × AskFor lines asked.items) }
-    ensures refused { IfErr result (λ error. (lines : List (List ℕ)) × AreLinesOf bytes.now ended lines × RefuseAt lines error.number error.refusal) }
+    ensures refused { IfErr result (λ line. (lines : List (List ℕ)) × AreLinesOf bytes.now ended lines × RefuseAt lines line.number line.refusal) }
 {
     lines_are_exact();
     let mut asked = Vec::new(alloc);

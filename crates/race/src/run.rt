@@ -93,8 +93,8 @@ fn run_lines<R: Threads + Wait + Sync, O: Output>(
     outputs_add_up();
     let asked = match look(alloc, bytes, ended) {
         Ok(asked) => asked,
-        Err(error) => {
-            show_refused(out, error.number, error.refusal);
+        Err(line) => {
+            show_refused(out, line);
             return true;
         }
     };

@@ -1,11 +1,9 @@
 use Rattle.std.proofs.Common.{◌<◌, [], ◌∷◌, ◌++◌, length, refl, sym, ap, ◌∙◌, arith, get_or}
-use Rattle.bw_shell.specs.declared.refusal.Refusal.TheVariants.{Malformed}
-use Rattle.bw_shell.specs.Text.{refused_text}
 use Rattle.bw_shell.proofs.Showing.{no_text, shows_then}
 use Rattle.bw_shell.proofs.Feeding.{no_bytes, one_line, one_byte, stop_line, stop_long, stop_at, more_at, match_true}
 use Rattle.std.proofs.lemmas.List.{append-nil}
 use Rattle.bw_shell.proofs.pieces.feed.Goals as goal
-use Rattle.bw_shell.proofs.pieces.feed.Goals.{then-b-eq10+else-run_line+else-has_failed, else-b-eq10+else-len-gt1024}
+use Rattle.bw_shell.proofs.pieces.feed.Goals.{then-b-eq10+in_default+else-has_failed, else-b-eq10+else-len-gt1024}
 
 pub loop-b-init : goal.loop-b-init
 loop-b-init g c = record {
@@ -15,11 +13,11 @@ loop-b-init g c = record {
   count = omega arith;
 }
 
-pub returns-then-run_line-clause-fed : goal.returns-then-run_line-clause-fed
-returns-then-run_line-clause-fed g c =
+pub returns-in-Some-clause-fed : goal.returns-in-Some-clause-fed
+returns-in-Some-clause-fed g c =
     let inv = c.loop-b.invariant.woven in
-    let told = c.run_line.ensures in
-    let said = rw (c.as_slice.ensures.value, c.if-run_line.true) at told.1 in (
+    let told = c.in-Some.ensures in
+    let said = rw c.as_slice.ensures.value at told.1 in (
       inv.0 ++ told.0,
       shows_then inv.2 told.2,
       stop_at _ _ _ _ c.loop-b.b-index 10 _ _ _ inv.0 _ told.0 _ c.loop-b-test.true c.if-b-eq10.true inv.1
@@ -30,7 +28,7 @@ pub returns-then-has_failed-clause-fed : goal.returns-then-has_failed-clause-fed
 returns-then-has_failed-clause-fed g c =
     let inv = c.loop-b.invariant.woven in
     let told = c.run_line.ensures in
-    let said = rw (c.as_slice.ensures.value, c.if-run_line.false) at told.1 in
+    let said = rw (c.as_slice.ensures.value, c.in_default.is) at told.1 in
     let failed = sym c.has_failed.ensures ∙ c.if-has_failed.true in (
       inv.0 ++ told.0,
       shows_then inv.2 told.2,
@@ -44,8 +42,8 @@ returns-then-len-gt1024-clause-fed g c =
     let inv = c.loop-b.invariant.woven in
     let long : 1024 < length (c.loop-b.weaver.part.items ++ get_or c.args.bytes.now c.loop-b.b-index 0 ∷ []) =
     rw (sym c.push.ensures.items) (omega (arith, c.len.ensures.value)) in (
-      inv.0 ++ refused_text c.loop-b.weaver.number Malformed,
-      shows_then inv.2 c.show_refused.ensures,
+      inv.0 ++ [],
+      rw append-nil inv.2,
       stop_at _ _ _ _ c.loop-b.b-index (get_or c.args.bytes.now c.loop-b.b-index 0) _ _ _ inv.0 _ _ _ c.loop-b-test.true refl inv.1
           (stop_long _ _ _ _ _ _ inv.1.splits.open_end c.if-b-eq10.false long),
     )
@@ -54,9 +52,9 @@ pub loop-b-preserved : goal.loop-b-preserved
 loop-b-preserved g c =
     let inv = c.loop-b.invariant in
     elim c.if-b-eq10.branch [
-      | then-b-eq10+else-run_line+else-has_failed w ↦
+      | then-b-eq10+in_default+else-has_failed w ↦
           let told = w.run_line.ensures in
-          let said = rw (w.as_slice.ensures.value, w.if-run_line.false) at told.1 in
+          let said = rw (w.as_slice.ensures.value, w.in_default.is) at told.1 in
           let line = one_line _ _ _ _ told.0 inv.woven.1.splits.open_end said in
           rw (w.weaver-is, w.out-is) (record {
             woven = (

@@ -1,7 +1,6 @@
-use Rattle.std.proofs.Common.{◌<◌, ◌++◌, [], length, sym, ◌∙◌, arith}
+use Rattle.std.proofs.Common.{◌<◌, [], length, sym, ◌∙◌, arith}
 use Rattle.std.proofs.lemmas.Bool.{eqb-true, eqb-false}
-use Rattle.bw_shell.specs.Text.{refused_text}
-use Rattle.bw_shell.proofs.Showing.{no_text, shows_then}
+use Rattle.bw_shell.proofs.Showing.{no_text}
 use Rattle.bw_shell.proofs.Transcripts.{skipped, refused, performed}
 use Rattle.bw_shell.proofs.run.run_line.Goals as goal
 
@@ -18,4 +17,4 @@ pub returns-in-Err : goal.returns-in-Err
 returns-in-Err g c =
     let some : 0 < length c.args.line.now = omega (arith, eqb-false _ _ (sym c.is_empty.ensures ∙ c.if-is_empty.false)) in
     let told = c.in-Err.ensures in
-    (told.0 ++ refused_text c.args.number c.in-Err.refusal, refused _ _ _ _ c.in-Err.refusal _ told.0 some told.1, shows_then told.2 c.show_refused.ensures)
+    (told.0, refused _ _ _ _ c.in-Err.refusal _ told.0 some told.1, told.2)

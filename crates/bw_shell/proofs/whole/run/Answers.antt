@@ -15,16 +15,15 @@ reads-init g c = record {
   count = omega arith;
 }
 
-pub returns-then-feed : goal.returns-then-feed
-returns-then-feed g c =
+pub returns-in-Some : goal.returns-in-Some
+returns-in-Some g c =
     let inv = c.reads.invariant in
-    let fed = c.feed.ensures.fed in
-    let stops = rw c.if-feed.true at fed.2 in
+    let fed = c.in-Some.ensures.fed in
     record {
       taken = inv.woven.0 ++ c.split_at.result.0.now;
       text = inv.woven.1 ++ fed.0;
       reads = consumes_then _ _ _ _ _ inv.woven.2 (rw c.split_at.ensures.front c.in-Ok.ensures.bytes.0);
-      says = inr (inr (c.in-Ok.ensures.fails ∙ inv.sound_in, inl refl, weaves_stops _ _ _ _ _ _ _ _ _ _ _ _ inv.woven.3 stops));
+      says = inr (inr (c.in-Ok.ensures.fails ∙ inv.sound_in, inl refl, weaves_stops _ _ _ _ _ _ _ _ _ _ _ _ inv.woven.3 fed.2));
       shows = shows_then inv.woven.4 fed.1;
     }
 
@@ -33,7 +32,7 @@ returns-then-has_failed g c =
     let inv = c.reads.invariant in
     let fed = c.feed.ensures.fed in
     let failed = sym c.has_failed.ensures ∙ c.if-has_failed.true in
-    let after = rw c.if-feed.false at fed.2 in
+    let after = rw c.in_default.is at fed.2 in
     let stops = match_true_at _ _ _ failed after in
     record {
       taken = inv.woven.0 ++ c.split_at.result.0.now;
@@ -48,7 +47,7 @@ reads-preserved g c =
     let inv = c.reads.invariant in
     let fed = c.feed.ensures.fed in
     let sound = sym c.has_failed.ensures ∙ c.if-has_failed.false in
-    let after = rw c.if-feed.false at fed.2 in
+    let after = rw c.in_default.is at fed.2 in
     let more = match_false_at _ _ _ sound after in
     record {
       woven = (
@@ -60,7 +59,7 @@ reads-preserved g c =
       );
       sound_in = c.in-Ok.ensures.fails ∙ inv.sound_in;
       sound_out = sound;
-      short = c.feed.ensures.short c.if-feed.false;
+      short = c.feed.ensures.short c.in_default.is;
       count = omega (arith, c.feed.ensures.count, c.split_at.ensures.front_len, c.in-Ok.ensures.fewer, c.in-Ok.ensures.bound, inv.count);
     }
 

@@ -21,6 +21,6 @@ returns-in-Err g c = record {
 
 pub returns : goal.returns
 returns g c =
-    is_whole_run _ _ _ _ _ _ _ _ _ _ (rw (c.in-Ok.ensures.entries, c.in-Ok.ensures.limits) at c.run-refused.ensures) c.linearized.ensures.linearized c.finish-2.ensures.shows
+    is_whole_run _ _ _ _ _ _ _ _ _ _ _ (rw (c.in-Ok.ensures.entries, c.in-Ok.ensures.limits) at c.run-refused.ensures) c.linearized.ensures.linearized c.show_last_line.ensures c.finish-2.ensures.shows
     c.requires.sound_out c.requires.fresh c.finish-2.ensures.ends
-    (rw (c.has_failed.ensures, c.has_failed-2.ensures) at c.status.ensures.zero) c.status.ensures.one
+    (rw (c.is_some.ensures, c.has_failed.ensures, c.has_failed-2.ensures) at c.status.ensures.zero) c.status.ensures.one
