@@ -12,15 +12,11 @@ use workers::opened;
 /// How often the keys come and go.
 const CYCLES: u64 = 3;
 
-/// Numbers of keys, each with a number of seats: few, many, and the most for one seat and for sixteen.
-const SIZES: [(u64, u32); 6] = [
-    (1, 1),
-    (1, 440),
-    (4, 3_000),
-    (16, 1_000),
-    (1, 12_247),
-    (16, 10_959),
-];
+/// Numbers of seats and of keys that come and go: few keys, many, and the most for one seat.
+const SIZES: [(u64, u32); 5] = [(1, 1), (1, 440), (4, 3_000), (16, 1_000), (1, 12_247)];
+
+/// The same for keys that are updated: the most for one seat and for sixteen.
+const UPDATED: [(u64, u32); 4] = [(1, 440), (4, 3_000), (1, 12_247), (16, 10_959)];
 
 /// Does the work for all keys below a number, in an order, and tells whether it was done for each.
 fn all(
@@ -132,7 +128,7 @@ fn drawn_keys_are_held(rt: HostRuntime) {
 
 #[test]
 fn the_longest_chains_are_held(rt: HostRuntime) {
-    for (actors, keys) in SIZES {
+    for (actors, keys) in UPDATED {
         let held = hold_deltas(rt.alloc(), actors, keys);
         assert!(rt; held == Some(true), "{actors} {keys}");
     }
