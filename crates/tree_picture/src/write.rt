@@ -9,7 +9,7 @@ use shapes::Words;
 use shell_lines::is_word;
 
 /// How many bytes of a key or a value are written at most.
-const SHORT: usize = 12;
+const SHORT: usize = 10;
 
 /// These words.
 pub(crate) fn plain(bytes: &[u8]) -> Words {

@@ -1,0 +1,106 @@
+//! The pairs of a range of keys, page by page and all at once.
+ghost use Rattle.bw_tree.specs.Trees.{IsSeatOf};
+
+use crate::opening::done_alone;
+use bw_model::{Command, Key, Reply, Value};
+use bw_tree::{BwSeat, Tree};
+use std::alloc::Global;
+use walks::{Cursor, Scanned, Walk};
+use workers::{Work, reply};
+
+/// How many steps a page may take.
+const BUDGET: u32 = 4096;
+
+/// The key of a number; keys are ordered as their bytes are.
+fn key(number: u32) -> Key {
+    Key::from_slice(&number.to_be_bytes()).unwrap_or_default()
+}
+
+/// How many pairs a walk over the keys from 20 on and below 50 shows, page by page. None where the budget of a page was spent.
+fn counted(tree: &Tree, seat: &mut BwSeat) -> Option<usize>
+    requires own { IsSeatOf tree.now seat.old }
+    ensures own { IsSeatOf tree.now seat.new }
+{
+    if !seat.is_idle() {
+        return None;
+    }
+    let mut cursor = Cursor::new(key(20), Some(key(50)));
+    let mut pairs = 0usize;
+    for _ in 0..1000 {
+        match cursor.next(tree, seat, BUDGET) {
+            Walk::Page => pairs = pairs.saturating_add(cursor.pairs().len()),
+            Walk::Spent => return None,
+            Walk::End => return Some(pairs),
+        }
+    }
+    None
+}
+
+/// The pairs of that range, in a list.
+fn listed(tree: &Tree, seat: &mut BwSeat, alloc: Global) -> Option<Vec<(Key, Value)>>
+    requires own { IsSeatOf tree.now seat.old }
+    ensures own { IsSeatOf tree.now seat.new }
+{
+    if !seat.is_idle() {
+        return None;
+    }
+    let mut cursor = Cursor::new(key(20), Some(key(50)));
+    let mut pairs = Vec::new(alloc);
+    match cursor.scan(tree, seat, BUDGET, &mut pairs) {
+        Ok(Scanned::End) => Some(pairs),
+        _ => None,
+    }
+}
+
+/// Inserts the keys below 100, then walks over a range of them both ways.
+#[derive(Drop)]
+struct Walks {
+    alloc: Global,
+    counted: Option<usize>,
+    listed: Option<Vec<(Key, Value)>>,
+}
+
+impl Work for Walks {
+    fn work(&mut self, tree: &Tree, seat: &mut BwSeat) {
+        for number in 0..100u32 {
+            let insert = Command::Insert(key(number), Value::default());
+            if reply(tree, seat, insert) != Some(Reply::Inserted) {
+                return;
+            }
+        }
+        self.counted = counted(tree, seat);
+        self.listed = listed(tree, seat, self.alloc);
+    }
+}
+
+/// How many pairs a walk over a new tree shows, and which ones.
+fn walked(alloc: Global) -> Option<(usize, Vec<(Key, Value)>)> {
+    let walks = Walks {
+        alloc,
+        counted: None,
+        listed: None,
+    };
+    let (walks, _pairs) = done_alone(alloc, walks)?;
+    Some((walks.counted?, walks.listed?))
+}
+
+/// Whether the pairs are those of the keys from 20 on and below 50.
+fn are_listed(pairs: &[(Key, Value)]) -> bool {
+    let mut left = pairs.iter();
+    for number in 20..50u32 {
+        if left.next() != Some(&(key(number), Value::default())) {
+            return false;
+        }
+    }
+    left.next().is_none()
+}
+
+#[test]
+fn a_range_is_walked(rt: HostRuntime) {
+    let Some((counted, listed)) = walked(rt.alloc()) else {
+        assert!(rt; false);
+        return;
+    };
+    assert_eq!(rt; counted, 30);
+    assert!(rt; are_listed(listed.as_slice()));
+}
