@@ -14,12 +14,6 @@ pub record Machine (At : Type 0) : Type 1 where
   pub wanted : At → StepOf Record
   pub Shows : At → Knowledge → Recalled → Type 0
 
--- Something is known that the machine shows.
-pub record HasCome {At : Type 0} (machine : Machine At) (at : At) : Type 0 where
-  pub k : Knowledge
-  pub r : Recalled
-  pub shows : machine.Shows at k r
-
 -- Something is known that the machine shows, and the answer fits it.
 pub record IsTold {At : Type 0} (machine : Machine At) (at : At) (told : Answer Record) : Type 0 where
   pub k : Knowledge

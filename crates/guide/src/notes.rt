@@ -1,10 +1,9 @@
 //! A note goes along with a message, so that who gets the message finds what was done before it.
 ghost use Rattle.std.specs.Prelude.{◌≡◌, Some};
 ghost use Rattle.bw_tree.specs.Notes.{IsNoteOf};
-ghost use Rattle.bw_tree.specs.Trees.{IsSeatOf, Tree as TreeSeen};
+ghost use Rattle.bw_tree.specs.Trees.{AreSeatsOf, IsSeatOf, Tree as TreeSeen};
 
-use crate::two_seats::{TwoSeatWork, done_by_two};
-use bw_model::{Command, Key, Reply, Value};
+use bw_model::{Command, Key, Limits, Reply, Value};
 use bw_tree::{BwSeat, Note, Tree};
 use crossbeam_channel::{Receiver, Sender, bounded};
 use std::alloc::Global;
@@ -12,7 +11,7 @@ use std::marker::{Brand, PhantomData};
 use std::sync::Wait;
 use std::test::Fail;
 use std::thread::{Threads, join_mut};
-use workers::reply;
+use workers::{give_seat, opened, reply, take_seat};
 
 /// The tree that all messages of a channel are about.
 trait OfTree {
@@ -103,31 +102,61 @@ fn tell_and_heed<R: Threads + Wait + Sync, T: OfTree + Send>(
     told && heeded
 }
 
-/// A key that goes from one thread to another.
-#[derive(Drop)]
-struct Relays {
+/// The same with two seats that were taken out of a list, which get them back.
+fn heeded_with<R: Threads + Wait + Sync>(
+    rt: &R,
     alloc: Global,
-    key: Key,
+    tree: &Tree,
+    seats: &mut Vec<BwSeat>,
+    one: BwSeat,
+    other: BwSeat,
+    key: &Key,
+) -> bool
+    requires own { AreSeatsOf tree.now seats.old.items }
+    requires one { IsSeatOf tree.now one }
+    requires other { IsSeatOf tree.now other }
+{
+    let (mut one, mut other) = (one, other);
+    let well = tell_and_heed::<R, Brand>(rt, alloc, tree, &mut one, &mut other, key);
+    match give_seat(tree, seats, one) {
+        Ok(()) => give_seat(tree, seats, other).is_ok() && well,
+        Err(_) => false,
+    }
 }
 
-impl TwoSeatWork for Relays {
-    fn work<R: Threads + Wait + Sync>(
-        &self,
-        rt: &R,
-        tree: &Tree,
-        one: &mut BwSeat,
-        other: &mut BwSeat,
-    ) -> bool {
-        tell_and_heed::<R, Brand>(rt, self.alloc, tree, one, other, &self.key)
+/// The same with the two seats of a list.
+fn heeded_by<R: Threads + Wait + Sync>(
+    rt: &R,
+    alloc: Global,
+    tree: &Tree,
+    seats: &mut Vec<BwSeat>,
+    key: &Key,
+) -> bool
+    requires own { AreSeatsOf tree.now seats.old.items }
+{
+    let Some(other) = take_seat(tree, seats) else {
+        return false;
+    };
+    match take_seat(tree, seats) {
+        Some(one) => heeded_with(rt, alloc, tree, seats, one, other, key),
+        None => false,
     }
+}
+
+/// The same on a new tree.
+fn heeded_on_a_tree<R: Threads + Wait + Sync>(rt: &R, alloc: Global, key: &Key) -> bool {
+    let Ok(limits) = Limits::new(2, 64, 256, 1) else {
+        return false;
+    };
+    let Ok((tree, mut seats)) = opened(alloc, limits) else {
+        return false;
+    };
+    heeded_by(rt, alloc, &tree, &mut seats, key)
 }
 
 #[test]
 fn a_note_goes_along(rt: HostRuntime) -> Result<(), Fail> {
-    let relays = Relays {
-        alloc: rt.alloc(),
-        key: Key::from_slice(b"Bern")?,
-    };
-    assert!(rt; done_by_two(&rt, rt.alloc(), 256, &relays));
+    let key = Key::from_slice(b"Bern")?;
+    assert!(rt; heeded_on_a_tree(&rt, rt.alloc(), &key));
     Ok(())
 }
