@@ -53,11 +53,11 @@ fn moved(
     }
 }
 
-/// How many keys a small tree takes, and how many a larger one has that begins with these and takes the others.
-fn filled_and_moved(alloc: Global) -> Option<(u32, usize)> {
-    let small = Limits::new(1, 64, 64, 1).ok()?;
-    let larger = Limits::for_keys(1, u64::from(KEYS)).ok()?;
-    let (tree, mut seats) = opened(alloc, small).ok()?;
+/// How many keys a tree takes, and how many one of the other limits has that begins with these and takes the others.
+fn filled_and_moved(alloc: Global, small: Limits, larger: Limits) -> Option<(u32, usize)> {
+    let Ok((tree, mut seats)) = opened(alloc, small) else {
+        return None;
+    };
     let count = insert_from(&tree, &mut seats, 0);
     let (tree, mut seats) = moved(alloc, tree, seats, larger)?;
     insert_from(&tree, &mut seats, count);
@@ -65,9 +65,16 @@ fn filled_and_moved(alloc: Global) -> Option<(u32, usize)> {
     Some((count, pairs.len()))
 }
 
+/// The same of a small tree and a larger one.
+fn small_and_larger(alloc: Global) -> Option<(u32, usize)> {
+    let small = Limits::new(1, 64, 64, 1).ok()?;
+    let larger = Limits::for_keys(1, u64::from(KEYS)).ok()?;
+    filled_and_moved(alloc, small, larger)
+}
+
 #[test]
 fn a_full_tree_is_moved(rt: HostRuntime) {
-    let Some((before, after)) = filled_and_moved(rt.alloc()) else {
+    let Some((before, after)) = small_and_larger(rt.alloc()) else {
         assert!(rt; false);
         return;
     };
