@@ -1,13 +1,12 @@
 //! A full tree is closed, and its pairs are moved to a larger one.
-ghost use Rattle.std.specs.Prelude.{IfOk};
 ghost use Rattle.bw_tree.specs.Trees.{AreSeatsOf, IsSeatOf};
 
 use bw_model::{Command, Key, Limits, Reply, Value};
-use bw_tree::{BwSeat, LoadError, Tree};
+use bw_tree::{BwSeat, Tree};
 use std::alloc::Global;
 use std::test::Fail;
 use std::thread::Threads;
-use workers::{Work, opened, reply, work_in_threads};
+use workers::{Work, opened, opened_from, reply, work_in_threads};
 
 /// Inserts the keys of numbers in a row, until one finds no room.
 #[derive(Drop)]
@@ -44,17 +43,6 @@ fn filled<R: Threads + Sync>(
     Some((works.as_slice().first()?.next, pairs))
 }
 
-/// A tree with the pairs, and its seats.
-fn opened_with(
-    alloc: Global,
-    limits: Limits,
-    pairs: &[(Key, Value)],
-) -> Result<(Tree, Vec<BwSeat>), LoadError>
-    ensures own { IfOk result (λ opened. AreSeatsOf opened.0 opened.1.items) }
-{
-    Tree::<Global>::open_from(alloc, limits, pairs)
-}
-
 /// How many pairs fill a small tree, and, once they are moved, a large one.
 fn filled_twice<R: Threads + Sync>(
     rt: &R,
@@ -64,7 +52,7 @@ fn filled_twice<R: Threads + Sync>(
 ) -> Option<(usize, usize)> {
     let (tree, seats) = opened(alloc, small).ok()?;
     let (next, pairs) = filled(rt, alloc, tree, seats, 0)?;
-    let (tree, seats) = opened_with(alloc, large, pairs.as_slice()).ok()?;
+    let (tree, seats) = opened_from(alloc, large, pairs.as_slice()).ok()?;
     let (_, more) = filled(rt, alloc, tree, seats, next)?;
     Some((pairs.len(), more.len()))
 }

@@ -1,67 +1,72 @@
--- Reading a chain, record by record.
-use Rattle.std.proofs.Common.{◌≡◌, ◌<◌, ◌+◌, ℕ, List, [], ◌∷◌, ◌++◌, length, Option, Some, MatchOption, refl, sym, subst, ap, ◌∙◌, arith, append_assoc}
-use Rattle.std.specs.Prelude.{is_some}
+-- The rows of a chain, as they are read one after another.
+use Rattle.std.proofs.Common.{◌≡◌, ◌<◌, ◌+◌, ℕ, zero, suc, List, [], ◌∷◌, ◌++◌, length, get_or, Option, None, Some, MatchOption, refl, sym, ap, ◌∙◌, arith, append_assoc}
+use Rattle.std.specs.Prelude.{unwrap_or}
 use Rattle.std.proofs.lemmas.List.{length-append}
-use Rattle.base_page.specs.Pages.{Page}
 use Rattle.deltas.specs.declared.record.Record.{Record}
-use Rattle.deltas.specs.declared.record.Record.TheVariants.{Base}
 use Rattle.deltas.specs.Records.{next_row}
-use Rattle.deltas.specs.Spellable.{IsSpellable}
-use Rattle.chain_search.specs.chain.Chains.{IsChainFrom}
-use Rattle.chain_search.specs.chain.Deltas.{IsSmallDelta}
-use Rattle.chain_search.specs.chain.Fitted.{IsFitted}
-use Rattle.chain_search.proofs.DeltaLaws.{small}
-use Rattle.chain_search.proofs.FittedLaws.{first_spellable}
+use Rattle.chain_search.specs.chain.Chains.{IsChainFrom, chain_rows}
 
--- Whatever chain stands from the row: these are its first records, and the others stand from the next row.
-abbrev pub HasRead : (ℕ → Option Record) → ℕ → List Record → ℕ → Type 0
-HasRead rows row front next = (chain : List Record) → IsChainFrom rows row chain → (rest : List Record) × (chain ≡ front ++ rest) × IsChainFrom rows next rest
+-- Of the chain these rows were read; the others stand from the next row on.
+pub record HasRead (rows : ℕ → Option Record) (row : ℕ) (chain : List Record) (read : List ℕ) (next : ℕ) : Type 0 where
+  pub rest : List Record
+  pub stands : IsChainFrom rows next rest
+  pub whole : read ++ chain_rows next rest ≡ chain_rows row chain
 
-pub none_read : (rows : ℕ → Option Record) (row : ℕ) → HasRead rows row [] row
-none_read rows row chain is = (chain, refl, is)
+pub none_read : (rows : ℕ → Option Record) (row : ℕ) (chain : List Record) → IsChainFrom rows row chain → HasRead rows row chain [] row
+none_read rows row chain is = record { rest = chain; stands = is; whole = refl }
 
-pub one_read : (rows : ℕ → Option Record) (row at next : ℕ) (front : List Record) (older : Record) → HasRead rows row front at → rows at ≡ Some older → next_row older ≡ Some next → HasRead rows row (front ++ older ∷ []) next
-one_read rows row at next front older before stands leads chain is = let (rest, whole, more) = before chain is in go rest whole more
+-- what stands in the next row
+pub is_there : (rows : ℕ → Option Record) (row : ℕ) (chain : List Record) → IsChainFrom rows row chain → (newest : Record) × (rows row ≡ Some newest)
+is_there rows row [] is = absurd is
+is_there rows row (newest ∷ under) is = (newest, is.0)
+
+-- as many rows as records
+pub rows_long : (row : ℕ) (chain : List Record) → length (chain_rows row chain) ≡ length chain
+rows_long row [] = refl
+rows_long row (newest ∷ under) = ap suc (rows_long (unwrap_or (next_row newest) 0) under)
+
+module _ (rows : ℕ → Option Record) (row : ℕ) (chain : List Record) (read : List ℕ) (next : ℕ) (h : HasRead rows row chain read next) where
+  -- fewer than all
+  pub is_left : length read < length chain
+  is_left = go h.rest h.stands h.whole
+    where
+      go : (rest : List Record) → IsChainFrom rows next rest → read ++ chain_rows next rest ≡ chain_rows row chain → length read < length chain
+      go [] is whole = absurd is
+      go (newest ∷ under) is whole =
+          let long : length read + length (chain_rows next (newest ∷ under)) ≡ length chain = sym (length-append read (chain_rows next (newest ∷ under))) ∙ ap length whole ∙ rows_long row chain in
+          omega (arith, long)
+
+  module _ (newest : Record) (at : rows next ≡ Some newest) where
+    after : (o : Option ℕ) → next_row newest ≡ o → MatchOption o (read ++ next ∷ [] ≡ chain_rows row chain) (λ below. HasRead rows row chain (read ++ next ∷ []) below)
+    after o leads = go h.rest h.stands h.whole
+      where
+        fits : (under : List Record) (o : Option ℕ) → MatchOption o (under ≡ []) (λ below. IsChainFrom rows below under) → read ++ next ∷ chain_rows (unwrap_or o 0) under ≡ chain_rows row chain
+            → MatchOption o (read ++ next ∷ [] ≡ chain_rows row chain) (λ below. HasRead rows row chain (read ++ next ∷ []) below)
+        fits under None ends whole = rw ends at whole
+        fits under (Some below) more whole = record { rest = under; stands = more; whole = append_assoc read (next ∷ []) (chain_rows below under) ∙ whole }
+
+        go : (rest : List Record) → IsChainFrom rows next rest → read ++ chain_rows next rest ≡ chain_rows row chain → MatchOption o (read ++ next ∷ [] ≡ chain_rows row chain) (λ below. HasRead rows row chain (read ++ next ∷ []) below)
+        go [] is whole = absurd is
+        go (first ∷ under) is whole =
+            let same : first ≡ newest = cc (is.0, at) in
+            let follows : next_row first ≡ o = ap next_row same ∙ leads in
+            fits under o (rw follows at is.1) (rw follows at whole)
+
+    -- a row more
+    pub one_read : (below : ℕ) → next_row newest ≡ Some below → HasRead rows row chain (read ++ next ∷ []) below
+    one_read below leads = after (Some below) leads
+
+    -- the last one
+    pub all_read : next_row newest ≡ None → read ++ next ∷ [] ≡ chain_rows row chain
+    all_read leads = after None leads
+
+-- what stands in each row
+pub row_at : (rows : ℕ → Option Record) (row : ℕ) (chain : List Record) → IsChainFrom rows row chain → (place : ℕ) → place < length chain → (r : ℕ) (d : Record)
+    → rows (get_or (chain_rows row chain) place r) ≡ Some (get_or chain place d)
+row_at rows row [] is place within r d = absurd is
+row_at rows row (newest ∷ under) is zero within r d = is.0
+row_at rows row (newest ∷ under) is (suc place) within r d = go (next_row newest) is.1
   where
-    go : (rest : List Record) → chain ≡ front ++ rest → IsChainFrom rows at rest → (left : List Record) × (chain ≡ (front ++ older ∷ []) ++ left) × IsChainFrom rows next left
-    go [] whole more = absurd more
-    go (newest ∷ under) whole more =
-        let same : newest ≡ older = cc (more.0, stands) in
-        let follows : next_row newest ≡ Some next = ap next_row same ∙ leads in
-        (under, whole ∙ subst (λ r. front ++ r ∷ under ≡ (front ++ older ∷ []) ++ under) (sym same) (sym (append_assoc front (older ∷ []) under)), subst (λ o. MatchOption o (under ≡ []) (λ next. IsChainFrom rows next under)) follows more.1)
-
-spellable_past : (front : List Record) (newest : Record) (under : List Record) → IsFitted (front ++ newest ∷ under) → IsSpellable newest
-spellable_past [] newest under h = first_spellable newest under h
-spellable_past (one ∷ []) newest under h = first_spellable newest under h.1
-spellable_past (one ∷ two ∷ front) newest under h = spellable_past (two ∷ front) newest under h.1
-
--- a delta that is read of a fitted chain needs little room
-pub small_read : (rows : ℕ → Option Record) (row at next : ℕ) (front chain : List Record) (older : Record) → HasRead rows row front at → rows at ≡ Some older → next_row older ≡ Some next → IsChainFrom rows row chain → IsFitted chain → IsSmallDelta older
-small_read rows row at next front chain older read stands leads is fitted = let (rest, whole, more) = read chain is in go rest whole more
-  where
-    go : (rest : List Record) → chain ≡ front ++ rest → IsChainFrom rows at rest → IsSmallDelta older
-    go [] whole more = absurd more
-    go (newest ∷ under) whole more =
-        let same : newest ≡ older = cc (more.0, stands) in
-        small older (ap is_some leads) (subst IsSpellable same (spellable_past front newest under (subst IsFitted whole fitted)))
-
--- where the base stands, the chain ends
-pub base_read : (rows : ℕ → Option Record) (row at : ℕ) (front chain : List Record) (page : Page) → HasRead rows row front at → rows at ≡ Some (Base page) → IsChainFrom rows row chain → front ++ Base page ∷ [] ≡ chain
-base_read rows row at front chain page read stands is = let (rest, whole, more) = read chain is in go rest whole more
-  where
-    go : (rest : List Record) → chain ≡ front ++ rest → IsChainFrom rows at rest → front ++ Base page ∷ [] ≡ chain
-    go [] whole more = absurd more
-    go (newest ∷ under) whole more =
-        let same : newest ≡ Base page = cc (more.0, stands) in
-        let ends : under ≡ [] = subst (λ o. MatchOption o (under ≡ []) (λ next. IsChainFrom rows next under)) (ap next_row same) more.1 in
-        sym (whole ∙ ap (λ r. front ++ r ∷ under) same ∙ ap (λ u. front ++ Base page ∷ u) ends)
-
--- something is left to read
-pub is_left : (rows : ℕ → Option Record) (row at : ℕ) (front chain : List Record) → HasRead rows row front at → IsChainFrom rows row chain → (length front < length chain) × (older : Record) × (rows at ≡ Some older)
-is_left rows row at front chain read is = let (rest, whole, more) = read chain is in go rest whole more
-  where
-    go : (rest : List Record) → chain ≡ front ++ rest → IsChainFrom rows at rest → (length front < length chain) × (older : Record) × (rows at ≡ Some older)
-    go [] whole more = absurd more
-    go (newest ∷ under) whole more =
-        let long : length chain ≡ length front + length (newest ∷ under) = ap length whole ∙ length-append front (newest ∷ under) in
-        (omega arith, newest, more.0)
+    go : (next : Option ℕ) → MatchOption next (under ≡ []) (λ below. IsChainFrom rows below under) → rows (get_or (chain_rows (unwrap_or next 0) under) place r) ≡ Some (get_or under place d)
+    go None ends = absurd (omega (arith, ap length ends, within))
+    go (Some below) more = row_at rows below under more place (omega (arith, within)) r d

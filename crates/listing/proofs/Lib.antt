@@ -1,4 +1,5 @@
 pub mod Chaining
 pub mod LeafPairs
 pub mod Listings
+pub mod Making
 pub mod Walking

@@ -2,10 +2,12 @@
 #![tactic(auto)]
 
 mod law;
+mod page;
 mod pairs;
 mod rows;
 mod table;
 
 pub use law::pages_are_listed;
-pub use pairs::{add_pairs, chain_of};
+pub use page::page_of;
+pub use pairs::add_pairs;
 pub use rows::Rows;

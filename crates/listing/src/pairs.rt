@@ -2,15 +2,13 @@
 ghost use Rattle.std.specs.Prelude.{◌≡◌, ◌<◌, ◌≤◌, ◌+◌, ◌*◌, ◌++◌, List, [], length, OnErr, OnOk};
 ghost use Rattle.std.specs.Vec.{vec_capacity};
 ghost use Rattle.deltas.specs.Memory.{Memory};
-ghost use Rattle.deltas.specs.declared.record.Record.{Record};
-ghost use Rattle.listing.specs.Listed.{HavePages, StandsAt, pairs_of};
+ghost use Rattle.listing.specs.Listed.{HavePages, pairs_of};
 ghost use Rattle.tree_law.specs.Leaves.{HasLeafPages};
 
+use crate::page::page_of;
 use crate::rows::Rows;
 use base_page::{Content, Items};
 use bw_model::{Key, Limits, Value};
-use chain_search::{Chain, ChainPart};
-use deltas::Record;
 use std::alloc::{AllocError, Allocator};
 
 /// Adds the pairs of the leaves, from left to right, each leaf's in the order of their keys. Refused only where there is no room for
@@ -27,33 +25,11 @@ pub fn add_pairs<M: Rows, B: Allocator>(
 {
     let mut pid = 1;
     for _ in 0..limits.pids {
-        let leaf = chain_of(rows, pid);
-        add_values(pairs, leaf.page().items())?;
+        let leaf = page_of(rows, pid);
+        add_values(pairs, leaf.items())?;
         match leaf.right() {
             Some(right) => pid = right,
             None => return Ok(()),
-        }
-    }
-    unreachable!()
-}
-
-/// The chain of a page that stands.
-pub fn chain_of<M: Rows>(rows: &M, pid: u16) -> Chain
-    requires there { pid < 4096 }
-    requires stands { (memory : Memory) × (chain : List Record) × M.has rows.now memory × StandsAt memory pid chain }
-    ensures { (memory : Memory) (chain : List Record) → M.has rows.now memory → StandsAt memory pid chain → result ≡ chain }
-{
-    let mut part = ChainPart::new();
-    let mut row = rows.slot(pid);
-    for _ in 0..13u32 {
-        let older = rows.record(row);
-        match (older.next(), older) {
-            (_, Record::Base(page)) => return part.over(page),
-            (Some(below), delta) => {
-                row = below;
-                part.push(&delta);
-            }
-            (None, _) => unreachable!(),
         }
     }
     unreachable!()

@@ -1,13 +1,13 @@
 //! What helps where a writer is refused: a tidying on each seat, and a larger tree.
-ghost use Rattle.std.specs.Prelude.{IfOk, IfSome};
+ghost use Rattle.std.specs.Prelude.{IfSome};
 ghost use Rattle.bw_tree.specs.Trees.{AreSeatsOf};
 
 use crate::turns::{in_turn, is_done};
 use crate::works::{Work, key};
-use bw_model::{Command, Key, Limits, Value};
-use bw_tree::{BwSeat, LoadError, Tree};
+use bw_model::{Command, Limits};
+use bw_tree::{BwSeat, Tree};
 use std::alloc::Global;
-use workers::opened;
+use workers::{opened, opened_from};
 
 /// More keys than the small tree holds.
 const KEYS: u32 = 1_000;
@@ -23,17 +23,6 @@ fn insert_from(tree: &Tree, seats: &mut Vec<BwSeat>, first: u32) -> u32
         }
     }
     KEYS
-}
-
-/// A tree with the pairs, with its seats.
-fn opened_from(
-    alloc: Global,
-    limits: Limits,
-    pairs: &[(Key, Value)],
-) -> Result<(Tree, Vec<BwSeat>), LoadError>
-    ensures own { IfOk result (λ opened. AreSeatsOf opened.0 opened.1.items) }
-{
-    Tree::<Global>::open_from(alloc, limits, pairs)
 }
 
 /// A tree of these limits with the same pairs, and its seats; the old tree's seats are idle.

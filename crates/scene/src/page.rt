@@ -11,7 +11,7 @@ ghost use Rattle.scene.specs.Levels.{low_child};
 use base_page::Page;
 use chain_search::Table;
 use deltas::Record;
-use listing::chain_of;
+use listing::page_of;
 use std::alloc::{AllocError, Allocator, Global};
 use std::marker::Model;
 
@@ -82,7 +82,7 @@ pub(crate) fn page_at<A: Allocator, B: Allocator>(
     ensures pid { IfOk result (λ page. page.pid ≡ pid) }
     ensures chain { IfOk result (λ page. (chain : List RecordSeen) → StandsAt (memory_in table.now) pid chain → page.chain ≡ chain) }
 {
-    let page = chain_of(table, pid).page();
+    let page = page_of(table, pid);
     let records = records_at(alloc, table, pid)?;
     Ok(ScenePage { pid, records, page })
 }

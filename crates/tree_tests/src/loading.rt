@@ -1,25 +1,13 @@
 //! Trees that are opened with pairs.
-ghost use Rattle.std.specs.Prelude.{IfOk};
-ghost use Rattle.bw_tree.specs.Trees.{AreSeatsOf};
 
 use crate::numbered::{are_first, key, value};
 use crate::threads::{Inserts, done_at_once};
 use bw_model::{Key, Limits, Value};
-use bw_tree::{BwSeat, LoadError, Tree};
+use bw_tree::{LoadError, Tree};
 use linked_list_allocator::LocalHeap;
 use std::alloc::{AllocError, Global};
 use std::test::Fail;
-
-/// A tree with the pairs, with its seats.
-fn opened_from(
-    alloc: Global,
-    limits: Limits,
-    pairs: &[(Key, Value)],
-) -> Result<(Tree, Vec<BwSeat>), LoadError>
-    ensures own { IfOk result (λ opened. AreSeatsOf opened.0 opened.1.items) }
-{
-    Tree::<Global>::open_from(alloc, limits, pairs)
-}
+use workers::opened_from;
 
 /// The pairs of a tree that is opened with these, and closed.
 fn moved(

@@ -18,10 +18,7 @@ pub(crate) fn give_back(tree: &Tree, seats: &mut Vec<BwSeat>, seat: BwSeat) -> b
     requires given { IsSeatOf tree.now seat }
     ensures own { AreSeatsOf tree.now seats.new.items }
 {
-    match give_seat(tree, seats, seat) {
-        Ok(()) => true,
-        Err(_) => false,
-    }
+    give_seat(tree, seats, seat).is_ok()
 }
 
 /// Does it with the only seat of a list, which was taken out of it.

@@ -22,5 +22,5 @@ pub use gate::{Gate, Ungated};
 pub use job::{Job, JobResult, JobsError, JobsRefusal};
 pub use replies::{called, reply, resumed};
 pub use run::run_jobs;
-pub use seats::{give_seat, opened, take_seat};
+pub use seats::{give_seat, opened, opened_from, take_seat};
 pub use threads::{Work, work_in_threads};

@@ -1,10 +1,12 @@
 //! Lists of a tree's seats.
-ghost use Rattle.std.specs.Prelude.{◌≡◌, ◌++◌, ◌∷◌, [], IfErr, IfOk, IfSome, None, OnErr, OnOk, option_to_list, vec_len};
+ghost use Rattle.std.specs.Prelude.{◌≡◌, ◌↔◌, ◌++◌, ◌∷◌, [], IfErr, IfOk, IfSome, IsErrOf, None, OnErr, OnOk, option_to_list, vec_len};
+ghost use Rattle.bw_model.specs.declared.command.Reply.TheVariants as reply;
+ghost use Rattle.bw_tree.specs.Loaded.{AreLoaded, IsStopped, KeysAscend};
 ghost use Rattle.bw_tree.specs.Trees.{AreFresh, AreSeatsOf, IsSeatOf};
 ghost use Rattle.workers.specs.Worked.{AreIdle};
 
-use bw_model::{Limits, OpenError};
-use bw_tree::{BwSeat, Tree};
+use bw_model::{Key, Limits, OpenError, Value};
+use bw_tree::{BwSeat, Called, LOAD_BUDGET, LoadError, Tree};
 use std::alloc::{AllocError, Allocator};
 
 /// A tree with a seat for each actor, of which the last one is taken first; refused for want of memory alone.
@@ -19,6 +21,24 @@ pub fn opened<A: Allocator + Copy>(
     ensures err { IfErr result (λ error. error ≡ OpenError.Memory) }
 {
     Tree::<A>::open(alloc, limits)
+}
+
+/// A tree with these pairs, as those of a closed tree, with a seat for each actor, of which the last one is taken first; refused as
+/// `Tree::open_from` is.
+pub fn opened_from<A: Allocator + Copy>(
+    alloc: A,
+    limits: Limits,
+    pairs: &[(Key, Value)],
+) -> Result<(Tree<A>, Vec<BwSeat<A>, A>), LoadError>
+    ensures limits { IfOk result (λ opened. opened.0.limits ≡ limits) }
+    ensures loaded { IfOk result (λ opened. AreLoaded opened.0 opened.1.items pairs.now) }
+    ensures own { IfOk result (λ opened. AreSeatsOf opened.0 opened.1.items) }
+    ensures idle { IfOk result (λ opened. AreIdle opened.1.items) }
+    ensures order { IsErrOf result LoadError.Order ↔ (KeysAscend pairs.now → ⊥) }
+    ensures full { IsErrOf result LoadError.Full → IsStopped limits pairs.now LOAD_BUDGET (Called.Done reply.Full) }
+    ensures spent { IsErrOf result LoadError.Spent → IsStopped limits pairs.now LOAD_BUDGET Called.Spent }
+{
+    Tree::<A>::open_from(alloc, limits, pairs)
 }
 
 /// Takes the last seat of a list, if it has one.
@@ -37,7 +57,7 @@ pub fn take_seat(tree: &Tree, seats: &mut Vec<BwSeat>) -> Option<BwSeat>
 pub fn give_seat(tree: &Tree, seats: &mut Vec<BwSeat>, seat: BwSeat) -> Result<(), AllocError>
     requires own { AreSeatsOf tree.now seats.old.items }
     requires given { IsSeatOf tree.now seat }
-    ensures own { OnOk result (AreSeatsOf tree.now seats.new.items) }
+    ensures own { AreSeatsOf tree.now seats.new.items }
     ensures ok { OnOk result (seats.new.items ≡ seats.old.items ++ seat ∷ []) }
     ensures err { OnErr result (seats.new.items ≡ seats.old.items) }
 {

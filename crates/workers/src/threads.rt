@@ -23,7 +23,7 @@ pub fn work_in_threads<R: Threads + Sync, W: Work>(
     works: Vec<W>,
 ) -> Option<Vec<W>>
     requires own { AreSeatsOf tree.now seats.old.items }
-    ensures own { IsSome result → AreSeatsOf tree.now seats.new.items }
+    ensures own { AreSeatsOf tree.now seats.new.items }
     ensures seats { IsSome result → vec_len seats.new ≡ vec_len seats.old }
     ensures works { IfSome result (λ done. vec_len done ≡ vec_len works) }
 {
@@ -75,7 +75,7 @@ fn in_threads<R: Threads + Sync, W: Work>(
 fn parted<W: Work>(tree: &Tree, seats: &mut Vec<BwSeat>, jobs: Vec<(BwSeat, W)>) -> Option<Vec<W>>
     requires own { AreSeatsOf tree.now seats.old.items }
     requires jobs { All (λ job. IsSeatOf tree.now job.0) jobs.items }
-    ensures own { IsSome result → AreSeatsOf tree.now seats.new.items }
+    ensures own { AreSeatsOf tree.now seats.new.items }
     ensures seats { IsSome result → vec_len seats.new ≡ vec_len seats.old + vec_len jobs }
     ensures works { IfSome result (λ works. vec_len works ≡ vec_len jobs) }
 {

@@ -13,7 +13,7 @@ loop-job-preserved g c =
     let seats = c.loop-job.invariant.seats in
     let works = c.loop-job.invariant.works in
     record {
-      own = where_ok c.give_seat.result there c.give_seat.ensures.own;
+      own = c.give_seat.ensures.own;
       seats = omega (arith, longer, yielded, seats);
       works = omega (arith, pushed, yielded, works);
     }
