@@ -1,7 +1,8 @@
 //! Streams that fail.
 
-use crate::runs::{Choppy, NEVER, run_into, taking};
+use crate::runs::run_into;
 use bw_model::Limits;
+use failing_streams::{Breaking, Choppy, NEVER};
 use std::alloc::Global;
 use std::io::ErrorKind;
 use std::sync::Wait;
@@ -33,7 +34,7 @@ fn prints_after<R: Threads + Wait + Sync>(
         before_fault: reads,
         fault,
     };
-    run_into(rt, alloc, limits, cut, taking(alloc, 4096, NEVER)).is(output, 1)
+    run_into(rt, alloc, limits, cut, Breaking::taking(alloc, 4096, NEVER)).is(output, 1)
 }
 
 // No job is run, and a refused line is told where it is whole: 11 reads take all of INPUT, 7 take the refused line, and one more
@@ -60,7 +61,14 @@ fn prints_all<R: Threads + Wait + Sync>(
     size: usize,
 ) -> bool {
     let input = Choppy::sound(INPUT, size);
-    run_into(rt, alloc, limits, input, taking(alloc, size, NEVER)).is(OUTPUT, 0)
+    run_into(
+        rt,
+        alloc,
+        limits,
+        input,
+        Breaking::taking(alloc, size, NEVER),
+    )
+    .is(OUTPUT, 0)
 }
 
 #[test]
@@ -75,7 +83,7 @@ fn few_bytes_at_a_time(rt: HostRuntime) -> Result<(), Fail> {
 // Whether each write that fails, of five bytes, leaves a beginning of the output, though the next ones wouldn't fail.
 fn writes_fail<R: Threads + Wait + Sync>(rt: &R, alloc: Global, limits: Limits) -> bool {
     for n in 0..(OUTPUT.len() + 4) / 5 {
-        let out = taking(alloc, 5, u32::try_from(n).unwrap_or(NEVER));
+        let out = Breaking::taking(alloc, 5, u32::try_from(n).unwrap_or(NEVER));
         let raced = run_into(rt, alloc, limits, Choppy::sound(INPUT, 7), out);
         let written = n.saturating_mul(5).min(OUTPUT.len());
         if !raced.is(OUTPUT.split_at(written).0, 1) {
@@ -89,7 +97,7 @@ fn writes_fail<R: Threads + Wait + Sync>(rt: &R, alloc: Global, limits: Limits) 
 fn failed_writes(rt: HostRuntime) -> Result<(), Fail> {
     let limits = Limits::new(3, 64, 256, 1)?;
     assert!(rt; writes_fail(&rt, rt.alloc(), limits));
-    let mut out = taking(rt.alloc(), 5, NEVER);
+    let mut out = Breaking::taking(rt.alloc(), 5, NEVER);
     out.flush_fails = true;
     let raced = run_into(&rt, rt.alloc(), limits, Choppy::sound(INPUT, 7), out);
     assert!(rt; raced.is(OUTPUT, 1));

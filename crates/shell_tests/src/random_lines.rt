@@ -1,8 +1,9 @@
 //! Lines of drawn words and bytes: a line is refused for a reason of the grammar, or for none.
 
 use crate::interleaved::draw;
-use crate::runs::{Woven, add, whole};
+use crate::runs::{add, whole};
 use bw_model::Limits;
+use failing_streams::Ran;
 use shell_lines::Language;
 use std::alloc::{AllocError, Global};
 use std::test::Fail;
@@ -138,7 +139,7 @@ fn last_line(output: &[u8]) -> &[u8] {
 }
 
 /// The place of the refusal's code, or the number of codes where nothing is refused; none where the program ends otherwise.
-fn end(woven: &Woven) -> Option<usize> {
+fn end(woven: &Ran) -> Option<usize> {
     let line = last_line(woven.output.as_slice());
     let refused = line.starts_with(b"refused line ");
     if woven.status == 0 && !line.starts_with(b"refused") {

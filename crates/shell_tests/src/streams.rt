@@ -1,7 +1,8 @@
 //! Long lines, and streams that fail.
 
-use crate::runs::{Breaking, Choppy, NEVER, add, limits, run, run_into, whole};
+use crate::runs::{add, limits, run, run_into, whole};
 use bw_model::Limits;
+use failing_streams::{Breaking, Choppy, NEVER};
 use shell_lines::Language;
 use std::alloc::{AllocError, Global};
 use std::io::ErrorKind;
@@ -102,13 +103,8 @@ fn failed_writes(rt: HostRuntime) {
 #[test]
 fn failed_flush(rt: HostRuntime) {
     for (language, input, output) in RUNS {
-        let out = Breaking {
-            held: Vec::new(rt.alloc()),
-            size: 4096,
-            writes: 0,
-            before_fault: NEVER,
-            flush_fails: true,
-        };
+        let mut out = Breaking::taking(rt.alloc(), 4096, NEVER);
+        out.flush_fails = true;
         let woven = run_into(
             rt.alloc(),
             *language,
