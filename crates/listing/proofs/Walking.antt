@@ -3,13 +3,16 @@ use Rattle.std.proofs.Common.{◌≡◌, ◌<◌, ◌+◌, ℕ, List, [], ◌∷
 use Rattle.std.specs.List.{AllByRecursion}
 use Rattle.std.proofs.lemmas.List.{append-nil, length-append}
 use Rattle.base_page.proofs.ItemLaws.{back_all}
+use Rattle.base_page.specs.Pages.{Page}
+use Rattle.base_page.specs.Rules.{IsRuled}
 use Rattle.bw_model.specs.declared.limits.Limits.{Limits}
 use Rattle.deltas.specs.declared.record.Record.{Record}
 use Rattle.deltas.specs.Memory.{Memory}
 use Rattle.chain_search.specs.chain.Chains.{right_in}
+use Rattle.chain_search.specs.chain.Fitted.{Makes}
 use Rattle.chain_search.specs.chain.SideChain.{IsSideChainFrom, LivePage}
 use Rattle.tree_law.specs.Leaves.{HasLeafPages, IsLeafPage}
-use Rattle.listing.specs.Listed.{HasPage, HavePages, StandsAt}
+use Rattle.listing.specs.Listed.{HasPage, HavePages, StandsAt, pairs_of}
 
 abbrev pub Pairs : Type 0
 Pairs = List (List ℕ × List ℕ)
@@ -30,8 +33,8 @@ pub none_listed : (limits : Limits) (memory : Memory) → HasListed limits memor
 none_listed limits memory leaves = record { front = []; rest = leaves.pages; whole = refl; long = refl; listed = refl; next = leaves.leaves }
 
 -- a page more
-listed_one : (chain : List Record) (page : LivePage) (own : Pairs) → page.chain ≡ chain → HasPage chain own → HavePages (page ∷ []) own
-listed_one chain page own same has = (own, [], subst (λ c. HasPage c own) (sym same) has, refl, sym (append-nil own))
+listed_one : (page : LivePage) (own : Pairs) → HasPage page.chain own → HavePages (page ∷ []) own
+listed_one page own has = (own, [], has, refl, sym (append-nil own))
 
 listed_more : (front back : List LivePage) (before own : Pairs) → HavePages front before → HavePages back own → HavePages (front ++ back) (before ++ own)
 listed_more [] back before own none has = rw none has
@@ -71,18 +74,21 @@ module _ (limits : Limits) (memory : Memory) (leaves : HasLeafPages limits memor
   pub leaf_at : (chain : List Record) × StandsAt memory pid chain
   leaf_at = (next_leaf.page.chain, next_leaf.stands)
 
-  module _ (chain : List Record) (is : (stands : List Record) → StandsAt memory pid stands → chain ≡ stands) (own : Pairs) (has : HasPage chain own) where
-    same : next_leaf.page.chain ≡ chain
-    same = sym (is next_leaf.page.chain next_leaf.stands)
+  module _ (made : Page) (makes : (chain : List Record) → StandsAt memory pid chain → Makes chain made) (ruled : IsRuled made) where
+    abbrev own : Pairs
+    own = pairs_of made.items
+
+    leaf : Makes next_leaf.page.chain made
+    leaf = makes next_leaf.page.chain next_leaf.stands
 
     with_own : HavePages (at.front ++ next_leaf.page ∷ []) (pairs ++ own)
-    with_own = listed_more at.front (next_leaf.page ∷ []) pairs own at.listed (listed_one chain next_leaf.page own same has)
+    with_own = listed_more at.front (next_leaf.page ∷ []) pairs own at.listed (listed_one next_leaf.page own (record { page = made; makes = leaf; ruled = ruled; are = refl }))
 
-    right_is : (right : Option ℕ) → right_in chain ≡ right → MatchOption right (next_leaf.later ≡ []) (λ next. IsSideChainFrom memory next next_leaf.later)
-    right_is right e = subst (λ o. MatchOption o (next_leaf.later ≡ []) (λ next. IsSideChainFrom memory next next_leaf.later)) (ap right_in same ∙ e) next_leaf.right
+    right_is : (right : Option ℕ) → made.right ≡ right → MatchOption right (next_leaf.later ≡ []) (λ next. IsSideChainFrom memory next next_leaf.later)
+    right_is right e = subst (λ o. MatchOption o (next_leaf.later ≡ []) (λ next. IsSideChainFrom memory next next_leaf.later)) (sym leaf.right ∙ e) next_leaf.right
 
     -- the next leaf is to the right
-    pub leaf_more : (right : ℕ) → right_in chain ≡ Some right → IsPartly memory leaves.pages (pairs ++ own) (count + 1) right
+    pub leaf_more : (right : ℕ) → made.right ≡ Some right → IsPartly memory leaves.pages (pairs ++ pairs_of made.items) (count + 1) right
     leaf_more right e = record {
       front = at.front ++ next_leaf.page ∷ [];
       rest = next_leaf.later;
@@ -93,5 +99,5 @@ module _ (limits : Limits) (memory : Memory) (leaves : HasLeafPages limits memor
     }
 
     -- this was the last one
-    pub leaf_last : right_in chain ≡ None → HavePages leaves.pages (pairs ++ own)
+    pub leaf_last : made.right ≡ None → HavePages leaves.pages (pairs ++ pairs_of made.items)
     leaf_last e = rw (next_leaf.whole, right_is None e) with_own

@@ -8,6 +8,6 @@ mod rows;
 mod table;
 
 pub use law::pages_are_listed;
-pub use page::page_of;
+pub use page::{page_of, rows_of};
 pub use pairs::add_pairs;
 pub use rows::Rows;

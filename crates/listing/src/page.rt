@@ -32,7 +32,7 @@ pub fn page_of<M: Rows>(rows: &M, pid: u16) -> Page
 }
 
 /// The rows of a page's chain, the newest record's first and the base's last.
-fn rows_of<M: Rows>(rows: &M, pid: u16) -> ArrayVec<u16, MAX_RECORDS>
+pub fn rows_of<M: Rows>(rows: &M, pid: u16) -> ArrayVec<u16, MAX_RECORDS>
     requires there { pid < 4096 }
     requires stands { (memory : Memory) × (chain : List Record) × M.has rows.now memory × StandsAt memory pid chain }
     ensures { (memory : Memory) (chain : List Record) → M.has rows.now memory → StandsAt memory pid chain → result.items ≡ chain_rows (memory.slots pid) chain }

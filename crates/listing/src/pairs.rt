@@ -1,5 +1,5 @@
 //! The pairs of the leaves.
-ghost use Rattle.std.specs.Prelude.{◌≡◌, ◌<◌, ◌≤◌, ◌+◌, ◌*◌, ◌++◌, List, [], length, OnErr, OnOk};
+ghost use Rattle.std.specs.Prelude.{◌≡◌, ◌<◌, ◌≤◌, ◌+◌, ◌*◌, ◌++◌, [], length, OnErr, OnOk};
 ghost use Rattle.std.specs.Vec.{vec_capacity};
 ghost use Rattle.deltas.specs.Memory.{Memory};
 ghost use Rattle.listing.specs.Listed.{HavePages, pairs_of};

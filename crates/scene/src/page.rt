@@ -1,6 +1,5 @@
 //! One page as it stands.
-ghost use Rattle.std.specs.Prelude.{◌≡◌, ◌<◌, List, IfOk, option_copied};
-ghost use Rattle.base_page.specs.Rules.{IsRuled};
+ghost use Rattle.std.specs.Prelude.{◌≡◌, ◌<◌, List, IfOk};
 ghost use Rattle.deltas.specs.declared.record.Record.{Record as RecordSeen};
 ghost use Rattle.chain_search.specs.chain.Chains.{right_in};
 ghost use Rattle.chain_search.specs.chain.Fitted.{Makes};
@@ -11,7 +10,7 @@ ghost use Rattle.scene.specs.Levels.{low_child};
 use base_page::Page;
 use chain_search::Table;
 use deltas::Record;
-use listing::page_of;
+use listing::{page_of, rows_of};
 use std::alloc::{AllocError, Allocator, Global};
 use std::marker::Model;
 
@@ -93,20 +92,17 @@ fn records_at<A: Allocator, B: Allocator>(
     table: &Table<A>,
     pid: u16,
 ) -> Result<Vec<Record, B>, AllocError>
+    requires there { pid < 4096 }
     requires stands { (chain : List RecordSeen) × StandsAt (memory_in table.now) pid chain }
     ensures { IfOk result (λ records. (chain : List RecordSeen) → StandsAt (memory_in table.now) pid chain → records.items ≡ chain) }
 {
+    let rows = rows_of(table, pid);
     let mut records = Vec::new(alloc);
-    let mut row = table.slot(pid);
-    for _ in 0..13u32 {
-        let Some(record) = table.record(row) else {
+    for place in 0..rows.len() {
+        let Some(record) = table.record(rows[place]) else {
             unreachable!()
         };
-        records.push(record.copied())?;
-        match record.next() {
-            Some(below) => row = below,
-            None => return Ok(records),
-        }
+        records.push(record)?;
     }
-    unreachable!()
+    Ok(records)
 }

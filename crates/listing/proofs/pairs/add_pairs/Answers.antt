@@ -1,5 +1,5 @@
-use Rattle.std.proofs.Common.{◌≡◌, ◌++◌, ◌∙◌, ap, arith, refl, sym}
-use Rattle.listing.specs.Listed.{HasPage, pairs_of}
+use Rattle.std.proofs.Common.{◌≡◌, ◌++◌, ◌∙◌, ap, arith, sym}
+use Rattle.listing.specs.Listed.{pairs_of}
 use Rattle.listing.proofs.Walking.{is_more, leaf_at, leaf_below, leaf_last, leaf_more, none_listed}
 use Rattle.listing.proofs.pairs.add_pairs.Goals as goal
 
@@ -10,30 +10,28 @@ loop-init g c = record {
   capacity = omega arith;
 }
 
-pub chain_of-leaf-requires-clause-there : goal.chain_of-leaf-requires-clause-there
-chain_of-leaf-requires-clause-there g c =
+pub page_of-leaf-requires-clause-there : goal.page_of-leaf-requires-clause-there
+page_of-leaf-requires-clause-there g c =
     let (memory, has, leaves) = c.requires.stand in
     let below = leaf_below _ memory leaves _ _ _ (c.loop.invariant.listed memory has leaves) in
     omega (arith, below, c.args.limits.now.allowed.few_pids)
 
-pub chain_of-leaf-requires-clause-stands : goal.chain_of-leaf-requires-clause-stands
-chain_of-leaf-requires-clause-stands g c =
+pub page_of-leaf-requires-clause-stands : goal.page_of-leaf-requires-clause-stands
+page_of-leaf-requires-clause-stands g c =
     let (memory, has, leaves) = c.requires.stand in
     let (chain, stands) = leaf_at _ memory leaves _ _ _ (c.loop.invariant.listed memory has leaves) in
     (memory, chain, has, stands)
 
 pub returns-in-None-clause-ok : goal.returns-in-None-clause-ok
 returns-in-None-clause-ok g c = λ memory has leaves.
-    let grown : c.add_values.new.pairs.items ≡ c.loop.pairs.items ++ pairs_of c.page.result.items = c.in_ok-add_values.ensures.ok ∙ ap (λ items. c.loop.pairs.items ++ pairs_of items) c.items.ensures in
-    let page : HasPage c.chain_of-leaf.result (pairs_of c.page.result.items) = record { page = c.page.result; makes = c.page.ensures.makes; ruled = c.page.ensures.ruled; are = refl } in
-    rw grown (leaf_last _ memory leaves _ _ _ (c.loop.invariant.listed memory has leaves) c.chain_of-leaf.result (λ chain stands. c.chain_of-leaf.ensures memory chain has stands) _ page (sym c.right.ensures ∙ c.in-None.is))
+    let grown : c.add_values.new.pairs.items ≡ c.loop.pairs.items ++ pairs_of c.page_of-leaf.result.items = c.in_ok-add_values.ensures.ok ∙ ap (λ items. c.loop.pairs.items ++ pairs_of items) c.items.ensures in
+    rw grown (leaf_last _ memory leaves _ _ _ (c.loop.invariant.listed memory has leaves) c.page_of-leaf.result (λ chain. c.page_of-leaf.ensures.makes memory chain has) c.page_of-leaf.ensures.ruled (sym c.right.ensures ∙ c.in-None.is))
 
 pub loop-preserved : goal.loop-preserved
 loop-preserved g c =
-    let grown : c.add_values.new.pairs.items ≡ c.loop.pairs.items ++ pairs_of c.page.result.items = c.in_ok-add_values.ensures.ok ∙ ap (λ items. c.loop.pairs.items ++ pairs_of items) c.items.ensures in
-    let page : HasPage c.chain_of-leaf.result (pairs_of c.page.result.items) = record { page = c.page.result; makes = c.page.ensures.makes; ruled = c.page.ensures.ruled; are = refl } in
+    let grown : c.add_values.new.pairs.items ≡ c.loop.pairs.items ++ pairs_of c.page_of-leaf.result.items = c.in_ok-add_values.ensures.ok ∙ ap (λ items. c.loop.pairs.items ++ pairs_of items) c.items.ensures in
     record {
-      listed = λ memory has leaves. rw grown (leaf_more _ memory leaves _ _ _ (c.loop.invariant.listed memory has leaves) c.chain_of-leaf.result (λ chain stands. c.chain_of-leaf.ensures memory chain has stands) _ page _ (sym c.right.ensures ∙ c.in-Some.is));
+      listed = λ memory has leaves. rw grown (leaf_more _ memory leaves _ _ _ (c.loop.invariant.listed memory has leaves) c.page_of-leaf.result (λ chain. c.page_of-leaf.ensures.makes memory chain has) c.page_of-leaf.ensures.ruled _ (sym c.right.ensures ∙ c.in-Some.is));
       count = omega (arith, c.in_ok-add_values.ensures.count, c.loop.invariant.count);
       capacity = omega (arith, c.add_values.ensures.capacity, c.loop.invariant.capacity);
     }

@@ -1,8 +1,8 @@
-use Rattle.std.proofs.Common.{subst, sym, refl, ◌∙◌}
+use Rattle.std.proofs.Common.{refl, subst, sym}
 use Rattle.chain_search.specs.chain.Fitted.{Makes}
 use Rattle.scene.proofs.page.page_at.Goals as goal
 
 pub invariant_of-result : goal.invariant_of-result
 invariant_of-result g c =
     let (chain, stands) = c.requires.stands in
-    subst (λ records. Makes records c.page-page.result) (c.chain_of.ensures _ chain refl stands ∙ sym (c.in_ok-records.ensures chain stands)) c.page-page.ensures.makes
+    subst (λ records. Makes records c.page_of-page.result) (sym (c.in_ok-records.ensures chain stands)) (c.page_of-page.ensures.makes _ chain refl stands)

@@ -1,10 +1,8 @@
-use Rattle.std.proofs.Common.{◌≡◌, length}
+use Rattle.std.proofs.Common.{◌≡◌, List, take}
+use Rattle.deltas.specs.declared.record.Record.{Record}
 use Rattle.chain_search.specs.trace.Tables.{memory_in}
-use Rattle.listing.proofs.Chaining.{HasRead}
+use Rattle.listing.specs.Listed.{StandsAt}
 use Rattle.scene.proofs.page.records_at.Given as goal
 
-abbrev pub invariant-loop : goal.invariant-loop
-invariant-loop g l = record {
-  count : length l.records.items ≡ l.counter;
-  read : HasRead (memory_in l.table).rows ((memory_in l.table).slots l.pid) l.records.items l.row;
-}
+abbrev pub invariant-loop-place : goal.invariant-loop-place
+invariant-loop-place g l = (chain : List Record) → StandsAt (memory_in l.table) l.pid chain → l.records.items ≡ take l.place chain

@@ -1,0 +1,12 @@
+use Rattle.std.proofs.Common.{◌≡◌, List, length}
+use Rattle.deltas.specs.Memory.{Memory}
+use Rattle.deltas.specs.declared.record.Record.{Record}
+use Rattle.listing.specs.Listed.{StandsAt}
+use Rattle.listing.proofs.Chaining.{HasRead}
+use Rattle.listing.proofs.page.rows_of.Given as goal
+
+abbrev pub invariant-loop : goal.invariant-loop
+invariant-loop g l = record {
+  count : length l.chain.items ≡ l.counter;
+  read : (memory : Memory) (chain : List Record) → g.M.Rows.has l.rows memory → StandsAt memory l.pid chain → HasRead memory.rows (memory.slots l.pid) chain l.chain.items l.row;
+}
