@@ -3,7 +3,8 @@ ghost use Rattle.std.specs.Prelude.{◌≡◌, ◌<◌, ◌≤◌, ◌++◌, ◌
 ghost use Rattle.chain_search.specs.declared.trace.Entry.TheVariants as entry;
 ghost use Rattle.core_memory.specs.Entries.{HasPlace, entry_of};
 
-use crate::{BoxedReply, SharedRecord, answer_of, step_of};
+use crate::steps::{answer_of, step_of};
+use crate::{BoxedReply, SharedRecord};
 use bw_model::{Answer, Command, Step};
 use chain_search::Entry;
 use std::alloc::{AllocError, Allocator, Global};

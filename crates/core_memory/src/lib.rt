@@ -3,6 +3,7 @@
 
 mod entries;
 mod replies;
+mod rows;
 mod shared;
 mod steps;
 mod table;
@@ -10,5 +11,5 @@ mod table;
 pub use entries::Entries;
 pub use replies::{BoxedPairs, BoxedReply};
 pub use shared::SharedRecord;
-pub use steps::{answer_of, shared_step, step_again, step_of};
+pub use steps::{shared_step, step_again};
 pub use table::Table;

@@ -2,6 +2,7 @@
 ghost use Rattle.std.specs.Prelude.{◌≡◌, IfOk, OnErr};
 ghost use Rattle.bw_model.specs.Lent.{lent};
 ghost use Rattle.chain_search.specs.trace.Steps.{MovesRecord};
+ghost use Rattle.core_memory.specs.Shared.{PlacesSpellable};
 
 use crate::SharedRecord;
 use bw_model::{Answer, Step};
@@ -9,7 +10,7 @@ use deltas::Record;
 use std::alloc::{AllocError, Allocator};
 
 /// The step with a record of its own.
-pub fn step_of<A: Allocator>(step: &Step<SharedRecord<A>>) -> Step<Record>
+pub(crate) fn step_of<A: Allocator>(step: &Step<SharedRecord<A>>) -> Step<Record>
     ensures { result ≡ step.now }
 {
     match step {
@@ -19,7 +20,7 @@ pub fn step_of<A: Allocator>(step: &Step<SharedRecord<A>>) -> Step<Record>
         Step::Announce(actor) => Step::Announce(*actor),
         Step::PidBits(word) => Step::PidBits(*word),
         Step::RowBits(word) => Step::RowBits(*word),
-        Step::Place(row, content) => Step::Place(*row, content.record().copied()),
+        Step::Place(row, content) => Step::Place(*row, content.record()),
         Step::Exchange(slot, old, new) => Step::Exchange(*slot, *old, *new),
         Step::TakePid(pid) => Step::TakePid(*pid),
         Step::TakeRow(row) => Step::TakeRow(*row),
@@ -32,10 +33,11 @@ pub fn step_of<A: Allocator>(step: &Step<SharedRecord<A>>) -> Step<Record>
 }
 
 /// The step with a record of its own that may be shared; refused for want of memory alone.
-pub fn shared_step<A: Allocator>(
+pub fn shared_step<A: Allocator + Copy>(
     alloc: A,
     step: &Step<&Record>,
 ) -> Result<Step<SharedRecord<A>>, AllocError>
+    requires { PlacesSpellable (lent step.now) }
     ensures ok { IfOk result (λ shared. shared ≡ lent step.now) }
     ensures err { OnErr result (MovesRecord (lent step.now)) }
 {
@@ -46,9 +48,7 @@ pub fn shared_step<A: Allocator>(
         Step::Announce(actor) => Step::Announce(*actor),
         Step::PidBits(word) => Step::PidBits(*word),
         Step::RowBits(word) => Step::RowBits(*word),
-        Step::Place(row, content) => {
-            Step::Place(*row, SharedRecord::new(alloc, content.copied())?)
-        }
+        Step::Place(row, content) => { Step::Place(*row, SharedRecord::new(alloc, content)?) }
         Step::Exchange(slot, old, new) => Step::Exchange(*slot, *old, *new),
         Step::TakePid(pid) => Step::TakePid(*pid),
         Step::TakeRow(row) => Step::TakeRow(*row),
@@ -87,13 +87,13 @@ pub fn step_again<A: Allocator>(
 }
 
 /// The answer with a record of its own.
-pub fn answer_of<A: Allocator>(answer: &Answer<SharedRecord<A>>) -> Answer<Record>
+pub(crate) fn answer_of<A: Allocator>(answer: &Answer<SharedRecord<A>>) -> Answer<Record>
     ensures { result ≡ answer.now }
 {
     match answer {
         Answer::Start => Answer::Start,
         Answer::Number(number) => Answer::Number(*number),
-        Answer::Content(content) => Answer::Content(content.record().copied()),
+        Answer::Content(content) => Answer::Content(content.record()),
         Answer::Whether(whether) => Answer::Whether(*whether),
         Answer::Done => Answer::Done,
     }

@@ -1,5 +1,5 @@
 //! The memory that all actors share, and what one step makes of it.
-ghost use Rattle.std.specs.Prelude.{◌≡◌, ◌<◌, ◌≤◌, ◌*◌, ◌%◌, ◌&&◌, ◌||◌, None, false, length, nat_le, nat_lt, replicate, slice_set, IfOk, OnErr, Some, option_copied};
+ghost use Rattle.std.specs.Prelude.{◌≡◌, ◌<◌, ◌≤◌, ◌*◌, ◌%◌, ◌&&◌, ◌||◌, None, false, length, nat_le, nat_lt, replicate, slice_set, IfOk, OnErr, Some};
 ghost use Rattle.deltas.specs.Memory.{opening, replaced_at};
 ghost use Rattle.bw_model.specs.Words.{is_among};
 ghost use Rattle.chain_search.specs.trace.Steps.{IsAnswer, IsWordOf, MovesRecord, memory_after};
@@ -45,7 +45,7 @@ impl<A: Allocator + Copy> Table<A> {
         slots[1] = 1;
         let mut rows = empty_rows(alloc, limits.rows)?;
         let leaf = Record::Base(Page::empty_leaf());
-        rows[1] = Some(SharedRecord::new(alloc, leaf)?);
+        rows[1] = Some(SharedRecord::new(alloc, &leaf)?);
         Ok(Table {
             limits: *limits,
             slots,
@@ -66,9 +66,9 @@ impl<A: Allocator> Table<A> {
         self.slots.get(usize::from(pid)).copied().unwrap_or(0)
     }
 
-    /// The record that was placed last in a row.
-    pub fn record(&self, row: u16) -> Option<&Record>
-        ensures { option_copied result ≡ (memory_in self.now).rows row }
+    /// The record that was placed last in a row, decoded.
+    pub fn record(&self, row: u16) -> Option<Record>
+        ensures { result ≡ (memory_in self.now).rows row }
     {
         match self.rows.get(usize::from(row)) {
             Some(Some(shared)) => Some(shared.record()),
