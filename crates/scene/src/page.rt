@@ -9,7 +9,7 @@ ghost use Rattle.listing.specs.Listed.{StandsAt};
 ghost use Rattle.scene.specs.Levels.{low_child};
 
 use base_page::Page;
-use chain_search::Table;
+use core_memory::Table;
 use deltas::Record;
 use listing::chain_of;
 use std::alloc::{AllocError, Allocator, Global};
