@@ -3,7 +3,8 @@
 use crate::by_hand::{finish, reply};
 use crate::numbers::{Numbers, bit, has_bit, number};
 use bw_model::{Answer, Command, Key, Limits, Link, Reply, Step};
-use chain_search::{Entry, SharedEntry};
+use chain_search::Entry;
+use core_memory::Entries;
 use deltas::Record;
 use std::alloc::{AllocError, Global};
 use step_core::Core;
@@ -422,10 +423,10 @@ impl Accounts {
 }
 
 /// What a trace has made of rows and PIDs, if each of its steps found what it was to.
-fn accounts_of(alloc: Global, limits: &Limits, entries: &[SharedEntry]) -> Option<Accounts> {
+fn accounts_of(alloc: Global, limits: &Limits, entries: &Entries) -> Option<Accounts> {
     let mut accounts = Accounts::new(alloc, limits).ok()?;
-    for entry in entries {
-        if !accounts.follows(&entry.entry()) {
+    for place in 0..entries.len() {
+        if !accounts.follows(&entries.entry(place)?) {
             return None;
         }
     }
@@ -434,7 +435,7 @@ fn accounts_of(alloc: Global, limits: &Limits, entries: &[SharedEntry]) -> Optio
 
 /// Whether each step of a trace found each row and PID where it was to be, and at the end those that are neither free nor spares are
 /// just those of the tree.
-pub(crate) fn is_sound(alloc: Global, limits: &Limits, entries: &[SharedEntry]) -> bool {
+pub(crate) fn is_sound(alloc: Global, limits: &Limits, entries: &Entries) -> bool {
     match accounts_of(alloc, limits, entries) {
         Some(accounts) => accounts.is_whole() && accounts.in_limbo() == (0, 0),
         None => false,
@@ -464,5 +465,5 @@ pub(crate) fn is_settled(alloc: Global, core: Core, key: &Key) -> bool {
     let limits = *core.limits();
     let rests = comes_to_rest(&mut core, key);
     let trace = core.into_trace();
-    rests && is_sound(alloc, &limits, trace.entries.as_slice())
+    rests && is_sound(alloc, &limits, &trace.entries)
 }

@@ -2,7 +2,8 @@
 
 use crate::by_hand::{begins, finish, finishes, replies, takes, until};
 use bw_model::{Answer, Command, Key, Limits, Link, Reply, Step, Value};
-use chain_search::{Entry, SharedEntry, Turn};
+use chain_search::{Entry, Turn};
+use core_memory::Entries;
 use deltas::Record;
 use std::alloc::{AllocError, Global};
 use step_core::{Core, run};
@@ -66,11 +67,11 @@ fn is_split(record: &Record) -> bool {
 }
 
 /// The operation in which a removal of a page of level 1 is linked first, or a split of one, by how many began before it.
-fn links(entries: &[SharedEntry], removal: bool) -> Option<u32> {
+fn links(entries: &Entries, removal: bool) -> Option<u32> {
     let mut begun = 0u32;
     let mut placed = None;
-    for entry in entries {
-        match entry.entry() {
+    for place in 0..entries.len() {
+        match entries.entry(place)? {
             Entry::Begin(_, _) => begun = begun.wrapping_add(1),
             Entry::Step(_, Step::Place(row, record), _, _) => {
                 let is_wanted = if removal {
@@ -94,27 +95,28 @@ fn links(entries: &[SharedEntry], removal: bool) -> Option<u32> {
 }
 
 /// The operation in which the removal of a page of level 1 is linked first.
-pub(crate) fn removes(entries: &[SharedEntry]) -> Option<u32> {
+pub(crate) fn removes(entries: &Entries) -> Option<u32> {
     links(entries, true)
 }
 
 /// The turns of a trace.
-fn turns_of(alloc: Global, entries: &[SharedEntry]) -> Result<Vec<Turn>, AllocError> {
+fn turns_of(alloc: Global, entries: &Entries) -> Option<Vec<Turn>> {
     let mut turns = Vec::new(alloc);
-    for entry in entries {
-        turns.push(match entry.entry() {
+    for place in 0..entries.len() {
+        let turn = match entries.entry(place)? {
             Entry::Begin(actor, command) => Turn::Begin(actor, command),
             Entry::Step(actor, _, _, _) => Turn::Step(actor),
-        })?;
+        };
+        turns.push(turn).ok()?;
     }
-    Ok(turns)
+    Some(turns)
 }
 
 /// Whether a run of the same turns links the removal of a page of level 1 in the same operation.
-fn is_run(alloc: Global, entries: &[SharedEntry], at: Option<u32>) -> Option<bool> {
-    let turns = turns_of(alloc, entries).ok()?;
+fn is_run(alloc: Global, entries: &Entries, at: Option<u32>) -> Option<bool> {
+    let turns = turns_of(alloc, entries)?;
     let trace = run(alloc, Limits::new(2, 256, 4096, 1).ok()?, turns.as_slice()).ok()?;
-    Some(at.is_some() && removes(trace.entries.as_slice()) == at)
+    Some(at.is_some() && removes(&trace.entries) == at)
 }
 
 /// Whether all keys come and go, so that none is left.
@@ -129,8 +131,8 @@ fn first_removal(alloc: Global) -> Option<u32> {
         return None;
     }
     let trace = core.into_trace();
-    let at = removes(trace.entries.as_slice());
-    if is_run(alloc, trace.entries.as_slice(), at)? {
+    let at = removes(&trace.entries);
+    if is_run(alloc, &trace.entries, at)? {
         return at;
     }
     None
@@ -308,7 +310,7 @@ fn first_gone(alloc: Global, way: Way) -> Option<u32> {
     if !right || !matches!(core.listing(alloc), Ok(pairs) if pairs.is_empty()) {
         return None;
     }
-    removes(core.into_trace().entries.as_slice())
+    removes(&core.into_trace().entries)
 }
 
 // Before the lookup 236 operations, four deletes, a tidying and a delete begin; before the delete of k100 the delete of k164, and 28 more.
@@ -324,7 +326,7 @@ fn first_split(alloc: Global) -> Option<u32> {
     if !goes(&mut core, 0, KEYS) {
         return None;
     }
-    links(core.into_trace().entries.as_slice(), false)
+    links(&core.into_trace().entries, false)
 }
 
 #[test]

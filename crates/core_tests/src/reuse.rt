@@ -7,7 +7,8 @@ use crate::pages::{key, value};
 use crate::scripts::{Ask, Line, Say, after, opened};
 use crate::small_leaves::lists;
 use bw_model::{Answer, Command, Reply, Step};
-use chain_search::{Entry, SharedEntry};
+use chain_search::Entry;
+use core_memory::Entries;
 use std::alloc::Global;
 use step_core::Core;
 
@@ -60,15 +61,14 @@ pub(crate) fn rounds(count: u32) -> u32 {
 }
 
 /// How many steps retire the epoch, and how many free rows or PIDs.
-fn retired_and_freed(entries: &[SharedEntry], first: u64, end: u64) -> (u32, u32) {
+fn retired_and_freed(entries: &Entries, first: u64, end: u64) -> (u32, u32) {
     let (mut retired, mut freed) = (0u32, 0u32);
-    let count = end.saturating_sub(first) as usize;
-    for entry in entries.iter().skip(first as usize).take(count) {
-        match entry.entry() {
-            Entry::Step(_, Step::Retire(_), Answer::Whether(true), _) => {
+    for place in first..end {
+        match entries.entry(place) {
+            Some(Entry::Step(_, Step::Retire(_), Answer::Whether(true), _)) => {
                 retired = retired.saturating_add(1);
             }
-            Entry::Step(_, Step::ReuseRows(_, _) | Step::ReusePids(_, _), _, _) => {
+            Some(Entry::Step(_, Step::ReuseRows(_, _) | Step::ReusePids(_, _), _, _)) => {
                 freed = freed.saturating_add(1);
             }
             _ => {}
@@ -113,7 +113,7 @@ fn waits(alloc: Global, rows: u64, epoch: u64, count: u32) -> Option<[bool; 9]> 
     let listed = is_round(alloc, &core);
     let rests = comes_to_rest(&mut core, &key(20));
     let trace = core.into_trace();
-    let entries = trace.entries.as_slice();
+    let entries = &trace.entries;
     Some([
         grown,
         begun && entered,
@@ -148,7 +148,7 @@ fn retired(alloc: Global, epoch: u64) -> Option<u32> {
     let rests = comes_to_rest(&mut core, &key(20));
     let turns = core.turns();
     let trace = core.into_trace();
-    let entries = trace.entries.as_slice();
+    let entries = &trace.entries;
     let (retired, _) = retired_and_freed(entries, 0, turns);
     (goes && rests && is_sound(alloc, &limits, entries)).then_some(retired)
 }
@@ -163,8 +163,8 @@ fn the_last_epoch_stays(rt: HostRuntime) {
 
 /// A letter for an entry, if it is one of these: the epoch 1 is read and retired, the other actor's announce is read, and the rows 1 to
 /// 9 are freed; then the operation enters at the epoch 2.
-fn swept(entry: &SharedEntry) -> u8 {
-    let Entry::Step(0, step, answer, None) = entry.entry() else {
+fn swept(entry: &Entry) -> u8 {
+    let Entry::Step(0, step, answer, None) = entry else {
         return b'-';
     };
     match (step, answer) {
@@ -179,22 +179,23 @@ fn swept(entry: &SharedEntry) -> u8 {
 }
 
 /// Whether the entries from one on have these letters.
-pub(crate) fn has_letters<F: Fn(&SharedEntry) -> u8>(
-    entries: &[SharedEntry],
+pub(crate) fn has_letters<F: Fn(&Entry) -> u8>(
+    entries: &Entries,
     first: u64,
     letters: &[u8],
     letter: F,
 ) -> bool
     requires { F.IsAlwaysCallable letter }
 {
-    let mut left = entries.iter().skip(first as usize);
+    let mut place = first;
     for wanted in letters {
-        let Some(entry) = left.next() else {
+        let Some(entry) = entries.entry(place) else {
             return false;
         };
-        if letter(entry) != *wanted {
+        if letter(&entry) != *wanted {
             return false;
         }
+        place = place.wrapping_add(1);
     }
     true
 }
@@ -212,7 +213,7 @@ fn is_swept(alloc: Global) -> Option<bool> {
     let inserted = replies(&mut core, 0, Ask::Insert(10).command(), Reply::Inserted);
     let took = core.turns().saturating_sub(turns);
     let trace = core.into_trace();
-    let entries = trace.entries.as_slice();
+    let entries = &trace.entries;
     let first = turns.saturating_add(1);
     Some(inserted && took == 16 && has_letters(entries, first, b"1tar2i", swept))
 }

@@ -3,7 +3,8 @@
 use crate::pages::{key, value};
 use crate::scripts::{Ask, Line, Say, is_told};
 use bw_model::{Command, Limits, Link, Reply};
-use chain_search::{Entry, SharedEntry, Turn};
+use chain_search::{Entry, Turn};
+use core_memory::Entries;
 use std::alloc::{AllocError, Global};
 use step_core::{Core, RunError, run};
 
@@ -67,18 +68,18 @@ fn inserts(alloc: Global) -> Result<Vec<Turn>, AllocError> {
 }
 
 /// The reply of a step.
-fn reply_of(entry: Option<&SharedEntry>) -> Option<Reply> {
-    match entry?.entry() {
+fn reply_of(entry: Option<Entry>) -> Option<Reply> {
+    match entry? {
         Entry::Step(_, _, _, reply) => reply,
         Entry::Begin(_, _) => None,
     }
 }
 
 /// Whether these are nineteen entries, with a reply at 10, and one at 18.
-fn are_answered(entries: &[SharedEntry]) -> bool {
+fn are_answered(entries: &Entries) -> bool {
     entries.len() == 19
-        && reply_of(entries.get(10)) == Some(Reply::Inserted)
-        && reply_of(entries.get(18)) == Some(Say::Exists(2).reply())
+        && reply_of(entries.entry(10)) == Some(Reply::Inserted)
+        && reply_of(entries.entry(18)) == Some(Say::Exists(2).reply())
 }
 
 /// The limits of the runs below.
@@ -90,7 +91,7 @@ fn limits(actors: u64) -> Option<Limits> {
 fn are_run(alloc: Global) -> Option<bool> {
     let turns = inserts(alloc).ok()?;
     let trace = run(alloc, limits(1)?, turns.as_slice()).ok()?;
-    Some(are_answered(trace.entries.as_slice()))
+    Some(are_answered(&trace.entries))
 }
 
 #[test]

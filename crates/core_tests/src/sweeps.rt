@@ -6,7 +6,7 @@ use crate::pages::{key, value};
 use crate::reuse::{has_letters, is_round, rounds, served_by};
 use crate::scripts::opened;
 use bw_model::{Command, Reply, Step};
-use chain_search::{Entry, SharedEntry};
+use chain_search::Entry;
 use std::alloc::Global;
 use step_core::Core;
 
@@ -55,8 +55,8 @@ fn goes_on(alloc: Global, stop: u32) -> Option<[bool; 9]> {
 }
 
 /// A letter for each step of a sweep, and for the entry.
-fn letter(entry: &SharedEntry) -> u8 {
-    match entry.entry() {
+fn letter(entry: &Entry) -> u8 {
+    match entry {
         Entry::Step(0, Step::Epoch, _, _) => b'e',
         Entry::Step(0, Step::Retire(_), _, _) => b't',
         Entry::Step(0, Step::Announce(_), _, _) => b'a',
@@ -73,7 +73,7 @@ fn is_swept(alloc: Global) -> Option<bool> {
     let turns = core.turns();
     let right = replies(&mut core, 0, upsert(), Reply::Replaced(value(9)));
     let trace = core.into_trace();
-    Some(right && has_letters(trace.entries.as_slice(), turns, b"-etaarrrpei", letter))
+    Some(right && has_letters(&trace.entries, turns, b"-etaarrrpei", letter))
 }
 
 // The epoch is read and retired, two announces are read, three words of rows and one of PIDs are freed; then the upsert enters.

@@ -111,7 +111,7 @@ fn lasts(alloc: Global) -> Option<bool> {
     let mut core = Core::open(alloc, Limits::new(4, 320, 2048, 1).ok()?).ok()?;
     let rises = rises_ten_times(alloc, &mut core);
     let trace = core.into_trace();
-    Some(rises && removes(trace.entries.as_slice()).is_some())
+    Some(rises && removes(&trace.entries).is_some())
 }
 
 #[test]

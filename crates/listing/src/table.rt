@@ -1,7 +1,7 @@
 //! A table keeps a memory.
 
 use crate::rows::Rows;
-use chain_search::Table;
+use core_memory::Table;
 use deltas::Record;
 use std::alloc::Allocator;
 
@@ -17,7 +17,7 @@ impl<A: Allocator> Rows for Table<A> {
 
     fn record(&self, row: u16) -> Record {
         match self.record(row) {
-            Some(record) => record.copied(),
+            Some(record) => record,
             None => unreachable!(),
         }
     }

@@ -6,7 +6,7 @@ ghost use Rattle.chain_search.specs.trace.Tables.{memory_in};
 ghost use Rattle.scene.specs.Counts.{how_many};
 
 use bw_model::{Answer, Step};
-use chain_search::Table;
+use core_memory::Table;
 use std::alloc::Allocator;
 
 /// How many PIDs are free.

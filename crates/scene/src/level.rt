@@ -6,7 +6,7 @@ ghost use Rattle.tree_law.specs.LevelPages.{HasPagesOn};
 
 use crate::page::{ScenePage, page_at};
 use bw_model::Limits;
-use chain_search::Table;
+use core_memory::Table;
 use std::alloc::{AllocError, Allocator, Global};
 use std::marker::Model;
 

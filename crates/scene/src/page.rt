@@ -8,7 +8,7 @@ ghost use Rattle.listing.specs.Listed.{StandsAt};
 ghost use Rattle.scene.specs.Levels.{low_child};
 
 use base_page::Page;
-use chain_search::Table;
+use core_memory::Table;
 use deltas::Record;
 use listing::{page_of, rows_of};
 use std::alloc::{AllocError, Allocator, Global};

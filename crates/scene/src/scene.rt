@@ -8,7 +8,7 @@ ghost use Rattle.tree_law.specs.LevelPages.{HasAllLevels};
 use crate::counts::{epoch, free_pids, free_rows};
 use crate::level::{Level, level_from};
 use bw_model::Limits;
-use chain_search::Table;
+use core_memory::Table;
 use std::alloc::{AllocError, Allocator, Global};
 use std::marker::Model;
 

@@ -3,7 +3,7 @@ use Rattle.std.proofs.Common.{◌≡◌, ℕ, List, Bool, Option, Some, None, co
 use Rattle.std.specs.Str.{bytes_eq}
 use Rattle.std.proofs.lemmas.Option.{same_Some}
 use Rattle.op_machine.specs.machine.UnderWay.{UnderWay}
-use Rattle.op_machine.specs.machine.Actors.{Actor, ActsOn, IsActor, IsActorWith, IsGoing, command_at, running_command, wanted_by}
+use Rattle.op_machine.specs.machine.Actors.{Actor, ActsOn, IsActor, IsActorShown, IsActorWith, IsGoing, command_at, running_command, wanted_by}
 use Rattle.bw_model.specs.declared.command.Command.{Command}
 use Rattle.bw_model.specs.declared.command.Command.TheVariants.{Get, Insert, Upsert, Delete, Swap, Page, Tidy}
 use Rattle.bw_model.specs.declared.command.Reply.{Reply}
@@ -11,11 +11,14 @@ use Rattle.bw_model.specs.declared.command.Reply.TheVariants as kind
 use Rattle.bw_model.specs.declared.limits.Limits.{Limits}
 use Rattle.bw_model.specs.declared.step.Answer.{Answer}
 use Rattle.bw_model.specs.declared.step.Step.{Step as StepOf}
+use Rattle.bw_model.specs.declared.step.Step.TheVariants.{Place}
 use Rattle.bw_model.specs.Replies.{command_key, reply_of}
 use Rattle.deltas.specs.declared.record.Record.{Record}
 use Rattle.deltas.specs.Memory.{Memory}
 use Rattle.chain_search.specs.discipline.Discipline.{MayReply, found}
-use Rattle.chain_search.specs.trace.Entries.{ShowsPairs}
+use Rattle.chain_search.specs.trace.Within.{IsWithin}
+use Rattle.core_memory.specs.Replies.{ShowsPairs}
+use Rattle.core_memory.specs.Shared.{PlacesSpellable}
 use Rattle.chain_search.specs.discipline.Knowledge.{Knowledge}
 use Rattle.chain_search.specs.discipline.Recalled.{Recalled}
 use Rattle.chain_search.specs.trace.Steps.{IsAnswer}
@@ -95,6 +98,19 @@ module _ (limits : Limits) (number : ℕ) (k : Knowledge) (r : Recalled) (memory
   needs_room at new reply some shows is goes pairs =
       let page = asks_page limits number k reply goes.allowed.replied.1 pairs in
       subst (IsPageEnd (running_command at)) (sym is) (record { from = page.0; asks = sym (command_shown limits number k r at.hand at.running some shows) ∙ page.1; leaves = goes.allowed.replied.0 })
+
+-- a row can spell what a step within the limits places
+spellable_within : (limits : Limits) (step : StepOf Record) → IsWithin limits step → PlacesSpellable step
+spellable_within limits (Place row content) within = within.2
+spellable_within limits step within = tt
+
+spellable_with : (limits : Limits) (number : ℕ) (k : Knowledge) (r : Recalled) (hand : Hand) (running : Option UnderWay) → IsActorWith limits number k r hand running → (step : StepOf Record) → wanted_by running ≡ Some step → PlacesSpellable step
+spellable_with limits number k r hand None at step is = cc
+spellable_with limits number k r hand (Some running) at step is = subst PlacesSpellable (same_Some running.wanted step is) (spellable_within running.op.task.limits running.wanted at.goes.may.within)
+
+-- a row can spell what an actor's operation wants to place
+pub spellable : (at : Actor) → IsActorShown at → (step : StepOf Record) → wanted_by at.running ≡ Some step → PlacesSpellable step
+spellable at (limits, number, k, r, shows) step is = spellable_with limits number k r at.hand at.running shows step is
 
 -- what an actor makes of an answer, it makes of it by any name
 pub goes_same : (at new : Actor) (told answer : Answer Record) → told ≡ answer → ((limits : Limits) (number : ℕ) (k : Knowledge) (r : Recalled) (going : IsGoing limits number k r at told) → ActsOn limits number k r at going.running.wanted told None new)

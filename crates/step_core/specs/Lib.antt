@@ -1,4 +1,3 @@
 pub mod Actors
-pub mod Logs
 pub mod Cores
 pub mod Turns

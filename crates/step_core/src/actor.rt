@@ -9,9 +9,10 @@ ghost use Rattle.chain_search.specs.trace.Tables.{memory_in};
 ghost use Rattle.step_core.specs.Actors.{IsReady, IsWithinAt, NeedsRoom};
 ghost use Rattle.step_core.specs.Turns.{KeepsMore, link_told};
 
+use crate::link::exchange_link;
 use bw_model::{Answer, Command, Link, Step, Told};
-use chain_search::{BoxedPairs, BoxedReply, SharedRecord, Table, shared_step, step_again};
-use op_machine::{Actor, exchange_link};
+use core_memory::{BoxedPairs, BoxedReply, SharedRecord, Table, shared_step, step_again};
+use op_machine::Actor;
 use row_chain::HeldRow;
 use std::alloc::{AllocError, Allocator};
 
@@ -98,7 +99,7 @@ fn tell<A: Allocator>(actor: &mut Actor<A>, answer: &Answer<SharedRecord<A>>, ro
         Answer::Start => actor.go_on(Told::Start),
         Answer::Number(number) => actor.go_on(Told::Number(*number)),
         Answer::Content(content) => {
-            room.write(content.record());
+            content.write_to(room);
             actor.take_row(room);
         }
         Answer::Whether(whether) => actor.go_on(Told::Whether(*whether)),

@@ -1,7 +1,7 @@
 //! What a turn did, why it was refused, and what a run has done.
 
 use bw_model::{Link, Reply};
-use chain_search::SharedEntry;
+use core_memory::Entries;
 use std::alloc::{Allocator, Global};
 use thiserror::Error;
 
@@ -32,5 +32,5 @@ pub enum RunError {
 /// What was done, turn by turn.
 #[derive(Drop)]
 pub struct Trace<A: Allocator = Global> {
-    pub entries: Vec<SharedEntry<A>, A>,
+    pub entries: Entries<A>,
 }

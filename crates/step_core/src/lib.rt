@@ -4,7 +4,7 @@
 mod actor;
 mod event;
 mod law;
-mod log;
+mod link;
 mod machine;
 mod runs;
 

@@ -11,9 +11,9 @@ mod views;
 use crate::actor::{Stepped, go_on, leave, prepare, room};
 use crate::event::{Event, RunError, Trace};
 use crate::law::{begins_keep_laws, states_are_lawful, steps_keep_laws};
-use crate::log::Log;
-use bw_model::{Answer, Command, Key, Limits, Link, OpenError, Step, Value};
-use chain_search::{SharedEntry, Table, Turn};
+use bw_model::{Command, Key, Limits, Link, OpenError, Value};
+use chain_search::Turn;
+use core_memory::{Entries, Table};
 use listing::{add_pairs, pages_are_listed};
 use op_machine::{Actor, idle_actors_rest};
 use row_chain::HeldRow;
@@ -28,7 +28,7 @@ pub struct Core<A: Allocator = Global> {
     limits: Limits,
     memory: Table<A>,
     actors: Vec<Actor<A>, A>,
-    trace: Log<A>,
+    trace: Entries<A>,
     room: HeldRow<A>,
 }
 
@@ -39,9 +39,9 @@ impl<A: Allocator> Model for Core<A> {
 
     ghost Value = { Core };
 
-    ghost view = { λ c. record { limits = c.limits; entries = c.trace.entries; demand = record { room = c.trace.room; wanted = wanted_in c.actors.items } } };
+    ghost view = { λ c. record { limits = c.limits; entries = c.trace.items; demand = record { room = c.trace.room; wanted = wanted_in c.actors.items } } };
 
-    ghost invariant = { λ c. IsCore c.limits c.memory c.actors.items c.trace.entries };
+    ghost invariant = { λ c. IsCore c.limits c.memory c.actors.items c.trace.items };
 }
 
 impl<A: Allocator + Copy> Core<A> {
@@ -78,7 +78,7 @@ impl<A: Allocator + Copy> Core<A> {
             limits,
             memory,
             actors,
-            trace: Log::<A>::new(alloc),
+            trace: Entries::<A>::new(alloc),
             room,
         })
     }
@@ -199,10 +199,9 @@ impl<A: Allocator + Copy> Core<A> {
         if self.trace.reserve().is_err() {
             return Err(RunError::Memory(number));
         }
-        let entry = SharedEntry::begin(actor, &command);
+        self.trace.push_begin(actor, &command);
         let place = &mut self.actors[usize::from(actor)];
         place.begin(command, actor, &self.limits);
-        self.trace.push(entry);
         Ok(Event::Began)
     }
 
@@ -229,8 +228,7 @@ impl<A: Allocator + Copy> Core<A> {
         let stepped = go_on(place, actor, &mut self.memory, ready, &mut self.room);
         let link = stepped.link(&self.memory);
         let Stepped { step, answer } = stepped;
-        self.trace
-            .push(SharedEntry::step(actor, step, answer, None));
+        self.trace.push_step(actor, step, answer);
         Ok(link)
     }
 
@@ -255,7 +253,7 @@ impl<A: Allocator + Copy> Core<A> {
         let place = &mut self.actors[usize::from(actor)];
         let reply = leave(place, actor, &mut self.memory, room);
         let event = Event::Done(reply.reply());
-        self.trace.push(SharedEntry::step(actor, Step::Leave, Answer::Done, Some(reply)));
+        self.trace.push_leave(actor, reply);
         Ok(event)
     }
 }
@@ -359,7 +357,7 @@ impl<A: Allocator> Core<A> {
         ensures { result.entries.items ≡ self.entries }
     {
         Trace {
-            entries: self.trace.into_entries(),
+            entries: self.trace,
         }
     }
 }

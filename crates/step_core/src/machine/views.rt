@@ -8,7 +8,7 @@ ghost use Rattle.chain_search.specs.trace.Trace.{command_of, memory_of};
 ghost use Rattle.tree_law.specs.LevelPages.{HasAllLevels};
 
 use super::Core;
-use chain_search::Table;
+use core_memory::Table;
 use op_machine::Actor;
 use std::alloc::Allocator;
 use tree_law::levels_stand;

@@ -10,17 +10,17 @@ use Rattle.step_core.proofs.machine.Core.begin.Goals as goal
 pub invariant_of-self-2 : goal.invariant_of-self-2
 invariant_of-self-2 g c =
     let begins = core_begins _ _ _ _ _ _ _ c.args.command c.self.invariant _ _ c.self.view_is c.requires.goes c.from.ensures c.index_mut-place.ensures.value in
-    core_begun _ c.begins_keep_laws.ensures.state _ _ _ _ _ _ _ c.args.command c.self.invariant _ _ c.self.view_is c.requires.goes c.from.ensures (c.begin.ensures.shows _ _ begins.1) c.begin.ensures.command (c.entries_grow.ensures _ c.self.inside.trace.entries (Begin c.args.actor c.args.command))
-    (c.begins_keep_laws.ensures.direct _ _ _ _ _ c.self.invariant.direct (let few = c.begin.ensures.bounded in omega arith)) (rw (c.begin-entry.ensures, c.reserve.ensures.entries) at c.push.ensures.entries)
+    core_begun _ c.begins_keep_laws.ensures.state _ _ _ _ _ _ _ c.args.command c.self.invariant _ _ c.self.view_is c.requires.goes c.from.ensures (c.begin.ensures.shows _ _ begins.1) c.begin.ensures.command (c.entries_grow.ensures _ c.self.inside.trace.items (Begin c.args.actor c.args.command))
+    (c.begins_keep_laws.ensures.direct _ _ _ _ _ c.self.invariant.direct (let few = c.begin.ensures.bounded in omega arith)) (rw c.reserve.ensures.items at c.push_begin.ensures.items)
 
 pub returns-clause-ok : goal.returns-clause-ok
 returns-clause-ok g c = record {
   added = Begin c.args.actor c.args.command;
-  entries = rw (← c.self.view_is) (rw (c.begin-entry.ensures, c.reserve.ensures.entries) at c.push.ensures.entries);
+  entries = rw (← c.self.view_is) (rw c.reserve.ensures.items at c.push_begin.ensures.items);
   of_turn = refl;
   wanted = tt;
   others = core_others _ _ _ _ _ _ _ _ c.self.view_is c.from.ensures;
-  room = rw (← c.self.view_is) (let grown = c.reserve.ensures.room in let kept = c.push.ensures.room in omega (arith, grown, kept));
+  room = rw (← c.self.view_is) (let grown = c.reserve.ensures.room in let kept = c.push_begin.ensures.room in omega (arith, grown, kept));
   told = tt;
   event_of = refl;
   same_limits = rw (← c.self.view_is) refl;
@@ -29,7 +29,7 @@ returns-clause-ok g c = record {
 pub begin-requires-clause-shows : goal.begin-requires-clause-shows
 begin-requires-clause-shows g c =
     let begins = core_begins _ _ _ _ _ _ _ c.args.command c.self.invariant _ _ c.self.view_is c.requires.goes c.from.ensures c.index_mut-place.ensures.value in
-    (knows c.self.inside.trace.entries c.args.actor, recalls c.self.inside.trace.entries c.args.actor, begins.1)
+    (knows c.self.inside.trace.items c.args.actor, recalls c.self.inside.trace.items c.args.actor, begins.1)
 
 pub begin-requires-clause-idle : goal.begin-requires-clause-idle
 begin-requires-clause-idle g c =
@@ -52,5 +52,5 @@ index_mut-place-requires g c =
     let there = (rw (← c.self.view_is) at (begin_goes c.args.self.now c.args.actor c.args.command c.requires.goes)).0 in
     omega (arith, c.from.ensures, there, c.self.invariant.count, c.self.inside.actors.ok.0)
 
-pub push-requires : goal.push-requires
-push-requires g c = granted c.reserve.result _ c.is_err.result c.is_err.ensures.value c.if-is_err.false c.reserve.ensures.ok
+pub push_begin-requires : goal.push_begin-requires
+push_begin-requires g c = granted c.reserve.result _ c.is_err.result c.is_err.ensures.value c.if-is_err.false c.reserve.ensures.ok

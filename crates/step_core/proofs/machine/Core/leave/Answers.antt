@@ -25,7 +25,7 @@ invariant_of-self-2 g c =
     let affords = core_affords _ _ _ _ _ _ _ c.self.invariant c.from-2.ensures asks.1 c.index_mut-place.ensures.value in
     let stays = c.steps_keep_laws.ensures.direct _ _ _ _ _ _ _ _ c.self.invariant.state goes.allowed goes.useful took.1 c.self.invariant.direct affords goes.spends in
     core_stepped _ c.steps_keep_laws.ensures.state _ _ _ _ _ _ _ _ _ Leave Done (Some c.leave-reply.result) c.self.invariant c.from-2.ensures asks.1
-    c.index_mut-place.ensures.value asks.3 goes.allowed goes.shows c.leave-reply.ensures.command (c.entries_grow.ensures _ c.self.inside.trace.entries (Step c.args.actor Leave Done (Some c.leave-reply.result))) stays c.leave-reply.ensures.limits took.1 c.leave-reply.ensures.memory (rw (c.step.ensures, c.reserve.ensures.entries) at c.push.ensures.entries)
+    c.index_mut-place.ensures.value asks.3 goes.allowed goes.shows c.leave-reply.ensures.command (c.entries_grow.ensures _ c.self.inside.trace.items (Step c.args.actor Leave Done (Some c.leave-reply.result))) stays c.leave-reply.ensures.limits took.1 c.leave-reply.ensures.memory (rw c.reserve.ensures.items at c.push_leave.ensures.items)
 
 pub returns-clause-ok : goal.returns-clause-ok
 returns-clause-ok g c =
@@ -34,11 +34,11 @@ returns-clause-ok g c =
     let took = core_took _ c.steps_keep_laws.ensures.apart _ _ _ _ Leave Done c.self.invariant refl goes.allowed.may in
     record {
       added = Step c.args.actor Leave Done (Some c.leave-reply.result);
-      entries = rw (← c.self.view_is) (rw (c.step.ensures, c.reserve.ensures.entries) at c.push.ensures.entries);
+      entries = rw (← c.self.view_is) (rw c.reserve.ensures.items at c.push_leave.ensures.items);
       of_turn = refl;
       wanted = c.requires.leaves;
       others = core_others _ _ _ _ _ _ _ _ c.self.view_is c.from-2.ensures;
-      room = rw (← c.self.view_is) (let grown = c.reserve.ensures.room in let kept = c.push.ensures.room in omega (arith, grown, kept));
+      room = rw (← c.self.view_is) (let grown = c.reserve.ensures.room in let kept = c.push_leave.ensures.room in omega (arith, grown, kept));
       told = refl;
       event_of = told_to _ _ (Step c.args.actor Leave Done (Some c.leave-reply.result)) (Finished c.reply.result) c.self.view_is (event_is _ _ c.args.actor Leave Done (Some c.leave-reply.result) (Finished c.reply.result) (c.leave-reply.ensures.memory ∙ ap (memory_after c.args.actor Leave) c.self.invariant.has) (heads _ _ c.self.invariant.state c.steps_keep_laws.ensures.heads) took.0 took.1 (ap Finished c.reply.ensures));
       same_limits = rw (← c.self.view_is) refl;
@@ -47,7 +47,7 @@ returns-clause-ok g c =
 pub leave-reply-requires-clause-knows : goal.leave-reply-requires-clause-knows
 leave-reply-requires-clause-knows g c =
     let asks = core_asks _ c.steps_keep_laws.ensures.apart c.steps_keep_laws.ensures.fit _ _ _ _ _ _ c.self.invariant _ _ c.self.view_is c.requires.goes c.from-2.ensures c.index_mut-place.ensures.value in
-    (c.self.inside.limits, knows c.self.inside.trace.entries c.args.actor, recalls c.self.inside.trace.entries c.args.actor, asks.2)
+    (c.self.inside.limits, knows c.self.inside.trace.items c.args.actor, recalls c.self.inside.trace.items c.args.actor, asks.2)
 
 pub leave-reply-requires-clause-within : goal.leave-reply-requires-clause-within
 leave-reply-requires-clause-within g c =
@@ -63,8 +63,8 @@ returns-then-is_err-clause-memory g c = (ap Memory c.turns-number.ensures, inl (
 pub returns-then-is_err-clause-err : goal.returns-then-is_err-clause-err
 returns-then-is_err-clause-err g c = rw (refused c.reserve.result _ c.is_err.result c.is_err.ensures.value c.if-is_err.true c.reserve.ensures.err) c.self.view_is
 
-pub push-requires : goal.push-requires
-push-requires g c = granted c.reserve.result _ c.is_err.result c.is_err.ensures.value c.if-is_err.false c.reserve.ensures.ok
+pub push_leave-requires : goal.push_leave-requires
+push_leave-requires g c = granted c.reserve.result _ c.is_err.result c.is_err.ensures.value c.if-is_err.false c.reserve.ensures.ok
 
 pub index-place-requires : goal.index-place-requires
 index-place-requires g c =

@@ -6,7 +6,7 @@ use Rattle.step_core.proofs.machine.Core.listing.Goals as goal
 pub add_pairs-requires-clause-stand : goal.add_pairs-requires-clause-stand
 add_pairs-requires-clause-stand g c =
     let core = c.self.invariant in
-    (memory_of c.self.inside.limits c.self.inside.trace.entries, sym core.has, c.leaves_stand.ensures.stand _ _ core.state)
+    (memory_of c.self.inside.limits c.self.inside.trace.items, sym core.has, c.leaves_stand.ensures.stand _ _ core.state)
 
 pub returns-in-Ok-clause-ok : goal.returns-in-Ok-clause-ok
 returns-in-Ok-clause-ok g c =

@@ -1,0 +1,5 @@
+use Rattle.core_memory.proofs.Tables.{tested_in}
+use Rattle.core_memory.proofs.table.is_set.Goals as goal
+
+pub returns : goal.returns
+returns c = tested_in c.args.words.now c.from.result c.args.number c.from.ensures

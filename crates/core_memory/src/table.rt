@@ -1,0 +1,213 @@
+//! The memory that all actors share, and what one step makes of it.
+ghost use Rattle.std.specs.Prelude.{◌≡◌, ◌<◌, ◌≤◌, ◌*◌, ◌%◌, ◌&&◌, ◌||◌, None, false, length, nat_le, nat_lt, replicate, slice_set, IfOk, OnErr, Some};
+ghost use Rattle.deltas.specs.Memory.{opening, replaced_at};
+ghost use Rattle.bw_model.specs.Words.{is_among};
+ghost use Rattle.chain_search.specs.trace.Steps.{IsAnswer, IsWordOf, MovesRecord, memory_after};
+ghost use Rattle.chain_search.specs.trace.Tables.{IsWithinTable, is_free, memory_in};
+
+use crate::SharedRecord;
+use base_page::Page;
+use bw_model::{Answer, Limits, Step};
+use deltas::Record;
+use std::alloc::{AllocError, Allocator, Global};
+use std::marker::Model;
+
+/// Slots and records by number, words of free bits, the epoch, and what each actor announced.
+#[derive(Drop)]
+pub struct Table<A: Allocator = Global> {
+    limits: Limits,
+    slots: Vec<u16, A>,
+    rows: Vec<Option<SharedRecord<A>>, A>,
+    pid_bits: Vec<u64, A>,
+    row_bits: Vec<u64, A>,
+    epoch: u64,
+    announced: Vec<u64, A>,
+}
+
+impl<A: Allocator> Model for Table<A> {
+    ghost use Rattle.chain_search.specs.trace.Tables.{HasPlaces, Table};
+
+    ghost Value = { Table };
+
+    ghost view = { λ t. record { limits = t.limits; slots = t.slots.items; rows = t.rows.items; pid_bits = t.pid_bits.items; row_bits = t.row_bits.items; epoch = t.epoch; announced = t.announced.items } };
+
+    ghost invariant = { λ t. HasPlaces (record { limits = t.limits; slots = t.slots.items; rows = t.rows.items; pid_bits = t.pid_bits.items; row_bits = t.row_bits.items; epoch = t.epoch; announced = t.announced.items }) };
+}
+
+impl<A: Allocator + Copy> Table<A> {
+    /// The memory before the first step; refused for want of memory alone.
+    pub fn open(alloc: A, limits: &Limits) -> Result<Table<A>, AllocError>
+        ensures limits { IfOk result (λ table. table.limits ≡ limits.now) }
+        ensures opening { IfOk result (λ table. memory_in table ≡ opening limits.now) }
+    {
+        let mut slots = vec![in alloc; 0; limits.pids as usize]?;
+        slots[0] = 1;
+        slots[1] = 1;
+        let mut rows = empty_rows(alloc, limits.rows)?;
+        let leaf = Record::Base(Page::empty_leaf());
+        rows[1] = Some(SharedRecord::new(alloc, &leaf)?);
+        Ok(Table {
+            limits: *limits,
+            slots,
+            rows,
+            pid_bits: free_bits(alloc, limits.pids)?,
+            row_bits: free_bits(alloc, limits.rows)?,
+            epoch: limits.epoch,
+            announced: vec![in alloc; 0; limits.actors as usize]?,
+        })
+    }
+}
+
+impl<A: Allocator> Table<A> {
+    /// The number in a slot, or 0 where there is no such slot.
+    pub fn slot(&self, pid: u16) -> u16
+        ensures { result ≡ (memory_in self.now).slots pid }
+    {
+        self.slots.get(usize::from(pid)).copied().unwrap_or(0)
+    }
+
+    /// The record that was placed last in a row, decoded.
+    pub fn record(&self, row: u16) -> Option<Record>
+        ensures { result ≡ (memory_in self.now).rows row }
+    {
+        match self.rows.get(usize::from(row)) {
+            Some(Some(shared)) => Some(shared.record()),
+            _ => None,
+        }
+    }
+
+    /// What a step answers; refused only where a record that is read has as many owners as can be counted.
+    pub fn answer(
+        &self,
+        actor: u8,
+        step: &Step<SharedRecord<A>>,
+    ) -> Result<Answer<SharedRecord<A>>, AllocError>
+        requires { IsWithinTable self.now actor step.now }
+        ensures ok { IfOk result (IsAnswer (memory_in self.now) step.now) }
+        ensures err { OnErr result (MovesRecord step.now) }
+    {
+        let _ = actor;
+        match step {
+            Step::Slot(pid) => Ok(Answer::Number(u64::from(self.slots[usize::from(*pid)]))),
+            Step::Row(row) => match &self.rows[usize::from(*row)] {
+                Some(shared) => Ok(Answer::Content(shared.try_clone()?)),
+                None => unreachable!(),
+            },
+            Step::Epoch => Ok(Answer::Number(self.epoch)),
+            Step::Announce(other) => Ok(Answer::Number(self.announced[usize::from(*other)])),
+            Step::PidBits(word) => Ok(Answer::Number(word_at(&self.pid_bits, *word))),
+            Step::RowBits(word) => Ok(Answer::Number(word_at(&self.row_bits, *word))),
+            Step::Exchange(slot, old, _) => {
+                Ok(Answer::Whether(self.slots[usize::from(*slot)] == *old))
+            }
+            Step::TakePid(pid) => Ok(Answer::Whether(is_set(&self.pid_bits, *pid))),
+            Step::TakeRow(row) => Ok(Answer::Whether(is_set(&self.row_bits, *row))),
+            Step::Retire(epoch) => Ok(Answer::Whether(self.epoch == *epoch)),
+            Step::Place(_, _) | Step::Enter(_) | Step::Leave => Ok(Answer::Done),
+            Step::ReusePids(_, _) | Step::ReuseRows(_, _) => Ok(Answer::Done),
+        }
+    }
+
+    /// Takes one step of an actor.
+    pub fn take(&mut self, actor: u8, step: Step<SharedRecord<A>>)
+        requires { IsWithinTable self.old actor step }
+        ensures memory { memory_in self.new ≡ memory_after actor step (memory_in self.old) }
+        ensures limits { self.new.limits ≡ self.old.limits }
+    {
+        match step {
+            Step::Slot(_) | Step::Row(_) | Step::Epoch => {}
+            Step::Announce(_) | Step::PidBits(_) | Step::RowBits(_) => {}
+            Step::Place(row, content) => place(&mut self.rows, row, content),
+            Step::Exchange(slot, old, new) => {
+                let place = usize::from(slot);
+                if self.slots[place] == old {
+                    self.slots[place] = new;
+                }
+            }
+            Step::TakePid(pid) => clear_bit(&mut self.pid_bits, pid),
+            Step::TakeRow(row) => clear_bit(&mut self.row_bits, row),
+            Step::Enter(epoch) => self.announced[usize::from(actor)] = epoch,
+            Step::Leave => self.announced[usize::from(actor)] = 0,
+            Step::Retire(epoch) => {
+                if self.epoch == epoch {
+                    self.epoch = epoch + 1;
+                }
+            }
+            Step::ReusePids(word, bits) => set_bits(&mut self.pid_bits, word, bits),
+            Step::ReuseRows(word, bits) => set_bits(&mut self.row_bits, word, bits),
+        }
+    }
+}
+
+/// So many rows in which nothing was placed.
+fn empty_rows<A: Allocator>(
+    alloc: A,
+    count: u64,
+) -> Result<Vec<Option<SharedRecord<A>>, A>, AllocError>
+    ensures { IfOk result (λ rows. rows.items ≡ replicate count None) }
+{
+    let mut rows = Vec::with_capacity(alloc, count as usize)?;
+    for _ in 0..count {
+        rows.push(None)?;
+    }
+    Ok(rows)
+}
+
+/// Words in which each number below the count is free, but 0 and 1.
+fn free_bits<A: Allocator>(alloc: A, count: u64) -> Result<Vec<u64, A>, AllocError>
+    requires some { 64 ≤ count }
+    requires whole { count % 64 ≡ 0 }
+    ensures len { IfOk result (λ words. 64 * length words.items ≡ count) }
+    ensures free { IfOk result (λ words. is_free words.items ≡ (λ n. nat_le 2 n && nat_lt n count)) }
+{
+    let mut words = vec![in alloc; u64::MAX; (count / 64) as usize]?;
+    words[0] = u64::MAX - 3;
+    Ok(words)
+}
+
+/// Places a record in a row.
+fn place<A: Allocator>(
+    rows: &mut Vec<Option<SharedRecord<A>>, A>,
+    row: u16,
+    content: SharedRecord<A>,
+)
+    requires { row < length rows.old.items }
+    ensures { rows.new.items ≡ slice_set rows.old.items row (Some content) }
+{
+    rows[usize::from(row)] = Some(content);
+}
+
+/// A word of free bits.
+fn word_at(words: &[u64], word: u8) -> u64
+    requires { word < length words.now }
+    ensures { IsWordOf (is_free words.now) word result }
+{
+    words[usize::from(word)]
+}
+
+/// Whether the bit of a number is set.
+fn is_set(words: &[u64], number: u16) -> bool
+    requires { number < 64 * length words.now }
+    ensures { result ≡ is_free words.now number }
+{
+    words[usize::from(number / 64)] & 1 << (number % 64) != 0
+}
+
+/// Clears the bit of a number.
+fn clear_bit<A: Allocator>(words: &mut Vec<u64, A>, number: u16)
+    requires { number < 64 * length words.old.items }
+    ensures taken { is_free words.new.items ≡ replaced_at number false (is_free words.old.items) }
+    ensures len { length words.new.items ≡ length words.old.items }
+{
+    let word = usize::from(number / 64);
+    words[word] &= !(1 << (number % 64));
+}
+
+/// Sets bits of one word.
+fn set_bits<A: Allocator>(words: &mut Vec<u64, A>, word: u8, bits: u64)
+    requires { word < length words.old.items }
+    ensures freed { is_free words.new.items ≡ (λ n. is_free words.old.items n || is_among word bits n) }
+    ensures len { length words.new.items ≡ length words.old.items }
+{
+    words[usize::from(word)] |= bits;
+}

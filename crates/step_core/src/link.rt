@@ -1,0 +1,45 @@
+//! What an exchange that won has done.
+ghost use Rattle.std.specs.Prelude.{◌≡◌};
+ghost use Rattle.chain_search.specs.trace.Tables.{memory_in};
+ghost use Rattle.op_machine.specs.theorem.Links.{link_of, link_without};
+
+use bw_model::Link;
+use core_memory::Table;
+use deltas::Record;
+use std::alloc::Allocator;
+
+/// What the exchange of the slot from `old` to `new` does where it wins, by the records of the table.
+pub(crate) fn exchange_link<A: Allocator>(
+    table: &Table<A>,
+    slot: u16,
+    old: u16,
+    new: u16,
+) -> Option<Link>
+    ensures { result ≡ link_of (memory_in table.now) slot old new }
+{
+    if slot == 0 {
+        Some(Link::Root)
+    } else if old == 0 {
+        Some(Link::Ready)
+    } else if new == 0 {
+        match table.record(old) {
+            None => None,
+            Some(newest) => Some(emptied_link(&newest)),
+        }
+    } else {
+        match table.record(new) {
+            None => None,
+            Some(placed) => Some(placed.link()),
+        }
+    }
+}
+
+/// What it does to empty a slot whose newest record is this one.
+fn emptied_link(newest: &Record) -> Link
+    ensures { result ≡ link_without newest.now }
+{
+    match newest {
+        Record::Remove(_) => Link::Clear,
+        _ => Link::Undo,
+    }
+}
