@@ -29,7 +29,10 @@ fn main(rt: HostRuntime) -> io::Result<()> {
     let words = env::args(&rt)?.collect::<Vec<String>>(rt.alloc())?;
     match words.as_slice() {
         [_, what, times] => {
-            println!(rt; "{}", records::run(what.as_str(), number(times.as_str())))?;
+            println!(rt;
+                "{}",
+                records::run(rt.alloc(), what.as_str(), number(times.as_str()))
+            )?;
         }
         [_, what, size, threads, operations, bytes] => {
             let scale = Scale {

@@ -4,13 +4,16 @@ ghost use Rattle.deltas.specs.Spellable.{IsSpellablePage};
 
 use base_page::Page;
 use bw_model::Key;
-use chain_search::{Chain, ChainPart, updates_fit};
+use chain_search::updates_fit;
 use deltas::{Delete, Record};
 use record_slots::{ROW_WORDS, from_words};
+use row_chain::{Chain, ChainPart, HeldRow};
+use row_search::KeyWords;
+use std::alloc::{AllocError, Global};
 
 /// How often one of the keys was found in the chain over the leaf that the row spells, by the page that the chain makes or by a walk.
-pub fn search_again(row: &[u64; ROW_WORDS], by_page: bool, times: u32) -> u32 {
-    let Some(chain) = chain_of(row) else {
+pub fn search_again(alloc: Global, row: &[u64; ROW_WORDS], by_page: bool, times: u32) -> u32 {
+    let Some(chain) = chain_of(alloc, row) else {
         return 0;
     };
     let mut found = 0u32;
@@ -24,8 +27,8 @@ pub fn search_again(row: &[u64; ROW_WORDS], by_page: bool, times: u32) -> u32 {
 }
 
 /// How often the items of the chain over the leaf that the row spells were counted, and were some.
-pub fn count_again(row: &[u64; ROW_WORDS], times: u32) -> u32 {
-    let Some(chain) = chain_of(row) else {
+pub fn count_again(alloc: Global, row: &[u64; ROW_WORDS], times: u32) -> u32 {
+    let Some(chain) = chain_of(alloc, row) else {
         return 0;
     };
     let mut counted = 0u32;
@@ -37,41 +40,47 @@ pub fn count_again(row: &[u64; ROW_WORDS], times: u32) -> u32 {
     counted
 }
 
-/// The chain over the leaf that the row spells; none where it spells no leaf of all keys.
-fn chain_of(row: &[u64; ROW_WORDS]) -> Option<Chain> {
+/// The chain over the leaf that the row spells; none where it spells no leaf of all keys, or for want of memory.
+fn chain_of(alloc: Global, row: &[u64; ROW_WORDS]) -> Option<Chain> {
     let Ok(Record::Base(page)) = from_words(row) else {
         return None;
     };
     if page.level() > 0 || !page.low().as_slice().is_empty() || page.high().is_some() {
         return None;
     }
-    Some(chain_over(page))
+    chain_over(alloc, page).ok()
 }
 
 fn has(chain: &Chain, key: &Key, by_page: bool) -> bool {
     if by_page {
         chain.page().find(key).is_some()
     } else {
-        chain.find(key).is_some()
+        chain.find(&KeyWords::of(key)).is_some()
     }
 }
 
 /// The leaf with its first 8 items deleted.
-fn chain_over(base: Page) -> Chain
+fn chain_over(alloc: Global, base: Page) -> Result<Chain, AllocError>
     requires stands { IsSpellablePage base }
     requires leaf { base.level ≡ 0 }
     requires low { base.low ≡ [] }
     requires high { base.high ≡ None }
 {
     updates_fit();
-    let mut part = ChainPart::new();
+    let mut part = ChainPart::new(alloc)?;
+    let mut row = HeldRow::new(alloc)?;
     for place in 0..8u8 {
-        part.push(&Record::Delete(Delete {
+        row.write(&Record::Delete(Delete {
             next: 1 + u16::from(place),
             key: key(place),
         }));
+        part.push(&mut row);
     }
-    part.over(base)
+    row.write(&Record::Base(base));
+    part.push(&mut row);
+    let mut chain = Chain::new(alloc)?;
+    chain.take(&mut part);
+    Ok(chain)
 }
 
 fn key(place: u8) -> Key {

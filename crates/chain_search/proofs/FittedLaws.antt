@@ -1,5 +1,5 @@
 -- What fitted chains have: deltas over one base, and one page that they make, which keeps the rules.
-use Rattle.std.proofs.Common.{◌≡◌, ◌<◌, ◌≤◌, ◌+◌, ◌-◌, ℕ, zero, suc, List, [], ◌∷◌, ◌++◌, map, length, get_or, drop, drop-cons, add-one, Bool, true, false, Option, Some, None, refl, sym, ap, subst, ◌∙◌, arith}
+use Rattle.std.proofs.Common.{◌≡◌, ◌<◌, ℕ, zero, suc, List, [], ◌∷◌, ◌++◌, map, length, get_or, drop, Bool, true, false, Option, Some, None, refl, sym, ap, subst, ◌∙◌, arith}
 use Rattle.std.specs.Prelude.{is_some, if◌then◌else◌, IfSome, IsTrue, IsSome, MatchOption}
 use Rattle.std.specs.List.{All, AllByRecursion}
 use Rattle.std.proofs.lemmas.List.Elements.{All-from_recursion, recursion_from_All}
@@ -17,8 +17,6 @@ use Rattle.base_page.specs.declared.item.Item.{Item}
 use Rattle.base_page.specs.Pages.{Page, child_in, content_at, IsAscending, IsOfLevel}
 use Rattle.base_page.specs.Places.{HasNoChild}
 use Rattle.base_page.specs.Rules.{IsFirstAt, IsRuled}
-use Rattle.deltas.specs.declared.record.Split.{Split}
-use Rattle.deltas.specs.declared.record.Merge.{Merge}
 use Rattle.deltas.specs.declared.record.Record.{Record}
 use Rattle.deltas.specs.declared.record.Record.TheVariants as kind
 use Rattle.deltas.specs.declared.record.Record.TheVariants.{Base}
@@ -26,7 +24,7 @@ use Rattle.deltas.specs.Records.{names, content_said, next_row, level_after, low
 use Rattle.deltas.specs.Applies.{Applies}
 use Rattle.deltas.specs.Fits.{FitsOnPage}
 use Rattle.deltas.specs.Spellable.{HasPid, IsPid, IsSpellable, IsSpellablePage}
-use Rattle.chain_search.specs.chain.Chains.{content_in, level_in, low_in, high_in, right_in}
+use Rattle.chain_search.specs.chain.Chains.{content_in, level_in, low_in, right_in}
 use Rattle.chain_search.specs.chain.Fitted.{FitsOver, IsFitted, Makes}
 
 -- items
@@ -246,12 +244,6 @@ pub first_fits : (newest : Record) (under : List Record) (base : Page) → IsFit
 first_fits newest [] base h = h
 first_fits newest (older ∷ under) base h = h
 
-pub fitted_from : (deltas : List Record) (base : Page) (i : ℕ) → IsFitted (over deltas base) → IsFitted (over (drop i deltas) base)
-fitted_from [] base zero h = h
-fitted_from [] base (suc i) h = h
-fitted_from (newest ∷ under) base zero h = h
-fitted_from (newest ∷ under) base (suc i) h = fitted_from under base i (first_fits newest under base h).1
-
 pub fits_at : (deltas : List Record) (base : Page) (i : ℕ) (d : Record) → IsFitted (over deltas base) → i < length deltas → FitsOver (over (drop (suc i) deltas) base) (get_or deltas i d)
 fits_at [] base i d h lt = absurd (omega (arith, lt))
 fits_at (newest ∷ under) base zero d h lt = (first_fits newest under base h).0
@@ -260,65 +252,6 @@ fits_at (newest ∷ under) base (suc i) d h lt = fits_at under base i d (first_f
 pub base_stands : (deltas : List Record) (base : Page) → IsFitted (over deltas base) → IsSpellablePage base
 base_stands [] base h = first_spellable (Base base) [] h
 base_stands (newest ∷ under) base h = base_stands under base (first_fits newest under base h).1
-
-pub base_makes : (deltas : List Record) (base : Page) → IsFitted (over deltas base) → Makes (over (drop (length deltas) deltas) base) base
-base_makes [] base h = let stands = first_spellable (Base base) [] h in Makes-base base stands.ruled.is_page.ordered.ascending stands.alive
-base_makes (newest ∷ under) base h = base_makes under base (first_fits newest under base h).1
-
--- the delta above the ones that made the page fits it
-pub fits_above : (deltas : List Record) (base page : Page) (place : ℕ) (delta : Record) → IsFitted (over deltas base) → 0 < place → place ≤ length deltas
-    → Makes (over (drop place deltas) base) page → delta ≡ get_or deltas (place - 1) delta → FitsOnPage page delta
-fits_above deltas base page place delta h some within m is =
-    let is_next : place ≡ suc (place - 1) = omega arith in
-    let makes = subst (λ n. Makes (over (drop n deltas) base) page) is_next m in
-    subst (FitsOnPage page) (sym is) (fits _ _ page (fits_at deltas base (place - 1) delta h (omega arith)) makes)
-
--- a delta keeps the level and the low key
-keeps_start : (delta : Record) (level : ℕ) (low : List ℕ) → is_some (next_row delta) ≡ true → (level_after delta level ≡ level) × (low_after delta low ≡ low)
-keeps_start (kind.Base page) level low h = cc
-keeps_start (kind.Put put) level low h = (refl, refl)
-keeps_start (kind.Delete delete) level low h = (refl, refl)
-keeps_start (kind.Split split) level low h = (refl, refl)
-keeps_start (kind.Term term) level low h = (refl, refl)
-keeps_start (kind.Hold hold) level low h = (refl, refl)
-keeps_start (kind.Remove remove) level low h = (refl, refl)
-keeps_start (kind.Merge merge) level low h = (refl, refl)
-keeps_start (kind.Unterm unterm) level low h = (refl, refl)
-
-pub start_of_base : (deltas : List Record) (base : Page) → IsFitted (over deltas base) → (level_in (over deltas base) ≡ base.level) × (low_in (over deltas base) ≡ base.low)
-start_of_base [] base h = (refl, refl)
-start_of_base (newest ∷ under) base h =
-    let f = first_fits newest under base h in
-    let kept = keeps_start newest (level_in (over under base)) (low_in (over under base)) f.0.delta in
-    let rest = start_of_base under base f.1 in
-    (kept.0 ∙ rest.0, kept.1 ∙ rest.1)
-
--- a delta that is no split and no merge keeps the high key and the right
-keeps_end : (delta : Record) (high : Option (List ℕ)) (right : Option ℕ) → is_some (next_row delta) ≡ true
-    → ((split : Split) → delta ≡ kind.Split split → ⊥) → ((merge : Merge) → delta ≡ kind.Merge merge → ⊥)
-    → (high_after delta high ≡ high) × (right_after delta right ≡ right)
-keeps_end (kind.Base page) high right h no_split no_merge = cc
-keeps_end (kind.Put put) high right h no_split no_merge = (refl, refl)
-keeps_end (kind.Delete delete) high right h no_split no_merge = (refl, refl)
-keeps_end (kind.Split split) high right h no_split no_merge = absurd (no_split split refl)
-keeps_end (kind.Term term) high right h no_split no_merge = (refl, refl)
-keeps_end (kind.Hold hold) high right h no_split no_merge = (refl, refl)
-keeps_end (kind.Remove remove) high right h no_split no_merge = (refl, refl)
-keeps_end (kind.Merge merge) high right h no_split no_merge = absurd (no_merge merge refl)
-keeps_end (kind.Unterm unterm) high right h no_split no_merge = (refl, refl)
-
-pub end_past : (deltas : List Record) (base : Page) (place : ℕ) (delta : Record) → IsFitted (over deltas base) → place < length deltas → delta ≡ get_or deltas place delta
-    → ((split : Split) → delta ≡ kind.Split split → ⊥) → ((merge : Merge) → delta ≡ kind.Merge merge → ⊥)
-    → (high_in (over (drop (place + 1) deltas) base) ≡ high_in (over (drop place deltas) base)) × (right_in (over (drop (place + 1) deltas) base) ≡ right_in (over (drop place deltas) base))
-end_past deltas base place delta h within is no_split no_merge =
-    let under = over (drop (suc place) deltas) base in
-    let delta_is = subst (λ (r : Record). is_some (next_row r) ≡ true) (sym is) (fits_at deltas base place delta h within).delta in
-    let kept = keeps_end delta (high_in under) (right_in under) delta_is no_split no_merge in
-    let here : over (drop place deltas) base ≡ delta ∷ under = ap (λ xs. over xs base) (drop-cons deltas place delta within) ∙ ap (λ r. r ∷ under) (sym is) in
-    let after : over (drop (place + 1) deltas) base ≡ under = ap (λ n. over (drop n deltas) base) (add-one place) in (
-      ap high_in after ∙ sym kept.0 ∙ sym (ap high_in here),
-      ap right_in after ∙ sym kept.1 ∙ sym (ap right_in here),
-    )
 
 -- terms
 

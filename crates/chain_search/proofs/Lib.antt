@@ -2,15 +2,9 @@ pub mod ChainLaws
 pub mod Pushes
 pub mod RunLaws
 pub mod TraceLaws
-pub mod Tables
 pub mod FittedLaws
 pub mod FittedExamples
 pub mod Updated
-pub mod PairLaws
 pub mod PaidExamples
 pub mod HeldExamples
-pub mod WalkLaws
-pub mod CountLaws
-pub mod ChildWalks
-pub mod DeltaLaws
 pub mod UnheldLaws

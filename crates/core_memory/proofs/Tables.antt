@@ -14,7 +14,7 @@ use Rattle.deltas.specs.declared.record.Record.{Record}
 use Rattle.deltas.specs.declared.record.Record.TheVariants.{Base}
 use Rattle.deltas.specs.Memory.{opening, replaced_at}
 use Rattle.bw_model.specs.Words.{is_among}
-use Rattle.chain_search.specs.trace.Tables.{Table, is_free, memory_in}
+use Rattle.core_memory.specs.Tables.{Table, is_free, memory_in}
 
 same_or_not : (a b : ℕ) → (a ≡ b) ⊎ (a ≢ b)
 same_or_not a b = elim (cases_lt a b) [

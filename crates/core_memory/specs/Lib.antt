@@ -1,3 +1,4 @@
 pub mod Entries
 pub mod Replies
 pub mod Shared
+pub mod Tables

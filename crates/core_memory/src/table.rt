@@ -3,7 +3,7 @@ ghost use Rattle.std.specs.Prelude.{◌≡◌, ◌<◌, ◌≤◌, ◌*◌, ◌%
 ghost use Rattle.deltas.specs.Memory.{opening, replaced_at};
 ghost use Rattle.bw_model.specs.Words.{is_among};
 ghost use Rattle.chain_search.specs.trace.Steps.{IsAnswer, IsWordOf, MovesRecord, memory_after};
-ghost use Rattle.chain_search.specs.trace.Tables.{IsWithinTable, is_free, memory_in};
+ghost use Rattle.core_memory.specs.Tables.{IsWithinTable, is_free, memory_in};
 
 use crate::SharedRecord;
 use base_page::Page;
@@ -25,7 +25,7 @@ pub struct Table<A: Allocator = Global> {
 }
 
 impl<A: Allocator> Model for Table<A> {
-    ghost use Rattle.chain_search.specs.trace.Tables.{HasPlaces, Table};
+    ghost use Rattle.core_memory.specs.Tables.{HasPlaces, Table};
 
     ghost Value = { Table };
 

@@ -11,7 +11,7 @@ use Rattle.chain_search.specs.discipline.Fitting.{SaysOf}
 use Rattle.chain_search.specs.discipline.Knowledge.{Knowledge}
 use Rattle.chain_search.specs.discipline.Recalled.{IsUnread, Recalled}
 use Rattle.smo.specs.Readings.{IsAfter}
-use Rattle.smo.specs.declared.version.Version.{Version}
+use Rattle.smo.specs.Versions.{Version}
 use Rattle.descent.specs.Versions.{IsGone, IsInHand}
 use Rattle.descent.specs.Visits.{to_page}
 use Rattle.descent.specs.Walks.{HasArrived, IsOnWay, IsPast, IsPastAt}

@@ -13,7 +13,7 @@ use Rattle.deltas.specs.Records.{next_row}
 use Rattle.chain_search.specs.chain.Chains.{IsChainFrom}
 use Rattle.chain_search.specs.discipline.Knowledge.{Knowledge, learn, learn_slot}
 use Rattle.chain_search.specs.discipline.Recalled.{IsUnread}
-use Rattle.smo.specs.declared.version.Version.{Version}
+use Rattle.smo.specs.Versions.{Version}
 use Rattle.descent.specs.Versions.{IsInHand}
 use Rattle.descent.specs.Walks.{IsNamedAt, IsNextAt, IsPast}
 

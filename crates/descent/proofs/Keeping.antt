@@ -14,7 +14,7 @@ use Rattle.chain_search.specs.discipline.Fitting.{Fits, FitsRow}
 use Rattle.chain_search.specs.discipline.Knowledge.{Knowledge, learn, learn_slot}
 use Rattle.chain_search.specs.discipline.Recalled.{IsUnread, Recalled, recall}
 use Rattle.smo.specs.Readings.{IsAfter}
-use Rattle.smo.specs.declared.version.Version.{Version}
+use Rattle.smo.specs.Versions.{Version}
 use Rattle.descent.specs.Visits.{VisitState, Slot, Row, FindsHead, Completes, Continues, Visit, at, wanted}
 use Rattle.descent.specs.Walks.{HasArrived, IsAmong}
 use Rattle.descent.specs.Courses.{WriteGoal, Seek, Left, Merge, Unterm}

@@ -14,7 +14,7 @@ use Rattle.chain_search.specs.discipline.Knowledge.{Knowledge}
 use Rattle.chain_search.specs.discipline.Recalled.{Recalled}
 use Rattle.smo.specs.Roots.{CanRoot}
 use Rattle.smo.specs.Terms.{CanPost}
-use Rattle.smo.specs.declared.version.Version.{Version}
+use Rattle.smo.specs.Versions.{Version}
 use Rattle.descent.specs.Walks.{HasArrived}
 use Rattle.descent.specs.Ways.{LeadsRight, passes, reaches}
 use Rattle.descent.specs.WriteRounds.{HasGreatest, HasRoomAt, IsLed, IsLeftOf, IsNextToFirst, IsTermed}

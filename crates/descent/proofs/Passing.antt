@@ -13,7 +13,7 @@ use Rattle.chain_search.specs.discipline.Fitting.{Fits, FitsRow}
 use Rattle.chain_search.specs.discipline.Knowledge.{Knowledge, learn}
 use Rattle.chain_search.specs.discipline.Recalled.{Recalled, recall}
 use Rattle.smo.specs.Readings.{IsAfter}
-use Rattle.smo.specs.declared.version.Version.{Version}
+use Rattle.smo.specs.Versions.{Version}
 use Rattle.descent.specs.ReadGoals.{ReadGoal, Seek, Left, Beyond}
 use Rattle.descent.specs.ReadLegs.{Leg, Down, Round, Past, below, has_met}
 use Rattle.descent.specs.Visits.{Slot, Row, FindsHead, Completes, Continues, Visit, at, to_page, wanted}

@@ -8,7 +8,7 @@ use Rattle.chain_search.specs.chain.Chains.{is_removed, low_in}
 use Rattle.chain_search.specs.discipline.Fitting.{Fits}
 use Rattle.chain_search.specs.discipline.Knowledge.{Knowledge, learn}
 use Rattle.chain_search.specs.discipline.Recalled.{Recalled, recall}
-use Rattle.smo.specs.declared.version.Version.{Version}
+use Rattle.smo.specs.Versions.{Version}
 use Rattle.descent.specs.ReadGoals.{ReadGoal, Seek, Left, Beyond}
 use Rattle.descent.specs.ReadLegs.{Leg, Down, Round, Past, IsPlain, below, has_met, level_on}
 use Rattle.descent.specs.ReadEnds.{ReadEnd, Again, Removed, Leaf, Beside}

@@ -9,7 +9,7 @@ use Rattle.chain_search.specs.discipline.Discipline.{HasRead, NamesChild}
 use Rattle.chain_search.specs.discipline.Fitting.{SaysOf}
 use Rattle.chain_search.specs.discipline.Knowledge.{Knowledge}
 use Rattle.chain_search.specs.discipline.Recalled.{Recalled, trail}
-use Rattle.smo.specs.declared.version.Version.{Version}
+use Rattle.smo.specs.Versions.{Version}
 use Rattle.descent.specs.ReadGoals.{ReadGoal, Seek, Left, Beyond}
 use Rattle.descent.specs.ReadLegs.{Leg, Down, Round, Past, has_met, level_on}
 use Rattle.descent.specs.ReadRounds.{IsAliveLeaf, IsBesideLeaf, IsGoingRound, IsOn, VisitsToRead, KeepsToRead, goes_beyond, left_of, read_way}

@@ -13,7 +13,7 @@ use Rattle.chain_search.specs.chain.Chains.{is_removed}
 use Rattle.chain_search.specs.discipline.Fitting.{Fits, FitsRow}
 use Rattle.chain_search.specs.discipline.Knowledge.{Knowledge, learn, learn_slot}
 use Rattle.chain_search.specs.discipline.Recalled.{Recalled, recall}
-use Rattle.smo.specs.declared.version.Version.{Version}
+use Rattle.smo.specs.Versions.{Version}
 use Rattle.descent.specs.Visits.{Slot, Row, FindsHead, Completes, Continues, Visit, at, to_page, wanted}
 use Rattle.descent.specs.Versions.{IsAlive, IsGone, IsInHand}
 use Rattle.descent.specs.Walks.{HasArrived, IsNamedNow, IsReached, IsSeeking}

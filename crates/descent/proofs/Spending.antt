@@ -13,7 +13,7 @@ use Rattle.chain_search.specs.chain.Chains.{is_removed}
 use Rattle.chain_search.specs.discipline.Fitting.{Fits, FitsRow}
 use Rattle.chain_search.specs.discipline.Knowledge.{Knowledge}
 use Rattle.chain_search.specs.discipline.Recalled.{AnyNames, IsPaid, IsSpentWith, IsUnread, Recalled, Walk, is_removal, recall, trail}
-use Rattle.smo.specs.declared.version.Version.{Version}
+use Rattle.smo.specs.Versions.{Version}
 use Rattle.descent.specs.Visits.{VisitState, Slot, Row, FindsHead, Completes, Continues, FindsEmpty, Visit, at, wanted}
 use Rattle.descent.specs.Walks.{IsSeeking, few_reads, left_at, left_in, with_walk}
 use Rattle.descent.proofs.Meeting.{few_pages, removed_push}

@@ -17,7 +17,7 @@ use Rattle.chain_search.specs.discipline.Recalled.{Recalled, WasHead}
 use Rattle.smo.specs.Sizes.{HasFewItems}
 use Rattle.smo.specs.Splits.{CanSplit}
 use Rattle.smo.specs.declared.upkeep.Upkeep.{Upkeep}
-use Rattle.smo.specs.declared.version.Version.{Version}
+use Rattle.smo.specs.Versions.{Version}
 use Rattle.smo.proofs.Places.{made}
 use Rattle.descent.specs.Courses.{WriteGoal, Seek, Left, Merge, Unterm}
 use Rattle.descent.specs.WriteEnds.{WriteEnd}

@@ -12,7 +12,7 @@ use Rattle.chain_search.specs.chain.Chains.{IsChainFrom, IsFront}
 use Rattle.chain_search.specs.discipline.Discipline.{May}
 use Rattle.chain_search.specs.discipline.Fitting.{Fits, FitsRow, IsReadWhole}
 use Rattle.chain_search.specs.discipline.Knowledge.{Knowledge, learn, learn_slot}
-use Rattle.smo.specs.declared.version.Version.{Version}
+use Rattle.smo.specs.Versions.{Version}
 use Rattle.descent.specs.Visits.{Sight, Empty, Whole, VisitState, Slot, Row, Arrives, FindsHead, Completes, Continues, Follows, MayVisit, Reads, Responds, Shows, Visit, at, wanted}
 use Rattle.descent.specs.Versions.{IsSound}
 use Rattle.descent.proofs.FrontLaws.{front_more, front_next, front_end}

@@ -21,7 +21,7 @@ use Rattle.chain_search.specs.chain.Fitted.{IsFitted}
 use Rattle.chain_search.specs.discipline.Fitting.{FitsRow, IsReadWhole, SaysOf}
 use Rattle.chain_search.specs.discipline.Knowledge.{Knowledge, learn, learn_slot}
 use Rattle.chain_search.specs.discipline.Recalled.{IsUnread, Recalled, Walk, is_removal, recall, trail}
-use Rattle.smo.specs.declared.version.Version.{Version}
+use Rattle.smo.specs.Versions.{Version}
 use Rattle.descent.specs.Visits.{Slot, Row, Arrives, MayVisit, Visit, at, to_page}
 use Rattle.descent.specs.Versions.{NamesPages}
 use Rattle.descent.specs.Walks.{AreRecalled, HasArrived, IsAmong, IsExpected, IsNamedAt, IsOnWay, IsPast, IsPastAt}

@@ -12,7 +12,7 @@ use Rattle.chain_search.specs.chain.Chains.{is_removed, low_in}
 use Rattle.chain_search.specs.discipline.Fitting.{Fits}
 use Rattle.chain_search.specs.discipline.Knowledge.{Knowledge, learn}
 use Rattle.chain_search.specs.discipline.Recalled.{Recalled, recall}
-use Rattle.smo.specs.declared.version.Version.{Version}
+use Rattle.smo.specs.Versions.{Version}
 use Rattle.descent.specs.Courses.{WriteGoal, Seek, Left, Merge, Unterm}
 use Rattle.descent.specs.WriteEnds.{WriteEnd}
 use Rattle.descent.specs.WriteEnds as end

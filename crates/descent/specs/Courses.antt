@@ -1,6 +1,6 @@
 -- Where a writer's round goes, and the pages that it keeps on the way.
 use Rattle.std.specs.Prelude.{ℕ, Option, None, Some}
-use Rattle.smo.specs.declared.version.Version.{Version}
+use Rattle.smo.specs.Versions.{Version}
 
 -- To the leaf of the key; to the leaf to the left of this removed page, which begins at the key; to the removed page, which is to
 -- come into this leaf; to the removed page, whose term the parent is to lose, as the leaf shows that would have it to its right.

@@ -1,6 +1,6 @@
 -- Which leg of its way a reader's round is on.
 use Rattle.std.specs.Prelude.{Bool, true, false, Option, None, Some, ⊤}
-use Rattle.smo.specs.declared.version.Version.{Version}
+use Rattle.smo.specs.Versions.{Version}
 
 -- Down, before a removed index page was met, from the page above, where there is one; round a removed index page, to the page on its
 -- left; on from there.

@@ -11,7 +11,7 @@ use Rattle.chain_search.specs.discipline.Fitting.{SaysOf}
 use Rattle.chain_search.specs.discipline.Knowledge.{Knowledge}
 use Rattle.chain_search.specs.discipline.Recalled.{IsPaid, IsSpentWith, Recalled, recall}
 use Rattle.smo.specs.Readings.{IsAfter}
-use Rattle.smo.specs.declared.version.Version.{Version}
+use Rattle.smo.specs.Versions.{Version}
 use Rattle.descent.specs.Versions.{IsAlive, IsGone, IsInHand, NamesPages}
 use Rattle.descent.specs.Descents.{left_from, wanted_at, WayState, Root, Page}
 use Rattle.descent.specs.Rounds.{Rounds}

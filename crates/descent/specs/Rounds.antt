@@ -4,7 +4,7 @@ use Rattle.bw_model.specs.declared.step.Answer.{Answer}
 use Rattle.deltas.specs.declared.record.Record.{Record}
 use Rattle.chain_search.specs.discipline.Knowledge.{Knowledge, learn}
 use Rattle.chain_search.specs.discipline.Recalled.{Recalled, recall}
-use Rattle.smo.specs.declared.version.Version.{Version}
+use Rattle.smo.specs.Versions.{Version}
 use Rattle.descent.specs.Descents.{Descent, Finds, Responds as Moves, WayState, wanted}
 use Rattle.descent.specs.Machines.{Machine}
 use Rattle.descent.specs.Visits.{Sight, Empty, Whole}

@@ -9,7 +9,7 @@ use Rattle.chain_search.specs.discipline.Fitting.{SaysOf}
 use Rattle.chain_search.specs.discipline.Knowledge.{Knowledge}
 use Rattle.chain_search.specs.discipline.Recalled.{Recalled, WasHead}
 use Rattle.smo.specs.Readings.{HasSeen}
-use Rattle.smo.specs.declared.version.Version.{Version}
+use Rattle.smo.specs.Versions.{Version}
 
 -- The pages that a chain names, as its right or as children, are above 0 and below the limit.
 pub record NamesPages (limits : Limits) (chain : List Record) : Type 0 where

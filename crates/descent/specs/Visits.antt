@@ -12,7 +12,7 @@ use Rattle.chain_search.specs.discipline.Discipline.{IsMet}
 use Rattle.chain_search.specs.discipline.Fitting.{IsReadWhole}
 use Rattle.chain_search.specs.discipline.Knowledge.{Knowledge, learn}
 use Rattle.descent.specs.Versions.{IsInHand}
-use Rattle.smo.specs.declared.version.Version.{Version}
+use Rattle.smo.specs.Versions.{Version}
 
 -- where a visit stands: each state is named by the step that it has asked for
 pub data VisitState : Type 0 where

@@ -8,7 +8,7 @@ use Rattle.chain_search.specs.chain.Chains.{IsChainFrom, is_removed, level_in, l
 use Rattle.chain_search.specs.discipline.Discipline.{IsBeyond}
 use Rattle.chain_search.specs.discipline.Knowledge.{Knowledge}
 use Rattle.chain_search.specs.discipline.Recalled.{AnyNames, IsUnread, Recalled, Walk, trail}
-use Rattle.smo.specs.declared.version.Version.{Version}
+use Rattle.smo.specs.Versions.{Version}
 use Rattle.descent.specs.Visits.{VisitState, Slot, Row, Arrives, Shows, Visit}
 use Rattle.descent.specs.Versions.{IsInHand, NamesPages}
 use Rattle.descent.specs.Ways.{NamesAt}

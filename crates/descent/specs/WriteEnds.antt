@@ -6,7 +6,7 @@ use Rattle.deltas.specs.declared.record.Term.{Term as TermRecord}
 use Rattle.deltas.specs.declared.record.Unterm.{Unterm as UntermRecord}
 use Rattle.smo.specs.declared.split.SplitPlan.{SplitPlan}
 use Rattle.smo.specs.declared.upkeep.Upkeep.{Upkeep}
-use Rattle.smo.specs.declared.version.Version.{Version}
+use Rattle.smo.specs.Versions.{Version}
 
 -- A page that was named isn't there, and a new round begins; a page on the way is removed; the page is to be consolidated; it is to be
 -- split; the parent is to get the term of a page that it lacks; the root is to get a root over it and its right; the small page on the way is

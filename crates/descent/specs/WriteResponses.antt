@@ -15,7 +15,7 @@ use Rattle.smo.specs.Unterms.{CanUnterm, IsUntermPlan}
 use Rattle.smo.specs.declared.split.SplitPlan.{SplitPlan}
 use Rattle.smo.specs.Upkeep.{IsIdle, IsUpkeep}
 use Rattle.smo.specs.declared.upkeep.Upkeep.{Upkeep}
-use Rattle.smo.specs.declared.version.Version.{Version}
+use Rattle.smo.specs.Versions.{Version}
 use Rattle.descent.specs.Courses.{WriteGoal, Seek, Left, Merge, Unterm}
 use Rattle.descent.specs.Walks.{IsReached}
 use Rattle.descent.specs.Ways.{LeadsDown, LeadsRight, StaysLeft}

@@ -20,7 +20,7 @@ ghost use Rattle.deltas.specs.declared.record.Remove.{Remove};
 ghost use Rattle.deltas.specs.declared.record.Unterm.{Unterm};
 ghost use Rattle.smo.specs.Holds.{IsHoldPlan};
 ghost use Rattle.smo.specs.Removals.{IsRemovePlan};
-ghost use Rattle.smo.specs.declared.version.Version.{Version};
+ghost use Rattle.smo.specs.Versions.{Version};
 ghost use Rattle.descent.specs.ReadEnds.{ReadEnd};
 ghost use Rattle.descent.specs.WriteEnds.{WriteEnd};
 

@@ -14,7 +14,7 @@ use Rattle.chain_search.specs.discipline.Discipline.{FitsOn, IsUnset, MayAdd, Ma
 use Rattle.chain_search.specs.discipline.Fitting.{ReadsRemoved}
 use Rattle.chain_search.specs.discipline.Knowledge.{Knowledge, Ready, Written}
 use Rattle.smo.specs.declared.split.SplitPlan.{SplitPlan}
-use Rattle.smo.specs.declared.version.Version.{Version}
+use Rattle.smo.specs.Versions.{Version}
 use Rattle.smo.specs.Readings.{HasSeen, IsAfter}
 use Rattle.smo.specs.Splits.{IsSplitPlan, split_to}
 use Rattle.smo.specs.Terms.{IsTermPlan}

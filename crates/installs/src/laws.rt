@@ -13,7 +13,7 @@ ghost use Rattle.chain_search.specs.discipline.Discipline.{FitsOn, MayConsolidat
 ghost use Rattle.chain_search.specs.chain.Fitted.{IsPageChain};
 ghost use Rattle.chain_search.specs.discipline.Knowledge.{Knowledge};
 ghost use Rattle.smo.specs.declared.split.SplitPlan.{SplitPlan};
-ghost use Rattle.smo.specs.declared.version.Version.{Version};
+ghost use Rattle.smo.specs.Versions.{Version};
 ghost use Rattle.smo.specs.Splits.{IsSplitPlan};
 ghost use Rattle.smo.specs.Terms.{IsTermPlan};
 ghost use Rattle.smo.specs.Roots.{IsRootPlan};

@@ -5,11 +5,14 @@ ghost use Rattle.base_page.specs.declared.item.Content.TheVariants.{Child};
 ghost use Rattle.deltas.specs.declared.record.Record.TheVariants as kind;
 ghost use Rattle.chain_search.specs.chain.Examples.{leaf, leaf_chain, index, index_chain, index_split, split_index, long_index};
 
+use crate::built::chain;
 use crate::texts;
 use base_page::{Content, Items, Page};
 use bw_model::{Key, MAX_PAIRS, Pairs, Value};
-use chain_search::{Chain, ChainPart};
 use deltas::{Delete, Hold, Merge, Put, Record, Remove, Split, Term, Unterm};
+use row_chain::Chain;
+use row_search::KeyWords;
+use std::process::Abort;
 
 fn key(text: &[u8]) -> Key
     requires { length text.now ≤ longest }
@@ -54,36 +57,34 @@ fn leaf() -> Page
     Page::new(0, key(b"a"), None, None, items)
 }
 
-fn leaf_chain() -> Chain
+fn leaf_chain<R: Abort + AllocGlobal>(rt: &R) -> Chain
     ensures { result ≡ leaf_chain }
 {
-    let separator = key(b"k09");
-    let mut part = ChainPart::new();
-    part.push(&Record::Remove(Remove { level: 0, next: 15 }));
-    part.push(&Record::Delete(Delete {
+    let remove = Record::Remove(Remove { level: 0, next: 15 });
+    let delete = Record::Delete(Delete {
         next: 14,
         key: key(b"k08"),
-    }));
-    part.push(&Record::Put(Put {
+    });
+    let put = Record::Put(Put {
         next: 13,
         key: key(b"k07"),
         value: value(b"v07"),
-    }));
-    part.push(&Record::Merge(Merge {
+    });
+    let merge = Record::Merge(Merge {
         level: 0,
         next: 12,
-        low: separator.copied(),
+        low: key(b"k09"),
         high: None,
         right: None,
-        items: item(separator.copied(), Content::Value(value(b"w09"))),
-    }));
-    part.push(&Record::Split(Split {
+        items: item(key(b"k09"), Content::Value(value(b"w09"))),
+    });
+    let split = Record::Split(Split {
         level: 0,
         next: 11,
-        separator,
+        separator: key(b"k09"),
         page: 2,
-    }));
-    part.over(leaf())
+    });
+    chain(rt, &[remove, delete, put, merge, split], leaf())
 }
 
 fn hold(next: u16, separator: Key, child: u16) -> Record
@@ -127,15 +128,16 @@ fn index() -> Page
     )
 }
 
-fn index_chain() -> Chain
+fn index_chain<R: Abort + AllocGlobal>(rt: &R) -> Chain
     ensures { result ≡ index_chain }
 {
-    let mut part = ChainPart::new();
-    part.push(&term(7, key(b"k09"), 3));
-    part.push(&unterm(6, key(b"k09"), 2));
-    part.push(&hold(5, key(b"k09"), 2));
-    part.push(&term(4, key(b"k09"), 2));
-    part.over(index())
+    let deltas = [
+        term(7, key(b"k09"), 3),
+        unterm(6, key(b"k09"), 2),
+        hold(5, key(b"k09"), 2),
+        term(4, key(b"k09"), 2),
+    ];
+    chain(rt, &deltas, index())
 }
 
 fn index_split() -> Record
@@ -149,42 +151,49 @@ fn index_split() -> Record
     })
 }
 
-fn split_index() -> Chain
+fn split_index<R: Abort + AllocGlobal>(rt: &R) -> Chain
     ensures { result ≡ split_index }
 {
-    let mut part = ChainPart::new();
-    part.push(&index_split());
-    part.push(&term(7, key(b"k09"), 3));
-    part.push(&unterm(6, key(b"k09"), 2));
-    part.push(&hold(5, key(b"k09"), 2));
-    part.push(&term(4, key(b"k09"), 2));
-    part.over(index())
+    let deltas = [
+        index_split(),
+        term(7, key(b"k09"), 3),
+        unterm(6, key(b"k09"), 2),
+        hold(5, key(b"k09"), 2),
+        term(4, key(b"k09"), 2),
+    ];
+    chain(rt, &deltas, index())
 }
 
-fn long_index() -> Chain
+fn long_index<R: Abort + AllocGlobal>(rt: &R) -> Chain
     ensures { result ≡ long_index }
 {
-    let mut part = ChainPart::new();
-    part.push(&hold(10, key(b"k09"), 5));
-    part.push(&Record::Merge(Merge {
+    let merge = Record::Merge(Merge {
         level: 1,
         next: 9,
         low: key(b"k09"),
         high: None,
         right: None,
         items: item(key(b"k09"), child(5)),
-    }));
-    part.push(&index_split());
-    part.push(&term(7, key(b"k09"), 3));
-    part.push(&unterm(6, key(b"k09"), 2));
-    part.push(&hold(5, key(b"k09"), 2));
-    part.push(&term(4, key(b"k09"), 2));
-    part.over(index())
+    });
+    let deltas = [
+        hold(10, key(b"k09"), 5),
+        merge,
+        index_split(),
+        term(7, key(b"k09"), 3),
+        unterm(6, key(b"k09"), 2),
+        hold(5, key(b"k09"), 2),
+        term(4, key(b"k09"), 2),
+    ];
+    chain(rt, &deltas, index())
+}
+
+fn words(text: &[u8]) -> KeyWords {
+    KeyWords::of(&texts::key(text))
 }
 
 /// Whether the chain has this value at the key, or none.
 fn finds(chain: &Chain, at: &[u8], text: Option<&[u8]>) -> bool {
-    match (chain.find(&texts::key(at)), text) {
+    match (chain.find(&words(at)), text) {
         (None, None) => true,
         (Some(value), Some(text)) => value.as_slice() == text,
         _ => false,
@@ -192,11 +201,11 @@ fn finds(chain: &Chain, at: &[u8], text: Option<&[u8]>) -> bool {
 }
 
 fn child_of(chain: &Chain, at: &[u8]) -> Option<u16> {
-    chain.child_of(&texts::key(at))
+    chain.child_of(&words(at))
 }
 
 fn child_below(chain: &Chain, at: &[u8]) -> Option<u16> {
-    chain.child_below(&texts::key(at))
+    chain.child_below(&words(at))
 }
 
 /// Whether the chain shows these pairs from the key on.
@@ -226,20 +235,20 @@ fn shape(chain: &Chain) -> (usize, u8, Option<u16>) {
 
 #[test]
 fn decides_the_keys_of_a_leaf(rt: HostRuntime) {
-    let chain = leaf_chain();
+    let chain = leaf_chain(&rt);
     let decided = [
         finds(&chain, b"k07", Some(b"v07")),
         finds(&chain, b"k08", None),
         finds(&chain, b"k09", Some(b"w09")),
-        chain.content(&texts::key(b"k10")).is_none(),
-        chain.covers(&texts::key(b"k09")),
+        chain.content(&words(b"k10")).is_none(),
+        chain.covers(&words(b"k09")),
     ];
     assert_eq!(rt; decided, [true; 5]);
 }
 
 #[test]
 fn ends_a_removed_leaf_nowhere(rt: HostRuntime) {
-    let chain = leaf_chain();
+    let chain = leaf_chain(&rt);
     let ends = [
         chain.is_removed(),
         chain.high().is_none(),
@@ -250,7 +259,7 @@ fn ends_a_removed_leaf_nowhere(rt: HostRuntime) {
 
 #[test]
 fn finds_the_children_of_an_index_page(rt: HostRuntime) {
-    let chain = index_chain();
+    let chain = index_chain(&rt);
     let children = [
         child_of(&chain, b"k08"),
         child_of(&chain, b"k10"),
@@ -262,14 +271,14 @@ fn finds_the_children_of_an_index_page(rt: HostRuntime) {
 
 #[test]
 fn consolidates_an_index_page(rt: HostRuntime) {
-    let page = index_chain().consolidated();
+    let page = index_chain(&rt).consolidated();
     let child = page.child_of(&texts::key(b"k09"));
     assert_eq!(rt; (page.items().len(), child), (2, Some(3)));
 }
 
 #[test]
 fn finds_no_child_past_a_split(rt: HostRuntime) {
-    let chain = split_index();
+    let chain = split_index(&rt);
     let children = [
         child_of(&chain, b"k08"),
         child_of(&chain, b"k09"),
@@ -280,7 +289,7 @@ fn finds_no_child_past_a_split(rt: HostRuntime) {
 
 #[test]
 fn finds_the_held_child_of_a_merge(rt: HostRuntime) {
-    let chain = long_index();
+    let chain = long_index(&rt);
     let children = [
         child_of(&chain, b"k10"),
         child_of(&chain, b"k09"),
@@ -293,13 +302,13 @@ fn finds_the_held_child_of_a_merge(rt: HostRuntime) {
 
 #[test]
 fn shows_the_pairs_from_a_key(rt: HostRuntime) {
-    let chain = leaf_chain();
+    let chain = leaf_chain(&rt);
     let shown = [
         shows(&chain, b"a", &[(b"k07", b"v07"), (b"k09", b"w09")]),
         shows(&chain, b"k07", &[(b"k07", b"v07"), (b"k09", b"w09")]),
         shows(&chain, b"k08", &[(b"k09", b"w09")]),
         shows(&chain, b"k10", &[]),
-        shows(&index_chain(), b"k08", &[]),
+        shows(&index_chain(&rt), b"k08", &[]),
     ];
     assert_eq!(rt; shown, [true; 5]);
 }
@@ -307,10 +316,10 @@ fn shows_the_pairs_from_a_key(rt: HostRuntime) {
 #[test]
 fn counts_the_items_of_each_kind_of_record(rt: HostRuntime) {
     let counts = [
-        counted(&leaf_chain()),
-        counted(&index_chain()),
-        counted(&split_index()),
-        counted(&long_index()),
+        counted(&leaf_chain(&rt)),
+        counted(&index_chain(&rt)),
+        counted(&split_index(&rt)),
+        counted(&long_index(&rt)),
     ];
     assert_eq!(rt; counts, [(2, 2), (2, 2), (1, 1), (2, 2)]);
 }

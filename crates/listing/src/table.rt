@@ -7,7 +7,7 @@ use std::alloc::Allocator;
 
 impl<A: Allocator> Rows for Table<A> {
     ghost use Rattle.std.specs.Prelude.{◌≡◌};
-    ghost use Rattle.chain_search.specs.trace.Tables.{memory_in};
+    ghost use Rattle.core_memory.specs.Tables.{memory_in};
 
     ghost has = { λ table memory. memory ≡ memory_in table };
 

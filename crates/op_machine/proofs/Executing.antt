@@ -8,7 +8,7 @@ use Rattle.chain_search.specs.discipline.Discipline.{found}
 use Rattle.chain_search.specs.discipline.Knowledge.{Knowledge}
 use Rattle.chain_search.specs.discipline.Recalled.{Recalled}
 use Rattle.installs.specs.Spares.{Spares}
-use Rattle.smo.specs.declared.version.Version.{Version}
+use Rattle.smo.specs.Versions.{Version}
 use Rattle.op_machine.specs.machine.Errands.{way_key}
 use Rattle.op_machine.specs.machine.Outcomes.{IsAtLeaf}
 use Rattle.op_machine.specs.machine.Shows.{ShowsState}

@@ -20,7 +20,7 @@ use Rattle.chain_search.proofs.FittedLaws.{ruled}
 use Rattle.descent.specs.WriteRounds.{IsTermed, IsUpper}
 use Rattle.smo.specs.Holds.{CanHold, HasFreeNeighbours}
 use Rattle.smo.specs.Upkeep.{IsIdle, IsSmall}
-use Rattle.smo.specs.declared.version.Version.{Version}
+use Rattle.smo.specs.Versions.{Version}
 use Rattle.smo.proofs.Places.{from_made, index_at, made}
 use Rattle.op_machine.specs.machine.Upkeep.{IsIdleFor, tidies}
 

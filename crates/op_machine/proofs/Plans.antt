@@ -15,7 +15,7 @@ use Rattle.descent.specs.Versions.{IsAlive}
 use Rattle.descent.specs.WriteEnds as end
 use Rattle.installs.specs.Changes as change
 use Rattle.installs.specs.Spares.{Spares}
-use Rattle.smo.specs.declared.version.Version.{Version}
+use Rattle.smo.specs.Versions.{Version}
 use Rattle.op_machine.specs.machine.Errands.{due_of}
 use Rattle.op_machine.specs.machine.Outcomes.{FacesWritten}
 use Rattle.op_machine.specs.machine.Tasks.{Seeks, Task}

@@ -21,7 +21,7 @@ use Rattle.smo.specs.Removals.{IsRemovePlan}
 use Rattle.smo.specs.Upkeep.{IsUpkeepDue}
 use Rattle.smo.specs.declared.upkeep.Upkeep.{Upkeep}
 use Rattle.smo.specs.declared.upkeep.Upkeep.TheVariants.{Hold as HoldTerm, Remove as RemovePage}
-use Rattle.smo.specs.declared.version.Version.{Version}
+use Rattle.smo.specs.Versions.{Version}
 use Rattle.op_machine.specs.machine.Errands.{tends_of}
 use Rattle.op_machine.specs.machine.Outcomes.{FacesWritten, IsAtLeafBelow}
 use Rattle.op_machine.specs.machine.Shows.{MayBegin}

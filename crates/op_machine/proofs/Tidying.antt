@@ -19,7 +19,7 @@ use Rattle.chain_search.specs.discipline.Recalled.{Recalled}
 use Rattle.chain_search.proofs.FittedLaws.{Makes-base}
 use Rattle.installs.specs.Spares.{Spares}
 use Rattle.smo.specs.Sizes.{HasFewItems}
-use Rattle.smo.specs.declared.version.Version.{Version}
+use Rattle.smo.specs.Versions.{Version}
 use Rattle.smo.proofs.Places.{from_made, of_made}
 use Rattle.smo.proofs.Unheld.{leaf_unheld}
 use Rattle.op_machine.specs.machine.Errands.{due_of}

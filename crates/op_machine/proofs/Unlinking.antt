@@ -8,7 +8,7 @@ use Rattle.installs.specs.Changes.{KeepsSparePage}
 use Rattle.installs.specs.Spares.{Spares}
 use Rattle.smo.specs.Readings.{HasSeen}
 use Rattle.smo.specs.Unterms.{IsUntermPlan}
-use Rattle.smo.specs.declared.version.Version.{Version}
+use Rattle.smo.specs.Versions.{Version}
 use Rattle.op_machine.specs.machine.Tasks.{Seeks, Task}
 
 -- a page that was read isn't the spare one

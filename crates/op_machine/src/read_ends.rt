@@ -72,7 +72,7 @@ impl Task {
         let found = leaf.find(&KeyWords::of(key));
         match self.command().reply(found.as_ref()) {
             Some(reply) => reply,
-            None => cursor_page(&leaf.typed(), key),
+            None => cursor_page(leaf, key),
         }
     }
 }

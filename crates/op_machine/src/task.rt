@@ -16,9 +16,9 @@ ghost use Rattle.sweep.specs.Sweeps.{IsSoundSweep, IsKeptOutside, Shows as Shows
 use crate::errands::Errands;
 use base_page::Page;
 use bw_model::{Command, Key, Limits, Reply};
-use chain_search::Chain;
 use deltas::{Delete, Put, Record};
 use epochs::Limbo;
+use row_chain::Chain;
 use smo::MANY_DELTAS;
 use std::alloc::Allocator;
 use std::marker::Model;
@@ -181,14 +181,12 @@ impl Task {
 }
 
 /// The pairs of a leaf from a key on, and where the next page goes on.
-pub(crate) fn cursor_page(leaf: &Chain, from: &Key) -> Reply
+#[inline(never)]
+pub(crate) fn cursor_page<A: Allocator>(leaf: &Chain<A>, from: &Key) -> Reply
     ensures { (pairs : List (List ℕ × List ℕ)) × ArePairsOf (found leaf.now) from.now (high_in leaf.now) pairs × (result ≡ reply.Page pairs (high_in leaf.now)) }
 {
     Reply::Page {
         items: leaf.pairs_from(from),
-        next: match leaf.high() {
-            None => None,
-            Some(high) => Some(high.copied()),
-        },
+        next: leaf.high(),
     }
 }

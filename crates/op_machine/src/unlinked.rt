@@ -3,8 +3,9 @@ ghost use Rattle.std.specs.Prelude.{◌≡◌, None, Some};
 ghost use Rattle.chain_search.specs.chain.Chains.{chain_rows};
 
 use arrayvec::ArrayVec;
-use chain_search::{Chain, MAX_RECORDS};
-use smo::Version;
+use row_chain::MAX_RECORDS;
+use smo::PageInHand;
+use std::alloc::Allocator;
 
 /// What a change takes out of the tree where it wins: the rows of a chain, and the page's PID where the page goes with it.
 #[derive(Debug, Drop)]
@@ -14,25 +15,25 @@ pub(crate) struct Unlinked {
 }
 
 impl Unlinked {
-    /// The chain of a page that stays, whose newest record stands in this row.
-    pub(crate) fn chain(head: u16, chain: &Chain) -> Unlinked
-        ensures rows { result.rows.items ≡ chain_rows head chain.now }
+    /// The chain of a page that stays.
+    pub(crate) fn chain<A: Allocator>(page: &PageInHand<A>) -> Unlinked
+        ensures rows { result.rows.items ≡ chain_rows page.now.head page.now.chain }
         ensures pid { result.pid ≡ None }
     {
         Unlinked {
-            rows: chain.rows(head),
+            rows: page.chain().rows(page.head()),
             pid: None,
         }
     }
 
     /// A page with its chain.
-    pub(crate) fn page(page: &Version) -> Unlinked
+    pub(crate) fn page<A: Allocator>(page: &PageInHand<A>) -> Unlinked
         ensures rows { result.rows.items ≡ chain_rows page.now.head page.now.chain }
         ensures pid { result.pid ≡ Some page.now.pid }
     {
         Unlinked {
-            rows: page.chain.rows(page.head),
-            pid: Some(page.pid),
+            rows: page.chain().rows(page.head()),
+            pid: Some(page.pid()),
         }
     }
 

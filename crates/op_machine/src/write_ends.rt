@@ -14,7 +14,7 @@ ghost use Rattle.op_machine.specs.machine.Tasks.{IsSameTask};
 ghost use Rattle.op_machine.specs.machine.Upkeep.{IsIdleFor, IsUpkeepFor, IsUpkeepPlan, plan_of};
 ghost use Rattle.rounds.specs.WriteRounds.{ended_write};
 ghost use Rattle.smo.specs.Upkeep.{IsIdle};
-ghost use Rattle.smo.specs.declared.version.Version.{Version};
+ghost use Rattle.smo.specs.Versions.{Version};
 
 use crate::places::Places;
 use crate::task::Task;
@@ -25,9 +25,9 @@ use bw_model::{Command, Reply};
 use chain_search::{chain_is_one, chains_make_pages, updates_fit};
 use deltas::{Merge, Record, Term, Unterm};
 use installs::{End, Plan, Spares, plans_may_be_linked};
-use rounds::{PageInHand, WriteEnded, WriteRound, upkeep_below};
+use rounds::{WriteEnded, WriteRound};
 use row_search::KeyWords;
-use smo::{SplitPlan, Upkeep};
+use smo::{PageInHand, SplitPlan, Upkeep, plan_upkeep};
 use std::alloc::Allocator;
 
 impl Task {
@@ -153,14 +153,14 @@ impl Task {
     {
         plans_may_be_linked();
         chain_is_one();
-        let page = places.writer().page().version();
-        let base = page.chain.consolidated();
+        let page = places.writer().page();
+        let base = page.chain().consolidated();
         let plan = Plan::Install {
-            pid: page.pid,
-            head: page.head,
+            pid: page.pid(),
+            head: page.head(),
             content: Record::Base(base),
         };
-        let unlinked = Unlinked::chain(page.head, &page.chain);
+        let unlinked = Unlinked::chain(page);
         places.begin_change(self, spares, plan, Then::Limbo(unlinked))
     }
 
@@ -271,10 +271,7 @@ impl Task {
             unterm,
             removal: removed.head(),
         };
-        let unlinked = Unlinked {
-            rows: removed.chain().rows(removed.head()),
-            pid: Some(removed.pid()),
-        };
+        let unlinked = Unlinked::page(removed);
         places.begin_change(self, spares, plan, Then::Limbo(unlinked))
     }
 
@@ -308,7 +305,7 @@ impl Task {
 fn upkeep_at_leaf<A: Allocator>(parent: &PageInHand<A>, leaf: &PageInHand<A>) -> Option<Plan>
     ensures { MatchOption result (IsIdle parent.now leaf.now) (IsUpkeepPlan parent.now leaf.now) }
 {
-    let upkeep = upkeep_below(parent, leaf)?;
+    let upkeep = plan_upkeep(parent, leaf)?;
     Some(planned(upkeep, parent, leaf))
 }
 

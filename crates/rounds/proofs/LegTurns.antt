@@ -7,7 +7,7 @@ use Rattle.base_page.specs.Places.{HasNoChild, IsGreatestChild}
 use Rattle.chain_search.specs.chain.Chains.{content_in, is_removed, level_in, right_in}
 use Rattle.chain_search.specs.discipline.Discipline.{NamesChild}
 use Rattle.chain_search.specs.chain.Fitted.{IsFitted}
-use Rattle.smo.specs.declared.version.Version.{Version}
+use Rattle.smo.specs.Versions.{Version}
 use Rattle.descent.specs.ReadGoals.{ReadGoal}
 use Rattle.descent.specs.ReadLegs.{Leg, Down, Round, Past}
 use Rattle.descent.specs.ReadRounds.{CanGoRound, CanMeetLeg, CanTreatRead, IsAtLevel, LacksLeft, ReadRound, TreatsRead, going_to, left_of, on, read_way}

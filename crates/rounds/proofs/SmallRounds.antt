@@ -4,7 +4,7 @@ use Rattle.std.specs.Option.{option_map}
 use Rattle.bw_model.specs.declared.limits.Limits.{Limits}
 use Rattle.bw_model.specs.declared.step.Step.TheVariants as step
 use Rattle.deltas.specs.declared.record.Record.{Record}
-use Rattle.smo.specs.declared.version.Version.{Version}
+use Rattle.smo.specs.Versions.{Version}
 use Rattle.descent.specs.Descents.{going_to, wanted_at}
 use Rattle.descent.specs.ReadRounds as reader
 use Rattle.descent.specs.Descents as stands

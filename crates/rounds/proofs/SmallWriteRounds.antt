@@ -5,7 +5,7 @@ use Rattle.deltas.specs.declared.record.Merge.{Merge as MergeRecord}
 use Rattle.deltas.specs.declared.record.Term.{Term as TermRecord}
 use Rattle.deltas.specs.declared.record.Unterm.{Unterm as UntermRecord}
 use Rattle.smo.specs.declared.upkeep.Upkeep.{Upkeep}
-use Rattle.smo.specs.declared.version.Version.{Version}
+use Rattle.smo.specs.Versions.{Version}
 use Rattle.descent.specs.Courses as kept
 use Rattle.descent.specs.WriteRounds as writer
 use Rattle.descent.specs.WriteEnds as end

@@ -2,7 +2,7 @@
 use Rattle.std.specs.Prelude.{◌≡◌, ℕ, Option, Some, None, false, ⊤}
 use Rattle.std.specs.Option.{option_map}
 use Rattle.chain_search.specs.chain.Chains.{is_removed, level_in}
-use Rattle.smo.specs.declared.version.Version.{Version}
+use Rattle.smo.specs.Versions.{Version}
 use Rattle.descent.specs.ReadRounds as rounds
 use Rattle.descent.specs.ReadLegs.{Leg, Down, Round, Past, IsPlain}
 use Rattle.descent.specs.Walks.{IsReached}

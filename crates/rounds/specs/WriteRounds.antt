@@ -1,7 +1,7 @@
 -- A writer's round in its place: its pages stand in it, and an end names them there.
 use Rattle.std.specs.Prelude.{◌≡◌, Bool, true, false, Option, Some, None, ⊤}
 use Rattle.std.specs.Option.{option_map}
-use Rattle.smo.specs.declared.version.Version.{Version}
+use Rattle.smo.specs.Versions.{Version}
 use Rattle.descent.specs.WriteResponses as response
 use Rattle.descent.specs.WriteRounds as rounds
 use Rattle.descent.specs.WriteEnds.{WriteEnd}

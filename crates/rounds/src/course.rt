@@ -5,9 +5,10 @@ ghost use Rattle.descent.specs.Courses as goal;
 ghost use Rattle.descent.specs.Courses.{down_to, removed_of};
 ghost use Rattle.descent.specs.WriteRounds.{SeeksLeaf};
 ghost use Rattle.rounds.specs.Courses.{write_goal, kept_if};
-ghost use Rattle.smo.specs.declared.version.Version.{Version};
+ghost use Rattle.smo.specs.Versions.{Version};
 
-use crate::{Descent, PageInHand};
+use crate::Descent;
+use smo::PageInHand;
 use std::alloc::{AllocError, Allocator, Global};
 use std::marker::Model;
 

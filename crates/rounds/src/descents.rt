@@ -9,9 +9,10 @@ ghost use Rattle.descent.specs.Visits.{ReadsWithin};
 ghost use Rattle.descent.specs.Descents as state;
 ghost use Rattle.rounds.specs.Descents.{sight_of, placed_state, asked_step};
 
-use crate::{Asked, PageInHand};
+use crate::Asked;
 use bw_model::Limits;
 use row_chain::{ChainPart, HeldRow};
+use smo::PageInHand;
 use std::alloc::{AllocError, Allocator, Global};
 use std::marker::Model;
 use std::mem;

@@ -3,7 +3,8 @@ ghost use Rattle.std.specs.Prelude.{◌≡◌, None, Some, IfOk, false, true};
 ghost use Rattle.descent.specs.ReadLegs.{Down, IsPlain, Past, Round, below, level_on};
 ghost use Rattle.rounds.specs.Legs.{IsPlainWithout};
 
-use crate::{Descent, PageInHand};
+use crate::Descent;
+use smo::PageInHand;
 use std::alloc::{AllocError, Allocator, Global};
 use std::marker::Model;
 

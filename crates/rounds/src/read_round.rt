@@ -23,10 +23,11 @@ mod detour;
 mod tests;
 
 use crate::way::{child_on_way, right_on_way};
-use crate::{Asked, Descent, Leg, PageInHand, Seen};
+use crate::{Asked, Descent, Leg, Seen};
 use bw_model::{Key, Limits};
 use row_chain::HeldRow;
 use row_search::KeyWords;
+use smo::PageInHand;
 use std::alloc::{AllocError, Allocator, Global};
 use std::marker::Model;
 

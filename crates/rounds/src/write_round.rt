@@ -23,11 +23,11 @@ mod tests;
 
 use crate::course::{Aim, Course};
 use crate::way::{child_on_way, right_on_way};
-use crate::{Asked, Descent, PageInHand, Seen, WriteEnded};
+use crate::{Asked, Descent, Seen, WriteEnded};
 use bw_model::{Key, Limits};
 use row_chain::HeldRow;
 use row_search::KeyWords;
-use smo::MANY_DELTAS;
+use smo::{MANY_DELTAS, PageInHand};
 use std::alloc::{AllocError, Allocator, Global};
 use std::marker::Model;
 

@@ -1,7 +1,11 @@
 pub mod Bases
+pub mod ChildWalks
+pub mod CountLaws
 pub mod Counts
+pub mod Making
 pub mod Newest
 pub mod Offers
 pub mod OneKeys
 pub mod Opening
-pub mod Typing
+pub mod PairLaws
+pub mod WalkLaws

@@ -10,8 +10,8 @@ use Rattle.deltas.specs.Spellable.{IsSpellable}
 use Rattle.record_slots.specs.Parts.{items_of}
 use Rattle.row_search.specs.OneKey.{one_key}
 use Rattle.chain_search.specs.chain.Chains.{content_in}
-use Rattle.chain_search.specs.chain.Walks.{is_open, IsGreatestKey}
-use Rattle.chain_search.proofs.WalkLaws.{in_range, offers_key}
+use Rattle.row_chain.specs.Walks.{is_open, IsGreatestKey}
+use Rattle.row_chain.proofs.WalkLaws.{in_range, offers_key}
 use Rattle.row_chain.proofs.OneKeys.{mark, named}
 
 -- a key that is there

@@ -8,9 +8,10 @@ ghost use Rattle.chain_search.specs.chain.Chains.{covers, high_in, is_removed, l
 ghost use Rattle.chain_search.specs.chain.Fitted.{IsPageChain};
 
 mod count;
+mod pages;
+mod pairs;
 mod rows;
 mod search;
-mod typed;
 mod walk;
 
 use crate::{ChainPart, HeldRow};
@@ -110,7 +111,8 @@ impl<A: Allocator> Chain<A> {
         self.as_slice()[self.deltas()].row()
     }
 
-    fn as_slice(&self) -> &[HeldRow<A>]
+    /// Its rows in order, the newest first.
+    pub fn as_slice(&self) -> &[HeldRow<A>]
         ensures { result.now ≡ self.now }
     {
         self.part.as_slice()

@@ -1,12 +1,14 @@
 //! A page's chain while it is read.
 ghost use Rattle.std.specs.Prelude.{◌≡◌, ◌<◌, ◌++◌, ◌∷◌, [], IfOk, length};
-ghost use Rattle.chain_search.specs.declared.chain_part.TheConstants.{MAX_RECORDS};
+ghost use Rattle.row_chain.specs.declared.chain_part.TheConstants.{MAX_RECORDS};
 
 use crate::HeldRow;
-use chain_search::MAX_RECORDS;
 use std::alloc::{AllocError, Allocator, Global};
 use std::marker::Model;
 use std::mem;
+
+/// How many records a chain has at most: twelve deltas and a base.
+pub const MAX_RECORDS: usize = 13;
 
 /// The rows of a page's chain that were read so far, the newest first. There are places for as many as a chain has at most, from
 /// the opening on: a row that is read changes places with what stood in the next one, so that none is copied.
@@ -19,7 +21,7 @@ pub struct ChainPart<A: Allocator = Global> {
 impl<A: Allocator> Model for ChainPart<A> {
     ghost use Rattle.std.specs.Prelude.{◌≡◌, ◌≤◌, List, length, take};
     ghost use Rattle.deltas.specs.declared.record.Record.{Record};
-    ghost use Rattle.chain_search.specs.declared.chain_part.TheConstants.{MAX_RECORDS};
+    ghost use Rattle.row_chain.specs.declared.chain_part.TheConstants.{MAX_RECORDS};
 
     ghost Value = { List Record };
 

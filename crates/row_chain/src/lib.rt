@@ -6,5 +6,5 @@ mod chain_part;
 mod held_row;
 
 pub use chain::Chain;
-pub use chain_part::ChainPart;
+pub use chain_part::{ChainPart, MAX_RECORDS};
 pub use held_row::HeldRow;

@@ -1,6 +1,6 @@
 //! One level as it stands.
 ghost use Rattle.std.specs.Prelude.{◌≡◌, ℕ, IfOk};
-ghost use Rattle.chain_search.specs.trace.Tables.{memory_in};
+ghost use Rattle.core_memory.specs.Tables.{memory_in};
 ghost use Rattle.scene.specs.Levels.{first_child};
 ghost use Rattle.tree_law.specs.LevelPages.{HasPagesOn};
 

@@ -3,7 +3,7 @@ ghost use Rattle.std.specs.Prelude.{◌≡◌, ◌<◌, List, IfOk};
 ghost use Rattle.deltas.specs.declared.record.Record.{Record as RecordSeen};
 ghost use Rattle.chain_search.specs.chain.Chains.{right_in};
 ghost use Rattle.chain_search.specs.chain.Fitted.{Makes};
-ghost use Rattle.chain_search.specs.trace.Tables.{memory_in};
+ghost use Rattle.core_memory.specs.Tables.{memory_in};
 ghost use Rattle.listing.specs.Listed.{StandsAt};
 ghost use Rattle.scene.specs.Levels.{low_child};
 

@@ -1,6 +1,6 @@
 //! A whole tree as it stands.
 ghost use Rattle.std.specs.Prelude.{◌≡◌, IfOk};
-ghost use Rattle.chain_search.specs.trace.Tables.{memory_in};
+ghost use Rattle.core_memory.specs.Tables.{memory_in};
 ghost use Rattle.scene.specs.Levels.{AreLevels};
 ghost use Rattle.scene.specs.Scenes.{IsSceneOf};
 ghost use Rattle.tree_law.specs.LevelPages.{HasAllLevels};

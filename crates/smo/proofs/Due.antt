@@ -17,7 +17,7 @@ use Rattle.chain_search.specs.discipline.Knowledge.{Knowledge, Ready, Written}
 use Rattle.chain_search.proofs.FittedLaws.{ruled}
 use Rattle.chain_search.proofs.UnheldLaws.{unheld_by_items}
 use Rattle.smo.specs.declared.split.SplitPlan.{SplitPlan}
-use Rattle.smo.specs.declared.version.Version.{Version}
+use Rattle.smo.specs.Versions.{Version}
 use Rattle.smo.specs.Splits.{IsSplitPlan, split_to}
 use Rattle.smo.specs.Terms.{IsTermPlan}
 use Rattle.smo.specs.Roots.{IsRootPlan}

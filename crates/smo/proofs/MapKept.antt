@@ -22,7 +22,7 @@ use Rattle.chain_search.specs.chain.SideChain.{LivePage, IsSideChainFrom, IsWhol
 use Rattle.chain_search.proofs.ChainLaws.{IsChainOf-unique}
 use Rattle.chain_search.proofs.FittedLaws.{ruled}
 use Rattle.smo.specs.declared.split.SplitPlan.{SplitPlan}
-use Rattle.smo.specs.declared.version.Version.{Version}
+use Rattle.smo.specs.Versions.{Version}
 use Rattle.smo.specs.Linking.{HasLeaves, HasVersion, IsSpareRow, KeepsMap, linked, with_root}
 use Rattle.smo.specs.Splits.{IsSplitPlan, split_to}
 use Rattle.smo.specs.Terms.{IsTermPlan}

@@ -16,7 +16,7 @@ use Rattle.deltas.specs.Spellable.{IsSpellable, IsSpellablePage}
 use Rattle.chain_search.specs.chain.Chains.{high_in, level_in, low_in, right_in}
 use Rattle.chain_search.specs.chain.Fitted.{FitsOver, IsFitted, Makes}
 use Rattle.chain_search.proofs.FittedLaws.{fits_over, made_children, made_right, ruled}
-use Rattle.smo.specs.declared.version.Version.{Version}
+use Rattle.smo.specs.Versions.{Version}
 use Rattle.smo.specs.Merges.{CanMerge, IsMergePlan, merge_of}
 use Rattle.smo.proofs.Places.{not_empty, of_made}
 

@@ -21,7 +21,7 @@ use Rattle.deltas.specs.Spellable.{IsSpellableLink}
 use Rattle.chain_search.specs.chain.Chains.{level_in, low_in}
 use Rattle.chain_search.specs.chain.Fitted.{IsFitted, Makes}
 use Rattle.chain_search.proofs.FittedLaws.{Makes-base, by_order, content_all, found_first, items_unique}
-use Rattle.smo.specs.declared.version.Version.{Version}
+use Rattle.smo.specs.Versions.{Version}
 use Rattle.smo.specs.Sizes.{HasItems}
 
 -- a fitted chain makes a page

@@ -13,7 +13,7 @@ use Rattle.deltas.specs.Spellable.{IsSpellable}
 use Rattle.chain_search.specs.chain.Chains.{low_in}
 use Rattle.chain_search.specs.chain.Fitted.{FitsOver, IsFitted, Makes}
 use Rattle.chain_search.proofs.FittedLaws.{fits_over, ruled}
-use Rattle.smo.specs.declared.version.Version.{Version}
+use Rattle.smo.specs.Versions.{Version}
 use Rattle.smo.specs.Removals.{CanRemove, IsRemovePlan, remove_of}
 use Rattle.smo.proofs.Places.{above_empty, above_low, held_inner, index_at, inside, made as made_of, not_empty, of_made}
 

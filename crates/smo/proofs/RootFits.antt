@@ -17,7 +17,7 @@ use Rattle.chain_search.specs.chain.Chains.{low_in, level_in}
 use Rattle.chain_search.specs.discipline.Discipline.{root_over}
 use Rattle.chain_search.specs.chain.Fitted.{IsFitted}
 use Rattle.chain_search.proofs.FittedLaws.{items_unique, ruled}
-use Rattle.smo.specs.declared.version.Version.{Version}
+use Rattle.smo.specs.Versions.{Version}
 use Rattle.smo.specs.Roots.{CanRoot, IsRootPlan}
 use Rattle.smo.specs.Neighbours.{IsNextTo}
 use Rattle.smo.proofs.Places.{made}

@@ -19,7 +19,7 @@ use Rattle.chain_search.specs.chain.Chains.{content_in, high_in, is_removed, lev
 use Rattle.chain_search.specs.chain.Fitted.{FitsOver, IsFitted, Makes}
 use Rattle.chain_search.proofs.FittedLaws.{fits_over, made_children, made_right, ruled as rules_of}
 use Rattle.smo.specs.declared.split.SplitPlan.{SplitPlan}
-use Rattle.smo.specs.declared.version.Version.{Version}
+use Rattle.smo.specs.Versions.{Version}
 use Rattle.smo.specs.Splits.{IsSplitPlace, IsSplitPlan, IsUnheldAt}
 use Rattle.smo.proofs.Places.{from_made, not_empty}
 

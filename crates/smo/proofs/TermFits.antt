@@ -17,7 +17,7 @@ use Rattle.chain_search.specs.chain.Chains.{content_in, covers, is_removed, leve
 use Rattle.chain_search.specs.chain.Fitted.{FitsOver, Makes}
 use Rattle.chain_search.proofs.FittedLaws.{by_order, fits_over}
 use Rattle.chain_search.proofs.Updated.{all_put, greater, itself, put_ascends, put_contents, put_few, with_put}
-use Rattle.smo.specs.declared.version.Version.{Version}
+use Rattle.smo.specs.Versions.{Version}
 use Rattle.smo.specs.Terms.{IsTermPlan, term_of}
 use Rattle.smo.proofs.Places.{above_low, at_first, from_made, links}
 

@@ -20,7 +20,7 @@ use Rattle.chain_search.specs.chain.Chains.{is_removed, low_in}
 use Rattle.chain_search.specs.chain.Fitted.{FitsOver, IsFitted, Makes}
 use Rattle.chain_search.proofs.FittedLaws.{ascends_after, by_order, fits_over, lacks_first, ruled}
 use Rattle.chain_search.proofs.Updated.{all_without, chosen, greater, itself, without, without_ascends, without_contents, without_few}
-use Rattle.smo.specs.declared.version.Version.{Version}
+use Rattle.smo.specs.Versions.{Version}
 use Rattle.smo.specs.Unterms.{CanUnterm, IsUntermPlan, unterm_of}
 use Rattle.smo.proofs.Places.{above_low, held_inner, index_at, inside, links, made as made_of}
 

@@ -8,7 +8,7 @@ use Rattle.deltas.specs.declared.record.Hold.{Hold}
 use Rattle.deltas.specs.declared.record.Record.TheVariants as kind
 use Rattle.chain_search.specs.chain.Chains.{content_in, is_removed, level_in, low_in}
 use Rattle.chain_search.specs.discipline.Discipline.{FitsOn}
-use Rattle.smo.specs.declared.version.Version.{Version}
+use Rattle.smo.specs.Versions.{Version}
 use Rattle.smo.specs.Sizes.{HasFewDeltas, HasItems}
 
 -- The items at two places: where the one has the key, the other isn't held.

@@ -1,3 +1,4 @@
+pub mod Versions
 pub mod Sizes
 pub mod Neighbours
 pub mod Readings

@@ -6,7 +6,7 @@ use Rattle.deltas.specs.declared.record.Record.{Record}
 use Rattle.deltas.specs.Memory.{Memory, replaced_at}
 use Rattle.chain_search.specs.chain.Chains.{IsChainFrom, IsOnChain, content_in, covers, level_in}
 use Rattle.chain_search.specs.chain.SideChain.{LivePage, IsLeaves, IsWhole, Spells}
-use Rattle.smo.specs.declared.version.Version.{Version}
+use Rattle.smo.specs.Versions.{Version}
 
 -- the memory with a record in a row, and that row in a page's slot
 abbrev pub linked : ℕ → ℕ → Record → Memory → Memory

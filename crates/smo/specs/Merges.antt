@@ -5,7 +5,7 @@ use Rattle.deltas.specs.declared.record.Merge.{Merge}
 use Rattle.deltas.specs.declared.record.Record.TheVariants as kind
 use Rattle.chain_search.specs.chain.Chains.{IsItemsOf, high_in, is_removed, level_in, low_in, right_in}
 use Rattle.chain_search.specs.discipline.Discipline.{FitsOn}
-use Rattle.smo.specs.declared.version.Version.{Version}
+use Rattle.smo.specs.Versions.{Version}
 use Rattle.smo.specs.Neighbours.{IsNextTo}
 use Rattle.smo.specs.Sizes.{HasFewDeltas, HasFewItems, HasItems, HasNoneHeld}
 

@@ -2,7 +2,7 @@
 use Rattle.std.specs.Prelude.{◌≡◌, Some}
 use Rattle.chain_search.specs.chain.Chains.{IsChainFrom}
 use Rattle.chain_search.specs.discipline.Knowledge.{Knowledge}
-use Rattle.smo.specs.declared.version.Version.{Version}
+use Rattle.smo.specs.Versions.{Version}
 
 -- The page's slot was last read with this row, and the chain from it.
 pub record HasSeen (k : Knowledge) (version : Version) : Type 0 where

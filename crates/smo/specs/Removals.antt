@@ -5,7 +5,7 @@ use Rattle.deltas.specs.declared.record.Record.TheVariants as kind
 use Rattle.deltas.specs.declared.record.Remove.{Remove}
 use Rattle.chain_search.specs.chain.Chains.{content_in, is_removed, level_in, low_in}
 use Rattle.chain_search.specs.discipline.Discipline.{FitsOn}
-use Rattle.smo.specs.declared.version.Version.{Version}
+use Rattle.smo.specs.Versions.{Version}
 use Rattle.smo.specs.Sizes.{HasFewDeltas, HasItems, HasNoneHeld}
 
 -- The parent has the page's term held; the page isn't removed, and has at most 4 items, none of them held, and fewer than 8 deltas.

@@ -4,7 +4,7 @@ use Rattle.base_page.specs.Pages.{Page}
 use Rattle.deltas.specs.declared.record.Record.TheVariants as kind
 use Rattle.chain_search.specs.chain.Chains.{is_removed, level_in, low_in}
 use Rattle.chain_search.specs.discipline.Discipline.{FitsOn, root_over}
-use Rattle.smo.specs.declared.version.Version.{Version}
+use Rattle.smo.specs.Versions.{Version}
 use Rattle.smo.specs.Neighbours.{IsNextTo}
 
 -- The left page begins at the empty key and is below level 15; the other is its right, begins at its high key and isn't removed.

@@ -12,7 +12,7 @@ use Rattle.chain_search.specs.chain.Chains.{IsItemsOf, content_in, high_in, is_r
 use Rattle.chain_search.specs.discipline.Discipline.{FitsOn, base_from}
 use Rattle.chain_search.specs.chain.Fitted.{IsFitted}
 use Rattle.smo.specs.declared.split.SplitPlan.{SplitPlan}
-use Rattle.smo.specs.declared.version.Version.{Version}
+use Rattle.smo.specs.Versions.{Version}
 use Rattle.smo.specs.Sizes.{HasFewDeltas, HasManyItems}
 
 -- The page isn't removed, has fewer than 8 deltas, and 16 items or more.

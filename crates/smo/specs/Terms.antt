@@ -4,7 +4,7 @@ use Rattle.deltas.specs.declared.record.Record.TheVariants as kind
 use Rattle.deltas.specs.declared.record.Term.{Term}
 use Rattle.chain_search.specs.chain.Chains.{content_in, covers, is_removed, level_in, low_in}
 use Rattle.chain_search.specs.discipline.Discipline.{FitsOn}
-use Rattle.smo.specs.declared.version.Version.{Version}
+use Rattle.smo.specs.Versions.{Version}
 use Rattle.smo.specs.Sizes.{HasFewDeltas, HasFewItems}
 
 -- Neither is removed; the parent is one level up, has the page's low key in its range and no term there, fewer than 8 deltas and

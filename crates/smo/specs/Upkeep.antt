@@ -5,7 +5,7 @@ use Rattle.smo.specs.Removals.{CanRemove, IsRemovePlan}
 use Rattle.smo.specs.Sizes.{HasItems, HasNoneHeld}
 use Rattle.smo.specs.declared.upkeep.Upkeep.{Upkeep}
 use Rattle.smo.specs.declared.upkeep.Upkeep.TheVariants.{Hold, Remove}
-use Rattle.smo.specs.declared.version.Version.{Version}
+use Rattle.smo.specs.Versions.{Version}
 
 -- A page may be removed that isn't page 1 and has at most 4 items, none of them held.
 pub record IsSmall (page : Version) : Type 0 where

@@ -6,21 +6,28 @@ ghost use Rattle.base_page.specs.Rules.{held_count, is_held};
 ghost use Rattle.chain_search.specs.chain.Chains.{content_in, low_in};
 ghost use Rattle.smo.specs.Sizes.{HasNoneHeld};
 
-use crate::Version;
+use crate::PageInHand;
 use base_page::{Content, Item};
-use chain_search::Chain;
+use row_chain::Chain;
+use row_search::KeyWords;
+use std::alloc::Allocator;
 
 /// Whether the parent has the page's term, held or not as said.
-pub(crate) fn has_term(parent: &Version, page: &Version, held: bool) -> bool
+pub(crate) fn has_term<A: Allocator>(
+    parent: &PageInHand<A>,
+    page: &PageInHand<A>,
+    held: bool,
+) -> bool
     ensures { Decides result (content_in parent.now.chain (low_in page.now.chain) ≡ Some (Child page.now.pid held)) }
 {
-    match parent.chain.content(page.chain.low()) {
+    let low = page.chain().low();
+    match parent.chain().content(&KeyWords::of(&low)) {
         Some(
             Content::Child {
                 page: child,
                 held: mark,
             },
-        ) => child == page.pid && mark == held,
+        ) => child == page.pid() && mark == held,
         _ => false,
     }
 }
@@ -49,7 +56,8 @@ pub(crate) fn held_count(items: &[Item]) -> usize
 }
 
 /// Whether no term of the page is held; on a leaf there is none.
-pub(crate) fn is_unheld(chain: &Chain) -> bool
+#[inline(never)]
+pub(crate) fn is_unheld<A: Allocator>(chain: &Chain<A>) -> bool
     ensures { Decides result (HasNoneHeld chain.now) }
 {
     chain.keeps_rules();

@@ -4,43 +4,46 @@ ghost use Rattle.std.specs.Bool.{Decides};
 ghost use Rattle.base_page.specs.Rules.{is_held};
 ghost use Rattle.smo.specs.Holds.{CanHold, HasFreeNeighbours, IsHoldPlan};
 
-use crate::Version;
+use crate::PageInHand;
 use crate::held::{has_term, held_count, is_held};
 use crate::sizes::{MANY_DELTAS, MANY_HELD};
 use base_page::Item;
 use bw_model::Key;
 use deltas::Hold;
+use std::alloc::Allocator;
 
 /// The hold of the page's term in its parent; none exactly where the parent is removed, hasn't the term unheld, or has it as its first
 /// or beside a held one, or has many held terms or many deltas.
-pub fn plan_hold(parent: &Version, page: &Version) -> Option<Hold>
+#[inline(never)]
+pub fn plan_hold<A: Allocator>(parent: &PageInHand<A>, page: &PageInHand<A>) -> Option<Hold>
     ensures { MatchOption result (¬ CanHold parent.now page.now) (IsHoldPlan parent.now page.now) }
 {
-    let low = page.chain.low();
-    if parent.chain.is_removed() {
+    let above = parent.chain();
+    let low = page.chain().low();
+    if above.is_removed() {
         return None;
     }
     if !has_term(parent, page, false) {
         return None;
     }
-    if low.cmp(parent.chain.low()).is_eq() {
+    if low.cmp(&above.low()).is_eq() {
         return None;
     }
-    if parent.chain.deltas() >= MANY_DELTAS {
+    if above.deltas() >= MANY_DELTAS {
         return None;
     }
-    let made = parent.chain.page();
+    let made = above.page();
     if held_count(made.items().as_slice()) >= MANY_HELD {
         return None;
     }
-    if !has_free_neighbours(low, made.items().as_slice()) {
+    if !has_free_neighbours(&low, made.items().as_slice()) {
         return None;
     }
     Some(Hold {
-        level: parent.chain.level(),
-        next: parent.head,
-        separator: low.copied(),
-        child: page.pid,
+        level: above.level(),
+        next: parent.head(),
+        separator: low,
+        child: page.pid(),
     })
 }
 

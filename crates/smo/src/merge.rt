@@ -2,45 +2,48 @@
 ghost use Rattle.std.specs.Prelude.{◌≡◌, MatchOption, option_copied};
 ghost use Rattle.smo.specs.Merges.{CanMerge, IsMergePlan};
 
-use crate::Version;
+use crate::PageInHand;
 use crate::held::held_count;
 use crate::neighbours::is_next_to;
 use crate::sizes::{MANY_DELTAS, MANY_ITEMS};
 use bw_model::Key;
 use deltas::Merge;
+use std::alloc::Allocator;
 
 /// The merge of what the removed page has; none exactly where the left page is removed, or has many deltas or items, or the other isn't
 /// its right and stands at its high key, isn't removed, is of another level, or has a held term. (A removed page has few items.)
-pub fn plan_merge(left: &Version, removed: &Version) -> Option<Merge>
+pub fn plan_merge<A: Allocator>(left: &PageInHand<A>, removed: &PageInHand<A>) -> Option<Merge>
     ensures { MatchOption result (¬ CanMerge left.now removed.now) (IsMergePlan left.now removed.now) }
 {
-    left.chain.keeps_rules();
-    removed.chain.keeps_rules();
-    if left.chain.is_removed() {
+    let chain = left.chain();
+    let gone = removed.chain();
+    chain.keeps_rules();
+    gone.keeps_rules();
+    if chain.is_removed() {
         return None;
     }
     if !is_next_to(left, removed) {
         return None;
     }
-    if !removed.chain.is_removed() {
+    if !gone.is_removed() {
         return None;
     }
-    if removed.chain.level() != left.chain.level() {
+    if gone.level() != chain.level() {
         return None;
     }
-    if left.chain.deltas() >= MANY_DELTAS {
+    if chain.deltas() >= MANY_DELTAS {
         return None;
     }
-    if left.chain.item_count() >= MANY_ITEMS {
+    if chain.item_count() >= MANY_ITEMS {
         return None;
     }
-    let merged = removed.chain.page();
+    let merged = gone.page();
     if held_count(merged.items().as_slice()) > 0 {
         return None;
     }
     Some(Merge {
-        level: left.chain.level(),
-        next: left.head,
+        level: chain.level(),
+        next: left.head(),
         low: merged.low().copied(),
         high: copied(merged.high()),
         right: merged.right(),

@@ -4,38 +4,41 @@ ghost use Rattle.bw_model.specs.Bytes.{is_below};
 ghost use Rattle.base_page.specs.declared.item.Content.TheVariants.{Child};
 ghost use Rattle.smo.specs.Roots.{CanRoot, IsRootPlan};
 
-use crate::Version;
+use crate::PageInHand;
 use crate::neighbours::is_next_to;
 use crate::sizes::TOP_LEVEL;
 use base_page::{Content, Items, Page};
 use bw_model::Key;
+use std::alloc::Allocator;
 
 /// The root over a page and its right, one level up; none exactly where the page doesn't begin at the empty key, or the other isn't
 /// its right and stands at its high key, or is removed, or the page is of the highest level.
-pub fn plan_root(left: &Version, right: &Version) -> Option<Page>
+pub fn plan_root<A: Allocator>(left: &PageInHand<A>, right: &PageInHand<A>) -> Option<Page>
     ensures { MatchOption result (¬ CanRoot left.now right.now) (IsRootPlan left.now right.now) }
 {
-    left.chain.keeps_rules();
-    if !left.chain.low().as_slice().is_empty() {
+    let chain = left.chain();
+    let beside = right.chain();
+    chain.keeps_rules();
+    if !chain.low().as_slice().is_empty() {
         return None;
     }
     if !is_next_to(left, right) {
         return None;
     }
-    if right.chain.is_removed() {
+    if beside.is_removed() {
         return None;
     }
-    if left.chain.level() >= TOP_LEVEL {
+    if chain.level() >= TOP_LEVEL {
         return None;
     }
-    let items = two_terms(left.pid, right.chain.low(), right.pid);
-    Some(Page::new(left.chain.level() + 1, Key::default(), None, None, items))
+    let items = two_terms(left.pid(), beside.low(), right.pid());
+    Some(Page::new(chain.level() + 1, Key::default(), None, None, items))
 }
 
 /// The terms of a page at the empty key, and of one at a key above.
-fn two_terms(left: u16, separator: &Key, right: u16) -> Items
-    requires { IsTrue (is_below [] separator.now) }
-    ensures { result ≡ record { key = []; content = Child left false } ∷ record { key = separator.now; content = Child right false } ∷ [] }
+fn two_terms(left: u16, separator: Key, right: u16) -> Items
+    requires { IsTrue (is_below [] separator) }
+    ensures { result ≡ record { key = []; content = Child left false } ∷ record { key = separator; content = Child right false } ∷ [] }
 {
     let mut items = Items::new();
     let first = Content::Child {
@@ -47,6 +50,6 @@ fn two_terms(left: u16, separator: &Key, right: u16) -> Items
         page: right,
         held: false,
     };
-    items.put(separator.copied(), second);
+    items.put(separator, second);
     items
 }

@@ -3,11 +3,12 @@ ghost use Rattle.std.specs.Prelude.{◌≡◌, ◌<◌, ◌≤◌, MatchOption, 
 ghost use Rattle.base_page.specs.Rules.{AreApart};
 ghost use Rattle.smo.specs.Splits.{CanSplit, IsSplitPlace, IsSplitPlan, split_to};
 
-use crate::Version;
+use crate::PageInHand;
 use crate::held::is_held;
 use crate::sizes::{MANY_DELTAS, MANY_ITEMS};
 use base_page::{Items, Page};
 use deltas::Split;
+use std::alloc::Allocator;
 
 /// A split that lacks only the PID of the new page: that page, and the row of the page that is split.
 #[derive(Debug, Drop)]
@@ -33,25 +34,26 @@ impl SplitPlan {
 /// The page that is to stand to the right of a page that is split, and the split; none exactly where the page is removed, has many
 /// deltas, or hasn't many items.
 #[inline(never)]
-pub fn plan_split(page: &Version) -> Option<SplitPlan>
+pub fn plan_split<A: Allocator>(page: &PageInHand<A>) -> Option<SplitPlan>
     ensures { MatchOption result (¬ CanSplit page.now) (IsSplitPlan page.now) }
 {
-    page.chain.keeps_rules();
-    if page.chain.is_removed() {
+    let chain = page.chain();
+    chain.keeps_rules();
+    if chain.is_removed() {
         return None;
     }
-    if page.chain.deltas() >= MANY_DELTAS {
+    if chain.deltas() >= MANY_DELTAS {
         return None;
     }
-    if page.chain.item_count() < MANY_ITEMS {
+    if chain.item_count() < MANY_ITEMS {
         return None;
     }
-    let whole = page.chain.page();
+    let whole = chain.page();
     let place = split_place(whole.items());
     let (_, upper) = whole.cut_at(place, 1);
     Some(SplitPlan {
         upper,
-        next: page.head,
+        next: page.head(),
     })
 }
 

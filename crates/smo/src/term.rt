@@ -2,42 +2,47 @@
 ghost use Rattle.std.specs.Prelude.{MatchOption};
 ghost use Rattle.smo.specs.Terms.{CanPost, IsTermPlan};
 
-use crate::Version;
+use crate::PageInHand;
 use crate::sizes::{MANY_DELTAS, MANY_ITEMS};
 use deltas::Term;
+use row_search::KeyWords;
+use std::alloc::Allocator;
 
 /// The term of the page in its parent; none exactly where either is removed, the parent isn't one level up with the page's low key in
 /// its range and no term there, or has many deltas or items.
-pub fn plan_term(parent: &Version, page: &Version) -> Option<Term>
+pub fn plan_term<A: Allocator>(parent: &PageInHand<A>, page: &PageInHand<A>) -> Option<Term>
     ensures { MatchOption result (¬ CanPost parent.now page.now) (IsTermPlan parent.now page.now) }
 {
-    parent.chain.keeps_rules();
-    let low = page.chain.low();
-    if parent.chain.is_removed() {
+    let above = parent.chain();
+    let chain = page.chain();
+    above.keeps_rules();
+    let low = chain.low();
+    let key = KeyWords::of(&low);
+    if above.is_removed() {
         return None;
     }
-    if page.chain.is_removed() {
+    if chain.is_removed() {
         return None;
     }
-    if u16::from(parent.chain.level()) != u16::from(page.chain.level()) + 1 {
+    if u16::from(above.level()) != u16::from(chain.level()) + 1 {
         return None;
     }
-    if !parent.chain.covers(low) {
+    if !above.covers(&key) {
         return None;
     }
-    if parent.chain.content(low).is_some() {
+    if above.content(&key).is_some() {
         return None;
     }
-    if parent.chain.deltas() >= MANY_DELTAS {
+    if above.deltas() >= MANY_DELTAS {
         return None;
     }
-    if parent.chain.item_count() >= MANY_ITEMS {
+    if above.item_count() >= MANY_ITEMS {
         return None;
     }
     Some(Term {
-        level: parent.chain.level(),
-        next: parent.head,
-        separator: low.copied(),
-        child: page.pid,
+        level: above.level(),
+        next: parent.head(),
+        separator: low,
+        child: page.pid(),
     })
 }

@@ -4,8 +4,9 @@ ghost use Rattle.smo.specs.Upkeep.{IsIdle, IsUpkeep};
 
 use crate::held::is_unheld;
 use crate::sizes::FEW_ITEMS;
-use crate::{Version, plan_hold, plan_remove};
+use crate::{PageInHand, plan_hold, plan_remove};
 use deltas::{Hold, Remove};
+use std::alloc::Allocator;
 
 /// What is done first at a small page, below its parent.
 #[derive(Debug, Drop)]
@@ -18,17 +19,18 @@ pub enum Upkeep {
 
 /// The removal of the page where its term is held, else the hold of its term; none exactly where the page is page 1, or has more
 /// than a few items or a held one, or its term is neither held nor may be.
-pub fn plan_upkeep(parent: &Version, page: &Version) -> Option<Upkeep>
+pub fn plan_upkeep<A: Allocator>(parent: &PageInHand<A>, page: &PageInHand<A>) -> Option<Upkeep>
     ensures { MatchOption result (IsIdle parent.now page.now) (IsUpkeep parent.now page.now) }
 {
-    page.chain.keeps_rules();
-    if page.pid == 1 {
+    let chain = page.chain();
+    chain.keeps_rules();
+    if page.pid() == 1 {
         return None;
     }
-    if page.chain.item_count() > FEW_ITEMS {
+    if chain.item_count() > FEW_ITEMS {
         return None;
     }
-    if !is_unheld(&page.chain) {
+    if !is_unheld(chain) {
         return None;
     }
     if let Some(remove) = plan_remove(parent, page) {

@@ -17,7 +17,7 @@ use Rattle.chain_search.specs.declared.trace.Entry.TheVariants.{Begin, Step}
 use Rattle.chain_search.specs.declared.trace.Turn.TheVariants as turn
 use Rattle.deltas.specs.Memory.{opening}
 use Rattle.chain_search.specs.trace.Steps.{IsAnswer, memory_after}
-use Rattle.chain_search.specs.trace.Tables.{Table, memory_in}
+use Rattle.core_memory.specs.Tables.{Table, memory_in}
 use Rattle.chain_search.specs.trace.Trace.{command_of, commands_after, memory_of}
 use Rattle.chain_search.specs.discipline.Discipline.{IsAllowed, May}
 use Rattle.chain_search.specs.discipline.Disciplined.{IsDisciplinedFrom, MayStand}

@@ -10,7 +10,7 @@ use Rattle.chain_search.specs.declared.trace.Entry.{Entry}
 use Rattle.chain_search.specs.discipline.Discipline.{May}
 use Rattle.chain_search.specs.discipline.Knowledge.{knows}
 use Rattle.chain_search.specs.discipline.Recalled.{Recalled}
-use Rattle.chain_search.specs.trace.Tables.{IsWithinTable, Table, memory_in}
+use Rattle.core_memory.specs.Tables.{IsWithinTable, Table, memory_in}
 use Rattle.chain_search.specs.trace.Trace.{memory_of}
 use Rattle.chain_search.specs.trace.Within.{IsWithin}
 use Rattle.op_machine.specs.machine.Hands.{Hand}

@@ -11,7 +11,7 @@ use Rattle.chain_search.specs.discipline.Fitting.{Fits}
 use Rattle.chain_search.specs.discipline.Knowledge.{Knowledge}
 use Rattle.chain_search.specs.discipline.Recalled.{Recalled}
 use Rattle.chain_search.specs.trace.Steps.{IsAnswer}
-use Rattle.chain_search.specs.trace.Tables.{IsWithinTable, Table}
+use Rattle.core_memory.specs.Tables.{IsWithinTable, Table}
 use Rattle.step_core.specs.Turns.{EndsPage}
 
 -- Whatever the memory answers to the step fits what the actor knows.

@@ -5,7 +5,7 @@ use Rattle.chain_search.specs.declared.trace.Entry.{Entry}
 use Rattle.chain_search.specs.discipline.Disciplined.{IsDisciplined}
 use Rattle.chain_search.specs.discipline.Knowledge.{knows}
 use Rattle.chain_search.specs.discipline.Recalled.{recalls}
-use Rattle.chain_search.specs.trace.Tables.{Table, memory_in}
+use Rattle.core_memory.specs.Tables.{Table, memory_in}
 use Rattle.chain_search.specs.trace.Trace.{command_of, memory_of}
 use Rattle.tree_law.specs.Direct.{Accounts, IsDirectState}
 use Rattle.tree_law.specs.State.{IsState}

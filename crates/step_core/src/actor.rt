@@ -5,7 +5,7 @@ ghost use Rattle.bw_model.specs.declared.limits.Limits.{Limits};
 ghost use Rattle.chain_search.specs.discipline.Knowledge.{Knowledge};
 ghost use Rattle.chain_search.specs.discipline.Recalled.{Recalled};
 ghost use Rattle.chain_search.specs.trace.Steps.{IsAnswer, memory_after};
-ghost use Rattle.chain_search.specs.trace.Tables.{memory_in};
+ghost use Rattle.core_memory.specs.Tables.{memory_in};
 ghost use Rattle.step_core.specs.Actors.{IsReady, IsWithinAt, NeedsRoom};
 ghost use Rattle.step_core.specs.Turns.{KeepsMore, link_told};
 

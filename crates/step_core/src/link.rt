@@ -1,6 +1,6 @@
 //! What an exchange that won has done.
 ghost use Rattle.std.specs.Prelude.{◌≡◌};
-ghost use Rattle.chain_search.specs.trace.Tables.{memory_in};
+ghost use Rattle.core_memory.specs.Tables.{memory_in};
 ghost use Rattle.op_machine.specs.theorem.Links.{link_of, link_without};
 
 use bw_model::Link;

@@ -1,31 +1,32 @@
 //! Holds in an index page of many terms, and where such a page is split.
-ghost use Rattle.std.specs.Prelude.{◌≡◌, ◌≤◌, false};
+ghost use Rattle.std.specs.Prelude.{◌≡◌, false};
 ghost use Rattle.chain_search.specs.chain.Chains.{is_removed};
 
 use crate::plans::grown::{at, with_hold, with_term};
-use crate::plans::{bare, leaf, parent, version};
-use smo::{Version, plan_hold, plan_split};
+use crate::plans::{bare, leaf, version};
+use smo::{PageInHand, plan_hold, plan_split};
+use std::process::Abort;
 
 /// An index page of sixteen terms, where those at these places are held.
-fn sixteen(places: &[u8]) -> Version
+fn sixteen<R: Abort + AllocGlobal>(rt: &R, places: &[u8]) -> PageInHand
     ensures alive { is_removed result.chain ≡ false }
 {
-    let mut page = parent(bare());
+    let mut page = bare(rt);
     for place in 1..16 {
-        page = with_term(page, place);
+        page = with_term(rt, page, place);
     }
     for place in places {
-        page = with_hold(page, *place);
+        page = with_hold(rt, page, *place);
     }
     page
 }
 
 /// Whether what the parent gets, over row 7, holds the term at the place; none where it gets nothing.
-fn holds(parent: &Version, place: u8) -> Option<bool>
+fn holds<R: Abort + AllocGlobal>(rt: &R, parent: &PageInHand, place: u8) -> Option<bool>
     requires alive { is_removed parent.now.chain ≡ false }
 {
     let child = u16::from(place) + 10;
-    let page = version(child, 0, leaf(at(place), 0));
+    let page = version(rt, child, 0, leaf(at(place), 0));
     let hold = plan_hold(parent, &page)?;
     let named = (hold.level, hold.next, hold.child) == (1, 7, child);
     Some(named && hold.separator == at(place))
@@ -33,21 +34,21 @@ fn holds(parent: &Version, place: u8) -> Option<bool>
 
 #[test]
 fn holds_beside_no_held_term(rt: HostRuntime) {
-    let page = sixteen(&[3]);
+    let page = sixteen(&rt, &[3]);
     let held = [
-        holds(&page, 1),
-        holds(&page, 2),
-        holds(&page, 3),
-        holds(&page, 4),
-        holds(&page, 5),
+        holds(&rt, &page, 1),
+        holds(&rt, &page, 2),
+        holds(&rt, &page, 3),
+        holds(&rt, &page, 4),
+        holds(&rt, &page, 5),
     ];
     assert_eq!(rt; held, [Some(true), None, None, None, Some(true)]);
 }
 
 #[test]
 fn holds_four_terms(rt: HostRuntime) {
-    let fourth = holds(&sixteen(&[2, 6, 10]), 14);
-    let fifth = holds(&sixteen(&[2, 6, 10, 12]), 14);
+    let fourth = holds(&rt, &sixteen(&rt, &[2, 6, 10]), 14);
+    let fifth = holds(&rt, &sixteen(&rt, &[2, 6, 10, 12]), 14);
     assert_eq!(rt; [fourth, fifth], [Some(true), None]);
 }
 
@@ -61,7 +62,7 @@ const SPLIT: &[(&[u8], u8, usize)] = &[
 ];
 
 /// Whether the page is split at the place, and so many items go.
-fn is_split(page: &Version, place: u8, count: usize) -> bool {
+fn is_split(page: &PageInHand, place: u8, count: usize) -> bool {
     match plan_split(page) {
         None => false,
         Some(plan) => plan.upper.low() == &at(place) && plan.upper.items().len() == count,
@@ -71,6 +72,6 @@ fn is_split(page: &Version, place: u8, count: usize) -> bool {
 #[test]
 fn splits_at_no_held_term(rt: HostRuntime) {
     for (held, place, count) in SPLIT {
-        assert!(rt; is_split(&sixteen(held), *place, *count));
+        assert!(rt; is_split(&sixteen(&rt, held), *place, *count));
     }
 }

@@ -7,7 +7,8 @@ use crate::plans::grown::based;
 use crate::plans::key;
 use base_page::{Content, Items, Page};
 use bw_model::Key;
-use smo::Version;
+use smo::PageInHand;
+use std::process::Abort;
 
 pub(crate) fn term(page: u16) -> Content
     ensures { result ≡ Child page false }
@@ -34,12 +35,12 @@ fn lower(level: u8) -> Page
 }
 
 /// That page, as it was read.
-pub(crate) fn read(level: u8) -> Version
+pub(crate) fn read<R: Abort + AllocGlobal>(rt: &R, level: u8) -> PageInHand
     requires index { 0 < level }
     requires top { level ≤ 15 }
     ensures alive { is_removed result.chain ≡ false }
 {
-    based(1, lower(level))
+    based(rt, 1, lower(level))
 }
 
 /// An index page of the first level from "k09" on, where page 3 begins.
@@ -51,8 +52,8 @@ fn upper() -> Page
 }
 
 /// That page, as it was read.
-pub(crate) fn right() -> Version
+pub(crate) fn right<R: Abort + AllocGlobal>(rt: &R) -> PageInHand
     ensures alive { is_removed result.chain ≡ false }
 {
-    based(2, upper())
+    based(rt, 2, upper())
 }

@@ -8,26 +8,27 @@ use crate::plans::grown::{
 };
 use crate::plans::{leaf, version};
 use bw_model::Key;
-use smo::{Version, plan_merge, plan_remove, plan_unterm};
+use smo::{PageInHand, plan_merge, plan_remove, plan_unterm};
+use std::process::Abort;
 
 /// A root that holds the term of its second leaf; the first leaf; the second one, which has four items; and that one removed.
 #[derive(Drop)]
 struct Family {
-    root: Version,
-    left: Version,
-    right: Version,
-    gone: Version,
+    root: PageInHand,
+    left: PageInHand,
+    right: PageInHand,
+    gone: PageInHand,
 }
 
-fn related() -> Option<Family>
+fn related<R: Abort + AllocGlobal>(rt: &R) -> Option<Family>
     ensures root { IfSome result (λ pages. is_removed pages.root.chain ≡ false) }
     ensures left { IfSome result (λ pages. is_removed pages.left.chain ≡ false) }
 {
-    let (left, _) = split(1, Key::default(), 16, 2)?;
-    let (whole, _) = split(2, at(8), 24, 3)?;
-    let right = thinned(whole, 12);
-    let root = held(&root_over(&left, &right)?, &right)?;
-    let gone = removed(&root, &right)?;
+    let (left, _) = split(rt, 1, Key::default(), 16, 2)?;
+    let (whole, _) = split(rt, 2, at(8), 24, 3)?;
+    let right = thinned(rt, whole, 12);
+    let root = held(rt, &root_over(rt, &left, &right)?, &right)?;
+    let gone = removed(rt, &root, &right)?;
     Some(Family {
         root,
         left,
@@ -37,14 +38,14 @@ fn related() -> Option<Family>
 }
 
 /// Whether the left page gets the removed one.
-fn merges(left: &Version, removed: &Version) -> bool {
+fn merges(left: &PageInHand, removed: &PageInHand) -> bool {
     plan_merge(left, removed).is_some()
 }
 
 /// Whether the left page, over row 7, gets so many items from the middle of its leaf on, up to the key, where the right page begins.
 fn brings(
-    left: &Version,
-    removed: &Version,
+    left: &PageInHand,
+    removed: &PageInHand,
     count: u8,
     high: Option<Key>,
     right: Option<u16>,
@@ -60,14 +61,20 @@ fn brings(
 }
 
 /// Whether the parent loses the removed page's term.
-fn unterms(parent: &Version, left: &Version, removed: &Version) -> bool
+fn unterms(parent: &PageInHand, left: &PageInHand, removed: &PageInHand) -> bool
     requires alive { is_removed parent.now.chain ≡ false }
 {
     plan_unterm(parent, left, removed).is_some()
 }
 
 /// Whether the parent, over row 7, loses the term of this child at the key of this place.
-fn loses(parent: &Version, left: &Version, removed: &Version, place: u8, child: u16) -> bool
+fn loses(
+    parent: &PageInHand,
+    left: &PageInHand,
+    removed: &PageInHand,
+    place: u8,
+    child: u16,
+) -> bool
     requires alive { is_removed parent.now.chain ≡ false }
 {
     match plan_unterm(parent, left, removed) {
@@ -81,7 +88,7 @@ fn loses(parent: &Version, left: &Version, removed: &Version, place: u8, child: 
 
 #[test]
 fn merges_a_removed_page(rt: HostRuntime) {
-    let pages = related().expect(&rt, "a removal");
+    let pages = related(&rt).expect(&rt, "a removal");
     let brought = brings(&pages.left, &pages.gone, 12, Some(at(16)), Some(3));
     let refused = [
         merges(&pages.left, &pages.right),
@@ -92,27 +99,32 @@ fn merges_a_removed_page(rt: HostRuntime) {
 
 #[test]
 fn merges_a_removed_base(rt: HostRuntime) {
-    let pages = related().expect(&rt, "a removal");
-    let gone = removed(&pages.root, &version(2, 0, leaf(at(8), 11)));
+    let pages = related(&rt).expect(&rt, "a removal");
+    let gone = removed(&rt, &pages.root, &version(&rt, 2, 0, leaf(at(8), 11)));
     let brought = gone.map(|gone| brings(&pages.left, &gone, 11, None, None));
     assert_eq!(rt; brought, Some(true));
 }
 
 /// Whether a page 4 that was split so, from so many items to this page, gets the removed one.
-fn merges_left_of(removed: &Version, count: u8, right: u16) -> Option<bool>
+fn merges_left_of<R: Abort + AllocGlobal>(
+    rt: &R,
+    removed: &PageInHand,
+    count: u8,
+    right: u16,
+) -> Option<bool>
     requires right { IsPid right }
 {
-    let (left, _) = split(4, Key::default(), count, right)?;
+    let (left, _) = split(rt, 4, Key::default(), count, right)?;
     Some(merges(&left, removed))
 }
 
 #[test]
 fn merges_into_the_left_page_alone(rt: HostRuntime) {
-    let gone = related().expect(&rt, "a removal").gone;
-    let before = merges_left_of(&gone, 17, 2);
-    let before_another = merges_left_of(&gone, 16, 3);
-    let up_to_the_ninth = merges_left_of(&gone, 18, 2);
-    let endless = merges(&version(4, 0, leaf(Key::default(), 8)), &gone);
+    let gone = related(&rt).expect(&rt, "a removal").gone;
+    let before = merges_left_of(&rt, &gone, 17, 2);
+    let before_another = merges_left_of(&rt, &gone, 16, 3);
+    let up_to_the_ninth = merges_left_of(&rt, &gone, 18, 2);
+    let endless = merges(&version(&rt, 4, 0, leaf(Key::default(), 8)), &gone);
     assert_eq!(rt;
         [before, before_another, up_to_the_ninth, Some(endless)],
         [Some(true), Some(false), Some(false), Some(false)]
@@ -121,10 +133,10 @@ fn merges_into_the_left_page_alone(rt: HostRuntime) {
 
 #[test]
 fn merges_under_eight_deltas(rt: HostRuntime) {
-    let pages = related().expect(&rt, "a removal");
-    let seven = without(without(thinned(pages.left, 0), 4), 5);
+    let pages = related(&rt).expect(&rt, "a removal");
+    let seven = without(&rt, without(&rt, thinned(&rt, pages.left, 0), 4), 5);
     let given = merges(&seven, &pages.gone);
-    let refused = merges(&without(seven, 6), &pages.gone);
+    let refused = merges(&without(&rt, seven, 6), &pages.gone);
     assert_eq!(rt; [given, refused], [true, false]);
 }
 
@@ -135,8 +147,8 @@ fn ends_the_term_of_a_merged_page(rt: HostRuntime) {
         left,
         right,
         gone,
-    } = related().expect(&rt, "a removal");
-    let whole = joined(&left, &gone).expect(&rt, "a merge");
+    } = related(&rt).expect(&rt, "a removal");
+    let whole = joined(&rt, &left, &gone).expect(&rt, "a merge");
     let ended = [
         loses(&root, &whole, &gone, 8, 2),
         unterms(&root, &left, &gone),
@@ -153,27 +165,27 @@ fn ends_no_term_that_is_not_held(rt: HostRuntime) {
         right,
         gone,
         ..
-    } = related().expect(&rt, "a removal");
-    let whole = joined(&left, &gone).expect(&rt, "a merge");
-    let unheld = root_over(&left, &right).expect(&rt, "a root");
+    } = related(&rt).expect(&rt, "a removal");
+    let whole = joined(&rt, &left, &gone).expect(&rt, "a merge");
+    let unheld = root_over(&rt, &left, &right).expect(&rt, "a root");
     assert!(rt; !unterms(&unheld, &whole, &gone));
 }
 
 #[test]
 fn ends_a_term_under_seven_deltas(rt: HostRuntime) {
-    let pages = related().expect(&rt, "a removal");
-    let whole = joined(&pages.left, &pages.gone).expect(&rt, "a merge");
-    let seven = with_terms(pages.root, 0, 6);
+    let pages = related(&rt).expect(&rt, "a removal");
+    let whole = joined(&rt, &pages.left, &pages.gone).expect(&rt, "a merge");
+    let seven = with_terms(&rt, pages.root, 0, 6);
     let given = loses(&seven, &whole, &pages.gone, 8, 2);
-    let refused = unterms(&with_terms(seven, 6, 7), &whole, &pages.gone);
+    let refused = unterms(&with_terms(&rt, seven, 6, 7), &whole, &pages.gone);
     assert_eq!(rt; [given, refused], [true, false]);
 }
 
 #[test]
 fn ends_a_term_inside_its_left_page(rt: HostRuntime) {
-    let pages = related().expect(&rt, "a removal");
-    let endless = version(1, 0, leaf(Key::default(), 3));
-    let beside = version(4, 0, leaf(at(8), 12));
+    let pages = related(&rt).expect(&rt, "a removal");
+    let endless = version(&rt, 1, 0, leaf(Key::default(), 3));
+    let beside = version(&rt, 4, 0, leaf(at(8), 12));
     let ended = [
         unterms(&pages.root, &endless, &pages.gone),
         unterms(&pages.root, &beside, &pages.gone),
@@ -182,22 +194,25 @@ fn ends_a_term_inside_its_left_page(rt: HostRuntime) {
 }
 
 /// A root that holds the term of its third leaf, the second leaf, and the third one, removed.
-fn last_of_three(left: &Version) -> Option<(Version, Version, Version)>
+fn last_of_three<R: Abort + AllocGlobal>(
+    rt: &R,
+    left: &PageInHand,
+) -> Option<(PageInHand, PageInHand, PageInHand)>
     ensures root { IfSome result (λ pages. is_removed pages.0.chain ≡ false) }
 {
-    let (middle, last) = split(2, at(8), 24, 3)?;
-    let last = thinned(last, 16);
-    let root = posted(&root_over(left, &middle)?, &last)?;
-    let root = held(&root, &last)?;
-    let gone = removed(&root, &last)?;
+    let (middle, last) = split(rt, 2, at(8), 24, 3)?;
+    let last = thinned(rt, last, 16);
+    let root = posted(rt, &root_over(rt, left, &middle)?, &last)?;
+    let root = held(rt, &root, &last)?;
+    let gone = removed(rt, &root, &last)?;
     Some((root, middle, gone))
 }
 
 #[test]
 fn ends_no_term_beyond_its_left_page(rt: HostRuntime) {
-    let (left, _) = split(1, Key::default(), 16, 2).expect(&rt, "a split");
-    let (root, middle, gone) = last_of_three(&left).expect(&rt, "a removal");
-    let whole = joined(&middle, &gone).expect(&rt, "a merge");
+    let (left, _) = split(&rt, 1, Key::default(), 16, 2).expect(&rt, "a split");
+    let (root, middle, gone) = last_of_three(&rt, &left).expect(&rt, "a removal");
+    let whole = joined(&rt, &middle, &gone).expect(&rt, "a merge");
     let ended = [
         unterms(&root, &left, &gone),
         unterms(&root, &middle, &gone),
@@ -213,9 +228,9 @@ fn removes_no_first_page(rt: HostRuntime) {
         left,
         right,
         ..
-    } = related().expect(&rt, "a removal");
-    let thin = thinned(left, 0);
-    let bare = version(1, 0, leaf(Key::default(), 0));
+    } = related(&rt).expect(&rt, "a removal");
+    let thin = thinned(&rt, left, 0);
+    let bare = version(&rt, 1, 0, leaf(Key::default(), 0));
     let given = [
         plan_remove(&root, &right).is_some(),
         plan_remove(&root, &thin).is_some(),

@@ -7,6 +7,7 @@ use crate::plans::{key, leaf, version};
 use base_page::Page;
 use bw_model::Key;
 use smo::plan_root;
+use std::process::Abort;
 
 /// Whether the root is an index page over all keys that has page 1 at the empty key and page 2 at the eighth one.
 fn is_over_both(root: &Page) -> bool {
@@ -22,49 +23,52 @@ fn has_both(root: &Page) -> bool {
 
 #[test]
 fn roots_over_a_page_and_its_right(rt: HostRuntime) {
-    let (left, right) = split(1, Key::default(), 16, 2).expect(&rt, "a split");
+    let (left, right) = split(&rt, 1, Key::default(), 16, 2).expect(&rt, "a split");
     let root = plan_root(&left, &right);
     assert_eq!(rt; root.map(|root| is_over_both(&root)), Some(true));
 }
 
 #[test]
 fn roots_over_the_first_page_alone(rt: HostRuntime) {
-    let (left, right) = split(2, at(8), 24, 3).expect(&rt, "a split");
+    let (left, right) = split(&rt, 2, at(8), 24, 3).expect(&rt, "a split");
     assert!(rt; plan_root(&left, &right).is_none());
 }
 
 #[test]
 fn roots_over_the_page_to_the_right_alone(rt: HostRuntime) {
-    let (left, _) = split(1, Key::default(), 16, 2).expect(&rt, "a split");
-    let other = version(3, 0, leaf(at(8), 16));
-    let beyond = version(2, 0, leaf(at(9), 16));
+    let (left, _) = split(&rt, 1, Key::default(), 16, 2).expect(&rt, "a split");
+    let other = version(&rt, 3, 0, leaf(at(8), 16));
+    let beyond = version(&rt, 2, 0, leaf(at(9), 16));
     assert!(rt; plan_root(&left, &other).is_none() && plan_root(&left, &beyond).is_none());
 }
 
 /// Whether there is a root over a page and its right, once that one is removed; none where it isn't.
-fn roots_over_removed() -> Option<bool> {
-    let (left, right) = split(1, Key::default(), 16, 2)?;
-    let right = thinned(right, 8);
-    let root = held(&root_over(&left, &right)?, &right)?;
-    let gone = removed(&root, &right)?;
+fn roots_over_removed<R: Abort + AllocGlobal>(rt: &R) -> Option<bool> {
+    let (left, right) = split(rt, 1, Key::default(), 16, 2)?;
+    let right = thinned(rt, right, 8);
+    let root = held(rt, &root_over(rt, &left, &right)?, &right)?;
+    let gone = removed(rt, &root, &right)?;
     Some(plan_root(&left, &gone).is_some())
 }
 
 #[test]
 fn roots_over_no_removed_page(rt: HostRuntime) {
-    assert_eq!(rt; roots_over_removed(), Some(false));
+    assert_eq!(rt; roots_over_removed(&rt), Some(false));
 }
 
 /// The level of the root over an index page of this level and a page to its right.
-fn root_level(level: u8) -> Option<u8>
+fn root_level<R: Abort + AllocGlobal>(rt: &R, level: u8) -> Option<u8>
     requires index { 0 < level }
     requires top { level ≤ 15 }
 {
-    let right = version(2, 0, leaf(key(b"k09"), 0));
-    plan_root(&read(level), &right).map(|root| root.level())
+    let right = version(rt, 2, 0, leaf(key(b"k09"), 0));
+    plan_root(&read(rt, level), &right).map(|root| root.level())
 }
 
 #[test]
 fn roots_up_to_level_fifteen(rt: HostRuntime) {
-    assert_eq!(rt; [root_level(14), root_level(15)], [Some(15), None]);
+    assert_eq!(rt;
+        [root_level(&rt, 14), root_level(&rt, 15)],
+        [Some(15), None]
+    );
 }

@@ -21,7 +21,7 @@ use Rattle.installs.specs.declared.change.End.{End}
 use Rattle.installs.specs.declared.change.End.TheVariants.{Won, Lost, Full}
 use Rattle.installs.specs.Spares.{Spares}
 use Rattle.smo.specs.Sizes.{HasFewItems}
-use Rattle.smo.specs.declared.version.Version.{Version}
+use Rattle.smo.specs.Versions.{Version}
 use Rattle.bw_model.specs.Replies.{command_key, is_writer}
 use Rattle.op_machine.specs.machine.Errands.{due_of, way_key}
 use Rattle.op_machine.specs.machine.Hands.{Unlinks}

@@ -8,7 +8,7 @@ use Rattle.installs.specs.declared.plan.Plan.TheVariants.{Install}
 use Rattle.smo.specs.Upkeep.{IsIdle, IsUpkeep}
 use Rattle.smo.specs.declared.upkeep.Upkeep.{Upkeep}
 use Rattle.smo.specs.declared.upkeep.Upkeep.TheVariants.{Hold, Remove}
-use Rattle.smo.specs.declared.version.Version.{Version}
+use Rattle.smo.specs.Versions.{Version}
 
 -- the commands that make the tree smaller
 abbrev pub tidies : Command → Bool

@@ -11,11 +11,12 @@ ghost use Rattle.descent.specs.ReadGoals.{Left};
 ghost use Rattle.descent.specs.ReadLegs.{Down};
 
 use super::{ReadEnded, ReadRound};
-use crate::{Asked, PageInHand};
+use crate::Asked;
 use base_page::{Content, Items, Page};
 use bw_model::{Key, Limits};
 use deltas::Record;
 use row_chain::{ChainPart, HeldRow};
+use smo::PageInHand;
 use std::alloc::{AllocError, Global};
 
 /// How a round went on: what it asks for, or its end, and the pages that stand in it then.

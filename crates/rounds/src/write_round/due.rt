@@ -13,14 +13,14 @@ ghost use Rattle.smo.specs.Splits.{CanSplit, IsSplitPlan};
 ghost use Rattle.smo.specs.Terms.{CanPost, IsTermPlan};
 ghost use Rattle.smo.specs.Upkeep.{IsUpkeep};
 
-use crate::{WriteEnded, WriteRound, upkeep_below};
+use crate::{WriteEnded, WriteRound};
 use base_page::{Content, Page};
 use deltas::Term;
 use row_chain::Chain;
 use row_search::KeyWords;
 use smo::{
     MANY_DELTAS, MANY_ITEMS, SplitPlan, Upkeep, plan_merge, plan_root, plan_split, plan_term,
-    plan_unterm,
+    plan_unterm, plan_upkeep,
 };
 use std::alloc::Allocator;
 
@@ -49,7 +49,7 @@ impl<A: Allocator> WriteRound<A> {
         requires { CanSplit self.now.page }
         ensures { IsSplitPlan self.now.page result }
     {
-        match plan_split(&self.page().version()) {
+        match plan_split(self.page()) {
             Some(plan) => plan,
             None => unreachable!(),
         }
@@ -60,7 +60,7 @@ impl<A: Allocator> WriteRound<A> {
     pub(super) fn due_term(&self) -> Option<Term>
         ensures { MatchOption result (¬ CanPost self.now.parent self.now.page) (IsTermPlan self.now.parent self.now.page) }
     {
-        plan_term(&self.parent().version(), &self.page().version())
+        plan_term(self.parent(), self.page())
     }
 
     /// The root over the page in the left one's place and the page in hand.
@@ -68,7 +68,7 @@ impl<A: Allocator> WriteRound<A> {
     pub(super) fn due_root(&self) -> Option<Page>
         ensures { MatchOption result (¬ CanRoot self.now.left self.now.page) (IsRootPlan self.now.left self.now.page) }
     {
-        plan_root(&self.left().version(), &self.page().version())
+        plan_root(self.left(), self.page())
     }
 
     /// What is done first at the page in hand, where it is small, of level 1 and below the parent, on the way to the leaf of a key.
@@ -83,7 +83,7 @@ impl<A: Allocator> WriteRound<A> {
         if !self.course.has_parent() {
             return None;
         }
-        upkeep_below(self.parent(), self.page())
+        plan_upkeep(self.parent(), self.page())
     }
 
     /// Ends where the removed page may come into its left page.
@@ -92,7 +92,7 @@ impl<A: Allocator> WriteRound<A> {
         requires merges { self.now.round.goal ≡ goal.Merge self.now.left }
         ensures { TreatsWrite self.now.round self.now.page self.now.round (Some (ended_write self.now result)) }
     {
-        match plan_merge(&self.left().version(), &self.page().version()) {
+        match plan_merge(self.left(), self.page()) {
             None => WriteEnded::Done,
             Some(merge) => WriteEnded::Merge(merge),
         }
@@ -105,11 +105,7 @@ impl<A: Allocator> WriteRound<A> {
         requires unterms { self.now.round.goal ≡ goal.Unterm self.now.parent self.now.left }
         ensures { TreatsWrite self.now.round self.now.page self.now.round (Some (ended_write self.now result)) }
     {
-        match plan_unterm(
-            &self.parent().version(),
-            &self.left().version(),
-            &self.page().version(),
-        ) {
+        match plan_unterm(self.parent(), self.left(), self.page()) {
             None => WriteEnded::Done,
             Some(unterm) => WriteEnded::Unterm(unterm),
         }

@@ -1,5 +1,5 @@
 //! A writer's round over pages by hand, one page after another.
-ghost use Rattle.std.specs.Prelude.{◌≡◌, ◌<◌, ◌∷◌, [], true, false, IfOk, IfSome};
+ghost use Rattle.std.specs.Prelude.{◌≡◌, ◌<◌, ◌∷◌, [], true, false, IfSome};
 ghost use Rattle.chain_search.specs.chain.Chains.{is_removed, low_in};
 ghost use Rattle.chain_search.specs.chain.Fitted.{IsFitted};
 ghost use Rattle.deltas.specs.declared.record.Record.TheVariants.{Base};
@@ -9,16 +9,14 @@ ghost use Rattle.descent.specs.WriteRounds.{write_way};
 mod pages;
 
 use super::{WriteEnded, WriteRound};
+use crate::Asked;
 use crate::course::Aim;
-use crate::{Asked, PageInHand};
 use base_page::Page;
 use bw_model::{Key, Limits};
-use deltas::Record;
 use pages::{above, based, first, halves, holding, index, key, leaf, lower, parent, removal};
-use row_chain::{ChainPart, HeldRow};
 use row_search::KeyWords;
-use smo::{Upkeep, Version};
-use std::alloc::{AllocError, Global};
+use smo::{PageInHand, Upkeep};
+use std::alloc::Global;
 
 /// How a round went on: to the page that it asks for, or to its end, with the pages that stand in the places which it is about.
 #[derive(Clone, Copy, Debug, PartialEq, Eq)]
@@ -38,47 +36,19 @@ enum Turn {
     Other,
 }
 
-/// A round, and places by which a page comes into its hand.
-#[derive(Drop)]
-struct Desk {
-    round: WriteRound,
-    page: PageInHand,
-    part: ChainPart,
-    row: HeldRow,
-}
-
 fn limits() -> Limits
     ensures { result.pids ≡ 4096 }
 {
     Limits::new(1, 4096, 16384, 1).unwrap()
 }
 
-fn set_up(alloc: Global) -> Result<Desk, AllocError>
-    ensures { IfOk result (λ desk. desk.round.round.limits.pids ≡ 4096) }
+fn set_up(alloc: Global) -> Option<WriteRound>
+    ensures { IfSome result (λ round. round.round.limits.pids ≡ 4096) }
 {
-    Ok(Desk {
-        round: WriteRound::new(alloc, &limits())?,
-        page: PageInHand::new(alloc)?,
-        part: ChainPart::new(alloc)?,
-        row: HeldRow::new(alloc)?,
-    })
-}
-
-/// Puts the page into the round's hand.
-fn show(desk: &mut Desk, version: &Version)
-    ensures { desk.new.round.round ≡ desk.old.round.round }
-{
-    version.chain.keeps_rules();
-    let (under, base) = version.chain.records();
-    desk.part.restart();
-    for delta in under.as_slice() {
-        desk.row.write(delta);
-        desk.part.push(&mut desk.row);
+    match WriteRound::new(alloc, &limits()) {
+        Ok(round) => Some(round),
+        Err(_) => None,
     }
-    desk.row.write(&Record::Base(base));
-    desk.part.push(&mut desk.row);
-    desk.page.take(version.pid, version.head, &mut desk.part);
-    hand(&mut desk.round, &mut desk.page);
 }
 
 /// The page in hand and another one change places.
@@ -122,12 +92,13 @@ fn meets(round: &WriteRound) -> bool
 }
 
 /// What the round does with the page, once it is in hand.
-fn meet(desk: &mut Desk, version: &Version) -> Turn
-    requires limits { desk.old.round.round.limits.pids ≡ 4096 }
-    ensures limits { desk.new.round.round.limits.pids ≡ 4096 }
+fn meet(round: &mut WriteRound, page: PageInHand) -> Turn
+    requires limits { round.old.round.limits.pids ≡ 4096 }
+    ensures limits { round.new.round.limits.pids ≡ 4096 }
 {
-    show(desk, version);
-    treated(&mut desk.round)
+    let mut page = page;
+    hand(round, &mut page);
+    treated(round)
 }
 
 /// What the round does with the page in hand.
@@ -186,14 +157,12 @@ fn leaf_turn(round: &WriteRound) -> Turn {
 }
 
 /// What a writer does at a leaf of so many deltas and items, where so many deltas are due.
-fn at_leaf(alloc: Global, deltas: usize, items: u8, due: usize) -> Turn
+fn at_leaf(alloc: Global, deltas: usize, items: u8, due: usize) -> Option<Turn>
     requires due { 0 < due }
 {
-    let Ok(mut desk) = set_up(alloc) else {
-        return Turn::Other;
-    };
-    desk.round.restart(&key(b"x"), due, false);
-    meet(&mut desk, &first(deltas.min(12), leaf(items)))
+    let mut round = set_up(alloc)?;
+    round.restart(&key(b"x"), due, false);
+    Some(meet(&mut round, first(alloc, deltas.min(12), leaf(items))?))
 }
 
 #[test]
@@ -204,7 +173,7 @@ fn consolidates_at_eight_deltas(rt: HostRuntime) {
         at_leaf(rt.alloc(), 0, 3, 1),
         at_leaf(rt.alloc(), 1, 3, 1),
     ];
-    let (leaf, long) = (Turn::Leaf(None, 1), Turn::Consolidate(1));
+    let (leaf, long) = (Some(Turn::Leaf(None, 1)), Some(Turn::Consolidate(1)));
     assert_eq!(rt; turns, [leaf, long, leaf, long]);
 }
 
@@ -215,28 +184,24 @@ fn splits_at_sixteen_items(rt: HostRuntime) {
         at_leaf(rt.alloc(), 7, 16, 8),
         at_leaf(rt.alloc(), 8, 16, 8),
     ];
-    assert_eq!(rt;
-        turns,
-        [Turn::Leaf(None, 1), Turn::Split(1), Turn::Consolidate(1)]
-    );
+    let (leaf, long) = (Some(Turn::Leaf(None, 1)), Some(Turn::Consolidate(1)));
+    assert_eq!(rt; turns, [leaf, Some(Turn::Split(1)), long]);
 }
 
 /// What the round does at a page that was split, and then at the new page.
-fn meet_halves(desk: &mut Desk) -> Option<[Turn; 2]>
-    requires limits { desk.old.round.round.limits.pids ≡ 4096 }
+fn meet_halves(alloc: Global, round: &mut WriteRound) -> Option<[Turn; 2]>
+    requires limits { round.old.round.limits.pids ≡ 4096 }
 {
-    let (left, right) = halves()?;
-    let aside = meet(desk, &left);
-    Some([aside, meet(desk, &right)])
+    let (left, right) = halves(alloc)?;
+    let aside = meet(round, left);
+    Some([aside, meet(round, right)])
 }
 
 /// What a writer to the key in the middle of the pages does there.
 fn seeking(alloc: Global) -> Option<[Turn; 2]> {
-    let Ok(mut desk) = set_up(alloc) else {
-        return None;
-    };
-    desk.round.restart(&key(b"y"), 8, false);
-    meet_halves(&mut desk)
+    let mut round = set_up(alloc)?;
+    round.restart(&key(b"y"), 8, false);
+    meet_halves(alloc, &mut round)
 }
 
 #[test]
@@ -246,12 +211,10 @@ fn finishes_a_split_without_a_parent(rt: HostRuntime) {
 
 /// The same below an index page that lacks the term.
 fn below_parent(alloc: Global) -> Option<(Turn, Option<[Turn; 2]>)> {
-    let Ok(mut desk) = set_up(alloc) else {
-        return None;
-    };
-    desk.round.restart(&key(b"y"), 8, false);
-    let down = meet(&mut desk, &parent());
-    Some((down, meet_halves(&mut desk)))
+    let mut round = set_up(alloc)?;
+    round.restart(&key(b"y"), 8, false);
+    let down = meet(&mut round, parent(alloc)?);
+    Some((down, meet_halves(alloc, &mut round)))
 }
 
 #[test]
@@ -262,12 +225,10 @@ fn finishes_a_split_below_a_parent(rt: HostRuntime) {
 
 /// What a writer does below an index page at a leaf, to which it has gone down.
 fn down_to_a_leaf(alloc: Global) -> Option<[Turn; 2]> {
-    let Ok(mut desk) = set_up(alloc) else {
-        return None;
-    };
-    desk.round.restart(&key(b"y"), 8, false);
-    let down = meet(&mut desk, &parent());
-    Some([down, meet(&mut desk, &first(0, leaf(3)))])
+    let mut round = set_up(alloc)?;
+    round.restart(&key(b"y"), 8, false);
+    let down = meet(&mut round, parent(alloc)?);
+    Some([down, meet(&mut round, first(alloc, 0, leaf(3))?)])
 }
 
 #[test]
@@ -277,21 +238,19 @@ fn ends_below_the_parent(rt: HostRuntime) {
 }
 
 /// What the round does at an index page below one that has its term, held or not.
-fn meet_index(desk: &mut Desk, index: &Version, held: bool) -> Option<Turn>
-    requires limits { desk.old.round.round.limits.pids ≡ 4096 }
+fn meet_index(alloc: Global, round: &mut WriteRound, index: PageInHand, held: bool) -> Option<Turn>
+    requires limits { round.old.round.limits.pids ≡ 4096 }
 {
-    let above = above(index, held)?;
-    meet(desk, &above);
-    Some(meet(desk, index))
+    let above = above(alloc, &index, held)?;
+    meet(round, above);
+    Some(meet(round, index))
 }
 
 /// What a writer does on its way at an index page of so many terms.
 fn on_way(alloc: Global, terms: u8, held: bool, tends: bool) -> Option<Turn> {
-    let Ok(mut desk) = set_up(alloc) else {
-        return None;
-    };
-    desk.round.restart(&key(b"z"), 8, tends);
-    meet_index(&mut desk, &index(terms)?, held)
+    let mut round = set_up(alloc)?;
+    round.restart(&key(b"z"), 8, tends);
+    meet_index(alloc, &mut round, index(alloc, terms)?, held)
 }
 
 #[test]
@@ -308,22 +267,18 @@ fn removes_a_small_index_page(rt: HostRuntime) {
 
 /// What a writer that removes small index pages does on its way at one that has a held term.
 fn at_holding(alloc: Global) -> Option<Turn> {
-    let Ok(mut desk) = set_up(alloc) else {
-        return None;
-    };
-    desk.round.restart(&key(b"z"), 8, true);
-    meet_index(&mut desk, &holding()?, true)
+    let mut round = set_up(alloc)?;
+    round.restart(&key(b"z"), 8, true);
+    meet_index(alloc, &mut round, holding(alloc)?, true)
 }
 
 /// The same at the first one.
 fn at_first(alloc: Global) -> Option<Turn> {
-    let Ok(mut desk) = set_up(alloc) else {
-        return None;
-    };
-    desk.round.restart(&key(b"z"), 8, true);
-    let above = above(&index(1)?, false)?;
-    meet(&mut desk, &above);
-    Some(meet(&mut desk, &parent()))
+    let mut round = set_up(alloc)?;
+    round.restart(&key(b"z"), 8, true);
+    let above = above(alloc, &index(alloc, 1)?, false)?;
+    meet(&mut round, above);
+    Some(meet(&mut round, parent(alloc)?))
 }
 
 #[test]
@@ -342,12 +297,10 @@ fn goes_down_from_an_index_page_that_stays(rt: HostRuntime) {
 
 /// What a writer does at a small index page on the way to the left of page 2.
 fn to_the_left(alloc: Global) -> Option<Turn> {
-    let Ok(mut desk) = set_up(alloc) else {
-        return None;
-    };
-    desk.round.restart(&key(b"z"), 8, true);
-    desk.round.restart_left(&key(b"z"), 2, 0);
-    meet_index(&mut desk, &index(1)?, true)
+    let mut round = set_up(alloc)?;
+    round.restart(&key(b"z"), 8, true);
+    round.restart_left(&key(b"z"), 2, 0);
+    meet_index(alloc, &mut round, index(alloc, 1)?, true)
 }
 
 #[test]
@@ -357,12 +310,10 @@ fn removes_no_index_page_on_the_way_to_the_left(rt: HostRuntime) {
 
 /// What a writer does to the left of page 2 at an index page, and then at a leaf that has no right.
 fn down_to_the_left(alloc: Global) -> Option<[Turn; 2]> {
-    let Ok(mut desk) = set_up(alloc) else {
-        return None;
-    };
-    desk.round.restart_left(&key(b"y"), 2, 0);
-    let down = meet(&mut desk, &parent());
-    Some([down, meet(&mut desk, &first(0, leaf(3)))])
+    let mut round = set_up(alloc)?;
+    round.restart_left(&key(b"y"), 2, 0);
+    let down = meet(&mut round, parent(alloc)?);
+    Some([down, meet(&mut round, first(alloc, 0, leaf(3))?)])
 }
 
 #[test]
@@ -377,14 +328,12 @@ fn goes_left_of_a_removed_page(rt: HostRuntime) {
 fn removes(alloc: Global, leaf: Page) -> Option<[Turn; 3]>
     requires { IsFitted (Base leaf ∷ []) }
 {
-    let Ok(mut desk) = set_up(alloc) else {
-        return None;
-    };
-    let (parent, removed) = removal()?;
-    desk.round.restart_left(&key(b"y"), 2, 0);
-    let down = meet(&mut desk, &parent);
-    let aside = meet(&mut desk, &based(1, leaf));
-    Some([down, aside, meet(&mut desk, &removed)])
+    let mut round = set_up(alloc)?;
+    let (parent, removed) = removal(alloc)?;
+    round.restart_left(&key(b"y"), 2, 0);
+    let down = meet(&mut round, parent);
+    let aside = meet(&mut round, based(alloc, 1, leaf)?);
+    Some([down, aside, meet(&mut round, removed)])
 }
 
 #[test]
@@ -401,11 +350,9 @@ fn takes_out_the_term_of_a_merged_page(rt: HostRuntime) {
 
 /// What a writer does to the left of the page at a page that was split, and then at the new page.
 fn left_of(alloc: Global, at: Key, removed: u16) -> Option<[Turn; 2]> {
-    let Ok(mut desk) = set_up(alloc) else {
-        return None;
-    };
-    desk.round.restart_left(&at, removed, 0);
-    meet_halves(&mut desk)
+    let mut round = set_up(alloc)?;
+    round.restart_left(&at, removed, 0);
+    meet_halves(alloc, &mut round)
 }
 
 #[test]

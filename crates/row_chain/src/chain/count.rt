@@ -9,7 +9,7 @@ ghost use Rattle.deltas.specs.Records.{content_said, names};
 ghost use Rattle.record_slots.specs.Parts.{items_of};
 ghost use Rattle.chain_search.specs.chain.Chains.{content_in, IsItemsOf};
 ghost use Rattle.chain_search.specs.chain.Fitted.{IsFitted};
-ghost use Rattle.chain_search.specs.chain.Walks.{bound_under, count_under};
+ghost use Rattle.row_chain.specs.Walks.{bound_under, count_under};
 
 use super::search::newest_of;
 use crate::{Chain, HeldRow};

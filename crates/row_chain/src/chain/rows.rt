@@ -2,9 +2,8 @@
 ghost use Rattle.std.specs.Prelude.{◌≡◌};
 ghost use Rattle.chain_search.specs.chain.Chains.{chain_rows};
 
-use crate::Chain;
+use crate::{Chain, MAX_RECORDS};
 use arrayvec::ArrayVec;
-use chain_search::MAX_RECORDS;
 use std::alloc::Allocator;
 
 impl<A: Allocator> Chain<A> {

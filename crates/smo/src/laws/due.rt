@@ -12,7 +12,7 @@ ghost use Rattle.chain_search.specs.discipline.Discipline.{MayHold, MayMerge, Ma
 ghost use Rattle.chain_search.specs.chain.Fitted.{IsPageChain};
 ghost use Rattle.chain_search.specs.discipline.Knowledge.{Knowledge, Ready, Written};
 ghost use Rattle.smo.specs.declared.split.SplitPlan.{SplitPlan};
-ghost use Rattle.smo.specs.declared.version.Version.{Version};
+ghost use Rattle.smo.specs.Versions.{Version};
 ghost use Rattle.smo.specs.Splits.{IsSplitPlan, split_to};
 ghost use Rattle.smo.specs.Terms.{IsTermPlan};
 ghost use Rattle.smo.specs.Roots.{IsRootPlan};

@@ -3,7 +3,7 @@ ghost use Rattle.std.specs.Prelude.{◌≡◌, nat_lt, is_some, IfSome};
 ghost use Rattle.op_machine.specs.machine.Actors.{IsActor, running_command};
 ghost use Rattle.chain_search.specs.discipline.Knowledge.{knows};
 ghost use Rattle.chain_search.specs.discipline.Recalled.{recalls};
-ghost use Rattle.chain_search.specs.trace.Tables.{memory_in};
+ghost use Rattle.core_memory.specs.Tables.{memory_in};
 ghost use Rattle.chain_search.specs.trace.Trace.{command_of, memory_of};
 ghost use Rattle.tree_law.specs.LevelPages.{HasAllLevels};
 

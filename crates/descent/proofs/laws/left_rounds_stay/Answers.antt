@@ -1,5 +1,5 @@
 use Rattle.std.proofs.Common.{◌≡◌, inl, inr, None, sym, ap, ◌∙◌}
-use Rattle.smo.specs.declared.version.Version.{Version}
+use Rattle.smo.specs.Versions.{Version}
 use Rattle.descent.specs.Visits.{Sight, Empty, Whole}
 use Rattle.descent.specs.Courses.{Seek, Merge, Unterm}
 use Rattle.descent.specs.WriteRounds.{WriteRound}

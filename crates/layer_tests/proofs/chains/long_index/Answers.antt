@@ -1,23 +1,22 @@
 use Rattle.chain_search.proofs.FittedExamples.{long_index_fits}
 use Rattle.layer_tests.proofs.chains.long_index.Goals as goal
 
-pub over-requires : goal.over-requires
-over-requires c =
-    rw (c.push-7.ensures, c.push-6.ensures, c.push-5.ensures, c.push-4.ensures, c.push-3.ensures, c.push-2.ensures, c.push.ensures, c.new-part.ensures, c.index.ensures)
-    (rw (
-      c.hold.ensures,
-      c.item.ensures,
-      c.child.ensures,
-      c.index_split.ensures,
-      c.term.ensures,
-      c.unterm.ensures,
-      c.hold-2.ensures,
-      c.term-2.ensures,
-      c.key.ensures,
-      c.key-2.ensures,
-      c.key-3.ensures,
-      c.key-4.ensures,
-      c.key-5.ensures,
-      c.key-6.ensures,
-      c.key-7.ensures,
-    ) long_index_fits)
+pub chain-requires : goal.chain-requires
+chain-requires g c = rw (
+  c.index.ensures,
+  c.hold.ensures,
+  c.item.ensures,
+  c.child.ensures,
+  c.index_split.ensures,
+  c.term.ensures,
+  c.unterm.ensures,
+  c.hold-2.ensures,
+  c.term-2.ensures,
+  c.key.ensures,
+  c.key-2.ensures,
+  c.key-3.ensures,
+  c.key-4.ensures,
+  c.key-5.ensures,
+  c.key-6.ensures,
+  c.key-7.ensures,
+) long_index_fits

@@ -2,5 +2,5 @@ use Rattle.std.proofs.Common.{arith}
 use Rattle.chain_search.proofs.FittedExamples.{index_chain_fits}
 use Rattle.layer_tests.proofs.plans.bare.Goals as goal
 
-pub over-requires : goal.over-requires
-over-requires c = rw (c.new.ensures, c.index.ensures) (record { fitted = index_chain_fits.fitted.1.1.1.1; short = omega arith })
+pub page-requires-clause-chain : goal.page-requires-clause-chain
+page-requires-clause-chain g c = rw (c.index.ensures) (record { fitted = index_chain_fits.fitted.1.1.1.1; short = omega arith })

@@ -1,15 +1,16 @@
 //! Pages by hand, for tests of rounds.
-ghost use Rattle.std.specs.Prelude.{◌≡◌, ◌<◌, ◌≤◌, ◌∷◌, [], length, None, false};
+ghost use Rattle.std.specs.Prelude.{◌≡◌, ◌<◌, ◌≤◌, ◌∷◌, [], ◌++◌, length, IfSome, None, false};
 ghost use Rattle.bw_model.specs.Bytes.{longest};
-ghost use Rattle.chain_search.specs.chain.Fitted.{FitsOver, IsFitted};
-ghost use Rattle.deltas.specs.Spellable.{IsPid};
+ghost use Rattle.chain_search.specs.chain.Fitted.{FitsOver, IsFitted, IsPageChain};
+ghost use Rattle.deltas.specs.Spellable.{IsPid, IsRow};
 ghost use Rattle.deltas.specs.declared.record.Record.TheVariants.{Base};
 
 use base_page::{Content, Items, Page};
 use bw_model::{Key, Value};
-use chain_search::ChainPart;
 use deltas::{Delete, Record};
-use smo::{Version, plan_hold, plan_remove, plan_split, plan_term};
+use row_chain::{ChainPart, HeldRow};
+use smo::{PageInHand, plan_hold, plan_remove, plan_split, plan_term};
+use std::alloc::Global;
 
 pub(super) fn key(text: &[u8]) -> Key
     requires { length text.now ≤ longest }
@@ -35,8 +36,24 @@ pub(super) fn leaf(count: u8) -> Page
     page
 }
 
+/// The page whose deltas were read, over this base; as each page by hand, none for want of memory.
+fn over(alloc: Global, pid: u16, head: u16, deltas: ChainPart, base: Page) -> Option<PageInHand>
+    requires pid { IsPid pid }
+    requires head { IsRow head }
+    requires chain { IsPageChain (deltas ++ Base base ∷ []) }
+    ensures { IfSome result (λ page. page.chain ≡ deltas ++ Base base ∷ []) }
+{
+    let mut part = deltas;
+    let mut row = HeldRow::new(alloc).ok()?;
+    row.write(&Record::Base(base));
+    part.push(&mut row);
+    let mut page = PageInHand::new(alloc).ok()?;
+    page.take(pid, head, &mut part);
+    Some(page)
+}
+
 /// Page 1 as it was read, under so many deltas, which change nothing.
-pub(super) fn first(deltas: usize, page: Page) -> Version
+pub(super) fn first(alloc: Global, deltas: usize, page: Page) -> Option<PageInHand>
     requires few { deltas ≤ 12 }
     requires level { page.level ≡ 0 }
     requires high { page.high ≡ None }
@@ -44,43 +61,45 @@ pub(super) fn first(deltas: usize, page: Page) -> Version
     requires alive { page.removed ≡ false }
 {
     page.keeps_rules();
-    let mut part = ChainPart::new();
+    let mut part = ChainPart::new(alloc).ok()?;
+    let mut row = HeldRow::new(alloc).ok()?;
     for _ in 0..deltas {
-        part.push(&Record::Delete(Delete {
+        row.write(&Record::Delete(Delete {
             next: 3,
             key: page.low().copied(),
         }));
+        part.push(&mut row);
     }
-    let (pid, head) = (1, 9);
-    let chain = part.over(page);
-    Version { pid, head, chain }
+    over(alloc, 1, 9, part, page)
 }
 
 /// The page with one delta more, in row 7.
-fn grown(page: &Version, newest: Record) -> Version
+fn grown(alloc: Global, page: &PageInHand, newest: Record) -> Option<PageInHand>
     requires over { FitsOver page.now.chain newest × (length page.now.chain ≤ 12) }
-    ensures chain { result.chain ≡ newest ∷ page.now.chain }
+    ensures chain { IfSome result (λ grown. grown.chain ≡ newest ∷ page.now.chain) }
 {
-    page.chain.keeps_rules();
-    let (under, base) = page.chain.records();
-    let mut part = ChainPart::new();
-    part.push(&newest);
-    for delta in under.as_slice() {
-        part.push(delta);
+    page.chain().keeps_rules();
+    let mut part = ChainPart::new(alloc).ok()?;
+    let mut row = HeldRow::new(alloc).ok()?;
+    row.write(&newest);
+    part.push(&mut row);
+    for under in page.chain().as_slice() {
+        under.row().keeps_rules();
+        row.write(&under.row().record());
+        part.push(&mut row);
     }
-    let chain = part.over(base);
-    let (pid, head) = (page.pid, 7);
-    Version { pid, head, chain }
+    let mut grown = PageInHand::new(alloc).ok()?;
+    grown.take(page.pid(), 7, &mut part);
+    Some(grown)
 }
 
 /// A leaf of 16 items that was split to page 2, and page 2.
-pub(super) fn halves() -> Option<(Version, Version)> {
-    let whole = first(0, leaf(16));
+pub(super) fn halves(alloc: Global) -> Option<(PageInHand, PageInHand)> {
+    let whole = first(alloc, 0, leaf(16))?;
     let plan = plan_split(&whole)?;
-    let left = grown(&whole, Record::Split(plan.split(2)));
-    let chain = ChainPart::new().over(plan.upper);
-    let (pid, head) = (2, 6);
-    Some((left, Version { pid, head, chain }))
+    let left = grown(alloc, &whole, Record::Split(plan.split(2)))?;
+    let right = based(alloc, 2, plan.upper)?;
+    Some((left, right))
 }
 
 /// An index page from a key on, with the term of this child there.
@@ -97,22 +116,20 @@ fn index_from(level: u8, low: Key, child: u16) -> Page
     Page::new(level, low, None, None, items)
 }
 
-/// An index page that has page 1 at the empty key, as page 5.
-pub(super) fn parent() -> Version {
-    let chain = ChainPart::new().over(index_from(1, Key::default(), 1));
-    let (pid, head) = (5, 8);
-    Version { pid, head, chain }
+/// An index page that has page 1 at the empty key, as page 5, whose base is in row 8.
+pub(super) fn parent(alloc: Global) -> Option<PageInHand> {
+    let part = ChainPart::new(alloc).ok()?;
+    over(alloc, 5, 8, part, index_from(1, Key::default(), 1))
 }
 
 /// The page as a base alone.
-pub(super) fn based(pid: u16, page: Page) -> Version
+pub(super) fn based(alloc: Global, pid: u16, page: Page) -> Option<PageInHand>
     requires pid { IsPid pid }
     requires stands { IsFitted (Base page ∷ []) }
-    ensures { result.chain ≡ Base page ∷ [] }
+    ensures { IfSome result (λ based. based.chain ≡ Base page ∷ []) }
 {
-    let chain = ChainPart::new().over(page);
-    let head = 4;
-    Version { pid, head, chain }
+    let part = ChainPart::new(alloc).ok()?;
+    over(alloc, pid, 4, part, page)
 }
 
 /// An empty leaf up to "y", where page 2 begins, which is its right.
@@ -130,56 +147,57 @@ fn upper() -> Page
 }
 
 /// An index page that has the term of page 2 held, and page 2, which is removed.
-pub(super) fn removal() -> Option<(Version, Version)> {
-    let bare = parent();
-    let page = based(2, upper());
+pub(super) fn removal(alloc: Global) -> Option<(PageInHand, PageInHand)> {
+    let bare = parent(alloc)?;
+    let page = based(alloc, 2, upper())?;
     let term = plan_term(&bare, &page)?;
-    let parent = grown(&bare, Record::Term(term));
+    let parent = grown(alloc, &bare, Record::Term(term))?;
     let hold = plan_hold(&parent, &page)?;
-    let held = grown(&parent, Record::Hold(hold));
+    let held = grown(alloc, &parent, Record::Hold(hold))?;
     let remove = plan_remove(&held, &page)?;
-    Some((held, grown(&page, Record::Remove(remove))))
+    let removed = grown(alloc, &page, Record::Remove(remove))?;
+    Some((held, removed))
 }
 
 /// The index page with one term more: that of a leaf from the key on.
-fn with_term(index: &Version, pid: u16, low: Key) -> Option<Version>
+fn with_term(alloc: Global, index: &PageInHand, pid: u16, low: Key) -> Option<PageInHand>
     requires pid { IsPid pid }
 {
-    let term = plan_term(index, &leaf_from(pid, low))?;
-    Some(grown(index, Record::Term(term)))
+    let term = plan_term(index, &leaf_from(alloc, pid, low)?)?;
+    grown(alloc, index, Record::Term(term))
 }
 
 /// An empty leaf from a key on.
-fn leaf_from(pid: u16, low: Key) -> Version
+fn leaf_from(alloc: Global, pid: u16, low: Key) -> Option<PageInHand>
     requires pid { IsPid pid }
 {
-    based(pid, Page::new(0, low, None, None, Items::new()))
+    based(alloc, pid, Page::new(0, low, None, None, Items::new()))
 }
 
 /// An index page from "y" on as page 6, with so many terms: of page 3, and of pages from 11 on.
-pub(super) fn index(terms: u8) -> Option<Version> {
-    let mut index = based(6, index_from(1, key(b"y"), 3));
+pub(super) fn index(alloc: Global, terms: u8) -> Option<PageInHand> {
+    let mut index = based(alloc, 6, index_from(1, key(b"y"), 3))?;
     for i in 1..terms {
-        index = with_term(&index, 10 + u16::from(i), key(&[b'y', i]))?;
+        index = with_term(alloc, &index, 10 + u16::from(i), key(&[b'y', i]))?;
     }
     Some(index)
 }
 
 /// The same with two terms, the second one held.
-pub(super) fn holding() -> Option<Version> {
-    let index = index(2)?;
-    let hold = plan_hold(&index, &leaf_from(11, key(&[b'y', 1])))?;
-    Some(grown(&index, Record::Hold(hold)))
+pub(super) fn holding(alloc: Global) -> Option<PageInHand> {
+    let index = index(alloc, 2)?;
+    let hold = plan_hold(&index, &leaf_from(alloc, 11, key(&[b'y', 1]))?)?;
+    grown(alloc, &index, Record::Hold(hold))
 }
 
 /// A page of level 2 as page 9, with the terms of page 5 and of the index page, whose term is held or isn't.
-pub(super) fn above(index: &Version, held: bool) -> Option<Version> {
-    let bare = based(9, index_from(2, Key::default(), 5));
+pub(super) fn above(alloc: Global, index: &PageInHand, held: bool) -> Option<PageInHand> {
+    let bare = based(alloc, 9, index_from(2, Key::default(), 5))?;
     let term = plan_term(&bare, index)?;
-    let above = grown(&bare, Record::Term(term));
+    let above = grown(alloc, &bare, Record::Term(term))?;
     if !held {
         return Some(above);
     }
     let hold = plan_hold(&above, index)?;
-    Some(grown(&above, Record::Hold(hold)))
+    grown(alloc, &above, Record::Hold(hold))
 }

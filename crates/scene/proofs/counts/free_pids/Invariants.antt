@@ -1,5 +1,5 @@
 use Rattle.std.proofs.Common.{◌≡◌, ◌≤◌}
-use Rattle.chain_search.specs.trace.Tables.{memory_in}
+use Rattle.core_memory.specs.Tables.{memory_in}
 use Rattle.scene.specs.Counts.{how_many}
 use Rattle.scene.proofs.counts.free_pids.Given as goal
 

@@ -1,5 +1,5 @@
 use Rattle.std.proofs.Common.{◌≡◌}
-use Rattle.chain_search.specs.trace.Tables.{memory_in}
+use Rattle.core_memory.specs.Tables.{memory_in}
 use Rattle.scene.proofs.Sides.{HasFront}
 use Rattle.scene.proofs.level.level_from.Given as goal
 

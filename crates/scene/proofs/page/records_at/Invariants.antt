@@ -1,6 +1,6 @@
 use Rattle.std.proofs.Common.{◌≡◌, List, take}
 use Rattle.deltas.specs.declared.record.Record.{Record}
-use Rattle.chain_search.specs.trace.Tables.{memory_in}
+use Rattle.core_memory.specs.Tables.{memory_in}
 use Rattle.listing.specs.Listed.{StandsAt}
 use Rattle.scene.proofs.page.records_at.Given as goal
 

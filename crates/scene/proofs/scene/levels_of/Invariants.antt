@@ -1,5 +1,5 @@
 use Rattle.std.proofs.Common.{◌≡◌}
-use Rattle.chain_search.specs.trace.Tables.{memory_in}
+use Rattle.core_memory.specs.Tables.{memory_in}
 use Rattle.scene.proofs.Descents.{HasDown}
 use Rattle.scene.proofs.scene.levels_of.Given as goal
 

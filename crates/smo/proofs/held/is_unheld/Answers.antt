@@ -6,13 +6,13 @@ use Rattle.smo.proofs.Unheld.{leaf_unheld}
 use Rattle.smo.proofs.held.is_unheld.Goals as goal
 
 pub returns-then-level-eq0 : goal.returns-then-level-eq0
-returns-then-level-eq0 c = (
+returns-then-level-eq0 g c = (
   (λ yes. leaf_unheld c.args.chain.now c.keeps_rules.ensures.fitted (sym c.level.ensures ∙ c.if-level-eq0.true)),
   λ none. refl,
 )
 
 pub returns : goal.returns
-returns c =
+returns g c =
     let made = c.page-made.result in
     let makes = c.page-made.ensures.makes in
     let count = c.held_count.ensures ∙ ap held_count (c.as_slice.ensures.items ∙ c.items.ensures) in (

@@ -1,25 +1,36 @@
-use Rattle.std.proofs.Common.{refl, sym, ◌∙◌, arith}
+use Rattle.std.proofs.Common.{refl, sym, ap, ◌∙◌, arith}
+use Rattle.chain_search.specs.chain.Chains.{is_removed}
+use Rattle.chain_search.specs.chain.Fitted.{IsFitted}
 use Rattle.chain_search.proofs.FittedLaws.{page_of, ruled}
 use Rattle.smo.proofs.RemoveFits.{planned}
+use Rattle.smo.specs.Sizes.{HasNoneHeld}
 use Rattle.smo.proofs.remove.plan_remove.Goals as goal
 
 pub returns-then-item_count-gt-FEW_ITEMS : goal.returns-then-item_count-gt-FEW_ITEMS
-returns-then-item_count-gt-FEW_ITEMS c = λ can.
+returns-then-item_count-gt-FEW_ITEMS g c = λ can.
     let (items, has, few) = can.few in
-    let count = c.item_count.ensures items has in
+    let count = c.item_count.ensures items (rw c.chain-chain.ensures has) in
     let many = c.if-item_count-gt-FEW_ITEMS.true in
     omega (arith, few, count, many)
 
+pub returns-then-not-is_unheld : goal.returns-then-not-is_unheld
+returns-then-not-is_unheld g c = λ can.
+    let yes = c.is_unheld.ensures.1 (rw c.chain-chain.ensures can.unheld) in
+    let no = c.if-not-is_unheld.true in
+    absurd cc
+
 pub returns : goal.returns
-returns c =
+returns g c =
     let chain = c.args.page.now.chain in
-    let fitted = c.keeps_rules-2.ensures.fitted in
+    let fitted : IsFitted chain = rw c.chain-chain.ensures at c.keeps_rules-2.ensures.fitted in
+    let above : IsFitted c.args.parent.now.chain = rw c.chain-above.ensures at c.keeps_rules.ensures.fitted in
+    let unheld : HasNoneHeld chain = rw c.chain-chain.ensures at (c.is_unheld.ensures.0 c.if-not-is_unheld.false) in
     let (made, makes) = page_of chain fitted in
-    planned c.args.parent.now c.args.page.now made _ c.keeps_rules.ensures.fitted makes (ruled chain made fitted makes) (rw c.level.ensures refl)
+    planned c.args.parent.now c.args.page.now made _ above makes (ruled chain made fitted makes) (rw (c.level.ensures, c.chain-chain.ensures, c.head.ensures) refl)
     (record {
       held = c.has_term.ensures.0 c.if-not-has_term.false;
-      alive = sym c.is_removed.ensures ∙ c.if-is_removed.false;
-      few = (made.items, makes.items, (let a = c.item_count.ensures made.items makes.items in let d = c.if-item_count-gt-FEW_ITEMS.false in omega (arith, a, d)));
-      unheld = c.is_unheld.ensures.0 c.if-not-is_unheld.false;
-      short = (let a = c.deltas.ensures in let b = c.if-deltas-ge-MANY_DELTAS.false in omega (arith, a, b));
+      alive = sym (ap is_removed c.chain-chain.ensures) ∙ sym c.is_removed.ensures ∙ c.if-is_removed.false;
+      few = (made.items, makes.items, (let a = c.item_count.ensures made.items (rw c.chain-chain.ensures makes.items) in let d = c.if-item_count-gt-FEW_ITEMS.false in omega (arith, a, d)));
+      unheld = unheld;
+      short = rw (← c.chain-chain.ensures) (let a = c.deltas.ensures in let b = c.if-deltas-ge-MANY_DELTAS.false in omega (arith, a, b));
     })

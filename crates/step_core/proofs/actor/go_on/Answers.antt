@@ -1,5 +1,5 @@
 use Rattle.std.proofs.Common.{None, refl}
-use Rattle.chain_search.specs.trace.Tables.{memory_in}
+use Rattle.core_memory.specs.Tables.{memory_in}
 use Rattle.step_core.proofs.Taking.{goes_by, going}
 use Rattle.step_core.proofs.actor.go_on.Goals as goal
 

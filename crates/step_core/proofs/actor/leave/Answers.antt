@@ -1,7 +1,7 @@
 use Rattle.std.proofs.Common.{Some, refl}
 use Rattle.bw_model.specs.declared.step.Answer.TheVariants.{Done}
 use Rattle.bw_model.specs.declared.step.Step.TheVariants.{Leave}
-use Rattle.chain_search.specs.trace.Tables.{memory_in}
+use Rattle.core_memory.specs.Tables.{memory_in}
 use Rattle.step_core.proofs.Taking.{goes_by, going, needs_room}
 use Rattle.step_core.proofs.actor.leave.Goals as goal
 

@@ -1,11 +1,19 @@
-use Rattle.std.proofs.Common.{sym, ◌∙◌, arith}
+use Rattle.std.proofs.Common.{◌≡◌, sym, ◌∙◌, arith}
+use Rattle.std.specs.Prelude.{IsTrue}
+use Rattle.chain_search.specs.chain.Chains.{covers, level_in}
+use Rattle.chain_search.specs.chain.Fitted.{IsPageChain}
 use Rattle.smo.proofs.TestedLeaves.{delete_over}
 use Rattle.layer_tests.proofs.plans.grown.without.Goals as goal
 
 pub grown-requires : goal.grown-requires
-grown-requires c = record {
-  over = (
-    delete_over c.args.page.chain c.key-gone.result c.keeps_rules.ensures (c.requires.alive) (let a = c.level.ensures in let b = c.if-level-ne0.false in omega (arith, a, b)) (sym c.covers.ensures ∙ c.if-not-covers.false),
-    (let a = c.deltas.ensures in let b = c.if-deltas-ge12.false in omega (arith, a, b)),
-  );
-}
+grown-requires g c =
+    let chain = c.args.page.chain in
+    let fitted : IsPageChain chain = rw c.chain-chain.ensures at c.keeps_rules.ensures in
+    let level : level_in chain ≡ 0 = rw (← c.chain-chain.ensures) (let a = c.level.ensures in let b = c.if-level-ne0.false in omega (arith, a, b)) in
+    let covered : IsTrue (covers chain c.key-gone.result) = rw (← c.chain-chain.ensures, ← c.of.ensures) (sym c.covers.ensures ∙ c.if-not-covers.false) in
+    record {
+      over = (
+        delete_over chain c.key-gone.result fitted c.requires.alive level covered,
+        rw (← c.chain-chain.ensures) (let a = c.deltas.ensures in let b = c.if-deltas-ge12.false in omega (arith, a, b)),
+      );
+    }

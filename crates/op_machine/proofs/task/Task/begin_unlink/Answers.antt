@@ -2,7 +2,7 @@ use Rattle.std.proofs.Common.{◌≡◌, Some, ap, sym, ◌∙◌}
 use Rattle.deltas.specs.declared.record.Unterm.{Unterm}
 use Rattle.chain_search.specs.chain.Chains.{chain_rows}
 use Rattle.rounds.specs.WriteRounds.{PlacedWrite}
-use Rattle.smo.specs.declared.version.Version.{Version}
+use Rattle.smo.specs.Versions.{Version}
 use Rattle.op_machine.proofs.Unlinking.{keeps_spare}
 use Rattle.op_machine.proofs.task.Task.begin_unlink.Goals as goal
 
@@ -13,14 +13,14 @@ returns-clause-stands g c k r h =
     let removed = writer.page in
     let parent_is : c.parent-parent.result.now ≡ writer.parent = c.parent-parent.ensures ∙ ap (λ (w : PlacedWrite). w.parent) c.writer.ensures in
     let removed_is : c.page-removed.result.now ≡ removed = c.page-removed.ensures ∙ ap (λ (w : PlacedWrite). w.page) c.writer-2.ensures in
-    let rows : c.rows.result.items ≡ chain_rows removed.head removed.chain = rw (c.head-3.ensures, c.chain.ensures, removed_is) at c.rows.ensures in
-    let pid : c.pid-2.result ≡ c.args.unterm.child = c.pid-2.ensures ∙ ap (λ (v : Version). v.pid) removed_is ∙ sym (ap (λ (u : Unterm). u.child) ends.plan.is) in
+    let rows : c.page-unlinked.result.rows.items ≡ chain_rows removed.head removed.chain = rw removed_is at c.page-unlinked.ensures.rows in
+    let pid = c.page-unlinked.ensures.pid ∙ ap Some (ap (λ (v : Version). v.pid) removed_is ∙ sym (ap (λ (u : Unterm). u.child) ends.plan.is)) in
     c.begin_change.ensures.stands k r (rw (c.pid.ensures, c.head.ensures, c.head-2.ensures, parent_is, removed_is) (record {
       seeks = h.seeks;
       writer = h.writer;
       may = record { inside = h.seeks.inside; links = c.plans_may_be_linked.ensures.unlink c.args.self.now.actor k writer.parent writer.left removed c.args.unterm ends.page.in_hand.seen ends.page.alive ends.page.in_hand.sound.is_chain ends.up ends.plan ends.aside.in_hand.seen ends.after ends.gone.in_hand.seen };
       keeps = keeps_spare c.args.self.now c.args.spares.now k writer.parent writer.left removed c.args.unterm h.seeks ends.plan ends.gone.in_hand.seen;
-      brings = (record { chain = removed.chain; read = ends.gone.in_hand.seen.read; short = ends.gone.in_hand.sound.is_chain.short; are = rows }, ap Some pid);
+      brings = (record { chain = removed.chain; read = ends.gone.in_hand.seen.read; short = ends.gone.in_hand.sound.is_chain.short; are = rows }, pid);
       useful = tt;
       split = tt;
       recalled = ends.page.recalled;

@@ -3,7 +3,7 @@ use Rattle.bw_model.specs.Replies.{command_key, reply_of, update_of}
 use Rattle.chain_search.specs.chain.Chains.{content_in}
 use Rattle.chain_search.specs.discipline.Discipline.{found}
 use Rattle.rounds.specs.WriteRounds.{PlacedWrite}
-use Rattle.smo.specs.declared.version.Version.{Version}
+use Rattle.smo.specs.Versions.{Version}
 use Rattle.smo.proofs.Places.{of_made}
 use Rattle.op_machine.specs.machine.Brings.{update_over}
 use Rattle.op_machine.proofs.Commands.{change_is, over_fits, over_kept, over_links, over_useful, update_due, value_same}

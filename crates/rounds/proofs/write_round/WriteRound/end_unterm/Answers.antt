@@ -1,13 +1,13 @@
-use Rattle.std.proofs.Common.{inr, subst, ◌∙◌}
+use Rattle.std.proofs.Common.{inr, subst}
 use Rattle.smo.specs.Unterms.{CanUnterm}
-use Rattle.smo.specs.declared.version.Version.{Version}
+use Rattle.smo.specs.Versions.{Version}
 use Rattle.rounds.proofs.write_round.WriteRound.end_unterm.Goals as goal
 
 pub returns-in-None : goal.returns-in-None
 returns-in-None g c =
     let self = c.args.self.now in
     let none : ¬ CanUnterm self.parent self.left self.page =
-    subst (λ (parent : Version). ¬ CanUnterm parent self.left self.page) (c.version.ensures ∙ c.parent.ensures)
-    (subst (λ (left : Version). ¬ CanUnterm c.version.result left self.page) (c.version-2.ensures ∙ c.left.ensures)
-    (subst (λ (page : Version). ¬ CanUnterm c.version.result c.version-2.result page) (c.version-3.ensures ∙ c.page.ensures) c.in-None.ensures)) in
+    subst (λ (parent : Version). ¬ CanUnterm parent self.left self.page) c.parent.ensures
+    (subst (λ (left : Version). ¬ CanUnterm c.parent.result.now left self.page) c.left.ensures
+    (subst (λ (page : Version). ¬ CanUnterm c.parent.result.now c.left.result.now page) c.page.ensures c.in-None.ensures)) in
     inr (inr (record { parent = self.parent; left = self.left; goal = c.requires.unterms; none = none }))

@@ -4,7 +4,7 @@ use Rattle.std.specs.Bool.{Decides}
 use Rattle.std.proofs.Math.Dec.{leb}
 use Rattle.deltas.specs.declared.record.Record.{Record}
 use Rattle.smo.specs.Sizes.{HasManyItems}
-use Rattle.smo.specs.declared.version.Version.{Version}
+use Rattle.smo.specs.Versions.{Version}
 use Rattle.rounds.proofs.Turning.{count_of_many, many_by_count}
 use Rattle.rounds.proofs.write_round.WriteRound.is_wide.Goals as goal
 

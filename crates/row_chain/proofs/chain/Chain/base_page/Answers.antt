@@ -1,6 +1,6 @@
 use Rattle.std.proofs.Common.{◌≡◌, suc, List, length, get_or, ap, ◌∙◌, arith}
 use Rattle.deltas.specs.declared.record.Record.{Record}
-use Rattle.row_chain.proofs.Typing.{base_at}
+use Rattle.row_chain.proofs.Making.{base_at}
 use Rattle.row_chain.proofs.chain.Chain.base_page.Goals as goal
 
 pub unreachable-requires : goal.unreachable-requires

@@ -4,8 +4,8 @@ use Rattle.bw_model.specs.Bytes.{is_below}
 use Rattle.base_page.specs.Pages.{child_in}
 use Rattle.base_page.specs.Places.{IsGreatestChild, HasNoChild}
 use Rattle.chain_search.specs.chain.Chains.{content_in}
-use Rattle.chain_search.specs.chain.Walks.{IsGreatestKey}
-use Rattle.chain_search.proofs.ChildWalks.{child_at_greatest}
+use Rattle.row_chain.specs.Walks.{IsGreatestKey}
+use Rattle.row_chain.proofs.ChildWalks.{child_at_greatest}
 use Rattle.chain_search.proofs.FittedLaws.{has_child}
 use Rattle.row_chain.proofs.chain.Chain.child_below.Goals as goal
 

@@ -3,8 +3,8 @@ use Rattle.std.proofs.lemmas.List.{take_more}
 use Rattle.bw_model.specs.Bytes.{is_below}
 use Rattle.deltas.specs.declared.record.Record.{Record}
 use Rattle.chain_search.specs.chain.Chains.{content_in}
-use Rattle.chain_search.specs.chain.Walks.{is_open, IsGreatestKey}
-use Rattle.chain_search.proofs.WalkLaws.{walked}
+use Rattle.row_chain.specs.Walks.{is_open, IsGreatestKey}
+use Rattle.row_chain.proofs.WalkLaws.{walked}
 use Rattle.row_chain.proofs.chain.Chain.greatest_below.Goals as goal
 
 pub loop-place-preserved : goal.loop-place-preserved

@@ -1,7 +1,7 @@
 use Rattle.std.proofs.Common.{take}
 use Rattle.bw_model.specs.Bytes.{is_below}
 use Rattle.chain_search.specs.chain.Chains.{content_in}
-use Rattle.chain_search.specs.chain.Walks.{IsGreatestKey}
+use Rattle.row_chain.specs.Walks.{IsGreatestKey}
 use Rattle.row_chain.proofs.chain.Chain.greatest_below.Given as goal
 
 abbrev pub invariant-loop-place : goal.invariant-loop-place

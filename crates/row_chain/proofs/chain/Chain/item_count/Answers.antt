@@ -2,8 +2,8 @@ use Rattle.std.proofs.Common.{◌≡◌, ◌≤◌, ◌+◌, List, [], None, len
 use Rattle.deltas.specs.declared.record.Record.{Record}
 use Rattle.chain_search.specs.chain.Chains.{IsItemsOf}
 use Rattle.chain_search.specs.chain.Fitted.{IsFitted}
-use Rattle.chain_search.specs.chain.Walks.{bound_under, count_under}
-use Rattle.chain_search.proofs.CountLaws.{count_all, rest_is, unchanged}
+use Rattle.row_chain.specs.Walks.{bound_under, count_under}
+use Rattle.row_chain.proofs.CountLaws.{count_all, rest_is, unchanged}
 use Rattle.chain_search.proofs.FittedLaws.{page_of}
 use Rattle.row_chain.proofs.Counts.{fitted_from, from_place, none_left}
 use Rattle.row_chain.proofs.chain.Chain.item_count.Goals as goal

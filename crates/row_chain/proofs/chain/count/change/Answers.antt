@@ -1,6 +1,6 @@
 use Rattle.std.proofs.Common.{◌≡◌, ◌+◌, ℕ, Some, None, sym, ap, ◌∙◌}
 use Rattle.std.specs.Prelude.{option_copied}
-use Rattle.chain_search.specs.chain.Walks.{bound_under, count_under}
+use Rattle.row_chain.specs.Walks.{bound_under, count_under}
 use Rattle.row_search.specs.OneKey.{one_key}
 use Rattle.row_chain.proofs.Counts.{bound_kept, changed, names_one, says_one}
 use Rattle.row_chain.proofs.chain.count.change.Goals as goal

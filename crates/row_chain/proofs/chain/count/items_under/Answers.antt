@@ -1,6 +1,6 @@
 use Rattle.std.proofs.Common.{sym, ◌∙◌}
 use Rattle.record_slots.specs.Parts.{items_of}
-use Rattle.chain_search.proofs.CountLaws.{count_all, count_cut}
+use Rattle.row_chain.proofs.CountLaws.{count_all, count_cut}
 use Rattle.row_chain.proofs.chain.count.items_under.Goals as goal
 
 pub returns-in-None-clause-count : goal.returns-in-None-clause-count

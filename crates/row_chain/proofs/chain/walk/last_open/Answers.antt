@@ -3,8 +3,8 @@ use Rattle.base_page.specs.declared.item.Content.TheVariants.{Child}
 use Rattle.base_page.specs.declared.item.Item.{Item}
 use Rattle.base_page.specs.Pages.{content_at}
 use Rattle.record_slots.specs.Parts.{items_of}
-use Rattle.chain_search.specs.chain.Walks.{is_named, is_open, IsGreatestKey}
-use Rattle.chain_search.proofs.WalkLaws.{last_open, none_open}
+use Rattle.row_chain.specs.Walks.{is_named, is_open, IsGreatestKey}
+use Rattle.row_chain.proofs.WalkLaws.{last_open, none_open}
 use Rattle.row_chain.proofs.chain.walk.last_open.Goals as goal
 
 none : Item

@@ -2,7 +2,7 @@ use Rattle.std.proofs.Common.{◌≡◌, true}
 use Rattle.std.specs.List.{AllWithin}
 use Rattle.base_page.specs.declared.item.Item.{Item}
 use Rattle.record_slots.specs.Parts.{items_of}
-use Rattle.chain_search.specs.chain.Walks.{is_named}
+use Rattle.row_chain.specs.Walks.{is_named}
 use Rattle.row_chain.proofs.chain.walk.last_open.Given as goal
 
 abbrev pub invariant-loop-place : goal.invariant-loop-place

@@ -1,8 +1,8 @@
 use Rattle.std.proofs.Common.{◌≡◌, true, Some, None, sym, subst, ◌∙◌}
 use Rattle.std.specs.Prelude.{[], ◌∷◌}
 use Rattle.chain_search.specs.chain.Chains.{content_in}
-use Rattle.chain_search.specs.chain.Walks.{is_open, IsGreatestKey}
-use Rattle.chain_search.proofs.WalkLaws.{offers_items}
+use Rattle.row_chain.specs.Walks.{is_open, IsGreatestKey}
+use Rattle.row_chain.proofs.WalkLaws.{offers_items}
 use Rattle.record_slots.specs.Parts.{items_of}
 use Rattle.row_search.specs.OneKey.{one_key}
 use Rattle.row_chain.proofs.Offers.{by_items, there}

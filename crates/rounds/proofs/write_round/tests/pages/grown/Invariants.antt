@@ -1,5 +1,5 @@
 use Rattle.std.proofs.Common.{◌≡◌, ◌+◌, ◌∷◌, length, take}
 use Rattle.rounds.proofs.write_round.tests.pages.grown.Given as goal
 
-abbrev pub invariant-loop-delta : goal.invariant-loop-delta
-invariant-loop-delta l = (l.part ≡ l.fn.newest ∷ take l.delta-index l.delta-items) × (length l.part ≡ l.delta-index + 1)
+abbrev pub invariant-loop-under : goal.invariant-loop-under
+invariant-loop-under l = (l.part ≡ l.fn.newest ∷ take l.under-index l.under-items) × (length l.part ≡ l.under-index + 1)

@@ -1,7 +1,0 @@
-use Rattle.std.proofs.Common.{◌≡◌, drop}
-use Rattle.chain_search.specs.chain.Chains.{right_in}
-use Rattle.chain_search.proofs.FittedLaws.{over}
-use Rattle.chain_search.proofs.chain.Chain.right.Given as goal
-
-abbrev pub invariant-loop-newest : goal.invariant-loop-newest
-invariant-loop-newest l = right_in (over (drop l.newest-index l.newest-items) l.self-inside.base) ≡ right_in l.self
