@@ -17,7 +17,8 @@ use bw_model::{Key, Limits};
 use deltas::Record;
 use row_chain::{ChainPart, HeldRow};
 use smo::PageInHand;
-use std::alloc::{AllocError, Global};
+use std::alloc::Global;
+use std::process::Abort;
 
 /// How a round went on: what it asks for, or its end, and the pages that stand in it then.
 #[derive(Clone, Copy, Debug, PartialEq, Eq)]
@@ -113,21 +114,21 @@ fn meet(round: &mut ReadRound) -> Option<Turn>
 }
 
 /// What a reader of "y" does at the page, which it has read to the left of page 2.
-fn left_of_second(alloc: Global, pid: u16, base: Page) -> Result<Option<Turn>, AllocError>
+fn left_of_second(rt: &impl Abort, alloc: Global, pid: u16, base: Page) -> Option<Turn>
     requires pid { IsPid pid }
     requires stands { IsFitted (Base base ∷ []) }
 {
-    let mut round = ReadRound::new(alloc, &limits())?;
-    let mut page = PageInHand::new(alloc)?;
-    let mut part = ChainPart::new(alloc)?;
-    let mut row = HeldRow::new(alloc)?;
+    let mut round = ReadRound::new(alloc, &limits()).expect(rt, "room");
+    let mut page = PageInHand::new(alloc).expect(rt, "room");
+    let mut part = ChainPart::new(alloc).expect(rt, "room");
+    let mut row = HeldRow::new(alloc).expect(rt, "room");
     round.restart(&key(b"y"));
     show(&mut page, 2, second(), &mut part, &mut row);
     round.descent.swap_page(&mut page);
     round.go_left();
     show(&mut page, pid, base, &mut part, &mut row);
     round.descent.swap_page(&mut page);
-    Ok(meet(&mut round))
+    meet(&mut round)
 }
 
 /// The turn with page 2 aside.
@@ -144,9 +145,9 @@ fn stands(page: u16, asked: Asked, ended: Option<ReadEnded>) -> Option<Turn> {
 #[test]
 fn turns_to_the_left_of_a_page(rt: HostRuntime) {
     let turns = [
-        left_of_second(rt.alloc(), 5, index()).unwrap_or(None),
-        left_of_second(rt.alloc(), 1, first()).unwrap_or(None),
-        left_of_second(rt.alloc(), 1, Page::empty_leaf()).unwrap_or(None),
+        left_of_second(&rt, rt.alloc(), 5, index()),
+        left_of_second(&rt, rt.alloc(), 1, first()),
+        left_of_second(&rt, rt.alloc(), 1, Page::empty_leaf()),
     ];
     let expected = [
         // page 5 is the page above then, and the one that stood in its place is in hand

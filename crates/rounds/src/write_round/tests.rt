@@ -17,6 +17,7 @@ use pages::{above, based, first, halves, holding, index, key, leaf, lower, paren
 use row_search::KeyWords;
 use smo::{PageInHand, Upkeep};
 use std::alloc::Global;
+use std::process::Abort;
 
 /// How a round went on: to the page that it asks for, or to its end, with the pages that stand in the places which it is about.
 #[derive(Clone, Copy, Debug, PartialEq, Eq)]
@@ -42,13 +43,10 @@ fn limits() -> Limits
     Limits::new(1, 4096, 16384, 1).unwrap()
 }
 
-fn set_up(alloc: Global) -> Option<WriteRound>
-    ensures { IfSome result (λ round. round.round.limits.pids ≡ 4096) }
+fn set_up(rt: &impl Abort, alloc: Global) -> WriteRound
+    ensures { result.round.limits.pids ≡ 4096 }
 {
-    match WriteRound::new(alloc, &limits()) {
-        Ok(round) => Some(round),
-        Err(_) => None,
-    }
+    WriteRound::new(alloc, &limits()).expect(rt, "room")
 }
 
 /// The page in hand and another one change places.
@@ -157,212 +155,218 @@ fn leaf_turn(round: &WriteRound) -> Turn {
 }
 
 /// What a writer does at a leaf of so many deltas and items, where so many deltas are due.
-fn at_leaf(alloc: Global, deltas: usize, items: u8, due: usize) -> Option<Turn>
+fn at_leaf(rt: &impl Abort, alloc: Global, deltas: usize, items: u8, due: usize) -> Turn
     requires due { 0 < due }
 {
-    let mut round = set_up(alloc)?;
+    let mut round = set_up(rt, alloc);
     round.restart(&key(b"x"), due, false);
-    Some(meet(&mut round, first(alloc, deltas.min(12), leaf(items))?))
+    meet(&mut round, first(rt, alloc, deltas.min(12), leaf(items)))
 }
 
 #[test]
 fn consolidates_at_eight_deltas(rt: HostRuntime) {
     let turns = [
-        at_leaf(rt.alloc(), 7, 3, 8),
-        at_leaf(rt.alloc(), 8, 3, 8),
-        at_leaf(rt.alloc(), 0, 3, 1),
-        at_leaf(rt.alloc(), 1, 3, 1),
+        at_leaf(&rt, rt.alloc(), 7, 3, 8),
+        at_leaf(&rt, rt.alloc(), 8, 3, 8),
+        at_leaf(&rt, rt.alloc(), 0, 3, 1),
+        at_leaf(&rt, rt.alloc(), 1, 3, 1),
     ];
-    let (leaf, long) = (Some(Turn::Leaf(None, 1)), Some(Turn::Consolidate(1)));
+    let (leaf, long) = (Turn::Leaf(None, 1), Turn::Consolidate(1));
     assert_eq!(rt; turns, [leaf, long, leaf, long]);
 }
 
 #[test]
 fn splits_at_sixteen_items(rt: HostRuntime) {
     let turns = [
-        at_leaf(rt.alloc(), 0, 15, 8),
-        at_leaf(rt.alloc(), 7, 16, 8),
-        at_leaf(rt.alloc(), 8, 16, 8),
+        at_leaf(&rt, rt.alloc(), 0, 15, 8),
+        at_leaf(&rt, rt.alloc(), 7, 16, 8),
+        at_leaf(&rt, rt.alloc(), 8, 16, 8),
     ];
-    let (leaf, long) = (Some(Turn::Leaf(None, 1)), Some(Turn::Consolidate(1)));
-    assert_eq!(rt; turns, [leaf, Some(Turn::Split(1)), long]);
+    let (leaf, long) = (Turn::Leaf(None, 1), Turn::Consolidate(1));
+    assert_eq!(rt; turns, [leaf, Turn::Split(1), long]);
 }
 
 /// What the round does at a page that was split, and then at the new page.
-fn meet_halves(alloc: Global, round: &mut WriteRound) -> Option<[Turn; 2]>
+fn meet_halves(rt: &impl Abort, alloc: Global, round: &mut WriteRound) -> [Turn; 2]
     requires limits { round.old.round.limits.pids ≡ 4096 }
 {
-    let (left, right) = halves(alloc)?;
+    let (left, right) = halves(rt, alloc);
     let aside = meet(round, left);
-    Some([aside, meet(round, right)])
+    [aside, meet(round, right)]
 }
 
 /// What a writer to the key in the middle of the pages does there.
-fn seeking(alloc: Global) -> Option<[Turn; 2]> {
-    let mut round = set_up(alloc)?;
+fn seeking(rt: &impl Abort, alloc: Global) -> [Turn; 2] {
+    let mut round = set_up(rt, alloc);
     round.restart(&key(b"y"), 8, false);
-    meet_halves(alloc, &mut round)
+    meet_halves(rt, alloc, &mut round)
 }
 
 #[test]
 fn finishes_a_split_without_a_parent(rt: HostRuntime) {
-    assert_eq!(rt; seeking(rt.alloc()), Some([Turn::To(2), Turn::Root(1)]));
+    assert_eq!(rt; seeking(&rt, rt.alloc()), [Turn::To(2), Turn::Root(1)]);
 }
 
 /// The same below an index page that lacks the term.
-fn below_parent(alloc: Global) -> Option<(Turn, Option<[Turn; 2]>)> {
-    let mut round = set_up(alloc)?;
+fn below_parent(rt: &impl Abort, alloc: Global) -> (Turn, [Turn; 2]) {
+    let mut round = set_up(rt, alloc);
     round.restart(&key(b"y"), 8, false);
-    let down = meet(&mut round, parent(alloc)?);
-    Some((down, meet_halves(alloc, &mut round)))
+    let down = meet(&mut round, parent(rt, alloc));
+    (down, meet_halves(rt, alloc, &mut round))
 }
 
 #[test]
 fn finishes_a_split_below_a_parent(rt: HostRuntime) {
-    let turns = (Turn::To(1), Some([Turn::To(2), Turn::Term(5, 8, 2)]));
-    assert_eq!(rt; below_parent(rt.alloc()), Some(turns));
+    let turns = (Turn::To(1), [Turn::To(2), Turn::Term(5, 8, 2)]);
+    assert_eq!(rt; below_parent(&rt, rt.alloc()), turns);
 }
 
 /// What a writer does below an index page at a leaf, to which it has gone down.
-fn down_to_a_leaf(alloc: Global) -> Option<[Turn; 2]> {
-    let mut round = set_up(alloc)?;
+fn down_to_a_leaf(rt: &impl Abort, alloc: Global) -> [Turn; 2] {
+    let mut round = set_up(rt, alloc);
     round.restart(&key(b"y"), 8, false);
-    let down = meet(&mut round, parent(alloc)?);
-    Some([down, meet(&mut round, first(alloc, 0, leaf(3))?)])
+    let down = meet(&mut round, parent(rt, alloc));
+    [down, meet(&mut round, first(rt, alloc, 0, leaf(3)))]
 }
 
 #[test]
 fn ends_below_the_parent(rt: HostRuntime) {
     let turns = [Turn::To(1), Turn::Leaf(Some(5), 1)];
-    assert_eq!(rt; down_to_a_leaf(rt.alloc()), Some(turns));
+    assert_eq!(rt; down_to_a_leaf(&rt, rt.alloc()), turns);
 }
 
 /// What the round does at an index page below one that has its term, held or not.
-fn meet_index(alloc: Global, round: &mut WriteRound, index: PageInHand, held: bool) -> Option<Turn>
+fn meet_index(
+    rt: &impl Abort,
+    alloc: Global,
+    round: &mut WriteRound,
+    index: PageInHand,
+    held: bool,
+) -> Turn
     requires limits { round.old.round.limits.pids ≡ 4096 }
 {
-    let above = above(alloc, &index, held)?;
+    let above = above(rt, alloc, &index, held);
     meet(round, above);
-    Some(meet(round, index))
+    meet(round, index)
 }
 
 /// What a writer does on its way at an index page of so many terms.
-fn on_way(alloc: Global, terms: u8, held: bool, tends: bool) -> Option<Turn> {
-    let mut round = set_up(alloc)?;
+fn on_way(rt: &impl Abort, alloc: Global, terms: u8, held: bool, tends: bool) -> Turn {
+    let mut round = set_up(rt, alloc);
     round.restart(&key(b"z"), 8, tends);
-    meet_index(alloc, &mut round, index(alloc, terms)?, held)
+    meet_index(rt, alloc, &mut round, index(rt, alloc, terms), held)
 }
 
 #[test]
 fn removes_a_small_index_page(rt: HostRuntime) {
     let turns = [
-        on_way(rt.alloc(), 1, true, true),
-        on_way(rt.alloc(), 4, true, true),
-        on_way(rt.alloc(), 1, false, true),
-        on_way(rt.alloc(), 4, false, true),
+        on_way(&rt, rt.alloc(), 1, true, true),
+        on_way(&rt, rt.alloc(), 4, true, true),
+        on_way(&rt, rt.alloc(), 1, false, true),
+        on_way(&rt, rt.alloc(), 4, false, true),
     ];
-    let (remove, hold) = (Some(Turn::Remove(6)), Some(Turn::Hold(9, 6)));
+    let (remove, hold) = (Turn::Remove(6), Turn::Hold(9, 6));
     assert_eq!(rt; turns, [remove, remove, hold, hold]);
 }
 
 /// What a writer that removes small index pages does on its way at one that has a held term.
-fn at_holding(alloc: Global) -> Option<Turn> {
-    let mut round = set_up(alloc)?;
+fn at_holding(rt: &impl Abort, alloc: Global) -> Turn {
+    let mut round = set_up(rt, alloc);
     round.restart(&key(b"z"), 8, true);
-    meet_index(alloc, &mut round, holding(alloc)?, true)
+    meet_index(rt, alloc, &mut round, holding(rt, alloc), true)
 }
 
 /// The same at the first one.
-fn at_first(alloc: Global) -> Option<Turn> {
-    let mut round = set_up(alloc)?;
+fn at_first(rt: &impl Abort, alloc: Global) -> Turn {
+    let mut round = set_up(rt, alloc);
     round.restart(&key(b"z"), 8, true);
-    let above = above(alloc, &index(alloc, 1)?, false)?;
+    let above = above(rt, alloc, &index(rt, alloc, 1), false);
     meet(&mut round, above);
-    Some(meet(&mut round, parent(alloc)?))
+    meet(&mut round, parent(rt, alloc))
 }
 
 #[test]
 fn goes_down_from_an_index_page_that_stays(rt: HostRuntime) {
     let turns = [
-        on_way(rt.alloc(), 5, true, true),
-        on_way(rt.alloc(), 5, false, true),
-        on_way(rt.alloc(), 1, true, false),
-        on_way(rt.alloc(), 1, false, false),
+        on_way(&rt, rt.alloc(), 5, true, true),
+        on_way(&rt, rt.alloc(), 5, false, true),
+        on_way(&rt, rt.alloc(), 1, true, false),
+        on_way(&rt, rt.alloc(), 1, false, false),
     ];
-    let (last, only) = (Some(Turn::To(14)), Some(Turn::To(3)));
+    let (last, only) = (Turn::To(14), Turn::To(3));
     assert_eq!(rt; turns, [last, last, only, only]);
-    let turns = [at_holding(rt.alloc()), at_first(rt.alloc())];
-    assert_eq!(rt; turns, [Some(Turn::To(11)), Some(Turn::To(1))]);
+    let turns = [at_holding(&rt, rt.alloc()), at_first(&rt, rt.alloc())];
+    assert_eq!(rt; turns, [Turn::To(11), Turn::To(1)]);
 }
 
 /// What a writer does at a small index page on the way to the left of page 2.
-fn to_the_left(alloc: Global) -> Option<Turn> {
-    let mut round = set_up(alloc)?;
+fn to_the_left(rt: &impl Abort, alloc: Global) -> Turn {
+    let mut round = set_up(rt, alloc);
     round.restart(&key(b"z"), 8, true);
     round.restart_left(&key(b"z"), 2, 0);
-    meet_index(alloc, &mut round, index(alloc, 1)?, true)
+    meet_index(rt, alloc, &mut round, index(rt, alloc, 1), true)
 }
 
 #[test]
 fn removes_no_index_page_on_the_way_to_the_left(rt: HostRuntime) {
-    assert_eq!(rt; to_the_left(rt.alloc()), Some(Turn::To(3)));
+    assert_eq!(rt; to_the_left(&rt, rt.alloc()), Turn::To(3));
 }
 
 /// What a writer does to the left of page 2 at an index page, and then at a leaf that has no right.
-fn down_to_the_left(alloc: Global) -> Option<[Turn; 2]> {
-    let mut round = set_up(alloc)?;
+fn down_to_the_left(rt: &impl Abort, alloc: Global) -> [Turn; 2] {
+    let mut round = set_up(rt, alloc);
     round.restart_left(&key(b"y"), 2, 0);
-    let down = meet(&mut round, parent(alloc)?);
-    Some([down, meet(&mut round, first(alloc, 0, leaf(3))?)])
+    let down = meet(&mut round, parent(rt, alloc));
+    [down, meet(&mut round, first(rt, alloc, 0, leaf(3)))]
 }
 
 #[test]
 fn goes_left_of_a_removed_page(rt: HostRuntime) {
     assert_eq!(rt;
-        down_to_the_left(rt.alloc()),
-        Some([Turn::To(1), Turn::Done])
+        down_to_the_left(&rt, rt.alloc()),
+        [Turn::To(1), Turn::Done]
     );
 }
 
 /// What a writer to the left of the removed page does at its parent, at the leaf, and at the removed page.
-fn removes(alloc: Global, leaf: Page) -> Option<[Turn; 3]>
+fn removes(rt: &impl Abort, alloc: Global, leaf: Page) -> [Turn; 3]
     requires { IsFitted (Base leaf ∷ []) }
 {
-    let mut round = set_up(alloc)?;
-    let (parent, removed) = removal(alloc)?;
+    let mut round = set_up(rt, alloc);
+    let (parent, removed) = removal(rt, alloc);
     round.restart_left(&key(b"y"), 2, 0);
     let down = meet(&mut round, parent);
-    let aside = meet(&mut round, based(alloc, 1, leaf)?);
-    Some([down, aside, meet(&mut round, removed)])
+    let aside = meet(&mut round, based(rt, alloc, 1, leaf));
+    [down, aside, meet(&mut round, removed)]
 }
 
 #[test]
 fn merges_a_removed_page(rt: HostRuntime) {
     let turns = [Turn::To(1), Turn::To(2), Turn::Merge(1, 2)];
-    assert_eq!(rt; removes(rt.alloc(), lower()), Some(turns));
+    assert_eq!(rt; removes(&rt, rt.alloc(), lower()), turns);
 }
 
 #[test]
 fn takes_out_the_term_of_a_merged_page(rt: HostRuntime) {
     let turns = [Turn::To(1), Turn::To(2), Turn::Unterm(5, 1, 2)];
-    assert_eq!(rt; removes(rt.alloc(), Page::empty_leaf()), Some(turns));
+    assert_eq!(rt; removes(&rt, rt.alloc(), Page::empty_leaf()), turns);
 }
 
 /// What a writer does to the left of the page at a page that was split, and then at the new page.
-fn left_of(alloc: Global, at: Key, removed: u16) -> Option<[Turn; 2]> {
-    let mut round = set_up(alloc)?;
+fn left_of(rt: &impl Abort, alloc: Global, at: Key, removed: u16) -> [Turn; 2] {
+    let mut round = set_up(rt, alloc);
     round.restart_left(&at, removed, 0);
-    meet_halves(alloc, &mut round)
+    meet_halves(rt, alloc, &mut round)
 }
 
 #[test]
 fn reads_the_removed_page_to_the_right_again(rt: HostRuntime) {
     let turns = [Turn::To(2), Turn::Done];
-    assert_eq!(rt; left_of(rt.alloc(), key(&[b'x', 8]), 2), Some(turns));
+    assert_eq!(rt; left_of(&rt, rt.alloc(), key(&[b'x', 8]), 2), turns);
 }
 
 #[test]
 fn goes_right_below_the_removed_page(rt: HostRuntime) {
     let turns = [Turn::To(2), Turn::Root(1)];
-    assert_eq!(rt; left_of(rt.alloc(), key(b"y"), 3), Some(turns));
+    assert_eq!(rt; left_of(&rt, rt.alloc(), key(b"y"), 3), turns);
 }
