@@ -228,8 +228,8 @@ fn inserts(alloc: Global) -> Result<Vec<Turn>, AllocError> {
 }
 
 /// Before which turns an insert behind these wants memory, that consolidates the page, splits it, and puts a root over it: where
-/// the trace has to grow, at 256, and for each of the five records that are placed.
-const SPLIT_WANTS: [u64; 6] = [256, 266, 277, 279, 291, 306];
+/// the trace has to grow, at 250 for the seventeenth command and its reply, and at 256, and for each of the five records that are placed.
+const SPLIT_WANTS: [u64; 7] = [250, 256, 266, 277, 279, 291, 306];
 
 /// How many turns of the inserts are taken so.
 fn split_taken(alloc: Global) -> Option<u64> {
