@@ -1,8 +1,8 @@
 -- Words of free bits.
-use Rattle.std.proofs.Common.{◌≡◌, ◌<◌, ◌≤◌, ◌+◌, ◌*◌, ◌/◌, ◌%◌, ◌^◌, ◌==◌, ℕ, zero, suc, Bool, true, false, refl, sym, ap, ◌∙◌, arith, eqb}
+use Rattle.std.proofs.Common.{◌≡◌, ◌<◌, ◌≤◌, ◌+◌, ◌*◌, ◌/◌, ◌%◌, ◌^◌, ◌==◌, ℕ, zero, suc, Bool, true, false, refl, ap, ◌∙◌, arith, eqb}
 use Rattle.std.specs.Prelude.{bit_and, not, if◌then◌else◌}
 use Rattle.std.specs.Int.{bit_at}
-use Rattle.std.proofs.lemmas.Nat.{one_shl, pow_pos}
+use Rattle.std.proofs.lemmas.Nat.{one_shl}
 use Rattle.chain_search.proofs.Tables.{tested}
 use Rattle.chain_search.specs.trace.Steps.{IsWordOf}
 use Rattle.scene.specs.Counts.{how_many}

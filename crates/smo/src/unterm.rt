@@ -1,5 +1,5 @@
 //! The end of a merged page's term.
-ghost use Rattle.std.specs.Prelude.{◌≡◌, MatchOption, IfSome, IsFalse, false};
+ghost use Rattle.std.specs.Prelude.{MatchOption, IfSome, IsFalse};
 ghost use Rattle.std.specs.Bool.{Decides};
 ghost use Rattle.bw_model.specs.Bytes.{is_below};
 ghost use Rattle.chain_search.specs.chain.Chains.{high_in};

@@ -1,4 +1,3 @@
-use Rattle.std.proofs.Common.{◌≡◌}
 use Rattle.core_memory.specs.Tables.{memory_in}
 use Rattle.scene.proofs.Sides.{HasFront}
 use Rattle.scene.proofs.level.level_from.Given as goal

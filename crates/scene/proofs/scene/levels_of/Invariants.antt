@@ -1,4 +1,3 @@
-use Rattle.std.proofs.Common.{◌≡◌}
 use Rattle.core_memory.specs.Tables.{memory_in}
 use Rattle.scene.proofs.Descents.{HasDown}
 use Rattle.scene.proofs.scene.levels_of.Given as goal
