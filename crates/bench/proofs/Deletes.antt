@@ -11,7 +11,7 @@ use Rattle.deltas.specs.declared.record.Record.{Record}
 use Rattle.deltas.specs.declared.record.Record.TheVariants as kind
 use Rattle.deltas.specs.Fits.{FitsDelete}
 use Rattle.deltas.specs.Spellable.{IsRow, IsSpellablePage}
-use Rattle.chain_search.specs.chain.Fitted.{FitsOver, IsFitted, IsPageChain, Makes}
+use Rattle.traces.specs.chain.Fitted.{FitsOver, IsFitted, IsPageChain, Makes}
 
 abbrev pub IsDelete : Record → Type 0
 IsDelete change = (delete : Delete) × (change ≡ kind.Delete delete) × IsRow delete.next

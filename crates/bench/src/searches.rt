@@ -4,12 +4,12 @@ ghost use Rattle.deltas.specs.Spellable.{IsSpellablePage};
 
 use base_page::Page;
 use bw_model::Key;
-use chain_search::updates_fit;
 use deltas::{Delete, Record};
 use record_slots::{ROW_WORDS, from_words};
 use row_chain::{Chain, ChainPart, HeldRow};
 use row_search::KeyWords;
 use std::alloc::{AllocError, Global};
+use traces::updates_fit;
 
 /// How often one of the keys was found in the chain over the leaf that the row spells, by the page that the chain makes or by a walk.
 pub fn search_again(alloc: Global, row: &[u64; ROW_WORDS], by_page: bool, times: u32) -> u32 {

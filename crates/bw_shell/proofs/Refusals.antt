@@ -1,8 +1,8 @@
 -- Why a turn is refused, by the core and by the transcript.
 use Rattle.std.proofs.Common.{◌≡◌, ℕ, length, refl, sym, ap, ◌∙◌, inl, inr, Option, Some, None, Result, Err, Bool, true, false, cond, nat_lt, is_some, option_map}
-use Rattle.chain_search.specs.declared.trace.Turn.{Turn}
-use Rattle.chain_search.specs.declared.trace.Turn.TheVariants.{Begin, Step}
-use Rattle.chain_search.specs.trace.Trace.{command_of}
+use Rattle.traces.specs.declared.trace.Turn.{Turn}
+use Rattle.traces.specs.declared.trace.Turn.TheVariants.{Begin, Step}
+use Rattle.traces.specs.trace.Trace.{command_of}
 use Rattle.bw_model.specs.declared.command.Command.{Command}
 use Rattle.step_core.specs.Turns.{Core}
 use Rattle.step_core.specs.Turns.{refusal_of as core_refusal_of, refused_by}

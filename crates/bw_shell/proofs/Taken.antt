@@ -2,7 +2,7 @@
 use Rattle.std.proofs.Common.{◌≡◌, ◌<◌, ℕ, length, refl, sym, ap, subst, ◌∙◌, Option, Some, None, Result, Ok, Err, option_map}
 use Rattle.std.specs.Prelude.{IfErr, IfOk, OnErr}
 use Rattle.bw_model.specs.declared.step.Link.{Link}
-use Rattle.chain_search.specs.declared.trace.Turn.TheVariants.{Step}
+use Rattle.traces.specs.declared.trace.Turn.TheVariants.{Step}
 use Rattle.step_core.specs.Turns.{AddsTurn, Core, WantsMemory}
 use Rattle.step_core.specs.Turns.{refusal_of as core_refusal_of}
 use Rattle.step_core.specs.declared.event.RunError.{RunError}

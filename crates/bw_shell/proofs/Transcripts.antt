@@ -3,7 +3,7 @@ use Rattle.std.proofs.Common.{◌≡◌, ℕ, ◌+◌, ◌<◌, List, [], ◌∷
 use Rattle.std.proofs.lemmas.List.{append_assoc, append-nil}
 use Rattle.bw_model.specs.declared.command.Command.{Command}
 use Rattle.bw_model.specs.declared.step.Link.{Link}
-use Rattle.chain_search.specs.declared.trace.Turn.TheVariants.{Begin as BeginTurn}
+use Rattle.traces.specs.declared.trace.Turn.TheVariants.{Begin as BeginTurn}
 use Rattle.step_core.specs.declared.event.Event.TheVariants as event
 use Rattle.bw_shell.specs.Turns.{Trace, Refuses, TakesTurn}
 use Rattle.shell_lines.specs.Request.{Says, IsShortRequest, until_done}

@@ -1,10 +1,10 @@
 -- Turns of a core, as its trace shows them, and why a turn is refused.
 use Rattle.std.specs.Prelude.{◌≡◌, ℕ, ◌⊎◌, List, [], ◌∷◌, ◌++◌, map, nat_lt, is_some, ◌&&◌, Bool, if◌then◌else◌, Option, None, Some}
 use Rattle.bw_model.specs.declared.limits.Limits.{Limits}
-use Rattle.chain_search.specs.declared.trace.Entry.{Entry}
-use Rattle.chain_search.specs.declared.trace.Turn.{Turn}
-use Rattle.chain_search.specs.declared.trace.Turn.TheVariants.{Begin, Step}
-use Rattle.chain_search.specs.trace.Trace.{command_of, memory_of, turn_of}
+use Rattle.traces.specs.declared.trace.Entry.{Entry}
+use Rattle.traces.specs.declared.trace.Turn.{Turn}
+use Rattle.traces.specs.declared.trace.Turn.TheVariants.{Begin, Step}
+use Rattle.traces.specs.trace.Trace.{command_of, memory_of, turn_of}
 use Rattle.op_machine.specs.theorem.Linearized.{IsLinearized}
 use Rattle.step_core.specs.Turns.{Core, IsEventOf}
 use Rattle.step_core.specs.declared.event.Event.{Event}

@@ -8,9 +8,9 @@ ghost use Rattle.bw_shell.specs.Transcript.{ComesTo, IsUnderWay, StepTold, ToldA
 
 use crate::refusal::Refusal;
 use bw_model::{Command, Key, Link, Reply, Schedule, Value};
-use chain_search::Turn;
 use std::alloc::Global;
 use step_core::{Core, Event, RunError};
+use traces::Turn;
 
 /// What turns of an actor come to.
 #[derive(Drop)]

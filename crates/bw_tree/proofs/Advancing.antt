@@ -10,13 +10,13 @@ use Rattle.bw_model.specs.declared.step.Answer.TheVariants.{Done}
 use Rattle.bw_model.specs.declared.step.Step.{Step as StepOf}
 use Rattle.bw_model.specs.declared.step.Step.TheVariants.{Leave}
 use Rattle.deltas.specs.declared.record.Record.{Record}
-use Rattle.chain_search.specs.declared.trace.Entry.{Entry}
-use Rattle.chain_search.specs.discipline.Discipline.{May}
-use Rattle.chain_search.specs.discipline.Fitting.{Fits}
-use Rattle.chain_search.specs.discipline.Knowledge.{Knowledge, knows}
-use Rattle.chain_search.specs.discipline.Recalled.{Recalled, recalls}
-use Rattle.chain_search.specs.trace.Trace.{command_of}
-use Rattle.chain_search.specs.trace.Within.{IsWithin}
+use Rattle.traces.specs.declared.trace.Entry.{Entry}
+use Rattle.traces.specs.discipline.Discipline.{May}
+use Rattle.traces.specs.discipline.Fitting.{Fits}
+use Rattle.traces.specs.discipline.Knowledge.{Knowledge, knows}
+use Rattle.traces.specs.discipline.Recalled.{Recalled, recalls}
+use Rattle.traces.specs.trace.Trace.{command_of}
+use Rattle.traces.specs.trace.Within.{IsWithin}
 use Rattle.slot_rule.specs.Steps.{IsLawfulStep, Took}
 use Rattle.bw_tree.specs.Calls.{Advances}
 use Rattle.bw_tree.specs.Laws.{HaveLaws}

@@ -10,13 +10,13 @@ use Rattle.bw_model.specs.declared.limits.Limits.{Limits}
 use Rattle.bw_model.specs.declared.step.Answer.{Answer}
 use Rattle.bw_model.specs.declared.step.Step.{Step as StepOf}
 use Rattle.deltas.specs.declared.record.Record.{Record}
-use Rattle.chain_search.specs.declared.trace.Entry.{Entry}
-use Rattle.chain_search.specs.declared.trace.Entry.TheVariants.{Begin, Step}
-use Rattle.chain_search.specs.discipline.Disciplined.{is_entry_of, own_entries}
-use Rattle.chain_search.specs.trace.Run.{IsNext, IsRun}
-use Rattle.chain_search.specs.trace.Trace.{command_of}
-use Rattle.chain_search.proofs.Pushes.{take-push_whole}
-use Rattle.chain_search.proofs.TraceLaws.{command_of-push}
+use Rattle.traces.specs.declared.trace.Entry.{Entry}
+use Rattle.traces.specs.declared.trace.Entry.TheVariants.{Begin, Step}
+use Rattle.traces.specs.discipline.Disciplined.{is_entry_of, own_entries}
+use Rattle.traces.specs.trace.Run.{IsNext, IsRun}
+use Rattle.traces.specs.trace.Trace.{command_of}
+use Rattle.traces.proofs.Pushes.{take-push_whole}
+use Rattle.traces.proofs.TraceLaws.{command_of-push}
 use Rattle.bw_tree.specs.Calls.{calls_along}
 use Rattle.bw_tree.proofs.Going.{answered_snoc}
 

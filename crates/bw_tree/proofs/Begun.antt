@@ -12,15 +12,15 @@ use Rattle.bw_model.specs.declared.step.Answer.{Answer}
 use Rattle.bw_model.specs.declared.step.Step.{Step as StepOf}
 use Rattle.bw_model.specs.declared.step.Step.TheVariants as step
 use Rattle.deltas.specs.declared.record.Record.{Record}
-use Rattle.chain_search.specs.declared.trace.Entry.{Entry}
-use Rattle.chain_search.specs.declared.trace.Entry.TheVariants.{Begin}
-use Rattle.chain_search.specs.discipline.Discipline.{May}
-use Rattle.chain_search.specs.discipline.Disciplined.{Extends}
-use Rattle.chain_search.specs.discipline.Knowledge.{Knowledge, begun, knows}
-use Rattle.chain_search.specs.discipline.Recalled.{Recalled, blank, recalls}
-use Rattle.chain_search.specs.trace.Steps.{IsAnswer}
-use Rattle.chain_search.specs.trace.Trace.{command_of, memory_of}
-use Rattle.chain_search.specs.trace.Within.{IsWithin}
+use Rattle.traces.specs.declared.trace.Entry.{Entry}
+use Rattle.traces.specs.declared.trace.Entry.TheVariants.{Begin}
+use Rattle.traces.specs.discipline.Discipline.{May}
+use Rattle.traces.specs.discipline.Disciplined.{Extends}
+use Rattle.traces.specs.discipline.Knowledge.{Knowledge, begun, knows}
+use Rattle.traces.specs.discipline.Recalled.{Recalled, blank, recalls}
+use Rattle.traces.specs.trace.Steps.{IsAnswer}
+use Rattle.traces.specs.trace.Trace.{command_of, memory_of}
+use Rattle.traces.specs.trace.Within.{IsWithin}
 use Rattle.op_machine.specs.machine.Hands.{Hand}
 use Rattle.slot_rule.specs.Steps.{IsLawfulStep, Took}
 use Rattle.tree_law.specs.Direct.{Accounts}

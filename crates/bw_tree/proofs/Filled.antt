@@ -11,10 +11,10 @@ use Rattle.bw_model.specs.declared.limits.Limits.{Limits}
 use Rattle.bw_model.specs.Log.{set, logged_value}
 use Rattle.bw_model.specs.Pairs.{IsPairsOf}
 use Rattle.bw_model.specs.Replies.{reply_of}
-use Rattle.chain_search.specs.declared.trace.Entry.{Entry}
-use Rattle.chain_search.specs.declared.trace.Entry.TheVariants.{Begin, Step}
-use Rattle.chain_search.specs.discipline.Disciplined.{Extends, own_entries}
-use Rattle.chain_search.specs.trace.Trace.{command_of, turn_of}
+use Rattle.traces.specs.declared.trace.Entry.{Entry}
+use Rattle.traces.specs.declared.trace.Entry.TheVariants.{Begin, Step}
+use Rattle.traces.specs.discipline.Disciplined.{Extends, own_entries}
+use Rattle.traces.specs.trace.Trace.{command_of, turn_of}
 use Rattle.listing.specs.Listed.{IsListing}
 use Rattle.op_machine.specs.theorem.Answered.{IsAnswered}
 use Rattle.op_machine.specs.theorem.Linearized.{IsLinearized}

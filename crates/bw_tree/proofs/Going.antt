@@ -10,9 +10,9 @@ use Rattle.bw_model.specs.declared.step.Answer.TheVariants.{Done}
 use Rattle.bw_model.specs.declared.step.Step.{Step as StepOf}
 use Rattle.bw_model.specs.declared.step.Step.TheVariants.{Leave}
 use Rattle.deltas.specs.declared.record.Record.{Record}
-use Rattle.chain_search.specs.declared.trace.Entry.{Entry}
-use Rattle.chain_search.specs.declared.trace.Entry.TheVariants.{Begin, Step}
-use Rattle.chain_search.specs.discipline.Disciplined.{Extends, is_entry_of, own_entries}
+use Rattle.traces.specs.declared.trace.Entry.{Entry}
+use Rattle.traces.specs.declared.trace.Entry.TheVariants.{Begin, Step}
+use Rattle.traces.specs.discipline.Disciplined.{Extends, is_entry_of, own_entries}
 use Rattle.slot_rule.specs.Views.{IsOf}
 use Rattle.bw_tree.specs.Calls.{Advances, HasBegun, EndsWith, IsDone, IsCalled, IsFinished, IsResumed, IsSpent, IsStill, answered_last, call_after, calls_along, calls_in, own_count}
 use Rattle.bw_tree.specs.Runs.{StartsWith}

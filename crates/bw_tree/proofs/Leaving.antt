@@ -3,9 +3,9 @@ use Rattle.std.proofs.Common.{◌≡◌, ◌≤◌, ℕ, zero, suc, List, [], �
 use Rattle.std.specs.Prelude.{slice_get}
 use Rattle.atomic_table.specs.Table.{Final, Seen}
 use Rattle.bw_model.specs.declared.limits.Limits.{Limits}
-use Rattle.chain_search.specs.declared.trace.Entry.{Entry}
-use Rattle.chain_search.specs.discipline.Disciplined.{Extends}
-use Rattle.chain_search.specs.trace.Trace.{memory_of}
+use Rattle.traces.specs.declared.trace.Entry.{Entry}
+use Rattle.traces.specs.discipline.Disciplined.{Extends}
+use Rattle.traces.specs.trace.Trace.{memory_of}
 use Rattle.listing.specs.Listed.{IsListing}
 use Rattle.slot_rule.specs.Closing.{AllStand, AreLeft, LeavesWords}
 use Rattle.slot_rule.specs.declared.view.Part.{Part}

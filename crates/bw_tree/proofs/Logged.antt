@@ -15,11 +15,11 @@ use Rattle.bw_model.specs.Log.{Update, set, logged_value}
 use Rattle.bw_model.specs.Replies.{reply_of}
 use Rattle.deltas.specs.declared.record.Record.{Record}
 use Rattle.deltas.specs.Memory.{Memory}
-use Rattle.chain_search.specs.declared.trace.Entry.{Entry}
-use Rattle.chain_search.specs.declared.trace.Entry.TheVariants.{Begin, Step}
-use Rattle.chain_search.specs.trace.Trace.{command_of, memory_at}
-use Rattle.chain_search.proofs.Pushes.{slice_get_below}
-use Rattle.chain_search.proofs.TraceLaws.{command_of-push}
+use Rattle.traces.specs.declared.trace.Entry.{Entry}
+use Rattle.traces.specs.declared.trace.Entry.TheVariants.{Begin, Step}
+use Rattle.traces.specs.trace.Trace.{command_of, memory_at}
+use Rattle.traces.proofs.Pushes.{slice_get_below}
+use Rattle.traces.proofs.TraceLaws.{command_of-push}
 use Rattle.op_machine.specs.theorem.Answered.{IsAnswered, IsTrueReply, RepliesAt, RepliesAtPoint}
 use Rattle.op_machine.specs.theorem.Operations.{Finishes, IsOwnStep, Operation}
 use Rattle.op_machine.specs.theorem.Points.{HasPoints, IsPoint, log_at, updates_at, updates_by}

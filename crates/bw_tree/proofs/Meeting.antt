@@ -3,10 +3,10 @@ use Rattle.std.proofs.Common.{◌≡◌, ℕ, List, [], ◌∷◌, ◌++◌, map
 use Rattle.op_machine.specs.machine.Actors.{Actor, IsActor}
 use Rattle.op_machine.specs.machine.UnderWay.{steps_due}
 use Rattle.bw_model.specs.declared.limits.Limits.{Limits}
-use Rattle.chain_search.specs.declared.trace.Entry.{Entry}
-use Rattle.chain_search.specs.discipline.Disciplined.{Extends}
-use Rattle.chain_search.specs.discipline.Knowledge.{knows}
-use Rattle.chain_search.specs.discipline.Recalled.{recalls}
+use Rattle.traces.specs.declared.trace.Entry.{Entry}
+use Rattle.traces.specs.discipline.Disciplined.{Extends}
+use Rattle.traces.specs.discipline.Knowledge.{knows}
+use Rattle.traces.specs.discipline.Recalled.{recalls}
 use Rattle.slot_rule.specs.declared.view.Part.{Part}
 use Rattle.slot_rule.specs.declared.view.Reach.{Reach}
 use Rattle.slot_rule.specs.declared.view.Reach.TheVariants.{Idle, Noted}

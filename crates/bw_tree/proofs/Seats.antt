@@ -14,16 +14,16 @@ use Rattle.bw_model.specs.declared.step.Step.{Step as StepOf}
 use Rattle.bw_model.specs.declared.step.Step.TheVariants.{Leave}
 use Rattle.deltas.specs.declared.record.Record.{Record}
 use Rattle.deltas.specs.Memory.{replaced_at}
-use Rattle.chain_search.specs.declared.trace.Entry.{Entry}
-use Rattle.chain_search.specs.declared.trace.Entry.TheVariants.{Step}
-use Rattle.chain_search.specs.discipline.Discipline.{IsAllowed, May, MayFree, MayReply}
-use Rattle.chain_search.specs.discipline.Disciplined.{Extends}
-use Rattle.chain_search.specs.discipline.Fitting.{Fits}
-use Rattle.chain_search.specs.discipline.Knowledge.{Knowledge, finished, knows, learn}
-use Rattle.chain_search.specs.discipline.Recalled.{IsStepSpent, Recalled, recall, recalls}
-use Rattle.chain_search.specs.trace.Steps.{IsAnswer}
-use Rattle.chain_search.specs.trace.Trace.{command_of, commands_after, memory_of}
-use Rattle.chain_search.specs.discipline.Useful.{IsUseful}
+use Rattle.traces.specs.declared.trace.Entry.{Entry}
+use Rattle.traces.specs.declared.trace.Entry.TheVariants.{Step}
+use Rattle.traces.specs.discipline.Discipline.{IsAllowed, May, MayFree, MayReply}
+use Rattle.traces.specs.discipline.Disciplined.{Extends}
+use Rattle.traces.specs.discipline.Fitting.{Fits}
+use Rattle.traces.specs.discipline.Knowledge.{Knowledge, finished, knows, learn}
+use Rattle.traces.specs.discipline.Recalled.{IsStepSpent, Recalled, recall, recalls}
+use Rattle.traces.specs.trace.Steps.{IsAnswer}
+use Rattle.traces.specs.trace.Trace.{command_of, commands_after, memory_of}
+use Rattle.traces.specs.discipline.Useful.{IsUseful}
 use Rattle.op_machine.specs.machine.Bounded.{left_at}
 use Rattle.op_machine.specs.machine.Hands.{Hand}
 use Rattle.op_machine.specs.machine.Shows.{ShowsState}

@@ -8,11 +8,11 @@ use Rattle.bw_model.specs.declared.step.Answer.TheVariants as answer
 use Rattle.bw_model.specs.declared.step.Step.{Step as StepOf}
 use Rattle.bw_model.specs.declared.step.Step.TheVariants.{Leave}
 use Rattle.deltas.specs.declared.record.Record.{Record}
-use Rattle.chain_search.specs.declared.trace.Entry.{Entry}
-use Rattle.chain_search.specs.declared.trace.Entry.TheVariants.{Begin, Step}
-use Rattle.chain_search.specs.discipline.Disciplined.{Extends, own_entries}
-use Rattle.chain_search.specs.trace.Steps.{IsAnswer}
-use Rattle.chain_search.specs.trace.Trace.{memory_of}
+use Rattle.traces.specs.declared.trace.Entry.{Entry}
+use Rattle.traces.specs.declared.trace.Entry.TheVariants.{Begin, Step}
+use Rattle.traces.specs.discipline.Disciplined.{Extends, own_entries}
+use Rattle.traces.specs.trace.Steps.{IsAnswer}
+use Rattle.traces.specs.trace.Trace.{memory_of}
 use Rattle.bw_tree.specs.Runs.{StartsWith}
 use Rattle.bw_tree.specs.Seats.{Seat, unfinished_command}
 use Rattle.bw_tree.specs.declared.called.Called.{Called}

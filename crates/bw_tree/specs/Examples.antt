@@ -4,8 +4,8 @@ use Rattle.bw_model.specs.declared.command.Command.TheVariants.{Get, Upsert, Del
 use Rattle.bw_model.specs.declared.command.Reply.TheVariants as reply
 use Rattle.bw_model.specs.declared.step.Answer.TheVariants.{Number, Done}
 use Rattle.bw_model.specs.declared.step.Step.TheVariants.{Epoch, Leave}
-use Rattle.chain_search.specs.declared.trace.Entry.{Entry}
-use Rattle.chain_search.specs.declared.trace.Entry.TheVariants.{Begin, Step}
+use Rattle.traces.specs.declared.trace.Entry.{Entry}
+use Rattle.traces.specs.declared.trace.Entry.TheVariants.{Begin, Step}
 
 -- Actor 0 gets "a", which is not there, while actor 1 begins to delete "b"; then actor 0 begins to set "a".
 abbrev pub two_actors : List Entry

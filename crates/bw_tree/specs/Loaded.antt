@@ -7,9 +7,9 @@ use Rattle.bw_model.specs.declared.command.Command.TheVariants.{Upsert}
 use Rattle.bw_model.specs.declared.command.Reply.{Reply}
 use Rattle.bw_model.specs.declared.command.Reply.TheVariants as reply
 use Rattle.bw_model.specs.declared.limits.Limits.{Limits}
-use Rattle.chain_search.specs.declared.trace.Entry.{Entry}
-use Rattle.chain_search.specs.discipline.Disciplined.{own_entries}
-use Rattle.chain_search.specs.trace.Trace.{command_of}
+use Rattle.traces.specs.declared.trace.Entry.{Entry}
+use Rattle.traces.specs.discipline.Disciplined.{own_entries}
+use Rattle.traces.specs.trace.Trace.{command_of}
 use Rattle.listing.specs.Listed.{IsListing}
 use Rattle.bw_tree.specs.Calls.{IsCalled, calls_in, calls_of}
 use Rattle.bw_tree.specs.Runs.{IsOneHistory}

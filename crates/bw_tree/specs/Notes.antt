@@ -2,8 +2,8 @@
 use Rattle.std.specs.Prelude.{◌≡◌, ℕ, List}
 use Rattle.atomic_table.specs.Seated.{TableId}
 use Rattle.bw_model.specs.declared.limits.Limits.{Limits}
-use Rattle.chain_search.specs.declared.trace.Entry.{Entry}
-use Rattle.chain_search.specs.discipline.Disciplined.{Extends}
+use Rattle.traces.specs.declared.trace.Entry.{Entry}
+use Rattle.traces.specs.discipline.Disciplined.{Extends}
 use Rattle.slot_rule.specs.declared.view.Reach.TheVariants.{Noted}
 use Rattle.slot_rule.specs.Views.{Mine, SitsAt}
 use Rattle.bw_tree.specs.Runs.{StartsWith}

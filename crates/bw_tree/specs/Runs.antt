@@ -1,8 +1,8 @@
 -- The runs of a running tree.
 use Rattle.std.specs.Prelude.{List, map}
 use Rattle.bw_model.specs.declared.limits.Limits.{Limits}
-use Rattle.chain_search.specs.declared.trace.Entry.{Entry}
-use Rattle.chain_search.specs.trace.Trace.{turn_of}
+use Rattle.traces.specs.declared.trace.Entry.{Entry}
+use Rattle.traces.specs.trace.Trace.{turn_of}
 pub use Rattle.slot_rule.specs.Running.{StartsWith}
 use Rattle.op_machine.specs.theorem.Linearized.{IsLinearized, IsOrderly}
 use Rattle.tree_law.specs.Direct.{IsDirectState}

@@ -5,10 +5,10 @@ use Rattle.bw_model.specs.declared.command.Command.{Command}
 use Rattle.bw_model.specs.declared.limits.Limits.{Limits}
 use Rattle.op_machine.specs.machine.Actors.{Actor, IsActor, running_command}
 use Rattle.op_machine.specs.machine.UnderWay.{steps_due}
-use Rattle.chain_search.specs.declared.trace.Entry.{Entry}
-use Rattle.chain_search.specs.discipline.Knowledge.{knows}
-use Rattle.chain_search.specs.discipline.Recalled.{recalls}
-use Rattle.chain_search.specs.trace.Trace.{command_of}
+use Rattle.traces.specs.declared.trace.Entry.{Entry}
+use Rattle.traces.specs.discipline.Knowledge.{knows}
+use Rattle.traces.specs.discipline.Recalled.{recalls}
+use Rattle.traces.specs.trace.Trace.{command_of}
 use Rattle.slot_rule.specs.declared.view.Reach.TheVariants.{Idle}
 use Rattle.slot_rule.specs.Views.{SitsAt, Mine, seen_of}
 use Rattle.tree_law.specs.Direct.{Accounts}

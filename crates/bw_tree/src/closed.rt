@@ -4,8 +4,8 @@ ghost use Rattle.std.specs.Vec.{vec_capacity};
 ghost use Rattle.record_slots.specs.Layout.{last_at, row_size};
 ghost use Rattle.bw_tree.specs.Closed.{AreFilled, KeepMemory};
 ghost use Rattle.bw_tree.specs.Runs.{IsLawfulRun};
-ghost use Rattle.chain_search.specs.declared.trace.Entry.{Entry};
-ghost use Rattle.chain_search.specs.trace.Trace.{memory_of};
+ghost use Rattle.traces.specs.declared.trace.Entry.{Entry};
+ghost use Rattle.traces.specs.trace.Trace.{memory_of};
 ghost use Rattle.listing.specs.Listed.{IsListing};
 ghost use Rattle.tree_words.specs.Layout.{row_at};
 

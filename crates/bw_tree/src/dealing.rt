@@ -4,7 +4,7 @@ ghost use Rattle.bw_tree.specs.Loaded.{AreAt};
 ghost use Rattle.bw_tree.specs.Runs.{IsOneHistory};
 ghost use Rattle.bw_tree.specs.Seats.{IsSame};
 ghost use Rattle.bw_tree.specs.Trees.{IsSeatOf, fresh_seat};
-ghost use Rattle.chain_search.specs.discipline.Disciplined.{Extends};
+ghost use Rattle.traces.specs.discipline.Disciplined.{Extends};
 ghost use Rattle.slot_rule.specs.Running.{Each, ExtendsFor};
 ghost use Rattle.slot_rule.specs.Views.{dealt, other_parts, refreshed};
 

@@ -4,7 +4,7 @@ ghost use Rattle.bw_model.specs.declared.command.Command.TheVariants.{Get, Upser
 ghost use Rattle.bw_model.specs.declared.command.Reply.TheVariants as reply;
 ghost use Rattle.bw_tree.specs.Calls.{answered_last, calls_of};
 ghost use Rattle.bw_tree.specs.Examples.{two_actors};
-ghost use Rattle.chain_search.specs.discipline.Disciplined.{own_entries};
+ghost use Rattle.traces.specs.discipline.Disciplined.{own_entries};
 
 /// The calls of an actor are its commands in order, each with its reply once it has one. What others do tells nothing of them.
 pub fn entries_tell_calls()

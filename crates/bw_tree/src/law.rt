@@ -3,7 +3,7 @@ ghost use Rattle.std.specs.Prelude.{List, []};
 ghost use Rattle.bw_model.specs.declared.limits.Limits.{Limits};
 ghost use Rattle.bw_tree.specs.Laws.{HaveLaws};
 ghost use Rattle.bw_tree.specs.Runs.{IsLawfulRun, IsOneHistory};
-ghost use Rattle.chain_search.specs.declared.trace.Entry.{Entry};
+ghost use Rattle.traces.specs.declared.trace.Entry.{Entry};
 ghost use Rattle.slot_rule.specs.Running.{KeepsRowsApart};
 
 use slot_rule::{Law, Words};

@@ -7,8 +7,8 @@ ghost use Rattle.bw_tree.specs.Calls.{Advances, HasBegun, IsResumed};
 ghost use Rattle.bw_tree.specs.Runs.{IsOneHistory};
 ghost use Rattle.bw_tree.specs.Seats.{IsSame, unfinished_command};
 ghost use Rattle.bw_tree.specs.Told.{reply_if};
-ghost use Rattle.chain_search.specs.discipline.Knowledge.{Knowledge};
-ghost use Rattle.chain_search.specs.discipline.Recalled.{Recalled};
+ghost use Rattle.traces.specs.discipline.Knowledge.{Knowledge};
+ghost use Rattle.traces.specs.discipline.Recalled.{Recalled};
 ghost use Rattle.slot_rule.specs.Views.{IsOf};
 
 use crate::called::Called;

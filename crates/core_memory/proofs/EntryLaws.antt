@@ -10,7 +10,7 @@ use Rattle.bw_model.specs.declared.command.Reply.TheVariants as kind
 use Rattle.bw_model.specs.declared.step.Answer.TheVariants.{Done}
 use Rattle.bw_model.specs.declared.step.Step.TheVariants as step
 use Rattle.deltas.specs.declared.record.Record.{Record}
-use Rattle.chain_search.specs.declared.trace.Entry.TheVariants as entry
+use Rattle.traces.specs.declared.trace.Entry.TheVariants as entry
 use Rattle.core_memory.specs.declared.entries.Happening.{Happening}
 use Rattle.core_memory.specs.declared.entries.Happening.TheVariants.{Begin, Step, Leave}
 use Rattle.core_memory.specs.Entries.{HasPlace, entries_of, entry_of}

@@ -1,14 +1,14 @@
 //! What was done, entry by entry. Commands and replies stand in lists of their own, so that an entry is short.
 ghost use Rattle.std.specs.Prelude.{◌≡◌, ◌<◌, ◌≤◌, ◌++◌, ◌∷◌, [], None, Some, length, slice_get, OnErr, OnOk};
-ghost use Rattle.chain_search.specs.declared.trace.Entry.TheVariants as entry;
+ghost use Rattle.traces.specs.declared.trace.Entry.TheVariants as entry;
 ghost use Rattle.core_memory.specs.Entries.{HasPlace, entry_of};
 
 use crate::steps::{answer_of, step_of};
 use crate::{BoxedReply, SharedRecord};
 use bw_model::{Answer, Command, Step};
-use chain_search::Entry;
 use std::alloc::{AllocError, Allocator, Global};
 use std::marker::Model;
+use traces::Entry;
 
 /// What a turn did, over records of type `R`. A command and a reply stand in their lists, at a place; a leave ends its actor's operation.
 #[derive(Drop)]

@@ -1,7 +1,7 @@
 //! Steps and answers whose records are shared.
 ghost use Rattle.std.specs.Prelude.{◌≡◌, IfOk, OnErr};
 ghost use Rattle.bw_model.specs.Lent.{lent};
-ghost use Rattle.chain_search.specs.trace.Steps.{MovesRecord};
+ghost use Rattle.traces.specs.trace.Steps.{MovesRecord};
 ghost use Rattle.core_memory.specs.Shared.{PlacesSpellable};
 
 use crate::SharedRecord;

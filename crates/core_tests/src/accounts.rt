@@ -3,11 +3,11 @@
 use crate::by_hand::{finish, reply};
 use crate::numbers::{Numbers, bit, has_bit, number};
 use bw_model::{Answer, Command, Key, Limits, Link, Reply, Step};
-use chain_search::Entry;
 use core_memory::Entries;
 use deltas::Record;
 use std::alloc::{AllocError, Global};
 use step_core::Core;
+use traces::Entry;
 
 /// What is kept of the record in a row.
 #[derive(Clone, Copy)]

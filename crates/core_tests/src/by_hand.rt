@@ -1,8 +1,8 @@
 //! Turns by hand, with what they are to tell.
 
 use bw_model::{Command, Link, Reply};
-use chain_search::Turn;
 use step_core::{Core, Event};
+use traces::Turn;
 
 /// Whether an actor begins an operation.
 pub(crate) fn begins(core: &mut Core, actor: u8, command: Command) -> bool {

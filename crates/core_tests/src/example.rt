@@ -1,9 +1,9 @@
 //! A core, one step at a time: a lookup between the steps of an insert.
 
 use bw_model::{Command, Key, Limits, Reply, Value};
-use chain_search::Turn;
 use std::test::Fail;
 use step_core::{Core, Event};
+use traces::Turn;
 
 #[test]
 fn two_actors_take_turns(rt: HostRuntime) -> Result<(), Fail> {

@@ -2,11 +2,11 @@
 
 use crate::by_hand::{begins, finish, finishes, replies, takes, until};
 use bw_model::{Answer, Command, Key, Limits, Link, Reply, Step, Value};
-use chain_search::{Entry, Turn};
 use core_memory::Entries;
 use deltas::Record;
 use std::alloc::{AllocError, Global};
 use step_core::{Core, run};
+use traces::{Entry, Turn};
 
 /// How many keys there are.
 const KEYS: u32 = 200;

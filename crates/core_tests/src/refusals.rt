@@ -3,11 +3,11 @@
 
 use crate::numbered;
 use bw_model::{Command, Key, Limits, OpenError, Value};
-use chain_search::Turn;
 use refusing::Refusing;
 use std::alloc::{AllocError, Allocator, Global};
 use std::test::Fail;
 use step_core::{Core, Event, RunError, run};
+use traces::Turn;
 
 /// An allocator that refuses one growth, and counts.
 type Heap<'a> = &'a Refusing<Global>;

@@ -7,10 +7,10 @@ use crate::pages::{key, value};
 use crate::scripts::{Ask, Line, Say, after, opened};
 use crate::small_leaves::lists;
 use bw_model::{Answer, Command, Reply, Step};
-use chain_search::Entry;
 use core_memory::Entries;
 use std::alloc::Global;
 use step_core::Core;
+use traces::Entry;
 
 /// The greatest epoch, which is never retired.
 const LAST_EPOCH: u64 = 1 << 62;

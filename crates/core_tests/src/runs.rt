@@ -3,10 +3,10 @@
 use crate::pages::{key, value};
 use crate::scripts::{Ask, Line, Say, is_told};
 use bw_model::{Command, Limits, Link, Reply};
-use chain_search::{Entry, Turn};
 use core_memory::Entries;
 use std::alloc::{AllocError, Global};
 use step_core::{Core, RunError, run};
+use traces::{Entry, Turn};
 
 const LOOKUP_AND_INSERT: [Line; 9] = [
     Line::Begins(0, Ask::Get(1)),

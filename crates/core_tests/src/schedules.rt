@@ -4,12 +4,12 @@ use crate::accounts::is_settled;
 use crate::numbered::{key, value};
 use crate::plain_map::{ABSENT, PlainMap, VALUES};
 use bw_model::{Command, Key, Limits, Link, Pairs, Reply};
-use chain_search::Turn;
 use rand_core::SeedableRng;
 use rand_core::utils::NextWord;
 use rand_pcg::Pcg32;
 use std::alloc::{AllocError, Global};
 use step_core::{Core, Event};
+use traces::Turn;
 
 /// The bit that stands for a value.
 fn bit(number: u32) -> u32 {

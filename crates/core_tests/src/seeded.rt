@@ -3,7 +3,6 @@
 use crate::accounts::is_settled;
 use crate::pages::key;
 use bw_model::{Command, Key, Limits, Link, Schedule, Value};
-use chain_search::Turn;
 use rand_core::SeedableRng;
 use rand_core::utils::NextWord;
 use rand_pcg::Pcg32;
@@ -11,6 +10,7 @@ use std::alloc::{AllocError, Global};
 use std::collections::BTreeMap;
 use std::test::Fail;
 use step_core::{Core, Event};
+use traces::Turn;
 
 /// The value of a turn's number.
 fn value_of(alloc: Global, turn: u32) -> Result<Value, AllocError> {

@@ -6,9 +6,9 @@ use crate::by_hand::{begins, replies, reply};
 use crate::numbered::{are_first, insert, key, value};
 use crate::scripts::opened;
 use bw_model::{Command, Key, Pairs, Reply};
-use chain_search::Turn;
 use std::alloc::Global;
 use step_core::{Core, Event};
+use traces::Turn;
 
 /// How many keys there are.
 const KEYS: u32 = 80;

@@ -6,9 +6,9 @@ use crate::pages::{key, value};
 use crate::reuse::{has_letters, is_round, rounds, served_by};
 use crate::scripts::opened;
 use bw_model::{Command, Reply, Step};
-use chain_search::Entry;
 use std::alloc::Global;
 use step_core::Core;
+use traces::Entry;
 
 /// A core in which actor 0 has rows of three words and PIDs in limbo, some without a stamp: while it took them out of the tree,
 /// actor 1 was inside.

@@ -3,9 +3,9 @@
 use crate::index_removals::removes;
 use crate::numbered::{insert, key, value};
 use bw_model::{Command, Limits, Reply, Schedule};
-use chain_search::Turn;
 use std::alloc::Global;
 use step_core::{Core, Event};
+use traces::Turn;
 
 /// How many keys there are.
 const KEYS: u32 = 1000;

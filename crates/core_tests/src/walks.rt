@@ -3,10 +3,10 @@
 use crate::by_hand::{begins, replies, reply};
 use crate::numbered::{insert, key, value};
 use bw_model::{Command, Key, Limits, Pairs, Reply, Value};
-use chain_search::Turn;
 use std::alloc::{AllocError, Global};
 use std::test::Fail;
 use step_core::{Core, Event};
+use traces::Turn;
 
 type Listing = Vec<(Key, Value)>;
 

@@ -5,11 +5,11 @@ use Rattle.std.specs.List.{AllByRecursion}
 use Rattle.bw_model.specs.declared.limits.Limits.{Limits}
 use Rattle.bw_model.specs.Bytes.{is_below}
 use Rattle.deltas.specs.declared.record.Record.{Record}
-use Rattle.chain_search.specs.chain.Chains.{IsChainFrom, high_in, is_removed, level_in, low_in, right_in}
-use Rattle.chain_search.specs.discipline.Discipline.{IsBeyond, NamesChild}
-use Rattle.chain_search.specs.discipline.Fitting.{SaysOf}
-use Rattle.chain_search.specs.discipline.Knowledge.{Knowledge}
-use Rattle.chain_search.specs.discipline.Recalled.{IsUnread, Recalled}
+use Rattle.traces.specs.chain.Chains.{IsChainFrom, high_in, is_removed, level_in, low_in, right_in}
+use Rattle.traces.specs.discipline.Discipline.{IsBeyond, NamesChild}
+use Rattle.traces.specs.discipline.Fitting.{SaysOf}
+use Rattle.traces.specs.discipline.Knowledge.{Knowledge}
+use Rattle.traces.specs.discipline.Recalled.{IsUnread, Recalled}
 use Rattle.smo.specs.Readings.{IsAfter}
 use Rattle.smo.specs.Versions.{Version}
 use Rattle.descent.specs.Versions.{IsGone, IsInHand}

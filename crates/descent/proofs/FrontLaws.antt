@@ -5,7 +5,7 @@ use Rattle.std.proofs.lemmas.Bool.{eqb-true}
 use Rattle.deltas.specs.declared.record.Record.{Record}
 use Rattle.deltas.specs.Memory.{replaced_at}
 use Rattle.deltas.specs.Records.{next_row}
-use Rattle.chain_search.specs.chain.Chains.{IsChainFrom, IsFront}
+use Rattle.traces.specs.chain.Chains.{IsChainFrom, IsFront}
 
 under : (o : Option ℕ) (X : Type 0) (P Q : ℕ → Type 0) → ((b : ℕ) → P b → Q b) → MatchOption o ⊥ P → MatchOption o X Q
 under None X P Q f h = absurd h

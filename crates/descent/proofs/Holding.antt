@@ -10,9 +10,9 @@ use Rattle.bw_model.specs.declared.step.Answer.TheVariants as answer
 use Rattle.deltas.specs.declared.record.Record.{Record}
 use Rattle.deltas.specs.Memory.{replaced_at}
 use Rattle.deltas.specs.Records.{next_row}
-use Rattle.chain_search.specs.chain.Chains.{IsChainFrom}
-use Rattle.chain_search.specs.discipline.Knowledge.{Knowledge, learn, learn_slot}
-use Rattle.chain_search.specs.discipline.Recalled.{IsUnread}
+use Rattle.traces.specs.chain.Chains.{IsChainFrom}
+use Rattle.traces.specs.discipline.Knowledge.{Knowledge, learn, learn_slot}
+use Rattle.traces.specs.discipline.Recalled.{IsUnread}
 use Rattle.smo.specs.Versions.{Version}
 use Rattle.descent.specs.Versions.{IsInHand}
 use Rattle.descent.specs.Walks.{IsNamedAt, IsNextAt, IsPast}

@@ -8,10 +8,10 @@ use Rattle.base_page.specs.declared.item.Content.{Content}
 use Rattle.base_page.specs.declared.item.Content.TheVariants.{Child}
 use Rattle.base_page.proofs.KeyLaws.{and_left, below_from, below_reach, by_order, not_true}
 use Rattle.deltas.specs.declared.record.Record.{Record}
-use Rattle.chain_search.specs.chain.Chains.{content_in, covers, high_in, is_removed, level_in, low_in}
-use Rattle.chain_search.specs.chain.Fitted.{IsFitted}
-use Rattle.chain_search.specs.discipline.Knowledge.{Knowledge}
-use Rattle.chain_search.specs.discipline.Recalled.{Recalled}
+use Rattle.traces.specs.chain.Chains.{content_in, covers, high_in, is_removed, level_in, low_in}
+use Rattle.traces.specs.chain.Fitted.{IsFitted}
+use Rattle.traces.specs.discipline.Knowledge.{Knowledge}
+use Rattle.traces.specs.discipline.Recalled.{Recalled}
 use Rattle.smo.specs.Roots.{CanRoot}
 use Rattle.smo.specs.Terms.{CanPost}
 use Rattle.smo.specs.Versions.{Version}

@@ -15,8 +15,8 @@ use Rattle.deltas.specs.declared.record.Record.{Record}
 use Rattle.deltas.specs.declared.record.Record.TheVariants as kind
 use Rattle.deltas.specs.NamedPages.{HasChild, NamesPage}
 use Rattle.deltas.specs.Records.{names, content_said}
-use Rattle.chain_search.specs.chain.Chains.{IsFront, content_in, is_removed, right_in}
-use Rattle.chain_search.specs.discipline.Recalled.{AnyNames, IsUnread, is_removal}
+use Rattle.traces.specs.chain.Chains.{IsFront, content_in, is_removed, right_in}
+use Rattle.traces.specs.discipline.Recalled.{AnyNames, IsUnread, is_removal}
 use Rattle.descent.specs.Walks.{AreDistinct}
 use Rattle.descent.specs.Ways.{NamesAt}
 

@@ -6,9 +6,9 @@ use Rattle.base_page.specs.declared.item.Content.{Content}
 use Rattle.base_page.specs.Pages.{Page}
 use Rattle.base_page.specs.Rules.{IsRuled}
 use Rattle.deltas.specs.declared.record.Record.{Record}
-use Rattle.chain_search.specs.chain.Chains.{content_in, covers, high_in, is_removed, low_in, right_in}
-use Rattle.chain_search.specs.chain.Fitted.{IsFitted, Makes}
-use Rattle.chain_search.proofs.FittedLaws.{ruled}
+use Rattle.traces.specs.chain.Chains.{content_in, covers, high_in, is_removed, low_in, right_in}
+use Rattle.traces.specs.chain.Fitted.{IsFitted, Makes}
+use Rattle.traces.proofs.FittedLaws.{ruled}
 use Rattle.smo.proofs.Places.{inside, made}
 use Rattle.smo.proofs.Removed.{lowest_stands}
 

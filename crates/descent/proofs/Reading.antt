@@ -4,10 +4,10 @@ use Rattle.bw_model.specs.declared.limits.Limits.{Limits}
 use Rattle.bw_model.specs.declared.step.Answer.{Answer}
 use Rattle.bw_model.specs.declared.step.Answer.TheVariants as answer
 use Rattle.deltas.specs.declared.record.Record.{Record}
-use Rattle.chain_search.specs.chain.Chains.{is_removed, low_in}
-use Rattle.chain_search.specs.discipline.Fitting.{Fits}
-use Rattle.chain_search.specs.discipline.Knowledge.{Knowledge, learn}
-use Rattle.chain_search.specs.discipline.Recalled.{Recalled, recall}
+use Rattle.traces.specs.chain.Chains.{is_removed, low_in}
+use Rattle.traces.specs.discipline.Fitting.{Fits}
+use Rattle.traces.specs.discipline.Knowledge.{Knowledge, learn}
+use Rattle.traces.specs.discipline.Recalled.{Recalled, recall}
 use Rattle.smo.specs.Versions.{Version}
 use Rattle.descent.specs.ReadGoals.{ReadGoal, Seek, Left, Beyond}
 use Rattle.descent.specs.ReadLegs.{Leg, Down, Round, Past, IsPlain, below, has_met, level_on}

@@ -4,11 +4,11 @@ use Rattle.std.specs.Prelude.{IsTrue}
 use Rattle.bw_model.specs.declared.limits.Limits.{Limits}
 use Rattle.bw_model.specs.Bytes.{is_below}
 use Rattle.deltas.specs.declared.record.Record.{Record}
-use Rattle.chain_search.specs.chain.Chains.{high_in, is_removed, level_in, low_in, right_in}
-use Rattle.chain_search.specs.discipline.Discipline.{HasRead, NamesChild}
-use Rattle.chain_search.specs.discipline.Fitting.{SaysOf}
-use Rattle.chain_search.specs.discipline.Knowledge.{Knowledge}
-use Rattle.chain_search.specs.discipline.Recalled.{Recalled, trail}
+use Rattle.traces.specs.chain.Chains.{high_in, is_removed, level_in, low_in, right_in}
+use Rattle.traces.specs.discipline.Discipline.{HasRead, NamesChild}
+use Rattle.traces.specs.discipline.Fitting.{SaysOf}
+use Rattle.traces.specs.discipline.Knowledge.{Knowledge}
+use Rattle.traces.specs.discipline.Recalled.{Recalled, trail}
 use Rattle.smo.specs.Versions.{Version}
 use Rattle.descent.specs.ReadGoals.{ReadGoal, Seek, Left, Beyond}
 use Rattle.descent.specs.ReadLegs.{Leg, Down, Round, Past, has_met, level_on}

@@ -9,10 +9,10 @@ use Rattle.bw_model.specs.declared.step.Answer.TheVariants as answer
 use Rattle.deltas.specs.declared.record.Record.{Record}
 use Rattle.deltas.specs.Memory.{replaced_at}
 use Rattle.deltas.specs.Records.{next_row}
-use Rattle.chain_search.specs.chain.Chains.{is_removed}
-use Rattle.chain_search.specs.discipline.Fitting.{Fits, FitsRow}
-use Rattle.chain_search.specs.discipline.Knowledge.{Knowledge, learn, learn_slot}
-use Rattle.chain_search.specs.discipline.Recalled.{Recalled, recall}
+use Rattle.traces.specs.chain.Chains.{is_removed}
+use Rattle.traces.specs.discipline.Fitting.{Fits, FitsRow}
+use Rattle.traces.specs.discipline.Knowledge.{Knowledge, learn, learn_slot}
+use Rattle.traces.specs.discipline.Recalled.{Recalled, recall}
 use Rattle.smo.specs.Versions.{Version}
 use Rattle.descent.specs.Visits.{Slot, Row, FindsHead, Completes, Continues, Visit, at, to_page, wanted}
 use Rattle.descent.specs.Versions.{IsAlive, IsGone, IsInHand}

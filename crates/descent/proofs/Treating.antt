@@ -11,9 +11,9 @@ use Rattle.deltas.specs.declared.record.Record.{Record}
 use Rattle.deltas.specs.declared.record.Merge.{Merge as MergeRecord}
 use Rattle.deltas.specs.declared.record.Term.{Term}
 use Rattle.deltas.specs.declared.record.Unterm.{Unterm as UntermRecord}
-use Rattle.chain_search.specs.chain.Chains.{content_in, covers, is_removed, level_in, low_in, right_in}
-use Rattle.chain_search.specs.discipline.Knowledge.{Knowledge}
-use Rattle.chain_search.specs.discipline.Recalled.{Recalled, WasHead}
+use Rattle.traces.specs.chain.Chains.{content_in, covers, is_removed, level_in, low_in, right_in}
+use Rattle.traces.specs.discipline.Knowledge.{Knowledge}
+use Rattle.traces.specs.discipline.Recalled.{Recalled, WasHead}
 use Rattle.smo.specs.Sizes.{HasFewItems}
 use Rattle.smo.specs.Splits.{CanSplit}
 use Rattle.smo.specs.declared.upkeep.Upkeep.{Upkeep}

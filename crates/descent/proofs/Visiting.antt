@@ -8,10 +8,10 @@ use Rattle.bw_model.specs.declared.step.Answer.TheVariants as answer
 use Rattle.deltas.specs.declared.record.Record.{Record}
 use Rattle.deltas.specs.Memory.{replaced_at}
 use Rattle.deltas.specs.Records.{next_row}
-use Rattle.chain_search.specs.chain.Chains.{IsChainFrom, IsFront}
-use Rattle.chain_search.specs.discipline.Discipline.{May}
-use Rattle.chain_search.specs.discipline.Fitting.{Fits, FitsRow, IsReadWhole}
-use Rattle.chain_search.specs.discipline.Knowledge.{Knowledge, learn, learn_slot}
+use Rattle.traces.specs.chain.Chains.{IsChainFrom, IsFront}
+use Rattle.traces.specs.discipline.Discipline.{May}
+use Rattle.traces.specs.discipline.Fitting.{Fits, FitsRow, IsReadWhole}
+use Rattle.traces.specs.discipline.Knowledge.{Knowledge, learn, learn_slot}
 use Rattle.smo.specs.Versions.{Version}
 use Rattle.descent.specs.Visits.{Sight, Empty, Whole, VisitState, Slot, Row, Arrives, FindsHead, Completes, Continues, Follows, MayVisit, Reads, Responds, Shows, Visit, at, wanted}
 use Rattle.descent.specs.Versions.{IsSound}

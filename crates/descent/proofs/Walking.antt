@@ -15,12 +15,12 @@ use Rattle.base_page.proofs.KeyLaws.{below_from, below-trans}
 use Rattle.deltas.specs.declared.record.Record.{Record}
 use Rattle.deltas.specs.Memory.{replaced_at}
 use Rattle.deltas.specs.Records.{next_row}
-use Rattle.chain_search.specs.chain.Chains.{is_removed, level_in, low_in}
-use Rattle.chain_search.specs.discipline.Discipline.{HasRead}
-use Rattle.chain_search.specs.chain.Fitted.{IsFitted}
-use Rattle.chain_search.specs.discipline.Fitting.{FitsRow, IsReadWhole, SaysOf}
-use Rattle.chain_search.specs.discipline.Knowledge.{Knowledge, learn, learn_slot}
-use Rattle.chain_search.specs.discipline.Recalled.{IsUnread, Recalled, Walk, is_removal, recall, trail}
+use Rattle.traces.specs.chain.Chains.{is_removed, level_in, low_in}
+use Rattle.traces.specs.discipline.Discipline.{HasRead}
+use Rattle.traces.specs.chain.Fitted.{IsFitted}
+use Rattle.traces.specs.discipline.Fitting.{FitsRow, IsReadWhole, SaysOf}
+use Rattle.traces.specs.discipline.Knowledge.{Knowledge, learn, learn_slot}
+use Rattle.traces.specs.discipline.Recalled.{IsUnread, Recalled, Walk, is_removal, recall, trail}
 use Rattle.smo.specs.Versions.{Version}
 use Rattle.descent.specs.Visits.{Slot, Row, Arrives, MayVisit, Visit, at, to_page}
 use Rattle.descent.specs.Versions.{NamesPages}

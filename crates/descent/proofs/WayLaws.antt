@@ -6,9 +6,9 @@ use Rattle.bw_model.specs.Bytes.{is_below, is_in_range}
 use Rattle.base_page.specs.Places.{IsGreatestChild}
 use Rattle.base_page.proofs.KeyLaws.{not_true}
 use Rattle.deltas.specs.declared.record.Record.{Record}
-use Rattle.chain_search.specs.chain.Chains.{content_in, covers, high_in, level_in, low_in, right_in}
-use Rattle.chain_search.specs.discipline.Discipline.{NamesChild}
-use Rattle.chain_search.specs.chain.Fitted.{IsFitted}
+use Rattle.traces.specs.chain.Chains.{content_in, covers, high_in, level_in, low_in, right_in}
+use Rattle.traces.specs.discipline.Discipline.{NamesChild}
+use Rattle.traces.specs.chain.Fitted.{IsFitted}
 use Rattle.descent.specs.Versions.{NamesPages}
 use Rattle.descent.specs.Ways.{LeadsDown, LeadsOn, LeadsRight, NamesAt, StaysLeft, reaches}
 use Rattle.descent.proofs.PageLaws.{covered, ends}

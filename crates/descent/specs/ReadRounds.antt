@@ -5,11 +5,11 @@ use Rattle.bw_model.specs.declared.step.Step.{Step as StepOf}
 use Rattle.bw_model.specs.declared.step.Answer.{Answer}
 use Rattle.base_page.specs.Places.{HasNoChild}
 use Rattle.deltas.specs.declared.record.Record.{Record}
-use Rattle.chain_search.specs.chain.Chains.{content_in, covers, is_removed, level_in, low_in, right_in}
-use Rattle.chain_search.specs.discipline.Discipline.{NamesChild}
-use Rattle.chain_search.specs.discipline.Fitting.{SaysOf}
-use Rattle.chain_search.specs.discipline.Knowledge.{Knowledge}
-use Rattle.chain_search.specs.discipline.Recalled.{IsPaid, IsSpentWith, Recalled, recall}
+use Rattle.traces.specs.chain.Chains.{content_in, covers, is_removed, level_in, low_in, right_in}
+use Rattle.traces.specs.discipline.Discipline.{NamesChild}
+use Rattle.traces.specs.discipline.Fitting.{SaysOf}
+use Rattle.traces.specs.discipline.Knowledge.{Knowledge}
+use Rattle.traces.specs.discipline.Recalled.{IsPaid, IsSpentWith, Recalled, recall}
 use Rattle.smo.specs.Readings.{IsAfter}
 use Rattle.smo.specs.Versions.{Version}
 use Rattle.descent.specs.Versions.{IsAlive, IsGone, IsInHand, NamesPages}

@@ -2,8 +2,8 @@
 use Rattle.std.specs.Prelude.{◌≡◌, ◌⊎◌, Option, Some, None, ⊤}
 use Rattle.bw_model.specs.declared.step.Answer.{Answer}
 use Rattle.deltas.specs.declared.record.Record.{Record}
-use Rattle.chain_search.specs.discipline.Knowledge.{Knowledge, learn}
-use Rattle.chain_search.specs.discipline.Recalled.{Recalled, recall}
+use Rattle.traces.specs.discipline.Knowledge.{Knowledge, learn}
+use Rattle.traces.specs.discipline.Recalled.{Recalled, recall}
 use Rattle.smo.specs.Versions.{Version}
 use Rattle.descent.specs.Descents.{Descent, Finds, Responds as Moves, WayState, wanted}
 use Rattle.descent.specs.Machines.{Machine}

@@ -3,11 +3,11 @@ use Rattle.std.specs.Prelude.{◌≡◌, ◌<◌, ℕ, suc, List, Bool, Some, tr
 use Rattle.bw_model.specs.declared.limits.Limits.{Limits}
 use Rattle.base_page.specs.declared.item.Content.TheVariants.{Child}
 use Rattle.deltas.specs.declared.record.Record.{Record}
-use Rattle.chain_search.specs.chain.Chains.{content_in, covers, is_removed, level_in, right_in}
-use Rattle.chain_search.specs.chain.Fitted.{IsPageChain}
-use Rattle.chain_search.specs.discipline.Fitting.{SaysOf}
-use Rattle.chain_search.specs.discipline.Knowledge.{Knowledge}
-use Rattle.chain_search.specs.discipline.Recalled.{Recalled, WasHead}
+use Rattle.traces.specs.chain.Chains.{content_in, covers, is_removed, level_in, right_in}
+use Rattle.traces.specs.chain.Fitted.{IsPageChain}
+use Rattle.traces.specs.discipline.Fitting.{SaysOf}
+use Rattle.traces.specs.discipline.Knowledge.{Knowledge}
+use Rattle.traces.specs.discipline.Recalled.{Recalled, WasHead}
 use Rattle.smo.specs.Readings.{HasSeen}
 use Rattle.smo.specs.Versions.{Version}
 

@@ -7,10 +7,10 @@ use Rattle.bw_model.specs.declared.step.Answer.{Answer}
 use Rattle.bw_model.specs.declared.step.Answer.TheVariants.{Number, Content}
 use Rattle.deltas.specs.declared.record.Record.{Record}
 use Rattle.deltas.specs.Records.{next_row}
-use Rattle.chain_search.specs.chain.Chains.{IsFront}
-use Rattle.chain_search.specs.discipline.Discipline.{IsMet}
-use Rattle.chain_search.specs.discipline.Fitting.{IsReadWhole}
-use Rattle.chain_search.specs.discipline.Knowledge.{Knowledge, learn}
+use Rattle.traces.specs.chain.Chains.{IsFront}
+use Rattle.traces.specs.discipline.Discipline.{IsMet}
+use Rattle.traces.specs.discipline.Fitting.{IsReadWhole}
+use Rattle.traces.specs.discipline.Knowledge.{Knowledge, learn}
 use Rattle.descent.specs.Versions.{IsInHand}
 use Rattle.smo.specs.Versions.{Version}
 

@@ -4,10 +4,10 @@ use Rattle.std.specs.List.{AllByRecursion}
 use Rattle.bw_model.specs.declared.limits.Limits.{Limits}
 use Rattle.bw_model.specs.Bytes.{is_below}
 use Rattle.deltas.specs.declared.record.Record.{Record}
-use Rattle.chain_search.specs.chain.Chains.{IsChainFrom, is_removed, level_in, low_in}
-use Rattle.chain_search.specs.discipline.Discipline.{IsBeyond}
-use Rattle.chain_search.specs.discipline.Knowledge.{Knowledge}
-use Rattle.chain_search.specs.discipline.Recalled.{AnyNames, IsUnread, Recalled, Walk, trail}
+use Rattle.traces.specs.chain.Chains.{IsChainFrom, is_removed, level_in, low_in}
+use Rattle.traces.specs.discipline.Discipline.{IsBeyond}
+use Rattle.traces.specs.discipline.Knowledge.{Knowledge}
+use Rattle.traces.specs.discipline.Recalled.{AnyNames, IsUnread, Recalled, Walk, trail}
 use Rattle.smo.specs.Versions.{Version}
 use Rattle.descent.specs.Visits.{VisitState, Slot, Row, Arrives, Shows, Visit}
 use Rattle.descent.specs.Versions.{IsInHand, NamesPages}

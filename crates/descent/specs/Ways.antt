@@ -4,7 +4,7 @@ use Rattle.bw_model.specs.Bytes.{is_below}
 use Rattle.base_page.specs.declared.item.Content.TheVariants.{Child}
 use Rattle.base_page.specs.Places.{IsGreatest}
 use Rattle.deltas.specs.declared.record.Record.{Record}
-use Rattle.chain_search.specs.chain.Chains.{content_in, covers, high_in, level_in, right_in}
+use Rattle.traces.specs.chain.Chains.{content_in, covers, high_in, level_in, right_in}
 
 -- A page on the way to a key begins at or below the key;
 abbrev pub reaches : List ℕ → List ℕ → Bool

@@ -6,7 +6,7 @@ use Rattle.base_page.specs.Pages.{Page as PageOf}
 use Rattle.deltas.specs.declared.record.Merge.{Merge as MergeRecord}
 use Rattle.deltas.specs.declared.record.Term.{Term}
 use Rattle.deltas.specs.declared.record.Unterm.{Unterm as UntermRecord}
-use Rattle.chain_search.specs.chain.Chains.{content_in, is_removed, level_in, right_in}
+use Rattle.traces.specs.chain.Chains.{content_in, is_removed, level_in, right_in}
 use Rattle.smo.specs.Merges.{CanMerge, IsMergePlan}
 use Rattle.smo.specs.Roots.{CanRoot, IsRootPlan}
 use Rattle.smo.specs.Splits.{CanSplit, IsSplitPlan}

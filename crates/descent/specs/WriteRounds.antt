@@ -12,9 +12,9 @@ use Rattle.deltas.specs.declared.record.Record.{Record}
 use Rattle.deltas.specs.declared.record.Merge.{Merge as MergeRecord}
 use Rattle.deltas.specs.declared.record.Term.{Term}
 use Rattle.deltas.specs.declared.record.Unterm.{Unterm as UntermRecord}
-use Rattle.chain_search.specs.chain.Chains.{content_in, covers, high_in, is_removed, level_in, low_in, right_in}
-use Rattle.chain_search.specs.discipline.Knowledge.{Knowledge}
-use Rattle.chain_search.specs.discipline.Recalled.{IsPaid, IsSpentWith, IsUnread, Recalled, WasHead, recall}
+use Rattle.traces.specs.chain.Chains.{content_in, covers, high_in, is_removed, level_in, low_in, right_in}
+use Rattle.traces.specs.discipline.Knowledge.{Knowledge}
+use Rattle.traces.specs.discipline.Recalled.{IsPaid, IsSpentWith, IsUnread, Recalled, WasHead, recall}
 use Rattle.smo.specs.Merges.{IsMergePlan}
 use Rattle.smo.specs.Readings.{IsAfter}
 use Rattle.smo.specs.Roots.{IsRootPlan}

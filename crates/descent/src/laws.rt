@@ -2,10 +2,10 @@
 ghost use Rattle.std.specs.Prelude.{◌≡◌, ◌≤◌, ◌+◌, ℕ, List, Option, None};
 ghost use Rattle.bw_model.specs.declared.limits.Limits.{Limits};
 ghost use Rattle.bw_model.specs.declared.step.Answer.{Answer};
-ghost use Rattle.chain_search.specs.discipline.Discipline.{MayHold, MayMerge, MayRemove, MayUnterm, WasStanding};
-ghost use Rattle.chain_search.specs.discipline.Fitting.{Fits};
-ghost use Rattle.chain_search.specs.discipline.Knowledge.{Knowledge};
-ghost use Rattle.chain_search.specs.discipline.Recalled.{Recalled};
+ghost use Rattle.traces.specs.discipline.Discipline.{MayHold, MayMerge, MayRemove, MayUnterm, WasStanding};
+ghost use Rattle.traces.specs.discipline.Fitting.{Fits};
+ghost use Rattle.traces.specs.discipline.Knowledge.{Knowledge};
+ghost use Rattle.traces.specs.discipline.Recalled.{Recalled};
 ghost use Rattle.descent.specs.ReadRounds as reader;
 ghost use Rattle.descent.specs.WriteResponses as response;
 ghost use Rattle.descent.specs.Rounds.{Follows, Responds};

@@ -2,7 +2,7 @@
 use Rattle.std.specs.Prelude.{◌≡◌, ℕ, ◌⊎◌, ◌↔◌, List, [], Bool, true, false, not, Option, Some, None}
 use Rattle.std.specs.Io.KnownBytes.{Consumes}
 use Rattle.bw_model.specs.declared.limits.Limits.{Limits}
-use Rattle.chain_search.specs.trace.Trace.{memory_of}
+use Rattle.traces.specs.trace.Trace.{memory_of}
 use Rattle.scene.specs.Scenes.{Scene, IsSceneOf}
 use Rattle.shapes.specs.declared.shape.Shape.{Shape}
 use Rattle.shapes.specs.Document.{IsWellFormed}

@@ -5,7 +5,7 @@
 -- that was read after the item was unlinked. Who entered in a later epoch entered after that, and found the item nowhere.
 --
 -- The discipline of all actors says the same of what an actor has read, one announced number after another
--- (chain_search/Discipline, `IsPassed`). This crate stands beside that one and can't name it.
+-- (traces/Discipline, `IsPassed`). This crate stands beside that one and can't name it.
 use Rattle.std.specs.Prelude.{◌==◌, ◌||◌, ℕ, Bool, List, ltb}
 use Rattle.std.specs.List.{list_all}
 

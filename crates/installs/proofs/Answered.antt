@@ -4,8 +4,8 @@ use Rattle.bw_model.specs.declared.limits.Limits.{Limits}
 use Rattle.bw_model.specs.declared.step.Answer.{Answer}
 use Rattle.bw_model.specs.declared.step.Answer.TheVariants as answer
 use Rattle.deltas.specs.declared.record.Record.{Record}
-use Rattle.chain_search.specs.discipline.Fitting.{Fits}
-use Rattle.chain_search.specs.discipline.Knowledge.{Knowledge, learn}
+use Rattle.traces.specs.discipline.Fitting.{Fits}
+use Rattle.traces.specs.discipline.Knowledge.{Knowledge, learn}
 use Rattle.installs.specs.Changes.{Change, Follows, IsSame, IsSoundChange, IsTarget, Shows, head_of, linked_number, needs_pid, slot_of, wanted, wanted_at}
 use Rattle.installs.specs.Moves.{Moved, decided_by, moved, whether_in}
 use Rattle.installs.specs.Spares.{Spares}

@@ -3,9 +3,9 @@ use Rattle.std.proofs.Common.{◌≡◌, ◌<◌, ℕ, zero, suc, true, inr, ref
 use Rattle.bw_model.specs.declared.limits.Limits.{Limits}
 use Rattle.bw_model.specs.declared.step.Answer.{Answer}
 use Rattle.deltas.specs.declared.record.Record.{Record}
-use Rattle.chain_search.specs.discipline.Discipline.{MayExchange}
-use Rattle.chain_search.specs.discipline.Fitting.{Fits}
-use Rattle.chain_search.specs.discipline.Knowledge.{Knowledge, Other, Gone, learn}
+use Rattle.traces.specs.discipline.Discipline.{MayExchange}
+use Rattle.traces.specs.discipline.Fitting.{Fits}
+use Rattle.traces.specs.discipline.Knowledge.{Knowledge, Other, Gone, learn}
 use Rattle.installs.specs.Changes.{Change, ChangeIsOver, IsSoundChange, IsTarget, Shows, cleared_page, cleared_row, clears, wanted_at}
 use Rattle.installs.specs.Spares.{AreUnset, Spares}
 use Rattle.installs.specs.declared.change.End.TheVariants as end

@@ -9,9 +9,9 @@ use Rattle.deltas.specs.Memory.{replaced_at}
 use Rattle.deltas.specs.declared.record.Record.{Record}
 use Rattle.deltas.specs.declared.record.Record.TheVariants as kind
 use Rattle.deltas.specs.Spellable.{IsPid}
-use Rattle.chain_search.specs.discipline.Discipline.{IsOwn, IsUnset, MayExchange}
-use Rattle.chain_search.specs.discipline.Fitting.{Fits, ReadsRemoved}
-use Rattle.chain_search.specs.discipline.Knowledge.{Belongings, Knowledge, OwnPage, OwnRow, Written, Empty, Ready, learn, set_page}
+use Rattle.traces.specs.discipline.Discipline.{IsOwn, IsUnset, MayExchange}
+use Rattle.traces.specs.discipline.Fitting.{Fits, ReadsRemoved}
+use Rattle.traces.specs.discipline.Knowledge.{Belongings, Knowledge, OwnPage, OwnRow, Written, Empty, Ready, learn, set_page}
 use Rattle.smo.specs.Splits.{split_to}
 use Rattle.installs.specs.Changes.{AreEnough, Change, ChangesOn, IsLike, ChangeIsOver, IsPlaced, StandsReady, IsSoundChange, IsTarget, KeepsSpare, MayChange, MayInstall, MayLinkAs, Shows, ShowsState, base_row, head_of, linked_after, linked_number, needs_pid, new_base, new_record, rows_needed, slot_of, wanted_at}
 use Rattle.installs.specs.Moves.{after_ready}

@@ -7,9 +7,9 @@ use Rattle.bw_model.specs.declared.step.Step.TheVariants as step
 use Rattle.deltas.specs.declared.record.Record.{Record}
 use Rattle.deltas.specs.declared.record.Record.TheVariants as kind
 use Rattle.deltas.specs.declared.record.Split.{Split}
-use Rattle.chain_search.specs.discipline.Discipline.{MayExchange, MayLink}
-use Rattle.chain_search.specs.discipline.Fitting.{AreOutOfLimbo, Fits, ReadsRemoved}
-use Rattle.chain_search.specs.discipline.Knowledge.{Absent, Knowledge, OwnPage, OwnRow, Foreign, Taken, Written, Other, Empty, Ready, Gone, cleared, exchanged, handed_page, linked_over, set_page}
+use Rattle.traces.specs.discipline.Discipline.{MayExchange, MayLink}
+use Rattle.traces.specs.discipline.Fitting.{AreOutOfLimbo, Fits, ReadsRemoved}
+use Rattle.traces.specs.discipline.Knowledge.{Absent, Knowledge, OwnPage, OwnRow, Foreign, Taken, Written, Other, Empty, Ready, Gone, cleared, exchanged, handed_page, linked_over, set_page}
 use Rattle.installs.specs.Moves.{whether_in}
 use Rattle.installs.specs.Spares.{AreUnset, IsUnlinked}
 

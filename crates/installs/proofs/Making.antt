@@ -4,8 +4,8 @@ use Rattle.bw_model.specs.declared.limits.Limits.{Limits}
 use Rattle.bw_model.specs.declared.step.Answer.{Answer}
 use Rattle.deltas.specs.declared.record.Record.{Record}
 use Rattle.deltas.specs.declared.record.Record.TheVariants as kind
-use Rattle.chain_search.specs.discipline.Knowledge.{Knowledge}
-use Rattle.chain_search.specs.discipline.Recalled.{Recalled}
+use Rattle.traces.specs.discipline.Knowledge.{Knowledge}
+use Rattle.traces.specs.discipline.Recalled.{Recalled}
 use Rattle.installs.specs.Bounded.{SpendsTo}
 use Rattle.installs.specs.Changes.{Change, Follows, IsSoundChange, Shows}
 use Rattle.installs.specs.Spares.{Spares}

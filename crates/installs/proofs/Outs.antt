@@ -6,8 +6,8 @@ use Rattle.bw_model.specs.declared.step.Answer.TheVariants as answer
 use Rattle.bw_model.specs.declared.step.Step.TheVariants as step
 use Rattle.deltas.specs.declared.record.Record.{Record}
 use Rattle.deltas.specs.declared.record.Record.TheVariants as kind
-use Rattle.chain_search.specs.discipline.Fitting.{Fits}
-use Rattle.chain_search.specs.discipline.Knowledge.{Knowledge, OwnPage, Other, Empty, Ready, Gone, Written, exchanged, learn, linked_over, split_off}
+use Rattle.traces.specs.discipline.Fitting.{Fits}
+use Rattle.traces.specs.discipline.Knowledge.{Knowledge, OwnPage, Other, Empty, Ready, Gone, Written, exchanged, learn, linked_over, split_off}
 use Rattle.smo.specs.Splits.{split_to}
 use Rattle.installs.specs.Changes.{Change, IsPlaced, IsSoundChange, IsTarget, Shows, StandsReady, clears, head_of, linked_number, slot_of, wanted, wanted_at}
 use Rattle.installs.specs.Moves.{Moved, moved, moved_by, whether_in}

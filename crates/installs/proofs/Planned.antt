@@ -9,10 +9,10 @@ use Rattle.deltas.specs.declared.record.Merge.{Merge}
 use Rattle.deltas.specs.declared.record.Remove.{Remove}
 use Rattle.deltas.specs.declared.record.Term.{Term}
 use Rattle.deltas.specs.declared.record.Unterm.{Unterm}
-use Rattle.chain_search.specs.chain.Chains.{is_removed}
-use Rattle.chain_search.specs.discipline.Discipline.{FitsOn, IsUnset, MayAdd, MayConsolidate, MayExchange, MayHold, MayLink, MayMerge, MayPost, MayRemove, MaySplit, MayUnterm, MayUpdate, update_record}
-use Rattle.chain_search.specs.discipline.Fitting.{ReadsRemoved}
-use Rattle.chain_search.specs.discipline.Knowledge.{Knowledge, Ready, Written}
+use Rattle.traces.specs.chain.Chains.{is_removed}
+use Rattle.traces.specs.discipline.Discipline.{FitsOn, IsUnset, MayAdd, MayConsolidate, MayExchange, MayHold, MayLink, MayMerge, MayPost, MayRemove, MaySplit, MayUnterm, MayUpdate, update_record}
+use Rattle.traces.specs.discipline.Fitting.{ReadsRemoved}
+use Rattle.traces.specs.discipline.Knowledge.{Knowledge, Ready, Written}
 use Rattle.smo.specs.declared.split.SplitPlan.{SplitPlan}
 use Rattle.smo.specs.Versions.{Version}
 use Rattle.smo.specs.Readings.{HasSeen, IsAfter}

@@ -5,8 +5,8 @@ use Rattle.std.proofs.lemmas.Bool.{cases_eq, ne_eqb, eq-eqb}
 use Rattle.std.proofs.lemmas.List.Elements.{Contains-append_cases, Contains-append_left, Contains-push, Contains-push_cases}
 use Rattle.std.specs.List.{Contains}
 use Rattle.deltas.specs.Memory.{replaced_at}
-use Rattle.chain_search.specs.discipline.Discipline.{IsOwn}
-use Rattle.chain_search.specs.discipline.Knowledge.{Belongings, OwnPage, OwnRow, Foreign, Taken, Other, Empty}
+use Rattle.traces.specs.discipline.Discipline.{IsOwn}
+use Rattle.traces.specs.discipline.Knowledge.{Belongings, OwnPage, OwnRow, Foreign, Taken, Other, Empty}
 use Rattle.installs.specs.Spares.{AreSpare, AreTheSpares, IsNoneOf, IsUnlinked, Spares}
 
 pub replaced_same : {X : Type 0} (n : ℕ) (x : X) (f : ℕ → X) → replaced_at n x f n ≡ x

@@ -7,9 +7,9 @@ use Rattle.bw_model.specs.declared.limits.Limits.{Limits}
 use Rattle.bw_model.specs.declared.step.Answer.{Answer}
 use Rattle.bw_model.specs.declared.step.Answer.TheVariants as answer
 use Rattle.deltas.specs.declared.record.Record.{Record}
-use Rattle.chain_search.specs.discipline.Fitting.{Fits, FitsWord}
-use Rattle.chain_search.specs.discipline.Knowledge.{Knowledge}
-use Rattle.chain_search.specs.discipline.Recalled.{Recalled, WasFree, WasHead, recall}
+use Rattle.traces.specs.discipline.Fitting.{Fits, FitsWord}
+use Rattle.traces.specs.discipline.Knowledge.{Knowledge}
+use Rattle.traces.specs.discipline.Recalled.{Recalled, WasFree, WasHead, recall}
 use Rattle.installs.specs.Bounded.{IsApart, RecallsAt, Spends, SpendsTo, left_at, numbers_missing, pid_taken, pids_missing}
 use Rattle.installs.specs.Changes.{AreEnough, Change, IsNeededNext, IsSame, IsSoundChange, clears, head_of, linked_number, needs_pid, rows_needed, slot_of, wanted, wanted_at}
 use Rattle.installs.specs.Moves.{Moved, after_ready, after_taking, decided_by, first_state, moved, moved_by, unused, whether_in, with_number}

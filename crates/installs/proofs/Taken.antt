@@ -9,8 +9,8 @@ use Rattle.bw_model.specs.declared.step.Answer.{Answer}
 use Rattle.bw_model.specs.declared.step.Answer.TheVariants as answer
 use Rattle.deltas.specs.Memory.{replaced_at}
 use Rattle.deltas.specs.declared.record.Record.{Record}
-use Rattle.chain_search.specs.discipline.Fitting.{Fits, FitsTaken, FitsTakenPid, FitsWord}
-use Rattle.chain_search.specs.discipline.Knowledge.{Knowledge, Empty, Ready, learn}
+use Rattle.traces.specs.discipline.Fitting.{Fits, FitsTaken, FitsTakenPid, FitsWord}
+use Rattle.traces.specs.discipline.Knowledge.{Knowledge, Empty, Ready, learn}
 use Rattle.installs.specs.Changes.{Change, Follows, IsLike, IsNeededNext, KeepsSpare, LacksNumber, MayChange, Shows, ShowsState, needs_pid, rows_needed}
 use Rattle.installs.specs.Moves.{Moved, after_taking, first_state, moved_by, with_number}
 use Rattle.installs.specs.Spares.{AreTheSpares, AreUnset, Spares}

@@ -5,7 +5,7 @@ use Rattle.bw_model.specs.declared.step.Answer.TheVariants.{Whether}
 use Rattle.bw_model.specs.declared.step.Step.{Step as StepOf}
 use Rattle.bw_model.specs.declared.step.Step.TheVariants.{TakePid}
 use Rattle.deltas.specs.declared.record.Record.{Record}
-use Rattle.chain_search.specs.discipline.Recalled.{IsPaid, IsSpentWith, Recalled, WasFree, WasHead, recall}
+use Rattle.traces.specs.discipline.Recalled.{IsPaid, IsSpentWith, Recalled, WasFree, WasHead, recall}
 use Rattle.installs.specs.declared.change.End.{End}
 use Rattle.installs.specs.declared.change.End.TheVariants.{Won, Lost, Full}
 use Rattle.installs.specs.declared.change.State.{State}

@@ -10,9 +10,9 @@ use Rattle.deltas.specs.declared.record.Record.{Record}
 use Rattle.deltas.specs.declared.record.Record.TheVariants as kind
 use Rattle.deltas.specs.Records.{next_row}
 use Rattle.deltas.specs.Spellable.{IsPid, IsSpellable, IsSpellablePage}
-use Rattle.chain_search.specs.discipline.Discipline.{IsUnset, MayExchange}
-use Rattle.chain_search.specs.discipline.Fitting.{Fits, ReadsRemoved}
-use Rattle.chain_search.specs.discipline.Knowledge.{Belongings, Knowledge, Gone, Ready, Written}
+use Rattle.traces.specs.discipline.Discipline.{IsUnset, MayExchange}
+use Rattle.traces.specs.discipline.Fitting.{Fits, ReadsRemoved}
+use Rattle.traces.specs.discipline.Knowledge.{Belongings, Knowledge, Gone, Ready, Written}
 use Rattle.smo.specs.declared.split.SplitPlan.{SplitPlan}
 use Rattle.smo.specs.Splits.{split_to}
 use Rattle.installs.specs.declared.change.End.{End}

@@ -4,8 +4,8 @@ use Rattle.bw_model.specs.declared.limits.Limits.{Limits}
 use Rattle.deltas.specs.Memory.{replaced_at}
 use Rattle.deltas.specs.declared.record.Record.{Record}
 use Rattle.deltas.specs.declared.record.Record.TheVariants.{Base}
-use Rattle.chain_search.specs.discipline.Fitting.{AreOutOfLimbo}
-use Rattle.chain_search.specs.discipline.Knowledge.{Absent, Knowledge, Limbos, Unstamped, taken_out}
+use Rattle.traces.specs.discipline.Fitting.{AreOutOfLimbo}
+use Rattle.traces.specs.discipline.Knowledge.{Absent, Knowledge, Limbos, Unstamped, taken_out}
 use Rattle.installs.specs.declared.change.End.{End}
 use Rattle.installs.specs.declared.change.End.TheVariants.{Won}
 use Rattle.installs.specs.declared.plan.Plan.{Plan}

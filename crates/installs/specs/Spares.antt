@@ -3,8 +3,8 @@ use Rattle.std.specs.Prelude.{◌≡◌, ◌==◌, ◌<◌, ◌≤◌, ◌-◌, 
 use Rattle.std.specs.List.{Contains}
 use Rattle.bw_model.specs.declared.limits.Limits.{Limits}
 use Rattle.deltas.specs.Spellable.{IsPid}
-use Rattle.chain_search.specs.discipline.Discipline.{IsOwn}
-use Rattle.chain_search.specs.discipline.Knowledge.{Belongings, OwnPage, OwnRow, Other, Empty, Ready, Gone}
+use Rattle.traces.specs.discipline.Discipline.{IsOwn}
+use Rattle.traces.specs.discipline.Knowledge.{Belongings, OwnPage, OwnRow, Other, Empty, Ready, Gone}
 
 -- a PID, if there is one, and rows, the last one taken last
 pub record Spares : Type 0 where

@@ -9,9 +9,9 @@ use Rattle.bw_model.specs.declared.step.Answer.TheVariants.{Number, Whether}
 use Rattle.bw_model.specs.declared.step.Told.{Told}
 use Rattle.bw_model.specs.declared.step.Told.TheVariants as told
 use Rattle.deltas.specs.declared.record.Record.{Record}
-use Rattle.chain_search.specs.discipline.Fitting.{Fits}
-use Rattle.chain_search.specs.discipline.Knowledge.{Asked, Knowledge}
-use Rattle.chain_search.specs.discipline.Recalled.{Recalled}
+use Rattle.traces.specs.discipline.Fitting.{Fits}
+use Rattle.traces.specs.discipline.Knowledge.{Asked, Knowledge}
+use Rattle.traces.specs.discipline.Recalled.{Recalled}
 use Rattle.installs.specs.declared.taking.Found.{Found}
 use Rattle.installs.specs.declared.taking.Found.TheVariants.{Not, Taken, Full}
 use Rattle.installs.specs.declared.taking.Kind.{Kind}

@@ -3,7 +3,7 @@ ghost use Rattle.std.specs.Prelude.{◌≡◌, ◌<◌, ◌*◌};
 ghost use Rattle.bw_model.specs.Answers.{answer_of};
 ghost use Rattle.bw_model.specs.Lent.{lent};
 ghost use Rattle.bw_model.specs.declared.step.Answer.TheVariants.{Number};
-ghost use Rattle.chain_search.specs.discipline.Fitting.{FitsWord};
+ghost use Rattle.traces.specs.discipline.Fitting.{FitsWord};
 ghost use Rattle.installs.specs.Taking.{FitsTaking, IsSoundFound, IsSoundTaking, TellsWhether, count_of, found_after, wanted_number};
 
 use bw_model::{Limits, Step, Told};

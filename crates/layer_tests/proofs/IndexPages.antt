@@ -9,7 +9,7 @@ use Rattle.base_page.specs.declared.item.Item.{Item}
 use Rattle.base_page.specs.Pages.{Page, IsOfLevel, IsPage}
 use Rattle.deltas.specs.declared.record.Record.TheVariants.{Base}
 use Rattle.deltas.specs.Spellable.{HasPid, IsPid}
-use Rattle.chain_search.specs.chain.Fitted.{IsPageChain}
+use Rattle.traces.specs.chain.Fitted.{IsPageChain}
 
 -- an index page that has a child at its low key
 abbrev page_of : ℕ → List ℕ → Option (List ℕ) → Option ℕ → ℕ → Page

@@ -2,7 +2,7 @@
 ghost use Rattle.std.specs.Prelude.{◌≡◌, ◌≤◌, ◌∷◌, [], ◌++◌, length};
 ghost use Rattle.deltas.specs.Spellable.{IsPid, IsRow};
 ghost use Rattle.deltas.specs.declared.record.Record.TheVariants.{Base};
-ghost use Rattle.chain_search.specs.chain.Fitted.{FitsOver, IsPageChain};
+ghost use Rattle.traces.specs.chain.Fitted.{FitsOver, IsPageChain};
 
 use base_page::Page;
 use deltas::Record;

@@ -3,7 +3,7 @@ ghost use Rattle.std.specs.Prelude.{◌≡◌, ◌≤◌, [], ◌∷◌, false, 
 ghost use Rattle.bw_model.specs.Bytes.{longest};
 ghost use Rattle.base_page.specs.declared.item.Content.TheVariants.{Child};
 ghost use Rattle.deltas.specs.declared.record.Record.TheVariants as kind;
-ghost use Rattle.chain_search.specs.chain.Examples.{leaf, leaf_chain, index, index_chain, index_split, split_index, long_index};
+ghost use Rattle.traces.specs.chain.Examples.{leaf, leaf_chain, index, index_chain, index_split, split_index, long_index};
 
 use crate::built::chain;
 use crate::texts;

@@ -2,11 +2,11 @@
 ghost use Rattle.std.specs.Prelude.{◌≡◌, ◌≤◌, ◌∷◌, [], ℕ};
 ghost use Rattle.bw_model.specs.Answers.{answer_of};
 ghost use Rattle.bw_model.specs.Lent.{lent};
-ghost use Rattle.chain_search.specs.discipline.Fitting.{Fits, FitsWord};
-ghost use Rattle.chain_search.specs.discipline.Knowledge.{nothing};
+ghost use Rattle.traces.specs.discipline.Fitting.{Fits, FitsWord};
+ghost use Rattle.traces.specs.discipline.Knowledge.{nothing};
 ghost use Rattle.installs.specs.Changes.{IsOfChange, IsSpellablePlan, IsTarget};
 ghost use Rattle.installs.specs.Spares.{HaveRoom};
-ghost use Rattle.chain_search.specs.trace.Within.{IsWithin};
+ghost use Rattle.traces.specs.trace.Within.{IsWithin};
 
 use arrayvec::ArrayString;
 use base_page::{Items, Page};

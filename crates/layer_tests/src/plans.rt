@@ -3,8 +3,8 @@ ghost use Rattle.std.specs.Prelude.{codes, ◌≡◌, ◌≤◌, length, None, f
 ghost use Rattle.bw_model.specs.Bytes.{longest};
 ghost use Rattle.deltas.specs.Spellable.{IsPid};
 ghost use Rattle.deltas.specs.declared.record.Record.TheVariants as kind;
-ghost use Rattle.chain_search.specs.chain.Chains.{is_removed};
-ghost use Rattle.chain_search.specs.chain.Examples.{held_page, index, index_page, termed_page};
+ghost use Rattle.traces.specs.chain.Chains.{is_removed};
+ghost use Rattle.traces.specs.chain.Examples.{held_page, index, index_page, termed_page};
 
 mod grown;
 mod holds;

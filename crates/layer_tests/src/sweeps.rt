@@ -2,8 +2,8 @@
 ghost use Rattle.std.specs.Prelude.{◌≡◌, ◌<◌, ◌≤◌, ◌^◌};
 ghost use Rattle.bw_model.specs.Answers.{answer_of};
 ghost use Rattle.bw_model.specs.declared.limits.Limits.{Limits as LimitsSeen};
-ghost use Rattle.chain_search.specs.discipline.Fitting.{Fits};
-ghost use Rattle.chain_search.specs.discipline.Knowledge.{nothing};
+ghost use Rattle.traces.specs.discipline.Fitting.{Fits};
+ghost use Rattle.traces.specs.discipline.Knowledge.{nothing};
 ghost use Rattle.sweep.specs.Kept.{IsLimboOf, empty_limbo};
 ghost use Rattle.sweep.specs.Sweeps.{IsOfSweep};
 

@@ -4,7 +4,7 @@ use Rattle.std.specs.Prelude.{slice_get, unwrap_or}
 use Rattle.std.proofs.lemmas.List.{length-append}
 use Rattle.deltas.specs.declared.record.Record.{Record}
 use Rattle.deltas.specs.Records.{next_row}
-use Rattle.chain_search.specs.chain.Chains.{IsChainFrom, chain_rows}
+use Rattle.traces.specs.chain.Chains.{IsChainFrom, chain_rows}
 
 -- Of the chain these rows were read; the others stand from the next row on.
 pub record HasRead (rows : ℕ → Option Record) (row : ℕ) (chain : List Record) (read : List ℕ) (next : ℕ) : Type 0 where

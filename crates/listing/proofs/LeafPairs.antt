@@ -17,7 +17,7 @@ use Rattle.base_page.specs.declared.item.Item.{Item}
 use Rattle.base_page.specs.Pages.{IsOfLevel, content_at, value_in}
 use Rattle.base_page.proofs.ItemLaws.{all-weaker}
 use Rattle.deltas.specs.declared.record.Record.{Record}
-use Rattle.chain_search.specs.chain.Chains.{content_in, high_in, level_in, low_in}
+use Rattle.traces.specs.chain.Chains.{content_in, high_in, level_in, low_in}
 use Rattle.tree_law.specs.Keys.{Covers, IsUnder}
 use Rattle.tree_law.proofs.shape.KeyOrder.{covers_from}
 use Rattle.listing.specs.Listed.{HasPage, pairs_of, with_pair}

@@ -12,10 +12,10 @@ use Rattle.base_page.specs.declared.item.Content.TheVariants.{Value}
 use Rattle.base_page.proofs.ItemLaws.{all-append, all-weaker}
 use Rattle.base_page.proofs.KeyLaws.{below_from, below_reach}
 use Rattle.deltas.specs.Memory.{Memory}
-use Rattle.chain_search.specs.declared.trace.Entry.{Entry}
-use Rattle.chain_search.specs.chain.Chains.{content_in, covers, high_in, level_in, low_in}
-use Rattle.chain_search.specs.chain.SideChain.{IsSideChainFrom, IsWholeFrom, LivePage}
-use Rattle.chain_search.specs.trace.Trace.{memory_of}
+use Rattle.traces.specs.declared.trace.Entry.{Entry}
+use Rattle.traces.specs.chain.Chains.{content_in, covers, high_in, level_in, low_in}
+use Rattle.traces.specs.chain.SideChain.{IsSideChainFrom, IsWholeFrom, LivePage}
+use Rattle.traces.specs.trace.Trace.{memory_of}
 use Rattle.tree_law.specs.Keys.{Covers, IsBelow, IsUnder, IsUpTo, Key}
 use Rattle.tree_law.specs.Leaves.{HasLeafPages, IsLeafPage}
 use Rattle.tree_law.specs.TraceLaws.{LeavesHaveMap}

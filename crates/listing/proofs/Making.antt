@@ -7,8 +7,8 @@ use Rattle.deltas.specs.declared.record.Record.{Record}
 use Rattle.deltas.specs.declared.record.Record.TheVariants.{Base}
 use Rattle.deltas.specs.Applies.{Applies}
 use Rattle.deltas.specs.Fits.{FitsOnPage}
-use Rattle.chain_search.specs.chain.Fitted.{IsFitted, Makes}
-use Rattle.chain_search.proofs.FittedLaws.{Makes-base, Makes-next, fits}
+use Rattle.traces.specs.chain.Fitted.{IsFitted, Makes}
+use Rattle.traces.proofs.FittedLaws.{Makes-base, Makes-next, fits}
 
 -- a base at least
 pub not_empty : (chain : List Record) → IsFitted chain → 0 < length chain

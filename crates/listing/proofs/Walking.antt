@@ -8,9 +8,9 @@ use Rattle.base_page.specs.Rules.{IsRuled}
 use Rattle.bw_model.specs.declared.limits.Limits.{Limits}
 use Rattle.deltas.specs.declared.record.Record.{Record}
 use Rattle.deltas.specs.Memory.{Memory}
-use Rattle.chain_search.specs.chain.Chains.{right_in}
-use Rattle.chain_search.specs.chain.Fitted.{Makes}
-use Rattle.chain_search.specs.chain.SideChain.{IsSideChainFrom, LivePage}
+use Rattle.traces.specs.chain.Chains.{right_in}
+use Rattle.traces.specs.chain.Fitted.{Makes}
+use Rattle.traces.specs.chain.SideChain.{IsSideChainFrom, LivePage}
 use Rattle.tree_law.specs.Leaves.{HasLeafPages, IsLeafPage}
 use Rattle.listing.specs.Listed.{HasPage, HavePages, StandsAt, pairs_of}
 

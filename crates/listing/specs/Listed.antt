@@ -9,11 +9,11 @@ use Rattle.base_page.specs.Pages.{Page}
 use Rattle.base_page.specs.Rules.{IsRuled}
 use Rattle.deltas.specs.declared.record.Record.{Record}
 use Rattle.deltas.specs.Memory.{Memory}
-use Rattle.chain_search.specs.declared.trace.Entry.{Entry}
-use Rattle.chain_search.specs.chain.Chains.{IsChainFrom}
-use Rattle.chain_search.specs.chain.Fitted.{IsPageChain, Makes}
-use Rattle.chain_search.specs.chain.SideChain.{LivePage}
-use Rattle.chain_search.specs.trace.Trace.{memory_of, turn_of}
+use Rattle.traces.specs.declared.trace.Entry.{Entry}
+use Rattle.traces.specs.chain.Chains.{IsChainFrom}
+use Rattle.traces.specs.chain.Fitted.{IsPageChain, Makes}
+use Rattle.traces.specs.chain.SideChain.{LivePage}
+use Rattle.traces.specs.trace.Trace.{memory_of, turn_of}
 use Rattle.op_machine.specs.theorem.Linearized.{IsLinearized}
 use Rattle.op_machine.specs.theorem.Points.{log_of}
 use Rattle.tree_law.specs.Leaves.{HasLeafPages}

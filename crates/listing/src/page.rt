@@ -5,15 +5,15 @@ ghost use Rattle.base_page.specs.Rules.{IsRuled};
 ghost use Rattle.deltas.specs.Memory.{Memory};
 ghost use Rattle.deltas.specs.declared.record.Record.{Record};
 ghost use Rattle.deltas.specs.declared.record.Record.TheVariants.{Base};
-ghost use Rattle.chain_search.specs.chain.Chains.{chain_rows};
-ghost use Rattle.chain_search.specs.chain.Fitted.{Makes};
+ghost use Rattle.traces.specs.chain.Chains.{chain_rows};
+ghost use Rattle.traces.specs.chain.Fitted.{Makes};
 ghost use Rattle.listing.specs.Listed.{StandsAt};
 
 use crate::rows::Rows;
 use arrayvec::ArrayVec;
 use base_page::Page;
-use chain_search::MAX_RECORDS;
 use deltas::{Record, apply};
+use traces::MAX_RECORDS;
 
 /// The page that the chain of a PID makes: the base, changed by each delta from the oldest on.
 pub fn page_of<M: Rows>(rows: &M, pid: u16) -> Page

@@ -10,10 +10,10 @@ use Rattle.bw_model.specs.declared.step.Step.{Step}
 use Rattle.bw_model.specs.declared.step.Step.TheVariants.{TakePid}
 use Rattle.deltas.specs.declared.record.Record.{Record}
 use Rattle.deltas.specs.declared.record.Record.TheVariants as kind
-use Rattle.chain_search.specs.discipline.Discipline.{MayReply}
-use Rattle.chain_search.specs.discipline.Fitting.{Fits}
-use Rattle.chain_search.specs.discipline.Knowledge.{Knowledge, learn}
-use Rattle.chain_search.specs.discipline.Recalled.{IsStepSpent, Recalled, recall}
+use Rattle.traces.specs.discipline.Discipline.{MayReply}
+use Rattle.traces.specs.discipline.Fitting.{Fits}
+use Rattle.traces.specs.discipline.Knowledge.{Knowledge, learn}
+use Rattle.traces.specs.discipline.Recalled.{IsStepSpent, Recalled, recall}
 use Rattle.installs.specs.Bounded as bound
 use Rattle.installs.specs.Changes as change
 use Rattle.installs.specs.Spares.{HaveRoom, Spares}

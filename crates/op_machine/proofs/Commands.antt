@@ -19,10 +19,10 @@ use Rattle.deltas.specs.Spellable.{IsRow}
 use Rattle.deltas.specs.declared.record.Delete.{Delete as DeleteOf}
 use Rattle.deltas.specs.declared.record.Record.TheVariants as kind
 use Rattle.deltas.specs.declared.record.Put.{Put}
-use Rattle.chain_search.specs.chain.Chains.{covers, is_removed, level_in}
-use Rattle.chain_search.specs.discipline.Discipline.{FitsOn, update_record, value_of}
-use Rattle.chain_search.specs.chain.Fitted.{FitsOver, Makes}
-use Rattle.chain_search.specs.discipline.Knowledge.{Knowledge}
+use Rattle.traces.specs.chain.Chains.{covers, is_removed, level_in}
+use Rattle.traces.specs.discipline.Discipline.{FitsOn, update_record, value_of}
+use Rattle.traces.specs.chain.Fitted.{FitsOver, Makes}
+use Rattle.traces.specs.discipline.Knowledge.{Knowledge}
 use Rattle.installs.specs.Changes.{KeepsSparePage, linked_by}
 use Rattle.op_machine.specs.machine.Brings.{IsUsefulOver, update_over}
 

@@ -3,10 +3,10 @@ use Rattle.std.proofs.Common.{◌≡◌, inl, inr, ℕ, List, [], Option, Some, 
 use Rattle.std.specs.Prelude.{IsTrue}
 use Rattle.bw_model.specs.Replies.{command_key, reply_of, update_of}
 use Rattle.bw_model.specs.declared.command.Reply.{Reply}
-use Rattle.chain_search.specs.chain.Chains.{covers}
-use Rattle.chain_search.specs.discipline.Discipline.{found}
-use Rattle.chain_search.specs.discipline.Knowledge.{Knowledge}
-use Rattle.chain_search.specs.discipline.Recalled.{Recalled}
+use Rattle.traces.specs.chain.Chains.{covers}
+use Rattle.traces.specs.discipline.Discipline.{found}
+use Rattle.traces.specs.discipline.Knowledge.{Knowledge}
+use Rattle.traces.specs.discipline.Recalled.{Recalled}
 use Rattle.installs.specs.Spares.{Spares}
 use Rattle.smo.specs.Versions.{Version}
 use Rattle.op_machine.specs.machine.Errands.{way_key}

@@ -4,12 +4,12 @@ use Rattle.bw_model.specs.declared.step.Step.{Step as StepOf}
 use Rattle.bw_model.specs.declared.step.Step.TheVariants.{Enter, Leave}
 use Rattle.bw_model.specs.declared.step.Answer.{Answer}
 use Rattle.deltas.specs.declared.record.Record.{Record}
-use Rattle.chain_search.specs.declared.trace.Entry.{Entry}
-use Rattle.chain_search.specs.discipline.Learnt.{ShowsRow}
-use Rattle.chain_search.specs.trace.Trace.{IsStep}
+use Rattle.traces.specs.declared.trace.Entry.{Entry}
+use Rattle.traces.specs.discipline.Learnt.{ShowsRow}
+use Rattle.traces.specs.trace.Trace.{IsStep}
 use Rattle.std.specs.Prelude.{slice_get}
-use Rattle.chain_search.proofs.Pushes.{slice_get_below}
-use Rattle.chain_search.proofs.TraceLaws.{TakesStep-push_cases, ShowsRow-kept}
+use Rattle.traces.proofs.Pushes.{slice_get_below}
+use Rattle.traces.proofs.TraceLaws.{TakesStep-push_cases, ShowsRow-kept}
 use Rattle.op_machine.specs.theorem.Faithful.{KnowsRow, Disturbs}
 
 module _ (entries : List Entry) (last : Entry) where

@@ -10,13 +10,13 @@ use Rattle.base_page.specs.declared.item.Item.{Item}
 use Rattle.base_page.specs.Pages.{Page}
 use Rattle.base_page.specs.Rules.{IsFirstAt, IsRuled, held_count, is_held}
 use Rattle.base_page.proofs.KeyLaws.{itself}
-use Rattle.chain_search.specs.chain.Chains.{content_in, is_removed, low_in}
-use Rattle.chain_search.specs.discipline.Discipline.{IsHeldBack}
-use Rattle.chain_search.specs.chain.Fitted.{IsFitted, Makes}
-use Rattle.chain_search.specs.chain.HeldBack.{HoldsBack, begins_at, has_held_neighbour}
-use Rattle.chain_search.specs.discipline.Knowledge.{Knowledge}
-use Rattle.chain_search.specs.discipline.Recalled.{Recalled}
-use Rattle.chain_search.proofs.FittedLaws.{ruled}
+use Rattle.traces.specs.chain.Chains.{content_in, is_removed, low_in}
+use Rattle.traces.specs.discipline.Discipline.{IsHeldBack}
+use Rattle.traces.specs.chain.Fitted.{IsFitted, Makes}
+use Rattle.traces.specs.chain.HeldBack.{HoldsBack, begins_at, has_held_neighbour}
+use Rattle.traces.specs.discipline.Knowledge.{Knowledge}
+use Rattle.traces.specs.discipline.Recalled.{Recalled}
+use Rattle.traces.proofs.FittedLaws.{ruled}
 use Rattle.descent.specs.WriteRounds.{IsTermed, IsUpper}
 use Rattle.smo.specs.Holds.{CanHold, HasFreeNeighbours}
 use Rattle.smo.specs.Upkeep.{IsIdle, IsSmall}

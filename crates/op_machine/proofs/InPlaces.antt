@@ -9,9 +9,9 @@ use Rattle.bw_model.specs.declared.step.Answer.{Answer}
 use Rattle.bw_model.specs.declared.step.Step.{Step}
 use Rattle.bw_model.specs.declared.step.Step.TheVariants as step
 use Rattle.deltas.specs.declared.record.Record.{Record}
-use Rattle.chain_search.specs.discipline.Fitting.{Fits}
-use Rattle.chain_search.specs.discipline.Knowledge.{Knowledge}
-use Rattle.chain_search.specs.discipline.Recalled.{Recalled}
+use Rattle.traces.specs.discipline.Fitting.{Fits}
+use Rattle.traces.specs.discipline.Knowledge.{Knowledge}
+use Rattle.traces.specs.discipline.Recalled.{Recalled}
 use Rattle.descent.specs.Machines.{IsTold}
 use Rattle.descent.specs.ReadRounds as read
 use Rattle.descent.specs.Rounds.{machine}

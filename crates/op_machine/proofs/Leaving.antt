@@ -5,7 +5,7 @@ use Rattle.bw_model.specs.declared.step.Answer.{Answer}
 use Rattle.bw_model.specs.declared.step.Step.{Step as StepOf}
 use Rattle.bw_model.specs.declared.step.Step.TheVariants as step
 use Rattle.deltas.specs.declared.record.Record.{Record}
-use Rattle.chain_search.specs.discipline.Knowledge.{Knowledge}
+use Rattle.traces.specs.discipline.Knowledge.{Knowledge}
 use Rattle.descent.specs.Descents as descent
 use Rattle.descent.specs.Visits as page
 use Rattle.descent.specs.Descents.{WayState as DescentState}

@@ -8,9 +8,9 @@ use Rattle.bw_model.specs.Log.{Update, logged_value}
 use Rattle.base_page.specs.declared.item.Content.TheVariants.{Value}
 use Rattle.deltas.specs.declared.record.Record.{Record}
 use Rattle.deltas.specs.Memory.{Memory}
-use Rattle.chain_search.specs.chain.Chains.{IsChainOf, content_in, low_in, high_in, right_in, covers}
-use Rattle.chain_search.specs.chain.SideChain.{LivePage, IsLeaves, IsWhole, Spells}
-use Rattle.chain_search.proofs.ChainLaws.{IsSideChainFrom-unique}
+use Rattle.traces.specs.chain.Chains.{IsChainOf, content_in, low_in, high_in, right_in, covers}
+use Rattle.traces.specs.chain.SideChain.{LivePage, IsLeaves, IsWhole, Spells}
+use Rattle.traces.proofs.ChainLaws.{IsSideChainFrom-unique}
 use Rattle.op_machine.specs.theorem.Quiet.{HasMapOf}
 
 contained_alone : {X : Type 0} (x y : X) → Contains (x ∷ []) y → y ≡ x

@@ -5,12 +5,12 @@ use Rattle.bw_model.specs.declared.step.Link.TheVariants as link
 use Rattle.deltas.specs.declared.record.Record.{Record}
 use Rattle.deltas.specs.declared.record.Record.TheVariants as delta
 use Rattle.deltas.specs.declared.record.Remove.{Remove}
-use Rattle.chain_search.specs.declared.trace.Entry.{Entry}
-use Rattle.chain_search.specs.chain.Chains.{IsChainOf}
-use Rattle.chain_search.specs.trace.Trace.{memory_of, Happens}
-use Rattle.chain_search.specs.chain.Unheld.{IsUnheld}
+use Rattle.traces.specs.declared.trace.Entry.{Entry}
+use Rattle.traces.specs.chain.Chains.{IsChainOf}
+use Rattle.traces.specs.trace.Trace.{memory_of, Happens}
+use Rattle.traces.specs.chain.Unheld.{IsUnheld}
 use Rattle.deltas.specs.Memory.{Memory}
-use Rattle.chain_search.proofs.TraceLaws.{Happens-below, Happens-kept, Happens-push_cases, Happens-last}
+use Rattle.traces.proofs.TraceLaws.{Happens-below, Happens-kept, Happens-push_cases, Happens-last}
 use Rattle.op_machine.specs.theorem.Links.{Installs, Wins}
 use Rattle.op_machine.specs.theorem.Phases.{Phase, MovesPhase, Rests, IsInPhase, KeepsPhases, cleared}
 

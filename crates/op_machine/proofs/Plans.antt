@@ -8,9 +8,9 @@ use Rattle.bw_model.specs.declared.limits.Limits.{Limits}
 use Rattle.deltas.specs.Memory.{Memory}
 use Rattle.deltas.specs.Records.{next_row}
 use Rattle.deltas.specs.declared.record.Record.{Record}
-use Rattle.chain_search.specs.chain.Chains.{IsChainFrom, IsChainOf}
-use Rattle.chain_search.specs.discipline.Knowledge.{Knowledge}
-use Rattle.chain_search.specs.discipline.Recalled.{Recalled}
+use Rattle.traces.specs.chain.Chains.{IsChainFrom, IsChainOf}
+use Rattle.traces.specs.discipline.Knowledge.{Knowledge}
+use Rattle.traces.specs.discipline.Recalled.{Recalled}
 use Rattle.descent.specs.Versions.{IsAlive}
 use Rattle.descent.specs.WriteEnds as end
 use Rattle.installs.specs.Changes as change

@@ -2,9 +2,9 @@
 use Rattle.std.proofs.Common.{◌≡◌, inl, inr, refl, sym, ap, subst, Option, Some, None, ◌∙◌, arith}
 use Rattle.bw_model.specs.declared.step.Answer.{Answer}
 use Rattle.deltas.specs.declared.record.Record.{Record}
-use Rattle.chain_search.specs.discipline.Fitting.{Fits}
-use Rattle.chain_search.specs.discipline.Knowledge.{Knowledge, learn}
-use Rattle.chain_search.specs.discipline.Recalled.{IsStepSpent, Recalled, recall}
+use Rattle.traces.specs.discipline.Fitting.{Fits}
+use Rattle.traces.specs.discipline.Knowledge.{Knowledge, learn}
+use Rattle.traces.specs.discipline.Recalled.{IsStepSpent, Recalled, recall}
 use Rattle.descent.specs.ReadRounds as read
 use Rattle.descent.specs.Rounds.{Follows, Responds, Sees}
 use Rattle.descent.specs.WriteResponses as response

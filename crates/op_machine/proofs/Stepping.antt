@@ -5,9 +5,9 @@ use Rattle.bw_model.specs.declared.step.Step.TheVariants.{Exchange}
 use Rattle.base_page.specs.Pages.{Page}
 use Rattle.deltas.specs.declared.record.Record.{Record}
 use Rattle.deltas.specs.declared.record.Record.TheVariants as kind
-use Rattle.chain_search.specs.discipline.Discipline.{HasRead, MayFree}
-use Rattle.chain_search.specs.discipline.Knowledge.{Knowledge, Written}
-use Rattle.chain_search.specs.discipline.Useful.{IsUseful}
+use Rattle.traces.specs.discipline.Discipline.{HasRead, MayFree}
+use Rattle.traces.specs.discipline.Knowledge.{Knowledge, Written}
+use Rattle.traces.specs.discipline.Useful.{IsUseful}
 use Rattle.installs.specs.Changes as change
 use Rattle.installs.specs.Spares.{Spares, last_row, pid_of}
 use Rattle.installs.specs.Taking.{wanted_number}

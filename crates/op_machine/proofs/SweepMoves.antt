@@ -4,12 +4,12 @@ use Rattle.std.specs.Prelude.{IfSome, MatchOption}
 use Rattle.bw_model.specs.declared.step.Answer.{Answer}
 use Rattle.bw_model.specs.declared.step.Step.{Step}
 use Rattle.deltas.specs.declared.record.Record.{Record}
-use Rattle.chain_search.specs.discipline.Discipline.{May, MayFree}
-use Rattle.chain_search.specs.discipline.Fitting.{Fits}
-use Rattle.chain_search.specs.discipline.Knowledge.{Knowledge, Limbos, learn}
-use Rattle.chain_search.specs.discipline.Recalled.{Recalled, recall}
-use Rattle.chain_search.specs.discipline.Useful.{IsUseful}
-use Rattle.chain_search.specs.trace.Within.{IsWithin}
+use Rattle.traces.specs.discipline.Discipline.{May, MayFree}
+use Rattle.traces.specs.discipline.Fitting.{Fits}
+use Rattle.traces.specs.discipline.Knowledge.{Knowledge, Limbos, learn}
+use Rattle.traces.specs.discipline.Recalled.{Recalled, recall}
+use Rattle.traces.specs.discipline.Useful.{IsUseful}
+use Rattle.traces.specs.trace.Within.{IsWithin}
 use Rattle.epochs.specs.Limbo.{Limbo}
 use Rattle.installs.specs.Spares.{Spares}
 use Rattle.op_machine.specs.machine.Hands.{Hand}

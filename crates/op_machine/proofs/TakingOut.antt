@@ -6,9 +6,9 @@ use Rattle.bw_model.specs.declared.limits.Limits.{Limits}
 use Rattle.deltas.specs.declared.record.Record.{Record}
 use Rattle.deltas.specs.declared.record.Record.TheVariants as kind
 use Rattle.deltas.specs.Memory.{replaced_at}
-use Rattle.chain_search.specs.chain.Chains.{IsChainFrom, chain_rows}
-use Rattle.chain_search.specs.discipline.Fitting.{AreOutOfLimbo}
-use Rattle.chain_search.specs.discipline.Knowledge.{Absent, Unstamped, Knowledge, Limbos, taken_out}
+use Rattle.traces.specs.chain.Chains.{IsChainFrom, chain_rows}
+use Rattle.traces.specs.discipline.Fitting.{AreOutOfLimbo}
+use Rattle.traces.specs.discipline.Knowledge.{Absent, Unstamped, Knowledge, Limbos, taken_out}
 use Rattle.epochs.specs.Limbo.{Limbo as LimboSeen}
 use Rattle.installs.specs.Changes.{linked_by}
 use Rattle.installs.specs.Outs.{TakesFresh, limbo_after, limbo_over}

@@ -5,10 +5,10 @@ use Rattle.bw_model.specs.Replies.{is_writer}
 use Rattle.deltas.specs.declared.record.Hold.{Hold}
 use Rattle.deltas.specs.declared.record.Record.TheVariants as kind
 use Rattle.deltas.specs.declared.record.Remove.{Remove}
-use Rattle.chain_search.specs.chain.Chains.{is_removed, level_in}
-use Rattle.chain_search.specs.chain.Fitted.{IsPageChain}
-use Rattle.chain_search.specs.discipline.Knowledge.{Knowledge}
-use Rattle.chain_search.specs.discipline.Recalled.{Recalled}
+use Rattle.traces.specs.chain.Chains.{is_removed, level_in}
+use Rattle.traces.specs.chain.Fitted.{IsPageChain}
+use Rattle.traces.specs.discipline.Knowledge.{Knowledge}
+use Rattle.traces.specs.discipline.Recalled.{Recalled}
 use Rattle.descent.specs.Versions.{IsAlive}
 use Rattle.descent.specs.WriteEnds as end
 use Rattle.descent.specs.WriteRounds.{IsUpper}

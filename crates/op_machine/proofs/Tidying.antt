@@ -11,12 +11,12 @@ use Rattle.base_page.specs.Pages.{Page}
 use Rattle.deltas.specs.Spellable.{IsSpellablePage}
 use Rattle.deltas.specs.declared.record.Record.{Record}
 use Rattle.deltas.specs.declared.record.Record.TheVariants.{Base}
-use Rattle.chain_search.specs.chain.Chains.{covers, level_in}
-use Rattle.chain_search.specs.discipline.Discipline.{MayReply}
-use Rattle.chain_search.specs.chain.Fitted.{IsFitted}
-use Rattle.chain_search.specs.discipline.Knowledge.{Knowledge}
-use Rattle.chain_search.specs.discipline.Recalled.{Recalled}
-use Rattle.chain_search.proofs.FittedLaws.{Makes-base}
+use Rattle.traces.specs.chain.Chains.{covers, level_in}
+use Rattle.traces.specs.discipline.Discipline.{MayReply}
+use Rattle.traces.specs.chain.Fitted.{IsFitted}
+use Rattle.traces.specs.discipline.Knowledge.{Knowledge}
+use Rattle.traces.specs.discipline.Recalled.{Recalled}
+use Rattle.traces.proofs.FittedLaws.{Makes-base}
 use Rattle.installs.specs.Spares.{Spares}
 use Rattle.smo.specs.Sizes.{HasFewItems}
 use Rattle.smo.specs.Versions.{Version}

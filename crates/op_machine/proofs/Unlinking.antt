@@ -3,7 +3,7 @@ use Rattle.std.proofs.Common.{◌≡◌, ◌∙◌, ℕ, Option, Some, None, ap,
 use Rattle.std.specs.Prelude.{IfSome}
 use Rattle.deltas.specs.declared.record.Record.TheVariants as kind
 use Rattle.deltas.specs.declared.record.Unterm.{Unterm}
-use Rattle.chain_search.specs.discipline.Knowledge.{Knowledge}
+use Rattle.traces.specs.discipline.Knowledge.{Knowledge}
 use Rattle.installs.specs.Changes.{KeepsSparePage}
 use Rattle.installs.specs.Spares.{Spares}
 use Rattle.smo.specs.Readings.{HasSeen}

@@ -6,8 +6,8 @@ ghost use Rattle.bw_model.specs.Answers.{answer_of};
 ghost use Rattle.bw_model.specs.Lent.{lent};
 ghost use Rattle.bw_model.specs.declared.limits.Limits.{Limits as LimitsSeen};
 ghost use Rattle.bw_model.specs.declared.step.Answer.TheVariants.{Content, Done};
-ghost use Rattle.chain_search.specs.discipline.Knowledge.{Knowledge, begun, nothing};
-ghost use Rattle.chain_search.specs.discipline.Recalled.{Recalled, blank};
+ghost use Rattle.traces.specs.discipline.Knowledge.{Knowledge, begun, nothing};
+ghost use Rattle.traces.specs.discipline.Recalled.{Recalled, blank};
 
 use crate::{Hand, Operation};
 use bw_model::{Command, Key, Limits, OpenError, Reply, Step, Told};

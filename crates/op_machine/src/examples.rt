@@ -1,9 +1,9 @@
 //! Worked runs: each function does nothing, and its contract says what the definitions make of one run.
 ghost use Rattle.std.specs.Prelude.{codes, ◌≡◌, ◌∷◌, [], map, replicate, true, false, Some};
 ghost use Rattle.bw_model.specs.declared.step.Link.TheVariants as link;
-ghost use Rattle.chain_search.specs.trace.Run.{IsRun};
-ghost use Rattle.chain_search.specs.chain.SideChain.{IsWhole};
-ghost use Rattle.chain_search.specs.trace.Trace.{memory_at, turn_of};
+ghost use Rattle.traces.specs.trace.Run.{IsRun};
+ghost use Rattle.traces.specs.chain.SideChain.{IsWhole};
+ghost use Rattle.traces.specs.trace.Trace.{memory_at, turn_of};
 ghost use Rattle.op_machine.specs.theorem.Examples.{small, lookup, insert_and_lookup, page_life, index_above, row_reuse, hurried_reuse, unnamed_read, two_puts, needless_base, claimed_insert};
 ghost use Rattle.op_machine.specs.theorem.Direct.{IsDirect};
 ghost use Rattle.op_machine.specs.theorem.Faithful.{IsFaithful};

@@ -1,8 +1,8 @@
 //! What an operation makes of the end of a reader's round, where its pages stand.
 ghost use Rattle.std.specs.Prelude.{◌≡◌, ◌≤◌, ℕ, IsSome};
 ghost use Rattle.bw_model.specs.Replies.{command_key};
-ghost use Rattle.chain_search.specs.discipline.Knowledge.{Knowledge};
-ghost use Rattle.chain_search.specs.discipline.Recalled.{Recalled};
+ghost use Rattle.traces.specs.discipline.Knowledge.{Knowledge};
+ghost use Rattle.traces.specs.discipline.Recalled.{Recalled};
 ghost use Rattle.installs.specs.Spares.{Spares};
 ghost use Rattle.op_machine.specs.machine.Bounded.{left_at, left_for, one_round};
 ghost use Rattle.op_machine.specs.machine.Outcomes as Outcome;

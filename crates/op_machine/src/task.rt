@@ -1,8 +1,8 @@
 //! What an operation was asked, and what it makes of what it has come to.
 ghost use Rattle.std.specs.Prelude.{◌≡◌, ◌<◌, ◌-◌, ℕ, List, [], Option, Some, IfSome, IsSome, MatchOption, is_some, length, option_copied, slice_get, take, true};
-ghost use Rattle.chain_search.specs.chain.Chains.{high_in};
-ghost use Rattle.chain_search.specs.discipline.Discipline.{found};
-ghost use Rattle.chain_search.specs.discipline.Knowledge.{Knowledge};
+ghost use Rattle.traces.specs.chain.Chains.{high_in};
+ghost use Rattle.traces.specs.discipline.Discipline.{found};
+ghost use Rattle.traces.specs.discipline.Knowledge.{Knowledge};
 ghost use Rattle.bw_model.specs.Pairs.{ArePairsOf};
 ghost use Rattle.bw_model.specs.Replies.{is_writer, update_of};
 ghost use Rattle.bw_model.specs.declared.command.Reply.TheVariants as reply;

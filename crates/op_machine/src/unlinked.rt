@@ -1,6 +1,6 @@
 //! What a change takes out of the tree.
 ghost use Rattle.std.specs.Prelude.{◌≡◌, None, Some};
-ghost use Rattle.chain_search.specs.chain.Chains.{chain_rows};
+ghost use Rattle.traces.specs.chain.Chains.{chain_rows};
 
 use arrayvec::ArrayVec;
 use row_chain::MAX_RECORDS;

@@ -1,7 +1,7 @@
 //! What an operation makes of the end of a writer's round, where its pages stand, and of the end of a change.
 ghost use Rattle.std.specs.Prelude.{◌≡◌, ◌≤◌, ◌+◌, ◌-◌, [], Option, IsSome, MatchOption, length, take};
-ghost use Rattle.chain_search.specs.discipline.Knowledge.{Knowledge};
-ghost use Rattle.chain_search.specs.discipline.Recalled.{Recalled};
+ghost use Rattle.traces.specs.discipline.Knowledge.{Knowledge};
+ghost use Rattle.traces.specs.discipline.Recalled.{Recalled};
 ghost use Rattle.descent.specs.WriteEnds as end;
 ghost use Rattle.installs.specs.Spares.{Spares as SparesOf};
 ghost use Rattle.op_machine.specs.machine.Bounded.{few_changes, left_at, left_for, with_errands};
@@ -22,13 +22,13 @@ use crate::then::{Then, copied};
 use crate::unlinked::Unlinked;
 use base_page::Page;
 use bw_model::{Command, Reply};
-use chain_search::{chain_is_one, chains_make_pages, updates_fit};
 use deltas::{Merge, Record, Term, Unterm};
 use installs::{End, Plan, Spares, plans_may_be_linked};
 use rounds::{WriteEnded, WriteRound};
 use row_search::KeyWords;
 use smo::{PageInHand, SplitPlan, Upkeep, plan_upkeep};
 use std::alloc::Allocator;
+use traces::{chain_is_one, chains_make_pages, updates_fit};
 
 impl Task {
     /// A writer makes the change that is due where its round ended, or goes on at the leaf.

@@ -4,9 +4,9 @@ use Rattle.std.specs.Prelude.{MatchOption}
 use Rattle.std.proofs.lemmas.Bool.Decides.{eqb_tells}
 use Rattle.bw_model.specs.declared.limits.Limits.{Limits}
 use Rattle.base_page.specs.Places.{HasNoChild, IsGreatestChild}
-use Rattle.chain_search.specs.chain.Chains.{content_in, is_removed, level_in, right_in}
-use Rattle.chain_search.specs.discipline.Discipline.{NamesChild}
-use Rattle.chain_search.specs.chain.Fitted.{IsFitted}
+use Rattle.traces.specs.chain.Chains.{content_in, is_removed, level_in, right_in}
+use Rattle.traces.specs.discipline.Discipline.{NamesChild}
+use Rattle.traces.specs.chain.Fitted.{IsFitted}
 use Rattle.smo.specs.Versions.{Version}
 use Rattle.descent.specs.ReadGoals.{ReadGoal}
 use Rattle.descent.specs.ReadLegs.{Leg, Down, Round, Past}

@@ -5,7 +5,7 @@ use Rattle.bw_model.specs.declared.limits.Limits.{Limits}
 use Rattle.bw_model.specs.declared.step.Answer.TheVariants.{Number, Content}
 use Rattle.deltas.specs.declared.record.Record.{Record}
 use Rattle.deltas.specs.Records.{next_row}
-use Rattle.chain_search.specs.chain.Fitted.{IsPageChain}
+use Rattle.traces.specs.chain.Fitted.{IsPageChain}
 use Rattle.smo.specs.Versions.{Version}
 use Rattle.descent.specs.Descents.{Descent, Responds, Root, Page, descending}
 use Rattle.descent.specs.Machines.{IsTold}

@@ -13,8 +13,8 @@ use Rattle.base_page.specs.Pages.{IsAscending, IsOfLevel, Page, content_at}
 use Rattle.base_page.proofs.KeyLaws.{itself}
 use Rattle.deltas.specs.declared.record.Record.{Record}
 use Rattle.deltas.specs.Spellable.{HasPid, IsPid, IsSpellablePage}
-use Rattle.chain_search.specs.chain.Fitted.{IsFitted}
-use Rattle.chain_search.proofs.FittedLaws.{children_of, items_unique, right_of}
+use Rattle.traces.specs.chain.Fitted.{IsFitted}
+use Rattle.traces.proofs.FittedLaws.{children_of, items_unique, right_of}
 use Rattle.descent.specs.Versions.{NamesPages}
 
 within : (limits : Limits) (pid : ℕ) → limits.pids ≡ 4096 → IsPid pid → (0 < pid) × (pid < limits.pids)

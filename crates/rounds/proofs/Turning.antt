@@ -3,8 +3,8 @@ use Rattle.std.proofs.Common.{◌≡◌, ◌≤◌, inl, ℕ, List, length, None
 use Rattle.std.proofs.Math.Nat.{lt_of_not-le}
 use Rattle.base_page.specs.declared.item.Item.{Item}
 use Rattle.deltas.specs.declared.record.Record.{Record}
-use Rattle.chain_search.specs.chain.Chains.{IsItemsOf}
-use Rattle.chain_search.specs.chain.Fitted.{IsFitted}
+use Rattle.traces.specs.chain.Chains.{IsItemsOf}
+use Rattle.traces.specs.chain.Fitted.{IsFitted}
 use Rattle.smo.specs.Sizes.{HasFewDeltas, HasManyItems}
 use Rattle.smo.proofs.Places.{made}
 use Rattle.descent.specs.Courses.{WriteGoal, Seek, Left, Merge, Unterm, removed_of}

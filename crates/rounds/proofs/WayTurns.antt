@@ -3,8 +3,8 @@ use Rattle.std.proofs.Common.{◌≡◌, ℕ, List, Bool, Option, Some, None, sy
 use Rattle.std.specs.Prelude.{not, IsFalse, IsTrue, MatchOption}
 use Rattle.bw_model.specs.Bytes.{is_under}
 use Rattle.deltas.specs.declared.record.Record.{Record}
-use Rattle.chain_search.specs.chain.Chains.{high_in, right_in}
-use Rattle.chain_search.specs.chain.Fitted.{IsFitted}
+use Rattle.traces.specs.chain.Chains.{high_in, right_in}
+use Rattle.traces.specs.chain.Fitted.{IsFitted}
 use Rattle.descent.specs.Ways.{LeadsRight, StaysLeft, reaches}
 use Rattle.descent.proofs.WayLaws.{goes_right}
 

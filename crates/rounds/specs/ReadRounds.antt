@@ -1,7 +1,7 @@
 -- A reader's round in its place: its pages stand in it, and an end names them there.
 use Rattle.std.specs.Prelude.{◌≡◌, ℕ, Option, Some, None, false, ⊤}
 use Rattle.std.specs.Option.{option_map}
-use Rattle.chain_search.specs.chain.Chains.{is_removed, level_in}
+use Rattle.traces.specs.chain.Chains.{is_removed, level_in}
 use Rattle.smo.specs.Versions.{Version}
 use Rattle.descent.specs.ReadRounds as rounds
 use Rattle.descent.specs.ReadLegs.{Leg, Down, Round, Past, IsPlain}

@@ -1,8 +1,8 @@
 //! The way from the root to a page, as far as a round goes on, in one place.
 ghost use Rattle.std.specs.Prelude.{◌≡◌, ◌<◌, ℕ, [], IfOk};
 ghost use Rattle.bw_model.specs.declared.step.Answer.TheVariants.{Content, Number};
-ghost use Rattle.chain_search.specs.discipline.Discipline.{May};
-ghost use Rattle.chain_search.specs.discipline.Knowledge.{Knowledge};
+ghost use Rattle.traces.specs.discipline.Discipline.{May};
+ghost use Rattle.traces.specs.discipline.Knowledge.{Knowledge};
 ghost use Rattle.descent.specs.Descents.{Responds, Shows, descending, going_to, wanted};
 ghost use Rattle.descent.specs.Machines.{IsTold};
 ghost use Rattle.descent.specs.Visits.{ReadsWithin};

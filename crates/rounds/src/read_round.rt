@@ -3,10 +3,10 @@ ghost use Rattle.std.specs.Prelude.{◌≡◌, ◌<◌, ℕ, IfOk, IsTrue, Match
 ghost use Rattle.std.specs.Bool.{Decides};
 ghost use Rattle.std.specs.Option.{option_map};
 ghost use Rattle.bw_model.specs.declared.step.Answer.TheVariants.{Content, Number};
-ghost use Rattle.chain_search.specs.chain.Chains.{level_in, low_in, right_in};
-ghost use Rattle.chain_search.specs.discipline.Discipline.{May};
-ghost use Rattle.chain_search.specs.discipline.Knowledge.{Knowledge};
-ghost use Rattle.chain_search.specs.discipline.Recalled.{Recalled};
+ghost use Rattle.traces.specs.chain.Chains.{level_in, low_in, right_in};
+ghost use Rattle.traces.specs.discipline.Discipline.{May};
+ghost use Rattle.traces.specs.discipline.Knowledge.{Knowledge};
+ghost use Rattle.traces.specs.discipline.Recalled.{Recalled};
 ghost use Rattle.descent.specs.Machines.{IsTold};
 ghost use Rattle.descent.specs.ReadLegs.{Down, level_on};
 ghost use Rattle.descent.specs.ReadRounds.{CanTreatRead, IsSame, Shows, TreatsRead, going_to, on, read_way, reading, toward, wanted};

@@ -1,7 +1,7 @@
 //! Which page a page leads to, on the way to a key, or to the left of a page, by the rows of its chain.
 ghost use Rattle.std.specs.Prelude.{◌≡◌, ◌<◌, IsFalse, IsTrue, MatchOption};
 ghost use Rattle.bw_model.specs.Bytes.{is_below};
-ghost use Rattle.chain_search.specs.chain.Chains.{high_in, level_in, low_in};
+ghost use Rattle.traces.specs.chain.Chains.{high_in, level_in, low_in};
 ghost use Rattle.descent.specs.Ways.{LeadsDown, LeadsRight, StaysLeft, passes};
 
 use row_chain::Chain;

@@ -2,10 +2,10 @@
 ghost use Rattle.std.specs.Prelude.{◌≡◌, ◌<◌, ℕ, IfOk, IsTrue, MatchOption, None, Some, [], true, false, option_copied};
 ghost use Rattle.std.specs.Option.{option_map};
 ghost use Rattle.bw_model.specs.declared.step.Answer.TheVariants.{Content, Number};
-ghost use Rattle.chain_search.specs.chain.Chains.{is_removed, level_in, low_in};
-ghost use Rattle.chain_search.specs.discipline.Discipline.{May};
-ghost use Rattle.chain_search.specs.discipline.Knowledge.{Knowledge};
-ghost use Rattle.chain_search.specs.discipline.Recalled.{Recalled};
+ghost use Rattle.traces.specs.chain.Chains.{is_removed, level_in, low_in};
+ghost use Rattle.traces.specs.discipline.Discipline.{May};
+ghost use Rattle.traces.specs.discipline.Knowledge.{Knowledge};
+ghost use Rattle.traces.specs.discipline.Recalled.{Recalled};
 ghost use Rattle.descent.specs.Courses as goal;
 ghost use Rattle.descent.specs.Machines.{IsTold};
 ghost use Rattle.descent.specs.Rounds.{Responds, machine};

@@ -7,8 +7,8 @@ use Rattle.deltas.specs.declared.record.Record.TheVariants.{Base, Put, Delete, S
 use Rattle.deltas.specs.Fits.{FitsOnPage}
 use Rattle.deltas.specs.Records.{level_after, low_after, next_row, removed_after}
 use Rattle.record_slots.specs.Parts.{row_of}
-use Rattle.chain_search.specs.chain.Chains.{is_removed, level_in, low_in}
-use Rattle.chain_search.specs.chain.Fitted.{IsFitted}
+use Rattle.traces.specs.chain.Chains.{is_removed, level_in, low_in}
+use Rattle.traces.specs.chain.Fitted.{IsFitted}
 
 pub some : (chain : List Record) → IsFitted chain → 0 < length chain
 some [] h = absurd h

@@ -11,9 +11,9 @@ use Rattle.base_page.specs.Places.{IsGreatest, IsGreatestChild, HasNoChild}
 use Rattle.base_page.proofs.KeyLaws.{above, below_from, by_order, itself, not_true}
 use Rattle.base_page.proofs.PageLaws.{belongs}
 use Rattle.deltas.specs.declared.record.Record.{Record}
-use Rattle.chain_search.specs.chain.Chains.{content_in}
-use Rattle.chain_search.specs.chain.Fitted.{IsFitted}
-use Rattle.chain_search.proofs.FittedLaws.{page_of, ruled}
+use Rattle.traces.specs.chain.Chains.{content_in}
+use Rattle.traces.specs.chain.Fitted.{IsFitted}
+use Rattle.traces.proofs.FittedLaws.{page_of, ruled}
 
 no_child : (o : Option Content) → ((child : ℕ) (held : Bool) → o ≡ Some (Child child held) → ⊥) → child_in o ≡ None
 no_child None f = refl

@@ -18,11 +18,11 @@ use Rattle.deltas.specs.declared.record.Record.TheVariants as kind
 use Rattle.deltas.specs.declared.record.Merge.{Merge}
 use Rattle.deltas.specs.declared.record.Split.{Split}
 use Rattle.deltas.specs.Records.{names, content_said}
-use Rattle.chain_search.specs.chain.Chains.{IsItemsOf, content_in}
-use Rattle.chain_search.specs.chain.Fitted.{FitsOver, IsFitted}
+use Rattle.traces.specs.chain.Chains.{IsItemsOf, content_in}
+use Rattle.traces.specs.chain.Fitted.{FitsOver, IsFitted}
 use Rattle.row_chain.specs.Walks.{bound_under, count_under}
-use Rattle.chain_search.proofs.FittedLaws.{ascends_after, by_order, items_unique, lacks_first, ruled}
-use Rattle.chain_search.proofs.Updated.{chosen, greater, itself, put_ascends, put_contents, with_put}
+use Rattle.traces.proofs.FittedLaws.{ascends_after, by_order, items_unique, lacks_first, ruled}
+use Rattle.traces.proofs.Updated.{chosen, greater, itself, put_ascends, put_contents, with_put}
 
 -- every item is below no bound
 pub count_all : (items : List Item) → count_under None items ≡ length items

@@ -12,11 +12,11 @@ use Rattle.deltas.specs.declared.record.Record.TheVariants.{Base, Put, Delete, S
 use Rattle.deltas.specs.Records.{content_said, names}
 use Rattle.record_slots.specs.Parts.{items_of}
 use Rattle.row_search.specs.OneKey.{one_key}
-use Rattle.chain_search.specs.chain.Chains.{IsItemsOf}
-use Rattle.chain_search.specs.chain.Fitted.{IsFitted}
+use Rattle.traces.specs.chain.Chains.{IsItemsOf}
+use Rattle.traces.specs.chain.Fitted.{IsFitted}
 use Rattle.row_chain.specs.Walks.{bound_under, count_under}
 use Rattle.row_chain.proofs.CountLaws.{changed_by_merge, changed_by_split, rest_is, unchanged}
-use Rattle.chain_search.proofs.FittedLaws.{items_unique}
+use Rattle.traces.proofs.FittedLaws.{items_unique}
 use Rattle.row_chain.proofs.OneKeys.{mark, named}
 
 -- no records have no items

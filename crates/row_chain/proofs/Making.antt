@@ -5,8 +5,8 @@ use Rattle.deltas.specs.declared.record.Record.{Record}
 use Rattle.deltas.specs.declared.record.Record.TheVariants.{Base}
 use Rattle.deltas.specs.Fits.{FitsOnPage}
 use Rattle.deltas.specs.Spellable.{IsSpellable}
-use Rattle.chain_search.specs.chain.Fitted.{FitsOver, IsFitted, Makes}
-use Rattle.chain_search.proofs.FittedLaws.{Makes-base, first_spellable, fits}
+use Rattle.traces.specs.chain.Fitted.{FitsOver, IsFitted, Makes}
+use Rattle.traces.proofs.FittedLaws.{Makes-base, first_spellable, fits}
 
 -- the last record is a base
 pub base_at : (chain : List Record) (place : ℕ) (d : Record) → IsFitted chain → suc place ≡ length chain → (page : Page) × (get_or chain place d ≡ Base page)

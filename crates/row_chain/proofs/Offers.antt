@@ -9,7 +9,7 @@ use Rattle.deltas.specs.declared.record.Record.TheVariants.{Base, Put, Delete, S
 use Rattle.deltas.specs.Spellable.{IsSpellable}
 use Rattle.record_slots.specs.Parts.{items_of}
 use Rattle.row_search.specs.OneKey.{one_key}
-use Rattle.chain_search.specs.chain.Chains.{content_in}
+use Rattle.traces.specs.chain.Chains.{content_in}
 use Rattle.row_chain.specs.Walks.{is_open, IsGreatestKey}
 use Rattle.row_chain.proofs.WalkLaws.{in_range, offers_key}
 use Rattle.row_chain.proofs.OneKeys.{mark, named}

@@ -5,7 +5,7 @@ use Rattle.base_page.specs.Pages.{empty_leaf}
 use Rattle.base_page.proofs.ItemLaws.{IsAscending-from}
 use Rattle.deltas.specs.Spellable.{IsSpellablePage}
 use Rattle.deltas.specs.declared.record.Record.TheVariants.{Base}
-use Rattle.chain_search.specs.chain.Fitted.{IsPageChain}
+use Rattle.traces.specs.chain.Fitted.{IsPageChain}
 
 pub empty_stands : IsSpellablePage empty_leaf
 empty_stands = record {

@@ -18,9 +18,9 @@ use Rattle.base_page.proofs.ItemLaws.{Ascends, Ascends-from, lacks_above}
 use Rattle.base_page.proofs.KeyLaws.{and_both, and_left, and_right, itself, either, same}
 use Rattle.base_page.proofs.PageLaws.{belongs}
 use Rattle.deltas.specs.declared.record.Record.{Record}
-use Rattle.chain_search.specs.chain.Chains.{high_in}
-use Rattle.chain_search.specs.discipline.Discipline.{found, value_of}
-use Rattle.chain_search.specs.chain.Fitted.{Makes}
+use Rattle.traces.specs.chain.Chains.{high_in}
+use Rattle.traces.specs.discipline.Discipline.{found, value_of}
+use Rattle.traces.specs.chain.Fitted.{Makes}
 
 abbrev pub Pair : Type 0
 Pair = List ℕ × List ℕ

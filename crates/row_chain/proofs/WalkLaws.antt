@@ -20,7 +20,7 @@ use Rattle.base_page.proofs.PageLaws.{belongs}
 use Rattle.base_page.proofs.PlaceLaws.{content_at_place}
 use Rattle.deltas.specs.declared.record.Record.{Record}
 use Rattle.deltas.specs.Records.{names, content_said}
-use Rattle.chain_search.specs.chain.Chains.{content_in}
+use Rattle.traces.specs.chain.Chains.{content_in}
 use Rattle.row_chain.specs.Walks.{greater, is_named, is_open, IsGreatestKey}
 
 none_there : {G : Type 0} (o : Option Content) → o ≡ None → IsSome o → G

@@ -4,8 +4,8 @@ ghost use Rattle.bw_model.specs.Bytes.{is_under};
 ghost use Rattle.base_page.specs.Pages.{empty_leaf};
 ghost use Rattle.deltas.specs.declared.record.Record.TheVariants.{Base};
 ghost use Rattle.record_slots.specs.Parts.{row_of};
-ghost use Rattle.chain_search.specs.chain.Chains.{covers, high_in, is_removed, level_in, low_in, right_in};
-ghost use Rattle.chain_search.specs.chain.Fitted.{IsPageChain};
+ghost use Rattle.traces.specs.chain.Chains.{covers, high_in, is_removed, level_in, low_in, right_in};
+ghost use Rattle.traces.specs.chain.Fitted.{IsPageChain};
 
 mod count;
 mod pages;
@@ -32,7 +32,7 @@ pub struct Chain<A: Allocator = Global> {
 impl<A: Allocator> Model for Chain<A> {
     ghost use Rattle.std.specs.Prelude.{List};
     ghost use Rattle.deltas.specs.declared.record.Record.{Record};
-    ghost use Rattle.chain_search.specs.chain.Fitted.{IsPageChain};
+    ghost use Rattle.traces.specs.chain.Fitted.{IsPageChain};
 
     ghost Value = { List Record };
 

@@ -3,8 +3,8 @@ use Rattle.std.proofs.Common.{◌≡◌, ◌<◌, ◌≤◌, ◌+◌, ◌*◌, �
 use Rattle.std.specs.Prelude.{bit_and, not, if◌then◌else◌}
 use Rattle.std.specs.Int.{bit_at}
 use Rattle.std.proofs.lemmas.Nat.{one_shl}
-use Rattle.chain_search.proofs.Tables.{tested}
-use Rattle.chain_search.specs.trace.Steps.{IsWordOf}
+use Rattle.traces.proofs.Tables.{tested}
+use Rattle.traces.specs.trace.Steps.{IsWordOf}
 use Rattle.scene.specs.Counts.{how_many}
 
 pub tested_at : (bits place : ℕ) → place < 64 → not (eqb (bit_and bits (1 * 2 ^ place % 2 ^ 64)) 0) ≡ (bit_at bits place == 1)

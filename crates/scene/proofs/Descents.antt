@@ -9,10 +9,10 @@ use Rattle.base_page.specs.declared.item.Content.{Content}
 use Rattle.base_page.specs.declared.item.Content.TheVariants.{Child, Value}
 use Rattle.deltas.specs.declared.record.Record.{Record}
 use Rattle.deltas.specs.Memory.{Memory}
-use Rattle.chain_search.specs.chain.Chains.{IsChainOf, content_in, level_in, low_in}
-use Rattle.chain_search.specs.chain.Fitted.{IsPageChain}
-use Rattle.chain_search.specs.chain.SideChain.{IsSideChainFrom, LivePage}
-use Rattle.chain_search.proofs.FittedLaws.{content_all, page_of, ruled}
+use Rattle.traces.specs.chain.Chains.{IsChainOf, content_in, level_in, low_in}
+use Rattle.traces.specs.chain.Fitted.{IsPageChain}
+use Rattle.traces.specs.chain.SideChain.{IsSideChainFrom, LivePage}
+use Rattle.traces.proofs.FittedLaws.{content_all, page_of, ruled}
 use Rattle.scene.specs.Levels.{AreLevels, AreLevelsFrom, first_child, low_child}
 use Rattle.tree_law.specs.LevelPages.{HasAllLevels, HasPagesOn, IsPageOn}
 

@@ -6,8 +6,8 @@ use Rattle.base_page.proofs.ItemLaws.{back_all}
 use Rattle.bw_model.specs.declared.limits.Limits.{Limits}
 use Rattle.deltas.specs.declared.record.Record.{Record}
 use Rattle.deltas.specs.Memory.{Memory}
-use Rattle.chain_search.specs.chain.Chains.{right_in}
-use Rattle.chain_search.specs.chain.SideChain.{IsSideChainFrom, LivePage}
+use Rattle.traces.specs.chain.Chains.{right_in}
+use Rattle.traces.specs.chain.SideChain.{IsSideChainFrom, LivePage}
 use Rattle.listing.specs.Listed.{StandsAt}
 use Rattle.tree_law.specs.LevelPages.{HasPagesOn, IsPageOn}
 

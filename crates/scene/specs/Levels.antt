@@ -3,8 +3,8 @@ use Rattle.std.specs.Prelude.{◌≡◌, ℕ, List, [], ◌∷◌, Option, None,
 use Rattle.base_page.specs.Pages.{child_in}
 use Rattle.deltas.specs.declared.record.Record.{Record}
 use Rattle.deltas.specs.Memory.{Memory}
-use Rattle.chain_search.specs.chain.Chains.{content_in, low_in}
-use Rattle.chain_search.specs.chain.SideChain.{LivePage, IsSideChainFrom}
+use Rattle.traces.specs.chain.Chains.{content_in, low_in}
+use Rattle.traces.specs.chain.SideChain.{LivePage, IsSideChainFrom}
 
 -- the child of a page's low key; a leaf has none
 abbrev pub low_child : List Record → Option ℕ

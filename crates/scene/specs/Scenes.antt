@@ -2,7 +2,7 @@
 use Rattle.std.specs.Prelude.{◌≡◌, ℕ, List}
 use Rattle.bw_model.specs.declared.limits.Limits.{Limits}
 use Rattle.deltas.specs.Memory.{Memory}
-use Rattle.chain_search.specs.chain.SideChain.{LivePage}
+use Rattle.traces.specs.chain.SideChain.{LivePage}
 use Rattle.scene.specs.Counts.{how_many}
 use Rattle.scene.specs.Levels.{AreLevels}
 

@@ -1,7 +1,7 @@
 //! Numbers of a memory: how many PIDs and rows are free, and the epochs.
 ghost use Rattle.std.specs.Prelude.{◌≡◌, ◌<◌, ◌*◌, ◌==◌};
 ghost use Rattle.std.specs.Int.{bit_at};
-ghost use Rattle.chain_search.specs.trace.Steps.{IsWordOf};
+ghost use Rattle.traces.specs.trace.Steps.{IsWordOf};
 ghost use Rattle.core_memory.specs.Tables.{memory_in};
 ghost use Rattle.scene.specs.Counts.{how_many};
 

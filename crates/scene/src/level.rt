@@ -18,7 +18,7 @@ pub struct Level<A: Allocator = Global> {
 
 impl<A: Allocator> Model for Level<A> {
     ghost use Rattle.std.specs.Prelude.{List};
-    ghost use Rattle.chain_search.specs.chain.SideChain.{LivePage};
+    ghost use Rattle.traces.specs.chain.SideChain.{LivePage};
 
     ghost Value = { List LivePage };
 

@@ -1,8 +1,8 @@
 //! One page as it stands.
 ghost use Rattle.std.specs.Prelude.{◌≡◌, ◌<◌, List, IfOk};
 ghost use Rattle.deltas.specs.declared.record.Record.{Record as RecordSeen};
-ghost use Rattle.chain_search.specs.chain.Chains.{right_in};
-ghost use Rattle.chain_search.specs.chain.Fitted.{Makes};
+ghost use Rattle.traces.specs.chain.Chains.{right_in};
+ghost use Rattle.traces.specs.chain.Fitted.{Makes};
 ghost use Rattle.core_memory.specs.Tables.{memory_in};
 ghost use Rattle.listing.specs.Listed.{StandsAt};
 ghost use Rattle.scene.specs.Levels.{low_child};
@@ -23,8 +23,8 @@ pub struct ScenePage<A: Allocator = Global> {
 }
 
 impl<A: Allocator> Model for ScenePage<A> {
-    ghost use Rattle.chain_search.specs.chain.Fitted.{Makes};
-    ghost use Rattle.chain_search.specs.chain.SideChain.{LivePage};
+    ghost use Rattle.traces.specs.chain.Fitted.{Makes};
+    ghost use Rattle.traces.specs.chain.SideChain.{LivePage};
 
     ghost Value = { LivePage };
 

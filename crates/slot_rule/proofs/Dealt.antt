@@ -16,7 +16,7 @@ use Rattle.deltas.specs.declared.record.Record.{Record}
 use Rattle.deltas.specs.declared.record.Record.TheVariants.{Base}
 use Rattle.deltas.specs.Memory.{opening as memory_opening}
 use Rattle.deltas.specs.Spellable.{IsSpellablePage}
-use Rattle.chain_search.specs.declared.trace.Entry.{Entry}
+use Rattle.traces.specs.declared.trace.Entry.{Entry}
 use Rattle.tree_words.specs.Words.{AreWordsOf}
 use Rattle.slot_rule.specs.declared.view.Part.{Part}
 use Rattle.slot_rule.specs.Running.{Each, HasSpelling, IsSpelledRow, IsSettled, times, PartFits, Running}

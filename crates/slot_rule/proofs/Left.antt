@@ -5,9 +5,9 @@ use mathlib.Core.Option.{some}
 use native.Mathlib.Decide.{ℕ_discrete}
 use lib.ListN.{get_elem?}
 use Rattle.bw_model.specs.declared.limits.Limits.{Limits}
-use Rattle.chain_search.specs.declared.trace.Entry.{Entry}
-use Rattle.chain_search.specs.discipline.Disciplined.{Extends}
-use Rattle.chain_search.specs.trace.Trace.{memory_of}
+use Rattle.traces.specs.declared.trace.Entry.{Entry}
+use Rattle.traces.specs.discipline.Disciplined.{Extends}
+use Rattle.traces.specs.trace.Trace.{memory_of}
 use Rattle.tree_words.specs.Words.{AreWordsOf}
 use Rattle.slot_rule.specs.declared.view.Reach.TheVariants.{Idle, Reading, Writing, Noted}
 use Rattle.slot_rule.specs.declared.view.Reach.{Reach}

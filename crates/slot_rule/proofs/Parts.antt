@@ -16,12 +16,12 @@ use Rattle.bw_model.specs.declared.step.Answer.{Answer}
 use Rattle.bw_model.specs.declared.step.Step.{Step as StepOf}
 use Rattle.deltas.specs.declared.record.Record.{Record}
 use Rattle.deltas.specs.Memory.{Memory, replaced_at}
-use Rattle.chain_search.specs.declared.trace.Entry.{Entry}
-use Rattle.chain_search.specs.declared.trace.Entry.TheVariants.{Begin, Step}
-use Rattle.chain_search.specs.discipline.Disciplined.{is_entry_of, own_entries, Extends}
-use Rattle.chain_search.specs.discipline.Knowledge.{Knowledge, nothing, begun, learn, finished, knows_after, knows}
-use Rattle.chain_search.specs.trace.Steps.{memory_after}
-use Rattle.chain_search.specs.trace.Trace.{memory_of, memory_after_entry}
+use Rattle.traces.specs.declared.trace.Entry.{Entry}
+use Rattle.traces.specs.declared.trace.Entry.TheVariants.{Begin, Step}
+use Rattle.traces.specs.discipline.Disciplined.{is_entry_of, own_entries, Extends}
+use Rattle.traces.specs.discipline.Knowledge.{Knowledge, nothing, begun, learn, finished, knows_after, knows}
+use Rattle.traces.specs.trace.Steps.{memory_after}
+use Rattle.traces.specs.trace.Trace.{memory_of, memory_after_entry}
 use Rattle.tree_words.specs.Words.{SpellsWhere}
 use Rattle.slot_rule.specs.declared.view.Reach.{Reach}
 use Rattle.slot_rule.specs.declared.view.Reach.TheVariants.{Idle, Reading, Writing, Noted}

@@ -11,11 +11,11 @@ use Rattle.bw_model.specs.declared.limits.Limits.{Limits}
 use Rattle.bw_model.specs.declared.step.Answer.{Answer}
 use Rattle.bw_model.specs.declared.step.Step.{Step as StepOf}
 use Rattle.deltas.specs.declared.record.Record.{Record}
-use Rattle.chain_search.specs.declared.trace.Entry.{Entry}
-use Rattle.chain_search.specs.discipline.Disciplined.{Extends}
-use Rattle.chain_search.specs.discipline.Knowledge.{knows}
-use Rattle.chain_search.specs.trace.Steps.{IsAnswer, memory_after}
-use Rattle.chain_search.specs.trace.Trace.{memory_of}
+use Rattle.traces.specs.declared.trace.Entry.{Entry}
+use Rattle.traces.specs.discipline.Disciplined.{Extends}
+use Rattle.traces.specs.discipline.Knowledge.{knows}
+use Rattle.traces.specs.trace.Steps.{IsAnswer, memory_after}
+use Rattle.traces.specs.trace.Trace.{memory_of}
 use Rattle.record_slots.specs.Layout.{last_at}
 use Rattle.tree_words.specs.Layout.{row_at}
 use Rattle.tree_words.specs.Words.{words_in, SpellsWhere}

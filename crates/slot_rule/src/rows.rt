@@ -2,7 +2,7 @@
 ghost use Rattle.std.specs.Prelude.{◌≡◌, ◌<◌, None};
 ghost use Rattle.bw_model.specs.declared.step.Answer.TheVariants.{Content, Done};
 ghost use Rattle.bw_model.specs.declared.step.Step.TheVariants.{Place, Row};
-ghost use Rattle.chain_search.specs.discipline.Knowledge.{knows};
+ghost use Rattle.traces.specs.discipline.Knowledge.{knows};
 ghost use Rattle.deltas.specs.declared.record.Record.{Record};
 ghost use Rattle.record_slots.specs.Spells.{IsSpelling};
 ghost use Rattle.slot_rule.specs.declared.view.Reach.TheVariants.{Idle};

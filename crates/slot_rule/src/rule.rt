@@ -17,7 +17,7 @@ use tree_words::opening_is_spelled;
 pub trait Law {
     ghost use Rattle.std.specs.Prelude.{List};
     ghost use Rattle.bw_model.specs.declared.limits.Limits.{Limits};
-    ghost use Rattle.chain_search.specs.declared.trace.Entry.{Entry};
+    ghost use Rattle.traces.specs.declared.trace.Entry.{Entry};
 
     ghost law: { Limits → List Entry → Type 0 };
 }

@@ -1,8 +1,8 @@
 //! What a seat knows.
 
 use bw_model::Limits;
-use chain_search::Entry;
 use std::collections::LinkedList;
+use traces::Entry;
 
 /// Where a seat stands between two atomic operations of one step: in the midst of a row, with the words that it has read there, or
 /// has written behind the header.

@@ -10,12 +10,12 @@ use Rattle.deltas.specs.declared.record.Merge.{Merge}
 use Rattle.deltas.specs.declared.record.Remove.{Remove}
 use Rattle.deltas.specs.declared.record.Term.{Term}
 use Rattle.deltas.specs.declared.record.Unterm.{Unterm}
-use Rattle.chain_search.specs.chain.Chains.{content_in, covers, is_removed, level_in, low_in}
-use Rattle.chain_search.specs.discipline.Discipline.{MayHold, MayMerge, MayPost, MayRemove, MayRoot, MaySplit, MayUnterm}
-use Rattle.chain_search.specs.chain.Fitted.{IsFitted, IsPageChain}
-use Rattle.chain_search.specs.discipline.Knowledge.{Knowledge, Ready, Written}
-use Rattle.chain_search.proofs.FittedLaws.{ruled}
-use Rattle.chain_search.proofs.UnheldLaws.{unheld_by_items}
+use Rattle.traces.specs.chain.Chains.{content_in, covers, is_removed, level_in, low_in}
+use Rattle.traces.specs.discipline.Discipline.{MayHold, MayMerge, MayPost, MayRemove, MayRoot, MaySplit, MayUnterm}
+use Rattle.traces.specs.chain.Fitted.{IsFitted, IsPageChain}
+use Rattle.traces.specs.discipline.Knowledge.{Knowledge, Ready, Written}
+use Rattle.traces.proofs.FittedLaws.{ruled}
+use Rattle.traces.proofs.UnheldLaws.{unheld_by_items}
 use Rattle.smo.specs.declared.split.SplitPlan.{SplitPlan}
 use Rattle.smo.specs.Versions.{Version}
 use Rattle.smo.specs.Splits.{IsSplitPlan, split_to}

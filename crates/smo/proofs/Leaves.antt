@@ -7,9 +7,9 @@ use Rattle.base_page.specs.declared.item.Content.TheVariants.{Value}
 use Rattle.deltas.specs.declared.record.Record.{Record}
 use Rattle.deltas.specs.Records.{next_row}
 use Rattle.deltas.specs.Memory.{Memory, replaced_at}
-use Rattle.chain_search.specs.chain.Chains.{IsChainFrom, IsChainOf, chain_rows, content_in, covers, high_in, level_in, right_in}
-use Rattle.chain_search.specs.chain.SideChain.{LivePage, IsSideChainFrom, IsWholeFrom}
-use Rattle.chain_search.proofs.ChainLaws.{IsSideChainFrom-unique}
+use Rattle.traces.specs.chain.Chains.{IsChainFrom, IsChainOf, chain_rows, content_in, covers, high_in, level_in, right_in}
+use Rattle.traces.specs.chain.SideChain.{LivePage, IsSideChainFrom, IsWholeFrom}
+use Rattle.traces.proofs.ChainLaws.{IsSideChainFrom-unique}
 use Rattle.smo.specs.Linking.{HasLeaves, IsSpareRow, KeepsMap, linked}
 
 -- functions

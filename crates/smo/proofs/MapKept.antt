@@ -15,12 +15,12 @@ use Rattle.deltas.specs.declared.record.Term.{Term}
 use Rattle.deltas.specs.declared.record.Unterm.{Unterm}
 use Rattle.deltas.specs.Memory.{Memory, replaced_at}
 use Rattle.deltas.specs.Records.{next_row}
-use Rattle.chain_search.specs.chain.Chains.{IsChainFrom, IsChainOf, chain_rows, content_in, covers, high_in, level_in, low_in, right_in}
-use Rattle.chain_search.specs.discipline.Discipline.{base_from}
-use Rattle.chain_search.specs.chain.Fitted.{IsPageChain}
-use Rattle.chain_search.specs.chain.SideChain.{LivePage, IsSideChainFrom, IsWholeFrom}
-use Rattle.chain_search.proofs.ChainLaws.{IsChainOf-unique}
-use Rattle.chain_search.proofs.FittedLaws.{ruled}
+use Rattle.traces.specs.chain.Chains.{IsChainFrom, IsChainOf, chain_rows, content_in, covers, high_in, level_in, low_in, right_in}
+use Rattle.traces.specs.discipline.Discipline.{base_from}
+use Rattle.traces.specs.chain.Fitted.{IsPageChain}
+use Rattle.traces.specs.chain.SideChain.{LivePage, IsSideChainFrom, IsWholeFrom}
+use Rattle.traces.proofs.ChainLaws.{IsChainOf-unique}
+use Rattle.traces.proofs.FittedLaws.{ruled}
 use Rattle.smo.specs.declared.split.SplitPlan.{SplitPlan}
 use Rattle.smo.specs.Versions.{Version}
 use Rattle.smo.specs.Linking.{HasLeaves, HasVersion, IsSpareRow, KeepsMap, linked, with_root}

@@ -13,9 +13,9 @@ use Rattle.deltas.specs.declared.record.Record.TheVariants as kind
 use Rattle.deltas.specs.declared.record.Merge.{Merge}
 use Rattle.deltas.specs.Fits.{FitsMerge}
 use Rattle.deltas.specs.Spellable.{IsSpellable, IsSpellablePage}
-use Rattle.chain_search.specs.chain.Chains.{high_in, level_in, low_in, right_in}
-use Rattle.chain_search.specs.chain.Fitted.{FitsOver, IsFitted, Makes}
-use Rattle.chain_search.proofs.FittedLaws.{fits_over, made_children, made_right, ruled}
+use Rattle.traces.specs.chain.Chains.{high_in, level_in, low_in, right_in}
+use Rattle.traces.specs.chain.Fitted.{FitsOver, IsFitted, Makes}
+use Rattle.traces.proofs.FittedLaws.{fits_over, made_children, made_right, ruled}
 use Rattle.smo.specs.Versions.{Version}
 use Rattle.smo.specs.Merges.{CanMerge, IsMergePlan, merge_of}
 use Rattle.smo.proofs.Places.{not_empty, of_made}

@@ -18,9 +18,9 @@ use Rattle.base_page.specs.Rules.{IsFirstAt, IsRuled, is_held}
 use Rattle.base_page.proofs.KeyLaws.{and_left, itself, not_true, same}
 use Rattle.deltas.specs.declared.record.Record.{Record}
 use Rattle.deltas.specs.Spellable.{IsSpellableLink}
-use Rattle.chain_search.specs.chain.Chains.{level_in, low_in}
-use Rattle.chain_search.specs.chain.Fitted.{IsFitted, Makes}
-use Rattle.chain_search.proofs.FittedLaws.{Makes-base, by_order, content_all, found_first, items_unique}
+use Rattle.traces.specs.chain.Chains.{level_in, low_in}
+use Rattle.traces.specs.chain.Fitted.{IsFitted, Makes}
+use Rattle.traces.proofs.FittedLaws.{Makes-base, by_order, content_all, found_first, items_unique}
 use Rattle.smo.specs.Versions.{Version}
 use Rattle.smo.specs.Sizes.{HasItems}
 

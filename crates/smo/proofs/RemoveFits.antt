@@ -10,9 +10,9 @@ use Rattle.deltas.specs.declared.record.Record.TheVariants as kind
 use Rattle.deltas.specs.declared.record.Remove.{Remove}
 use Rattle.deltas.specs.Fits.{FitsRemove}
 use Rattle.deltas.specs.Spellable.{IsSpellable}
-use Rattle.chain_search.specs.chain.Chains.{low_in}
-use Rattle.chain_search.specs.chain.Fitted.{FitsOver, IsFitted, Makes}
-use Rattle.chain_search.proofs.FittedLaws.{fits_over, ruled}
+use Rattle.traces.specs.chain.Chains.{low_in}
+use Rattle.traces.specs.chain.Fitted.{FitsOver, IsFitted, Makes}
+use Rattle.traces.proofs.FittedLaws.{fits_over, ruled}
 use Rattle.smo.specs.Versions.{Version}
 use Rattle.smo.specs.Removals.{CanRemove, IsRemovePlan, remove_of}
 use Rattle.smo.proofs.Places.{above_empty, above_low, held_inner, index_at, inside, made as made_of, not_empty, of_made}

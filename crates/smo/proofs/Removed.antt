@@ -8,9 +8,9 @@ use Rattle.deltas.specs.declared.record.Record.{Record}
 use Rattle.deltas.specs.declared.record.Record.TheVariants as kind
 use Rattle.deltas.specs.declared.record.Remove.{Remove}
 use Rattle.deltas.specs.Records.{removed_after}
-use Rattle.chain_search.specs.chain.Chains.{is_removed, low_in}
-use Rattle.chain_search.specs.chain.Fitted.{FitsOver, IsFitted, Makes}
-use Rattle.chain_search.proofs.FittedLaws.{items_unique}
+use Rattle.traces.specs.chain.Chains.{is_removed, low_in}
+use Rattle.traces.specs.chain.Fitted.{FitsOver, IsFitted, Makes}
+use Rattle.traces.proofs.FittedLaws.{items_unique}
 
 -- nothing else fits over a removed page
 removal : (newest : Record) (under : List Record) → FitsOver under newest → removed_after newest (is_removed under) ≡ true → (remove : Remove) × (newest ≡ kind.Remove remove)

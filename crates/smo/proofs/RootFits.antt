@@ -13,10 +13,10 @@ use Rattle.base_page.specs.Pages.{Page, IsAscending, IsOfLevel, content_at}
 use Rattle.base_page.proofs.KeyLaws.{below_from, same}
 use Rattle.deltas.specs.declared.record.Record.TheVariants as kind
 use Rattle.deltas.specs.Spellable.{HasPid, IsPid, IsSpellablePage}
-use Rattle.chain_search.specs.chain.Chains.{low_in, level_in}
-use Rattle.chain_search.specs.discipline.Discipline.{root_over}
-use Rattle.chain_search.specs.chain.Fitted.{IsFitted}
-use Rattle.chain_search.proofs.FittedLaws.{items_unique, ruled}
+use Rattle.traces.specs.chain.Chains.{low_in, level_in}
+use Rattle.traces.specs.discipline.Discipline.{root_over}
+use Rattle.traces.specs.chain.Fitted.{IsFitted}
+use Rattle.traces.proofs.FittedLaws.{items_unique, ruled}
 use Rattle.smo.specs.Versions.{Version}
 use Rattle.smo.specs.Roots.{CanRoot, IsRootPlan}
 use Rattle.smo.specs.Neighbours.{IsNextTo}

@@ -15,9 +15,9 @@ use Rattle.deltas.specs.declared.record.Record.TheVariants as kind
 use Rattle.deltas.specs.declared.record.Split.{Split}
 use Rattle.deltas.specs.Fits.{FitsSplit}
 use Rattle.deltas.specs.Spellable.{HasPid, IsPid, IsSpellable, IsSpellablePage}
-use Rattle.chain_search.specs.chain.Chains.{content_in, high_in, is_removed, level_in, right_in}
-use Rattle.chain_search.specs.chain.Fitted.{FitsOver, IsFitted, Makes}
-use Rattle.chain_search.proofs.FittedLaws.{fits_over, made_children, made_right, ruled as rules_of}
+use Rattle.traces.specs.chain.Chains.{content_in, high_in, is_removed, level_in, right_in}
+use Rattle.traces.specs.chain.Fitted.{FitsOver, IsFitted, Makes}
+use Rattle.traces.proofs.FittedLaws.{fits_over, made_children, made_right, ruled as rules_of}
 use Rattle.smo.specs.declared.split.SplitPlan.{SplitPlan}
 use Rattle.smo.specs.Versions.{Version}
 use Rattle.smo.specs.Splits.{IsSplitPlace, IsSplitPlan, IsUnheldAt}

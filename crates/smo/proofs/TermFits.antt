@@ -13,10 +13,10 @@ use Rattle.deltas.specs.declared.record.Record.TheVariants as kind
 use Rattle.deltas.specs.declared.record.Term.{Term}
 use Rattle.deltas.specs.Fits.{FitsTerm}
 use Rattle.deltas.specs.Spellable.{IsSpellable}
-use Rattle.chain_search.specs.chain.Chains.{content_in, covers, is_removed, level_in, low_in}
-use Rattle.chain_search.specs.chain.Fitted.{FitsOver, Makes}
-use Rattle.chain_search.proofs.FittedLaws.{by_order, fits_over}
-use Rattle.chain_search.proofs.Updated.{all_put, greater, itself, put_ascends, put_contents, put_few, with_put}
+use Rattle.traces.specs.chain.Chains.{content_in, covers, is_removed, level_in, low_in}
+use Rattle.traces.specs.chain.Fitted.{FitsOver, Makes}
+use Rattle.traces.proofs.FittedLaws.{by_order, fits_over}
+use Rattle.traces.proofs.Updated.{all_put, greater, itself, put_ascends, put_contents, put_few, with_put}
 use Rattle.smo.specs.Versions.{Version}
 use Rattle.smo.specs.Terms.{IsTermPlan, term_of}
 use Rattle.smo.proofs.Places.{above_low, at_first, from_made, links}

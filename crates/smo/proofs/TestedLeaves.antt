@@ -12,10 +12,10 @@ use Rattle.base_page.proofs.KeyLaws.{itself}
 use Rattle.deltas.specs.declared.record.Record.{Record}
 use Rattle.deltas.specs.declared.record.Record.TheVariants as kind
 use Rattle.deltas.specs.Spellable.{HasPid, IsSpellablePage}
-use Rattle.chain_search.specs.chain.Chains.{covers, high_in, is_removed, level_in, low_in}
-use Rattle.chain_search.specs.chain.Fitted.{FitsOver, IsFitted, IsPageChain}
-use Rattle.chain_search.proofs.FittedLaws.{over, ruled}
-use Rattle.chain_search.proofs.Updated.{delete_fits}
+use Rattle.traces.specs.chain.Chains.{covers, high_in, is_removed, level_in, low_in}
+use Rattle.traces.specs.chain.Fitted.{FitsOver, IsFitted, IsPageChain}
+use Rattle.traces.proofs.FittedLaws.{over, ruled}
+use Rattle.traces.proofs.Updated.{delete_fits}
 use Rattle.smo.proofs.Places.{made}
 
 pub grow : (newest : Record) (chain : List Record) → FitsOver chain newest → IsFitted chain → IsFitted (newest ∷ chain)

@@ -8,9 +8,9 @@ use Rattle.base_page.specs.declared.item.Item.{Item}
 use Rattle.base_page.specs.Pages.{IsOfLevel}
 use Rattle.base_page.specs.Rules.{held_count, is_held}
 use Rattle.deltas.specs.declared.record.Record.{Record}
-use Rattle.chain_search.specs.chain.Chains.{level_in}
-use Rattle.chain_search.specs.chain.Fitted.{IsFitted}
-use Rattle.chain_search.proofs.FittedLaws.{ruled}
+use Rattle.traces.specs.chain.Chains.{level_in}
+use Rattle.traces.specs.chain.Fitted.{IsFitted}
+use Rattle.traces.proofs.FittedLaws.{ruled}
 use Rattle.smo.specs.Sizes.{HasNoneHeld}
 use Rattle.smo.proofs.Places.{from_made, made}
 

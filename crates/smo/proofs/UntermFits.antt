@@ -16,10 +16,10 @@ use Rattle.deltas.specs.declared.record.Record.TheVariants as kind
 use Rattle.deltas.specs.declared.record.Unterm.{Unterm}
 use Rattle.deltas.specs.Fits.{FitsUnterm}
 use Rattle.deltas.specs.Spellable.{IsSpellable}
-use Rattle.chain_search.specs.chain.Chains.{is_removed, low_in}
-use Rattle.chain_search.specs.chain.Fitted.{FitsOver, IsFitted, Makes}
-use Rattle.chain_search.proofs.FittedLaws.{ascends_after, by_order, fits_over, lacks_first, ruled}
-use Rattle.chain_search.proofs.Updated.{all_without, chosen, greater, itself, without, without_ascends, without_contents, without_few}
+use Rattle.traces.specs.chain.Chains.{is_removed, low_in}
+use Rattle.traces.specs.chain.Fitted.{FitsOver, IsFitted, Makes}
+use Rattle.traces.proofs.FittedLaws.{ascends_after, by_order, fits_over, lacks_first, ruled}
+use Rattle.traces.proofs.Updated.{all_without, chosen, greater, itself, without, without_ascends, without_contents, without_few}
 use Rattle.smo.specs.Versions.{Version}
 use Rattle.smo.specs.Unterms.{CanUnterm, IsUntermPlan, unterm_of}
 use Rattle.smo.proofs.Places.{above_low, held_inner, index_at, inside, links, made as made_of}

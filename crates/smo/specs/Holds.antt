@@ -6,8 +6,8 @@ use Rattle.base_page.specs.declared.item.Item.{Item}
 use Rattle.base_page.specs.Rules.{held_count, is_held}
 use Rattle.deltas.specs.declared.record.Hold.{Hold}
 use Rattle.deltas.specs.declared.record.Record.TheVariants as kind
-use Rattle.chain_search.specs.chain.Chains.{content_in, is_removed, level_in, low_in}
-use Rattle.chain_search.specs.discipline.Discipline.{FitsOn}
+use Rattle.traces.specs.chain.Chains.{content_in, is_removed, level_in, low_in}
+use Rattle.traces.specs.discipline.Discipline.{FitsOn}
 use Rattle.smo.specs.Versions.{Version}
 use Rattle.smo.specs.Sizes.{HasFewDeltas, HasItems}
 

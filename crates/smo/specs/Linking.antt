@@ -4,8 +4,8 @@ use Rattle.std.specs.List.{AllByRecursion}
 use Rattle.base_page.specs.declared.item.Content.{Content}
 use Rattle.deltas.specs.declared.record.Record.{Record}
 use Rattle.deltas.specs.Memory.{Memory, replaced_at}
-use Rattle.chain_search.specs.chain.Chains.{IsChainFrom, IsOnChain, content_in, covers, level_in}
-use Rattle.chain_search.specs.chain.SideChain.{LivePage, IsLeaves, IsWhole, Spells}
+use Rattle.traces.specs.chain.Chains.{IsChainFrom, IsOnChain, content_in, covers, level_in}
+use Rattle.traces.specs.chain.SideChain.{LivePage, IsLeaves, IsWhole, Spells}
 use Rattle.smo.specs.Versions.{Version}
 
 -- the memory with a record in a row, and that row in a page's slot

@@ -3,8 +3,8 @@ use Rattle.std.specs.Prelude.{◌≡◌, ◌≤◌, List, length, true, false}
 use Rattle.base_page.specs.declared.item.Item.{Item}
 use Rattle.deltas.specs.declared.record.Merge.{Merge}
 use Rattle.deltas.specs.declared.record.Record.TheVariants as kind
-use Rattle.chain_search.specs.chain.Chains.{IsItemsOf, high_in, is_removed, level_in, low_in, right_in}
-use Rattle.chain_search.specs.discipline.Discipline.{FitsOn}
+use Rattle.traces.specs.chain.Chains.{IsItemsOf, high_in, is_removed, level_in, low_in, right_in}
+use Rattle.traces.specs.discipline.Discipline.{FitsOn}
 use Rattle.smo.specs.Versions.{Version}
 use Rattle.smo.specs.Neighbours.{IsNextTo}
 use Rattle.smo.specs.Sizes.{HasFewDeltas, HasFewItems, HasItems, HasNoneHeld}

@@ -1,6 +1,6 @@
 -- Neighbours on a level, as they were read.
 use Rattle.std.specs.Prelude.{◌≡◌, Some}
-use Rattle.chain_search.specs.chain.Chains.{high_in, low_in, right_in}
+use Rattle.traces.specs.chain.Chains.{high_in, low_in, right_in}
 use Rattle.smo.specs.Versions.{Version}
 
 -- The page's right is the other one, which begins at the page's high key.

@@ -1,7 +1,7 @@
 -- Versions that an actor has read.
 use Rattle.std.specs.Prelude.{◌≡◌, Some}
-use Rattle.chain_search.specs.chain.Chains.{IsChainFrom}
-use Rattle.chain_search.specs.discipline.Knowledge.{Knowledge}
+use Rattle.traces.specs.chain.Chains.{IsChainFrom}
+use Rattle.traces.specs.discipline.Knowledge.{Knowledge}
 use Rattle.smo.specs.Versions.{Version}
 
 -- The page's slot was last read with this row, and the chain from it.

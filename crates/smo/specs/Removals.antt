@@ -3,8 +3,8 @@ use Rattle.std.specs.Prelude.{◌≡◌, ◌≤◌, length, Some, true, false}
 use Rattle.base_page.specs.declared.item.Content.TheVariants.{Child}
 use Rattle.deltas.specs.declared.record.Record.TheVariants as kind
 use Rattle.deltas.specs.declared.record.Remove.{Remove}
-use Rattle.chain_search.specs.chain.Chains.{content_in, is_removed, level_in, low_in}
-use Rattle.chain_search.specs.discipline.Discipline.{FitsOn}
+use Rattle.traces.specs.chain.Chains.{content_in, is_removed, level_in, low_in}
+use Rattle.traces.specs.discipline.Discipline.{FitsOn}
 use Rattle.smo.specs.Versions.{Version}
 use Rattle.smo.specs.Sizes.{HasFewDeltas, HasItems, HasNoneHeld}
 

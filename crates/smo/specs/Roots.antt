@@ -2,8 +2,8 @@
 use Rattle.std.specs.Prelude.{◌≡◌, ◌<◌, suc, [], false}
 use Rattle.base_page.specs.Pages.{Page}
 use Rattle.deltas.specs.declared.record.Record.TheVariants as kind
-use Rattle.chain_search.specs.chain.Chains.{is_removed, level_in, low_in}
-use Rattle.chain_search.specs.discipline.Discipline.{FitsOn, root_over}
+use Rattle.traces.specs.chain.Chains.{is_removed, level_in, low_in}
+use Rattle.traces.specs.discipline.Discipline.{FitsOn, root_over}
 use Rattle.smo.specs.Versions.{Version}
 use Rattle.smo.specs.Neighbours.{IsNextTo}
 

@@ -3,7 +3,7 @@ use Rattle.std.specs.Prelude.{◌≡◌, ◌≤◌, ◌<◌, List, length}
 use Rattle.base_page.specs.declared.item.Item.{Item}
 use Rattle.base_page.specs.Rules.{held_count}
 use Rattle.deltas.specs.declared.record.Record.{Record}
-use Rattle.chain_search.specs.chain.Chains.{IsItemsOf}
+use Rattle.traces.specs.chain.Chains.{IsItemsOf}
 
 -- fewer than 8 deltas over the base
 abbrev pub HasFewDeltas : List Record → Type 0

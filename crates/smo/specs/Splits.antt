@@ -8,9 +8,9 @@ use Rattle.base_page.specs.Rules.{is_held}
 use Rattle.deltas.specs.declared.record.Record.TheVariants as kind
 use Rattle.deltas.specs.declared.record.Split.{Split}
 use Rattle.deltas.specs.Spellable.{IsPid}
-use Rattle.chain_search.specs.chain.Chains.{IsItemsOf, content_in, high_in, is_removed, low_in}
-use Rattle.chain_search.specs.discipline.Discipline.{FitsOn, base_from}
-use Rattle.chain_search.specs.chain.Fitted.{IsFitted}
+use Rattle.traces.specs.chain.Chains.{IsItemsOf, content_in, high_in, is_removed, low_in}
+use Rattle.traces.specs.discipline.Discipline.{FitsOn, base_from}
+use Rattle.traces.specs.chain.Fitted.{IsFitted}
 use Rattle.smo.specs.declared.split.SplitPlan.{SplitPlan}
 use Rattle.smo.specs.Versions.{Version}
 use Rattle.smo.specs.Sizes.{HasFewDeltas, HasManyItems}

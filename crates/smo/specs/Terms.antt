@@ -2,8 +2,8 @@
 use Rattle.std.specs.Prelude.{◌≡◌, suc, None, false, IsTrue}
 use Rattle.deltas.specs.declared.record.Record.TheVariants as kind
 use Rattle.deltas.specs.declared.record.Term.{Term}
-use Rattle.chain_search.specs.chain.Chains.{content_in, covers, is_removed, level_in, low_in}
-use Rattle.chain_search.specs.discipline.Discipline.{FitsOn}
+use Rattle.traces.specs.chain.Chains.{content_in, covers, is_removed, level_in, low_in}
+use Rattle.traces.specs.discipline.Discipline.{FitsOn}
 use Rattle.smo.specs.Versions.{Version}
 use Rattle.smo.specs.Sizes.{HasFewDeltas, HasFewItems}
 

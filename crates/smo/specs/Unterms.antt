@@ -4,8 +4,8 @@ use Rattle.bw_model.specs.Bytes.{is_below}
 use Rattle.base_page.specs.declared.item.Content.TheVariants.{Child}
 use Rattle.deltas.specs.declared.record.Record.TheVariants as kind
 use Rattle.deltas.specs.declared.record.Unterm.{Unterm}
-use Rattle.chain_search.specs.chain.Chains.{content_in, high_in, is_removed, level_in, low_in}
-use Rattle.chain_search.specs.discipline.Discipline.{FitsOn}
+use Rattle.traces.specs.chain.Chains.{content_in, high_in, is_removed, level_in, low_in}
+use Rattle.traces.specs.discipline.Discipline.{FitsOn}
 use Rattle.smo.specs.Versions.{Version}
 use Rattle.smo.specs.Neighbours.{IsNextTo}
 use Rattle.smo.specs.Sizes.{HasFewDeltas}

@@ -3,7 +3,7 @@ ghost use Rattle.std.specs.Prelude.{◌≡◌, Some};
 ghost use Rattle.std.specs.Bool.{Decides};
 ghost use Rattle.base_page.specs.declared.item.Content.TheVariants.{Child};
 ghost use Rattle.base_page.specs.Rules.{held_count, is_held};
-ghost use Rattle.chain_search.specs.chain.Chains.{content_in, low_in};
+ghost use Rattle.traces.specs.chain.Chains.{content_in, low_in};
 ghost use Rattle.smo.specs.Sizes.{HasNoneHeld};
 
 use crate::PageInHand;

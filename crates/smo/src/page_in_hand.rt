@@ -1,7 +1,7 @@
 //! A page as it was read, in a place that stays.
 ghost use Rattle.std.specs.Prelude.{◌≡◌, ◌∷◌, [], IfOk};
 ghost use Rattle.base_page.specs.Pages.{empty_leaf};
-ghost use Rattle.chain_search.specs.chain.Fitted.{IsPageChain};
+ghost use Rattle.traces.specs.chain.Fitted.{IsPageChain};
 ghost use Rattle.deltas.specs.Spellable.{IsPid, IsRow};
 ghost use Rattle.deltas.specs.declared.record.Record.TheVariants.{Base};
 

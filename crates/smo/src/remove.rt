@@ -1,6 +1,6 @@
 //! The removal of a page whose term is held.
 ghost use Rattle.std.specs.Prelude.{MatchOption};
-ghost use Rattle.chain_search.specs.chain.Chains.{is_removed};
+ghost use Rattle.traces.specs.chain.Chains.{is_removed};
 ghost use Rattle.smo.specs.Removals.{CanRemove, IsRemovePlan};
 
 use crate::PageInHand;

@@ -2,7 +2,7 @@
 ghost use Rattle.std.specs.Prelude.{MatchOption, IfSome, IsFalse};
 ghost use Rattle.std.specs.Bool.{Decides};
 ghost use Rattle.bw_model.specs.Bytes.{is_below};
-ghost use Rattle.chain_search.specs.chain.Chains.{high_in};
+ghost use Rattle.traces.specs.chain.Chains.{high_in};
 ghost use Rattle.smo.specs.Unterms.{CanUnterm, IsUntermPlan};
 
 use crate::PageInHand;

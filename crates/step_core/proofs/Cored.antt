@@ -12,21 +12,21 @@ use Rattle.bw_model.specs.declared.step.Answer.{Answer}
 use Rattle.bw_model.specs.declared.step.Step.{Step as StepOf}
 use Rattle.bw_model.specs.declared.step.Step.TheVariants.{Leave}
 use Rattle.deltas.specs.declared.record.Record.{Record}
-use Rattle.chain_search.specs.declared.trace.Entry.{Entry}
-use Rattle.chain_search.specs.declared.trace.Entry.TheVariants.{Begin, Step}
-use Rattle.chain_search.specs.declared.trace.Turn.TheVariants as turn
+use Rattle.traces.specs.declared.trace.Entry.{Entry}
+use Rattle.traces.specs.declared.trace.Entry.TheVariants.{Begin, Step}
+use Rattle.traces.specs.declared.trace.Turn.TheVariants as turn
 use Rattle.deltas.specs.Memory.{opening}
-use Rattle.chain_search.specs.trace.Steps.{IsAnswer, memory_after}
+use Rattle.traces.specs.trace.Steps.{IsAnswer, memory_after}
 use Rattle.core_memory.specs.Tables.{Table, memory_in}
-use Rattle.chain_search.specs.trace.Trace.{command_of, commands_after, memory_of}
-use Rattle.chain_search.specs.discipline.Discipline.{IsAllowed, May}
-use Rattle.chain_search.specs.discipline.Disciplined.{IsDisciplinedFrom, MayStand}
-use Rattle.chain_search.specs.discipline.Knowledge.{Knowledge, begun, finished, knows, knows_after, learn, nothing}
+use Rattle.traces.specs.trace.Trace.{command_of, commands_after, memory_of}
+use Rattle.traces.specs.discipline.Discipline.{IsAllowed, May}
+use Rattle.traces.specs.discipline.Disciplined.{IsDisciplinedFrom, MayStand}
+use Rattle.traces.specs.discipline.Knowledge.{Knowledge, begun, finished, knows, knows_after, learn, nothing}
 use Rattle.tree_law.specs.Direct.{IsDirectState, StaysDirect}
 use Rattle.tree_law.specs.Own.{RowsAreApart}
 use Rattle.tree_law.specs.State.{IsState}
 use Rattle.tree_law.specs.TraceLaws.{AnswersFit, BeginsKeep, Grows, Steps}
-use Rattle.chain_search.specs.discipline.Recalled.{Recalled, blank, recall, recalls, recalls_after}
+use Rattle.traces.specs.discipline.Recalled.{Recalled, blank, recall, recalls, recalls_after}
 use Rattle.op_machine.specs.machine.Actors.{Actor, IsActor, IsActorShown, command_left, idle_actor, knows_then, running_command, wanted_by}
 use Rattle.op_machine.specs.machine.UnderWay.{steps_due}
 use Rattle.step_core.specs.Actors.{IsReady, IsServedAt, IsWithinAt, wanted_in}

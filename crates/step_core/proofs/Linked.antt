@@ -11,12 +11,12 @@ use Rattle.bw_model.specs.declared.step.Step.{Step as StepOf}
 use Rattle.bw_model.specs.declared.step.Step.TheVariants.{Exchange}
 use Rattle.deltas.specs.declared.record.Record.{Record}
 use Rattle.deltas.specs.Links.{record_link}
-use Rattle.chain_search.specs.declared.trace.Entry.{Entry}
-use Rattle.chain_search.specs.declared.trace.Entry.TheVariants as entry
-use Rattle.chain_search.specs.trace.Trace.{memory_of}
+use Rattle.traces.specs.declared.trace.Entry.{Entry}
+use Rattle.traces.specs.declared.trace.Entry.TheVariants as entry
+use Rattle.traces.specs.trace.Trace.{memory_of}
 use Rattle.step_core.specs.declared.event.Event.{Event}
 use Rattle.op_machine.specs.theorem.Links.{link_without}
-use Rattle.chain_search.specs.trace.Steps.{IsAnswer, memory_after}
+use Rattle.traces.specs.trace.Steps.{IsAnswer, memory_after}
 use Rattle.deltas.specs.Memory.{Memory}
 use Rattle.step_core.specs.declared.event.Event.TheVariants.{Stepped}
 use Rattle.step_core.proofs.Lawful.{Asks, HasHeads, is_placed}

@@ -3,9 +3,9 @@ use Rattle.std.proofs.Common.{◌≡◌, ◌+◌, ℕ, zero, suc, List, [], ◌�
 use Rattle.std.specs.Prelude.{slice_get}
 use Rattle.std.proofs.lemmas.List.{append-nil, map-append}
 use Rattle.bw_model.specs.declared.limits.Limits.{Limits}
-use Rattle.chain_search.specs.declared.trace.Turn.{Turn}
-use Rattle.chain_search.specs.discipline.Disciplined.{IsDisciplined}
-use Rattle.chain_search.specs.trace.Trace.{turn_of}
+use Rattle.traces.specs.declared.trace.Turn.{Turn}
+use Rattle.traces.specs.discipline.Disciplined.{IsDisciplined}
+use Rattle.traces.specs.trace.Trace.{turn_of}
 use Rattle.op_machine.specs.theorem.Linearized.{IsLinearized, IsOrderly}
 use Rattle.step_core.specs.declared.event.RunError.{RunError}
 use Rattle.step_core.specs.declared.event.Event.{Event}

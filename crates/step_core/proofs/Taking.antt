@@ -15,13 +15,13 @@ use Rattle.bw_model.specs.declared.step.Step.TheVariants.{Place}
 use Rattle.bw_model.specs.Replies.{command_key, reply_of}
 use Rattle.deltas.specs.declared.record.Record.{Record}
 use Rattle.deltas.specs.Memory.{Memory}
-use Rattle.chain_search.specs.discipline.Discipline.{MayReply, found}
-use Rattle.chain_search.specs.trace.Within.{IsWithin}
+use Rattle.traces.specs.discipline.Discipline.{MayReply, found}
+use Rattle.traces.specs.trace.Within.{IsWithin}
 use Rattle.core_memory.specs.Replies.{ShowsPairs}
 use Rattle.core_memory.specs.Shared.{PlacesSpellable}
-use Rattle.chain_search.specs.discipline.Knowledge.{Knowledge}
-use Rattle.chain_search.specs.discipline.Recalled.{Recalled}
-use Rattle.chain_search.specs.trace.Steps.{IsAnswer}
+use Rattle.traces.specs.discipline.Knowledge.{Knowledge}
+use Rattle.traces.specs.discipline.Recalled.{Recalled}
+use Rattle.traces.specs.trace.Steps.{IsAnswer}
 use Rattle.installs.specs.Spares.{Spares}
 use Rattle.op_machine.specs.machine.Hands.{Hand}
 use Rattle.op_machine.specs.machine.Shows.{ShowsState}

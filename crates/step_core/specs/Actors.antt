@@ -7,10 +7,10 @@ use Rattle.bw_model.specs.declared.step.Step.{Step as StepOf}
 use Rattle.deltas.specs.declared.record.Record.{Record}
 use Rattle.deltas.specs.Memory.{Memory}
 use Rattle.op_machine.specs.machine.Actors.{Actor, IsActor, running_command, wanted_by}
-use Rattle.chain_search.specs.discipline.Fitting.{Fits}
-use Rattle.chain_search.specs.discipline.Knowledge.{Knowledge}
-use Rattle.chain_search.specs.discipline.Recalled.{Recalled}
-use Rattle.chain_search.specs.trace.Steps.{IsAnswer}
+use Rattle.traces.specs.discipline.Fitting.{Fits}
+use Rattle.traces.specs.discipline.Knowledge.{Knowledge}
+use Rattle.traces.specs.discipline.Recalled.{Recalled}
+use Rattle.traces.specs.trace.Steps.{IsAnswer}
 use Rattle.core_memory.specs.Tables.{IsWithinTable, Table}
 use Rattle.step_core.specs.Turns.{EndsPage}
 

@@ -1,12 +1,12 @@
 -- What a core keeps.
 use Rattle.std.specs.Prelude.{◌≡◌, ℕ, List, length, Some, slice_get}
 use Rattle.bw_model.specs.declared.limits.Limits.{Limits}
-use Rattle.chain_search.specs.declared.trace.Entry.{Entry}
-use Rattle.chain_search.specs.discipline.Disciplined.{IsDisciplined}
-use Rattle.chain_search.specs.discipline.Knowledge.{knows}
-use Rattle.chain_search.specs.discipline.Recalled.{recalls}
+use Rattle.traces.specs.declared.trace.Entry.{Entry}
+use Rattle.traces.specs.discipline.Disciplined.{IsDisciplined}
+use Rattle.traces.specs.discipline.Knowledge.{knows}
+use Rattle.traces.specs.discipline.Recalled.{recalls}
 use Rattle.core_memory.specs.Tables.{Table, memory_in}
-use Rattle.chain_search.specs.trace.Trace.{command_of, memory_of}
+use Rattle.traces.specs.trace.Trace.{command_of, memory_of}
 use Rattle.tree_law.specs.Direct.{Accounts, IsDirectState}
 use Rattle.tree_law.specs.State.{IsState}
 use Rattle.op_machine.specs.machine.Actors.{Actor, IsActor, running_command}

@@ -10,13 +10,13 @@ use Rattle.bw_model.specs.declared.step.Link.{Link}
 use Rattle.bw_model.specs.declared.step.Step.{Step as StepOf}
 use Rattle.bw_model.specs.declared.step.Step.TheVariants.{Exchange, Leave}
 use Rattle.deltas.specs.declared.record.Record.{Record}
-use Rattle.chain_search.specs.declared.trace.Entry.{Entry}
-use Rattle.chain_search.specs.declared.trace.Entry.TheVariants as entry
-use Rattle.chain_search.specs.declared.trace.Turn.{Turn}
-use Rattle.chain_search.specs.declared.trace.Turn.TheVariants.{Begin, Step}
-use Rattle.chain_search.specs.discipline.Disciplined.{IsDisciplined}
-use Rattle.chain_search.specs.trace.Steps.{IsAnswer, MovesRecord}
-use Rattle.chain_search.specs.trace.Trace.{command_of, memory_of, turn_of}
+use Rattle.traces.specs.declared.trace.Entry.{Entry}
+use Rattle.traces.specs.declared.trace.Entry.TheVariants as entry
+use Rattle.traces.specs.declared.trace.Turn.{Turn}
+use Rattle.traces.specs.declared.trace.Turn.TheVariants.{Begin, Step}
+use Rattle.traces.specs.discipline.Disciplined.{IsDisciplined}
+use Rattle.traces.specs.trace.Steps.{IsAnswer, MovesRecord}
+use Rattle.traces.specs.trace.Trace.{command_of, memory_of, turn_of}
 use Rattle.deltas.specs.Memory.{Memory}
 use Rattle.op_machine.specs.theorem.Linearized.{IsLinearized, IsOrderly}
 use Rattle.op_machine.specs.theorem.Links.{link_of}

@@ -2,9 +2,9 @@
 ghost use Rattle.std.specs.Prelude.{◌≡◌, ◌≢◌, ℕ, IfOk, IsSome, None, OnErr, Some, is_some, true};
 ghost use Rattle.op_machine.specs.machine.Actors.{ActsOn, IsGoing, IsActorShown, IsToldActor, running_command, wanted_by};
 ghost use Rattle.bw_model.specs.declared.limits.Limits.{Limits};
-ghost use Rattle.chain_search.specs.discipline.Knowledge.{Knowledge};
-ghost use Rattle.chain_search.specs.discipline.Recalled.{Recalled};
-ghost use Rattle.chain_search.specs.trace.Steps.{IsAnswer, memory_after};
+ghost use Rattle.traces.specs.discipline.Knowledge.{Knowledge};
+ghost use Rattle.traces.specs.discipline.Recalled.{Recalled};
+ghost use Rattle.traces.specs.trace.Steps.{IsAnswer, memory_after};
 ghost use Rattle.core_memory.specs.Tables.{memory_in};
 ghost use Rattle.step_core.specs.Actors.{IsReady, IsWithinAt, NeedsRoom};
 ghost use Rattle.step_core.specs.Turns.{KeepsMore, link_told};

@@ -1,7 +1,7 @@
 //! The core: all actors over one memory, one turn at a time.
 ghost use Rattle.std.specs.Prelude.{◌≡◌, ◌<◌, ◌≤◌, ◌&&◌, ◌⊎◌, [], length, map, nat_lt, is_some, IfOk, IfErr, IfSome, OnErr, Some, None};
-ghost use Rattle.chain_search.specs.discipline.Disciplined.{IsDisciplined};
-ghost use Rattle.chain_search.specs.trace.Trace.{command_of, turn_of};
+ghost use Rattle.traces.specs.discipline.Disciplined.{IsDisciplined};
+ghost use Rattle.traces.specs.trace.Trace.{command_of, turn_of};
 ghost use Rattle.listing.specs.Listed.{IsListing};
 ghost use Rattle.op_machine.specs.theorem.Linearized.{IsLinearized, IsOrderly};
 ghost use Rattle.step_core.specs.Turns.{AddsTurn, AddsTurns, BeginsOrLeaves, LeavesAt, StopsAt, WantsMemory, busy_of, refusal_of};
@@ -12,13 +12,13 @@ use crate::actor::{Stepped, go_on, leave, prepare, room};
 use crate::event::{Event, RunError, Trace};
 use crate::law::{begins_keep_laws, states_are_lawful, steps_keep_laws};
 use bw_model::{Command, Key, Limits, Link, OpenError, Value};
-use chain_search::Turn;
 use core_memory::{Entries, Table};
 use listing::{add_pairs, pages_are_listed};
 use op_machine::{Actor, idle_actors_rest};
 use row_chain::HeldRow;
 use std::alloc::{AllocError, Allocator, Global};
 use std::marker::Model;
+use traces::Turn;
 use tree_law::{entries_grow, leaves_stand, opens, opens_directly};
 
 /// All actors over one memory, which an allocator gives, and room for the record that is read.

@@ -1,14 +1,14 @@
 //! A run of turns from the opening state.
 ghost use Rattle.std.specs.Prelude.{◌≡◌, map, IfOk, IfErr};
-ghost use Rattle.chain_search.specs.trace.Trace.{turn_of};
+ghost use Rattle.traces.specs.trace.Trace.{turn_of};
 ghost use Rattle.op_machine.specs.theorem.Linearized.{IsLinearized, IsOrderly};
 ghost use Rattle.step_core.specs.Turns.{Stops};
 
 use crate::event::{RunError, Trace};
 use crate::machine::Core;
 use bw_model::Limits;
-use chain_search::Turn;
 use std::alloc::Allocator;
+use traces::Turn;
 
 /// Opens a core and takes all turns. A refused run answers no trace; where no core was opened, it is refused for want of
 /// memory at turn 0.

@@ -7,9 +7,9 @@ use Rattle.std.proofs.lemmas.List.Sums.{AllPass-from_list_all}
 use Rattle.std.proofs.Math.Seq.{get_or-append_seam}
 use Rattle.bw_model.specs.declared.limits.Limits.{Limits}
 use Rattle.deltas.specs.Memory.{replaced_at}
-use Rattle.chain_search.specs.discipline.Discipline.{IsPassed}
-use Rattle.chain_search.specs.discipline.Knowledge as known
-use Rattle.chain_search.specs.discipline.Knowledge.{passed_by, stamped}
+use Rattle.traces.specs.discipline.Discipline.{IsPassed}
+use Rattle.traces.specs.discipline.Knowledge as known
+use Rattle.traces.specs.discipline.Knowledge.{passed_by, stamped}
 use Rattle.epochs.specs.declared.entry.Stage.{Stage}
 use Rattle.epochs.specs.declared.entry.Stage.TheVariants.{Unstamped, Stamped, Passed}
 use Rattle.epochs.specs.Limbo.{compared_with, stamped_by}

@@ -8,10 +8,10 @@ use Rattle.bw_model.specs.declared.step.Answer.{Answer}
 use Rattle.bw_model.specs.declared.step.Answer.TheVariants as answer
 use Rattle.bw_model.specs.declared.step.Step.TheVariants as step
 use Rattle.deltas.specs.declared.record.Record.{Record}
-use Rattle.chain_search.specs.discipline.Discipline.{IsPassed}
-use Rattle.chain_search.specs.discipline.Fitting.{Fits}
-use Rattle.chain_search.specs.discipline.Knowledge as known
-use Rattle.chain_search.specs.discipline.Knowledge.{Knowledge, Limbos, freed, learn}
+use Rattle.traces.specs.discipline.Discipline.{IsPassed}
+use Rattle.traces.specs.discipline.Fitting.{Fits}
+use Rattle.traces.specs.discipline.Knowledge as known
+use Rattle.traces.specs.discipline.Knowledge.{Knowledge, Limbos, freed, learn}
 use Rattle.bw_model.specs.Words.{is_among}
 use Rattle.epochs.specs.declared.entry.Entry.{Entry}
 use Rattle.epochs.specs.declared.entry.Stage.{Stage}

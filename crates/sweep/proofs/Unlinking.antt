@@ -10,10 +10,10 @@ use Rattle.bw_model.specs.declared.limits.Limits.{Limits}
 use Rattle.deltas.specs.Memory.{replaced_at}
 use Rattle.deltas.specs.Records.{next_row}
 use Rattle.deltas.specs.declared.record.Record.{Record}
-use Rattle.chain_search.specs.chain.Chains.{IsChainFrom, chain_rows}
-use Rattle.chain_search.specs.discipline.Fitting.{AreOutOfLimbo}
-use Rattle.chain_search.specs.discipline.Knowledge as known
-use Rattle.chain_search.specs.discipline.Knowledge.{Knowledge, Limbos, is_on_walk, next_seen, taken_out}
+use Rattle.traces.specs.chain.Chains.{IsChainFrom, chain_rows}
+use Rattle.traces.specs.discipline.Fitting.{AreOutOfLimbo}
+use Rattle.traces.specs.discipline.Knowledge as known
+use Rattle.traces.specs.discipline.Knowledge.{Knowledge, Limbos, is_on_walk, next_seen, taken_out}
 use Rattle.epochs.specs.declared.entry.Entry.{Entry}
 use Rattle.epochs.specs.declared.entry.Stage.{Stage}
 use Rattle.epochs.specs.declared.entry.Stage.TheVariants.{Unstamped, Stamped, Passed}

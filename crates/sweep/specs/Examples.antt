@@ -2,8 +2,8 @@
 use Rattle.std.specs.Prelude.{ℕ, Bool, true, false, [], ◌∷◌, Some}
 use Rattle.bw_model.specs.declared.limits.Limits.{Limits}
 use Rattle.deltas.specs.Memory.{replaced_at}
-use Rattle.chain_search.specs.discipline.Knowledge as known
-use Rattle.chain_search.specs.discipline.Knowledge.{Limbos, LimboMark}
+use Rattle.traces.specs.discipline.Knowledge as known
+use Rattle.traces.specs.discipline.Knowledge.{Limbos, LimboMark}
 use Rattle.epochs.specs.declared.entry.Stage.TheVariants.{Unstamped, Stamped, Passed}
 use Rattle.epochs.specs.Limbo.{Limbo}
 

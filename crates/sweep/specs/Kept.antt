@@ -1,8 +1,8 @@
 -- How an actor's limbo agrees with what the actor knows of what it took out of the tree.
 use Rattle.std.specs.Prelude.{◌≡◌, ◌≢◌, ◌<◌, ◌≤◌, ℕ, [], Bool, Option, None, Some, IsTrue, ⊤}
 use Rattle.bw_model.specs.declared.limits.Limits.{Limits}
-use Rattle.chain_search.specs.discipline.Knowledge as known
-use Rattle.chain_search.specs.discipline.Knowledge.{Limbos}
+use Rattle.traces.specs.discipline.Knowledge as known
+use Rattle.traces.specs.discipline.Knowledge.{Limbos}
 use Rattle.epochs.specs.declared.entry.Stage.{Stage}
 use Rattle.epochs.specs.declared.entry.Stage.TheVariants.{Unstamped, Stamped, Passed}
 use Rattle.epochs.specs.Limbo.{Limbo, stage_of}

@@ -2,7 +2,7 @@
 use Rattle.std.specs.Prelude.{◌≢◌, ◌++◌, ℕ, List, map, Option, None, Some, IfSome}
 use Rattle.std.specs.List.{All, AllPairs}
 use Rattle.bw_model.specs.declared.limits.Limits.{Limits}
-use Rattle.chain_search.specs.discipline.Knowledge.{Limbos}
+use Rattle.traces.specs.discipline.Knowledge.{Limbos}
 use Rattle.epochs.specs.declared.entry.Entry.{Entry}
 use Rattle.epochs.specs.declared.entry.Stage.TheVariants.{Unstamped}
 use Rattle.epochs.specs.Limbo.{IsNew, Limbo, LimboList, added}

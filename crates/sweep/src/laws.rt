@@ -4,16 +4,16 @@ ghost use Rattle.std.specs.List.{Contains};
 ghost use Rattle.bw_model.specs.declared.limits.Limits.{Limits};
 ghost use Rattle.bw_model.specs.declared.step.Answer.TheVariants.{Number};
 ghost use Rattle.bw_model.specs.declared.step.Step.TheVariants.{Epoch};
-ghost use Rattle.chain_search.specs.chain.Chains.{IsChainFrom, chain_rows};
-ghost use Rattle.chain_search.specs.discipline.Fitting.{AreOutOfLimbo, Fits};
-ghost use Rattle.chain_search.specs.discipline.Knowledge.{Absent, Unstamped, Knowledge, is_on_walk, learn, nothing, taken_out};
+ghost use Rattle.traces.specs.chain.Chains.{IsChainFrom, chain_rows};
+ghost use Rattle.traces.specs.discipline.Fitting.{AreOutOfLimbo, Fits};
+ghost use Rattle.traces.specs.discipline.Knowledge.{Absent, Unstamped, Knowledge, is_on_walk, learn, nothing, taken_out};
 ghost use Rattle.deltas.specs.Memory.{replaced_at};
 ghost use Rattle.deltas.specs.declared.record.Record.{Record};
 ghost use Rattle.epochs.specs.Limbo.{Limbo};
 ghost use Rattle.sweep.specs.Kept.{AreKept, empty_limbo};
 ghost use Rattle.sweep.specs.Taken.{IsTakenOut};
 
-use chain_search::chain_is_one;
+use traces::chain_is_one;
 
 /// A new limbo agrees with nothing being known, and a limbo agrees still where the epoch is read outside of a sweep.
 pub fn limbos_are_kept()

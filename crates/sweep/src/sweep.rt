@@ -1,12 +1,12 @@
 //! The sweep of an actor's limbo, one step at a time.
 ghost use Rattle.std.specs.Prelude.{◌≡◌, ◌<◌, ◌≤◌, ◌+◌, ◌↔◌, IsNone, IsTrue, None, Some, MatchOption, IfSome};
 ghost use Rattle.bw_model.specs.Answers.{answer_of};
-ghost use Rattle.chain_search.specs.discipline.Discipline.{May, MayFree};
-ghost use Rattle.chain_search.specs.discipline.Fitting.{Fits};
-ghost use Rattle.chain_search.specs.discipline.Knowledge.{Knowledge, learn};
-ghost use Rattle.chain_search.specs.discipline.Useful.{IsUseful};
+ghost use Rattle.traces.specs.discipline.Discipline.{May, MayFree};
+ghost use Rattle.traces.specs.discipline.Fitting.{Fits};
+ghost use Rattle.traces.specs.discipline.Knowledge.{Knowledge, learn};
+ghost use Rattle.traces.specs.discipline.Useful.{IsUseful};
 ghost use Rattle.epochs.specs.Limbo.{Limbo as LimboSeen};
-ghost use Rattle.chain_search.specs.trace.Within.{IsWithin};
+ghost use Rattle.traces.specs.trace.Within.{IsWithin};
 ghost use Rattle.sweep.specs.Bounded.{Spends, steps_left};
 ghost use Rattle.sweep.specs.Kept.{IsLimboOf};
 ghost use Rattle.sweep.specs.Moves.{BeginsSweep, Compares, Frees, IsEmpty, Moves, Stamps, state_if};

@@ -45,30 +45,30 @@ pub use Rattle.deltas.specs.declared.record.Record.TheVariants.{Remove, Base, Ho
 pub use Rattle.deltas.specs.declared.record.Remove.{Remove as RemoveOf}
 pub use Rattle.deltas.specs.declared.record.Split.{Split as SplitOf}
 pub use Rattle.deltas.specs.declared.record.Unterm.{Unterm as UntermOf}
-pub use Rattle.chain_search.proofs.ChainLaws.{IsChainFrom-unique, IsChainOf-unique}
-pub use Rattle.chain_search.proofs.Pushes.{slice_get_below, slice_get_kept, slice_get-push_cases, slice_get-push, take-push, take-push_whole}
-pub use Rattle.chain_search.proofs.RunLaws.{IsRun-push}
-pub use Rattle.chain_search.proofs.TraceLaws.{TakesStep-push_cases, memory_of-push, command_of-push, memory_at-push, Happens-kept, Happens-push_cases}
-pub use Rattle.chain_search.specs.chain.Chains.{IsChainOf, IsOnChain, chain_rows, IsChainFrom, content_in, right_in, low_in, is_removed, level_in, high_in, covers, IsFront}
-pub use Rattle.chain_search.specs.discipline.Discipline.{MayReply, May, root_over, IsOwn, MayExchange, IsOwnBase, IsAllowed, FitsOn, found, value_of, IsUnset, IsPassed, MayFree, MayLink, MayRoot, MayAdd}
-pub use Rattle.chain_search.specs.discipline.Discipline.{base_from, HasRead, update_record, MayPost, IsMet, MayUpdate, LacksRoom, MayAnswer, WasStanding, NamesChild, MayUnterm, MayHold, MayMerge, MaySplit}
-pub use Rattle.chain_search.specs.discipline.Discipline.{MayConsolidate, MayRemove}
-pub use Rattle.chain_search.specs.discipline.Disciplined.{IsDisciplined, IsDisciplinedFrom, own_entries, is_entry_of}
-pub use Rattle.chain_search.specs.chain.Fitted.{IsFitted, FitsOver, Makes}
-pub use Rattle.chain_search.specs.discipline.Fitting.{Fits}
-pub use Rattle.chain_search.specs.chain.HeldBack.{HoldsBack}
-pub use Rattle.chain_search.specs.discipline.Knowledge.{begun, knows, Knowledge, knows_after, finished, Ready, learn, learnt_next, nothing, Foreign, Empty, OwnPage, Taken, Other, Gone, Written, filled, rooted}
-pub use Rattle.chain_search.specs.discipline.Knowledge.{OwnRow, emptied, exchanged, split_off, linked_over, forgotten, Unstamped, handed_page, is_on_walk, LimboMark, handed_over, Absent, Stamped, passed_by}
-pub use Rattle.chain_search.specs.discipline.Knowledge.{stamped, Readings, set_page, taken_out, next_seen, rebuilt, Limbos, updated, learn_head}
-pub use Rattle.chain_search.specs.discipline.Learnt.{ShowsRow}
-pub use Rattle.chain_search.specs.discipline.Recalled.{recall, Recalled, blank, recalls_after, recalls, is_removal}
-pub use Rattle.chain_search.specs.chain.SideChain.{LivePage, IsSideChainFrom}
-pub use Rattle.chain_search.specs.trace.Steps.{IsAnswer, memory_after, IsWordOf}
-pub use Rattle.chain_search.specs.trace.Trace.{memory_at, command_of, memory_of, IsStep, commands_after, turn_of}
-pub use Rattle.chain_search.specs.chain.Unheld.{IsUnheld}
-pub use Rattle.chain_search.specs.discipline.Useful.{IsUseful}
-pub use Rattle.chain_search.specs.declared.trace.Entry.{Entry}
-pub use Rattle.chain_search.specs.declared.trace.Entry.TheVariants.{Begin, Step}
+pub use Rattle.traces.proofs.ChainLaws.{IsChainFrom-unique, IsChainOf-unique}
+pub use Rattle.traces.proofs.Pushes.{slice_get_below, slice_get_kept, slice_get-push_cases, slice_get-push, take-push, take-push_whole}
+pub use Rattle.traces.proofs.RunLaws.{IsRun-push}
+pub use Rattle.traces.proofs.TraceLaws.{TakesStep-push_cases, memory_of-push, command_of-push, memory_at-push, Happens-kept, Happens-push_cases}
+pub use Rattle.traces.specs.chain.Chains.{IsChainOf, IsOnChain, chain_rows, IsChainFrom, content_in, right_in, low_in, is_removed, level_in, high_in, covers, IsFront}
+pub use Rattle.traces.specs.discipline.Discipline.{MayReply, May, root_over, IsOwn, MayExchange, IsOwnBase, IsAllowed, FitsOn, found, value_of, IsUnset, IsPassed, MayFree, MayLink, MayRoot, MayAdd}
+pub use Rattle.traces.specs.discipline.Discipline.{base_from, HasRead, update_record, MayPost, IsMet, MayUpdate, LacksRoom, MayAnswer, WasStanding, NamesChild, MayUnterm, MayHold, MayMerge, MaySplit}
+pub use Rattle.traces.specs.discipline.Discipline.{MayConsolidate, MayRemove}
+pub use Rattle.traces.specs.discipline.Disciplined.{IsDisciplined, IsDisciplinedFrom, own_entries, is_entry_of}
+pub use Rattle.traces.specs.chain.Fitted.{IsFitted, FitsOver, Makes}
+pub use Rattle.traces.specs.discipline.Fitting.{Fits}
+pub use Rattle.traces.specs.chain.HeldBack.{HoldsBack}
+pub use Rattle.traces.specs.discipline.Knowledge.{begun, knows, Knowledge, knows_after, finished, Ready, learn, learnt_next, nothing, Foreign, Empty, OwnPage, Taken, Other, Gone, Written, filled, rooted}
+pub use Rattle.traces.specs.discipline.Knowledge.{OwnRow, emptied, exchanged, split_off, linked_over, forgotten, Unstamped, handed_page, is_on_walk, LimboMark, handed_over, Absent, Stamped, passed_by}
+pub use Rattle.traces.specs.discipline.Knowledge.{stamped, Readings, set_page, taken_out, next_seen, rebuilt, Limbos, updated, learn_head}
+pub use Rattle.traces.specs.discipline.Learnt.{ShowsRow}
+pub use Rattle.traces.specs.discipline.Recalled.{recall, Recalled, blank, recalls_after, recalls, is_removal}
+pub use Rattle.traces.specs.chain.SideChain.{LivePage, IsSideChainFrom}
+pub use Rattle.traces.specs.trace.Steps.{IsAnswer, memory_after, IsWordOf}
+pub use Rattle.traces.specs.trace.Trace.{memory_at, command_of, memory_of, IsStep, commands_after, turn_of}
+pub use Rattle.traces.specs.chain.Unheld.{IsUnheld}
+pub use Rattle.traces.specs.discipline.Useful.{IsUseful}
+pub use Rattle.traces.specs.declared.trace.Entry.{Entry}
+pub use Rattle.traces.specs.declared.trace.Entry.TheVariants.{Begin, Step}
 pub use Rattle.op_machine.proofs.Listed.{and_right, same_operation, and_left, all_below-at}
 pub use Rattle.op_machine.proofs.LogLaws.{log_of-push, log_at-push}
 pub use Rattle.op_machine.specs.theorem.Answered.{WasHeldBack, RepliesAt}

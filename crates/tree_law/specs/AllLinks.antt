@@ -10,9 +10,9 @@ use Rattle.base_page.specs.declared.item.Item.{Item}
 use Rattle.base_page.specs.Pages.{empty_leaf}
 use Rattle.deltas.specs.declared.record.Record.{Record}
 use Rattle.deltas.specs.declared.record.Record.TheVariants as delta
-use Rattle.chain_search.specs.discipline.Discipline.{base_from}
-use Rattle.chain_search.specs.declared.trace.Entry.{Entry}
-use Rattle.chain_search.specs.declared.trace.Entry.TheVariants.{Begin, Step}
+use Rattle.traces.specs.discipline.Discipline.{base_from}
+use Rattle.traces.specs.declared.trace.Entry.{Entry}
+use Rattle.traces.specs.declared.trace.Entry.TheVariants.{Begin, Step}
 use Rattle.op_machine.specs.theorem.Examples.{opening_leaf, put_a}
 use Rattle.tree_law.specs.Example.{a, root_a, hold_a, remove_a, enters, takes, places, roots}
 

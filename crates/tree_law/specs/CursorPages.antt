@@ -7,8 +7,8 @@ use Rattle.bw_model.specs.declared.step.Step.TheVariants.{Slot, Row, Place, Exch
 use Rattle.bw_model.specs.declared.step.Answer.TheVariants.{Number, Content, Whether, Done}
 use Rattle.deltas.specs.declared.record.Record.{Record}
 use Rattle.deltas.specs.declared.record.Record.TheVariants as delta
-use Rattle.chain_search.specs.declared.trace.Entry.{Entry}
-use Rattle.chain_search.specs.declared.trace.Entry.TheVariants.{Begin, Step}
+use Rattle.traces.specs.declared.trace.Entry.{Entry}
+use Rattle.traces.specs.declared.trace.Entry.TheVariants.{Begin, Step}
 use Rattle.tree_law.specs.Example.{a, root_a}
 use Rattle.tree_law.specs.HelpedSplit.{other_put, helped_term}
 use Rattle.tree_law.specs.Removal.{walks_left}

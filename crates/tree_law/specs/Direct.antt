@@ -14,15 +14,15 @@ use Rattle.bw_model.specs.declared.step.Step.TheVariants.{Slot, Row, PidBits, Ro
 use Rattle.deltas.specs.declared.record.Record.{Record}
 use Rattle.deltas.specs.Memory.{replaced_at}
 use Rattle.deltas.specs.NamedPages.{NamesPage}
-use Rattle.chain_search.specs.declared.trace.Entry.{Entry}
-use Rattle.chain_search.specs.declared.trace.Entry.TheVariants.{Begin, Step}
-use Rattle.chain_search.specs.discipline.Discipline.{IsAllowed}
-use Rattle.chain_search.specs.discipline.Disciplined.{IsDisciplined}
-use Rattle.chain_search.specs.discipline.Knowledge.{Ready, knows}
-use Rattle.chain_search.specs.discipline.Recalled.{Recalled, Walk, AnyNames, IsStepSpent, IsUnread, is_removal, recalls}
-use Rattle.chain_search.specs.trace.Steps.{IsAnswer}
-use Rattle.chain_search.specs.trace.Trace.{memory_of}
-use Rattle.chain_search.specs.discipline.Useful.{IsUseful}
+use Rattle.traces.specs.declared.trace.Entry.{Entry}
+use Rattle.traces.specs.declared.trace.Entry.TheVariants.{Begin, Step}
+use Rattle.traces.specs.discipline.Discipline.{IsAllowed}
+use Rattle.traces.specs.discipline.Disciplined.{IsDisciplined}
+use Rattle.traces.specs.discipline.Knowledge.{Ready, knows}
+use Rattle.traces.specs.discipline.Recalled.{Recalled, Walk, AnyNames, IsStepSpent, IsUnread, is_removal, recalls}
+use Rattle.traces.specs.trace.Steps.{IsAnswer}
+use Rattle.traces.specs.trace.Trace.{memory_of}
+use Rattle.traces.specs.discipline.Useful.{IsUseful}
 use Rattle.op_machine.specs.theorem.Direct.{IsCause, IsDirect, IsExchangeOf, IsTake, Links, IsTheStep, TakesNone, is_step_of}
 use Rattle.op_machine.specs.theorem.Updates.{IsUpdateLink}
 use Rattle.op_machine.specs.theorem.Operations.{Operation, IsOperation, TakesOwnStep}

@@ -6,9 +6,9 @@ use Rattle.bw_model.specs.declared.step.Step.TheVariants.{Slot, Row, Epoch, Plac
 use Rattle.bw_model.specs.declared.step.Answer.TheVariants.{Number, Content, Whether, Done}
 use Rattle.deltas.specs.declared.record.Record.{Record}
 use Rattle.deltas.specs.declared.record.Record.TheVariants as delta
-use Rattle.chain_search.specs.declared.trace.Entry.{Entry}
-use Rattle.chain_search.specs.declared.trace.Entry.TheVariants.{Begin, Step}
-use Rattle.chain_search.specs.discipline.Discipline.{root_over}
+use Rattle.traces.specs.declared.trace.Entry.{Entry}
+use Rattle.traces.specs.declared.trace.Entry.TheVariants.{Begin, Step}
+use Rattle.traces.specs.discipline.Discipline.{root_over}
 
 abbrev pub a : List ℕ
 a = codes "a"

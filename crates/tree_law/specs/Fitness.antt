@@ -2,9 +2,9 @@
 use Rattle.std.specs.Prelude.{◌≡◌, ℕ, List, Option, IfSome, Some}
 use Rattle.deltas.specs.declared.record.Record.{Record}
 use Rattle.deltas.specs.Records.{next_row}
-use Rattle.chain_search.specs.chain.Chains.{IsChainFrom}
-use Rattle.chain_search.specs.discipline.Discipline.{FitsOn}
-use Rattle.chain_search.specs.chain.Fitted.{IsPageChain}
+use Rattle.traces.specs.chain.Chains.{IsChainFrom}
+use Rattle.traces.specs.discipline.Discipline.{FitsOn}
+use Rattle.traces.specs.chain.Fitted.{IsPageChain}
 use Rattle.tree_law.specs.Owners.{IsChain, Linked, Owners}
 
 -- the chain from each linked row is a page's chain

@@ -9,8 +9,8 @@ use Rattle.base_page.specs.declared.item.Content.TheVariants.{Value}
 use Rattle.base_page.specs.declared.item.Item.{Item}
 use Rattle.deltas.specs.declared.record.Record.{Record}
 use Rattle.deltas.specs.declared.record.Record.TheVariants as delta
-use Rattle.chain_search.specs.declared.trace.Entry.{Entry}
-use Rattle.chain_search.specs.declared.trace.Entry.TheVariants.{Step}
+use Rattle.traces.specs.declared.trace.Entry.{Entry}
+use Rattle.traces.specs.declared.trace.Entry.TheVariants.{Step}
 use Rattle.tree_law.specs.Example.{root_a, enters}
 use Rattle.tree_law.specs.TwoSplits.{b, two_splits, upper_b, upper_c, second_split}
 

@@ -3,7 +3,7 @@ use Rattle.std.specs.Prelude.{◌≡◌, ℕ, List, true, false, if◌then◌els
 use Rattle.std.specs.Ordering.{is_eq}
 use Rattle.bw_model.specs.Bytes.{key_cmp, is_below, is_under}
 use Rattle.deltas.specs.declared.record.Record.{Record}
-use Rattle.chain_search.specs.chain.Chains.{low_in, high_in}
+use Rattle.traces.specs.chain.Chains.{low_in, high_in}
 
 abbrev pub Key : Type 0
 Key = List ℕ

@@ -9,11 +9,11 @@ use Rattle.bw_model.specs.declared.step.Answer.{Answer}
 use Rattle.bw_model.specs.Log.{Update}
 use Rattle.deltas.specs.declared.record.Record.{Record}
 use Rattle.deltas.specs.Memory.{Memory, opening}
-use Rattle.chain_search.specs.trace.Steps.{IsAnswer, memory_after}
+use Rattle.traces.specs.trace.Steps.{IsAnswer, memory_after}
 use Rattle.tree_law.specs.Indexed.{IsIndexed}
 use Rattle.tree_law.specs.Keys.{Key, IsBelow, IsUpTo}
-use Rattle.chain_search.specs.discipline.Knowledge.{Knowledge, nothing, begun, learn, finished}
-use Rattle.chain_search.specs.discipline.Discipline.{MayAnswer, IsAllowed}
+use Rattle.traces.specs.discipline.Knowledge.{Knowledge, nothing, begun, learn, finished}
+use Rattle.traces.specs.discipline.Discipline.{MayAnswer, IsAllowed}
 use Rattle.tree_law.specs.Next.{After}
 use Rattle.tree_law.specs.Owners.{Owners}
 use Rattle.tree_law.specs.Put.{put}

@@ -3,9 +3,9 @@ use Rattle.std.specs.Prelude.{◌≡◌, ◌<◌, List, length}
 use Rattle.std.specs.List.{AllByRecursion}
 use Rattle.bw_model.specs.declared.limits.Limits.{Limits}
 use Rattle.deltas.specs.Memory.{Memory}
-use Rattle.chain_search.specs.chain.Chains.{IsChainOf, level_in}
-use Rattle.chain_search.specs.chain.Fitted.{IsPageChain}
-use Rattle.chain_search.specs.chain.SideChain.{LivePage, IsLeaves, IsWhole}
+use Rattle.traces.specs.chain.Chains.{IsChainOf, level_in}
+use Rattle.traces.specs.chain.Fitted.{IsPageChain}
+use Rattle.traces.specs.chain.SideChain.{LivePage, IsLeaves, IsWhole}
 
 -- The page's PID is in range, and its slot has this chain, whose records fit and are of the lowest level.
 pub record IsLeafPage (limits : Limits) (memory : Memory) (page : LivePage) : Type 0 where

@@ -5,9 +5,9 @@ use Rattle.bw_model.specs.declared.limits.Limits.{Limits}
 use Rattle.base_page.specs.declared.item.Content.TheVariants.{Child}
 use Rattle.deltas.specs.declared.record.Record.{Record}
 use Rattle.deltas.specs.Memory.{Memory}
-use Rattle.chain_search.specs.chain.Chains.{IsChainOf, content_in, level_in, low_in}
-use Rattle.chain_search.specs.chain.Fitted.{IsPageChain}
-use Rattle.chain_search.specs.chain.SideChain.{LivePage, IsSideChainFrom, IsWhole}
+use Rattle.traces.specs.chain.Chains.{IsChainOf, content_in, level_in, low_in}
+use Rattle.traces.specs.chain.Fitted.{IsPageChain}
+use Rattle.traces.specs.chain.SideChain.{LivePage, IsSideChainFrom, IsWhole}
 
 -- The page's PID is in range, and its slot has this chain, whose records fit and are of the level.
 pub record IsPageOn (limits : Limits) (memory : Memory) (level : ℕ) (page : LivePage) : Type 0 where

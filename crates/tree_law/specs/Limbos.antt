@@ -5,9 +5,9 @@ use Rattle.bw_model.specs.declared.step.Answer.TheVariants.{Number}
 use Rattle.bw_model.specs.declared.step.Step.{Step as StepOf}
 use Rattle.bw_model.specs.declared.step.Step.TheVariants.{Epoch, Announce}
 use Rattle.deltas.specs.declared.record.Record.{Record}
-use Rattle.chain_search.specs.declared.trace.Entry.{Entry}
-use Rattle.chain_search.specs.discipline.Knowledge.{LimboMark, Absent, Unstamped, Stamped}
-use Rattle.chain_search.specs.trace.Trace.{TakesStep}
+use Rattle.traces.specs.declared.trace.Entry.{Entry}
+use Rattle.traces.specs.discipline.Knowledge.{LimboMark, Absent, Unstamped, Stamped}
+use Rattle.traces.specs.trace.Trace.{TakesStep}
 
 -- The actor's exchange took it out, and no step has handed it on since.
 pub record WasTakenOut (entries : List Entry) (Unlinks : ℕ → Type 0) (Hands : StepOf Record → Answer Record → Type 0) : Type 0 where

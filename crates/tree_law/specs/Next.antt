@@ -13,7 +13,7 @@ use Rattle.deltas.specs.declared.record.Record.{Record}
 use Rattle.deltas.specs.declared.record.Record.TheVariants.{Base, Split}
 use Rattle.deltas.specs.declared.record.Split.{Split as SplitOf}
 use Rattle.deltas.specs.Records.{next_row}
-use Rattle.chain_search.specs.discipline.Knowledge.{Knowledge, learn, finished}
+use Rattle.traces.specs.discipline.Knowledge.{Knowledge, learn, finished}
 use Rattle.tree_law.specs.Fitness.{IsAdded}
 use Rattle.tree_law.specs.Owners.{Owner, Free, Spare, Linked, Owners}
 use Rattle.tree_law.specs.Phases.{Phased}

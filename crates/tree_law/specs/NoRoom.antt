@@ -3,8 +3,8 @@ use Rattle.std.specs.Prelude.{List, [], ◌∷◌, ◌++◌, None, Some}
 use Rattle.bw_model.specs.declared.command.Reply.TheVariants as reply
 use Rattle.bw_model.specs.declared.step.Step.TheVariants.{RowBits, Leave}
 use Rattle.bw_model.specs.declared.step.Answer.TheVariants.{Number, Done}
-use Rattle.chain_search.specs.declared.trace.Entry.{Entry}
-use Rattle.chain_search.specs.declared.trace.Entry.TheVariants.{Step}
+use Rattle.traces.specs.declared.trace.Entry.{Entry}
+use Rattle.traces.specs.declared.trace.Entry.TheVariants.{Step}
 use Rattle.tree_law.specs.AllLinks.{insert_a}
 use Rattle.tree_law.specs.Example.{enters, takes}
 

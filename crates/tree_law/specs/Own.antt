@@ -2,12 +2,12 @@
 use Rattle.std.specs.Prelude.{◌≡◌, ◌<◌, ℕ, List, Some, true}
 use Rattle.bw_model.specs.declared.limits.Limits.{Limits}
 use Rattle.deltas.specs.declared.record.Record.{Record}
-use Rattle.chain_search.specs.declared.trace.Entry.{Entry}
-use Rattle.chain_search.specs.discipline.Discipline.{IsOwn}
-use Rattle.chain_search.specs.discipline.Disciplined.{Extends}
-use Rattle.chain_search.specs.discipline.Knowledge.{Written, knows}
-use Rattle.chain_search.specs.discipline.Recalled.{recalls}
-use Rattle.chain_search.specs.trace.Trace.{command_of, memory_of}
+use Rattle.traces.specs.declared.trace.Entry.{Entry}
+use Rattle.traces.specs.discipline.Discipline.{IsOwn}
+use Rattle.traces.specs.discipline.Disciplined.{Extends}
+use Rattle.traces.specs.discipline.Knowledge.{Written, knows}
+use Rattle.traces.specs.discipline.Recalled.{recalls}
+use Rattle.traces.specs.trace.Trace.{command_of, memory_of}
 use Rattle.tree_law.specs.Direct.{Accounts}
 use Rattle.tree_law.specs.State.{IsState}
 

@@ -6,9 +6,9 @@ use Rattle.base_page.specs.declared.item.Content.{Content}
 use Rattle.base_page.specs.declared.item.Content.TheVariants.{Value, Child}
 use Rattle.deltas.specs.declared.record.Record.{Record}
 use Rattle.deltas.specs.Records.{next_row}
-use Rattle.chain_search.specs.chain.Chains.{IsChainFrom, content_in, level_in, low_in, high_in, right_in, is_removed}
+use Rattle.traces.specs.chain.Chains.{IsChainFrom, content_in, level_in, low_in, high_in, right_in, is_removed}
 use Rattle.tree_law.specs.Keys.{Key, IsBelow, IsWithinEnd, Covers}
-use Rattle.chain_search.specs.discipline.Knowledge.{OwnRow, Foreign, Taken, Written, OwnPage, Other, Empty, Ready, Gone}
+use Rattle.traces.specs.discipline.Knowledge.{OwnRow, Foreign, Taken, Written, OwnPage, Other, Empty, Ready, Gone}
 use Rattle.tree_law.specs.Phase.{PageOwner, Nobody, Keeps, Placed, Cleared, rank, child_of, rank_of}
 use Rattle.tree_law.specs.Shared.{Shared}
 

@@ -6,9 +6,9 @@ use Rattle.bw_model.specs.declared.step.Answer.{Answer}
 use Rattle.bw_model.specs.declared.step.Answer.TheVariants.{Whether}
 use Rattle.deltas.specs.declared.record.Record.{Record}
 use Rattle.deltas.specs.declared.record.Record.TheVariants.{Base, Put, Delete, Split, Term, Hold, Remove, Merge, Unterm}
-use Rattle.chain_search.specs.chain.Chains.{IsChainFrom, right_in}
-use Rattle.chain_search.specs.discipline.Discipline.{root_over}
-use Rattle.chain_search.specs.chain.Unheld.{IsUnheld}
+use Rattle.traces.specs.chain.Chains.{IsChainFrom, right_in}
+use Rattle.traces.specs.discipline.Discipline.{root_over}
+use Rattle.traces.specs.chain.Unheld.{IsUnheld}
 use Rattle.bw_model.specs.Words.{is_among}
 use Rattle.tree_law.specs.Keys.{Key, IsBelow}
 use Rattle.tree_law.specs.Phase.{Stage, Fresh, Indexed, Held, Removed, Merged, PageOwner, Nobody, Keeps, Placed, Cleared}

@@ -11,11 +11,11 @@ use Rattle.bw_model.specs.Replies.{is_writer}
 use Rattle.base_page.specs.Pages as pages
 use Rattle.deltas.specs.declared.record.Record.TheVariants.{Base}
 use Rattle.deltas.specs.Memory.{Memory}
-use Rattle.chain_search.specs.declared.trace.Entry.{Entry}
-use Rattle.chain_search.specs.declared.trace.Entry.TheVariants.{Begin}
-use Rattle.chain_search.specs.discipline.Learnt.{HasLearnt}
-use Rattle.chain_search.specs.trace.Run.{IsRun}
-use Rattle.chain_search.specs.trace.Trace.{memory_of, memory_at, command_of}
+use Rattle.traces.specs.declared.trace.Entry.{Entry}
+use Rattle.traces.specs.declared.trace.Entry.TheVariants.{Begin}
+use Rattle.traces.specs.discipline.Learnt.{HasLearnt}
+use Rattle.traces.specs.trace.Run.{IsRun}
+use Rattle.traces.specs.trace.Trace.{memory_of, memory_at, command_of}
 use Rattle.op_machine.specs.theorem.Answered.{FindsNothingFree, FindsTidy, RepliesAt}
 use Rattle.op_machine.specs.theorem.Operations.{EndAtLeaves, Operation, IsOperation, IsOwnStep, TakesOwnStep, Finishes}
 use Rattle.op_machine.specs.theorem.Points.{log_of, log_at, IsPoint}
@@ -28,7 +28,7 @@ use Rattle.op_machine.specs.theorem.Reuse.{HandsPid, HandsRow, UnlinksPid, Unlin
 use Rattle.tree_law.specs.Fitness.{AreFitted}
 use Rattle.tree_law.specs.Indexed.{IsFirst, IsIndexedAlong}
 use Rattle.tree_law.specs.Limbos.{IsInLimbo}
-use Rattle.chain_search.specs.discipline.Knowledge.{Ready, Knowledge, knows}
+use Rattle.traces.specs.discipline.Knowledge.{Ready, Knowledge, knows}
 use Rattle.tree_law.specs.Owners.{Free, Spare, Linked, Owners, Among}
 use Rattle.tree_law.specs.Phase.{Fresh, Indexed, Held, Removed, Merged, PageOwner, Nobody, Keeps, Placed, Cleared}
 use Rattle.tree_law.specs.Shared.{slot_in, shared}

@@ -7,11 +7,11 @@ use Rattle.bw_model.specs.declared.step.Step.TheVariants.{Slot}
 use Rattle.base_page.specs.declared.item.Content.TheVariants.{Value}
 use Rattle.deltas.specs.declared.record.Record.{Record}
 use Rattle.deltas.specs.Memory.{Memory}
-use Rattle.chain_search.specs.declared.trace.Entry.{Entry}
-use Rattle.chain_search.specs.chain.Chains.{IsChainFrom, IsChainOf, content_in, covers, is_removed, level_in, low_in, right_in}
-use Rattle.chain_search.specs.discipline.Knowledge.{Readings}
-use Rattle.chain_search.specs.chain.SideChain.{LivePage, IsLeaves, Spells}
-use Rattle.chain_search.specs.trace.Trace.{command_of, memory_at}
+use Rattle.traces.specs.declared.trace.Entry.{Entry}
+use Rattle.traces.specs.chain.Chains.{IsChainFrom, IsChainOf, content_in, covers, is_removed, level_in, low_in, right_in}
+use Rattle.traces.specs.discipline.Knowledge.{Readings}
+use Rattle.traces.specs.chain.SideChain.{LivePage, IsLeaves, Spells}
+use Rattle.traces.specs.trace.Trace.{command_of, memory_at}
 use Rattle.op_machine.specs.theorem.Operations.{Operation, IsOwnStep, TakesOwnStep}
 
 -- The page is a leaf of the memory with this chain, and no other leaf has a key of its range; only page 1 begins at the empty key.

@@ -2,8 +2,8 @@
 use Rattle.std.specs.Prelude.{List, [], ◌∷◌, true, None}
 use Rattle.bw_model.specs.declared.step.Step.TheVariants.{Epoch, Place, Exchange, TakePid, TakeRow, Enter, Announce, Retire, ReusePids, ReuseRows}
 use Rattle.bw_model.specs.declared.step.Answer.TheVariants.{Number, Whether, Done}
-use Rattle.chain_search.specs.declared.trace.Entry.{Entry}
-use Rattle.chain_search.specs.declared.trace.Entry.TheVariants.{Begin, Step}
+use Rattle.traces.specs.declared.trace.Entry.{Entry}
+use Rattle.traces.specs.declared.trace.Entry.TheVariants.{Begin, Step}
 use Rattle.op_machine.specs.theorem.Examples.{opening_leaf}
 use Rattle.tree_law.specs.Example.{get_a}
 

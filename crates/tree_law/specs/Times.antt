@@ -10,9 +10,9 @@ use Rattle.deltas.specs.declared.record.Record.{Record}
 use Rattle.deltas.specs.declared.record.Record.TheVariants.{Base, Split}
 use Rattle.deltas.specs.Memory.{Memory, replaced_at}
 use Rattle.deltas.specs.Records.{next_row}
-use Rattle.chain_search.specs.chain.Chains.{IsChainFrom, content_in, level_in, right_in, is_removed}
-use Rattle.chain_search.specs.discipline.Discipline.{IsOwn, IsOwnBase}
-use Rattle.chain_search.specs.discipline.Knowledge.{Ready, Gone, LimboMark, Absent, Unstamped, Stamped, Knowledge}
+use Rattle.traces.specs.chain.Chains.{IsChainFrom, content_in, level_in, right_in, is_removed}
+use Rattle.traces.specs.discipline.Discipline.{IsOwn, IsOwnBase}
+use Rattle.traces.specs.discipline.Knowledge.{Ready, Gone, LimboMark, Absent, Unstamped, Stamped, Knowledge}
 use Rattle.bw_model.specs.Words.{is_among}
 use Rattle.tree_law.specs.Keys.{Key, Covers}
 use Rattle.tree_law.specs.Owners.{Owner, Spare, Linked, Owners, Reached}

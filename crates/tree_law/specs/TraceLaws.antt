@@ -8,15 +8,15 @@ use Rattle.bw_model.specs.declared.step.Answer.{Answer}
 use Rattle.bw_model.specs.declared.step.Step.{Step as StepOf}
 use Rattle.bw_model.specs.declared.step.Step.TheVariants.{Row}
 use Rattle.deltas.specs.declared.record.Record.{Record}
-use Rattle.chain_search.specs.discipline.Discipline.{IsAllowed, May}
-use Rattle.chain_search.specs.discipline.Disciplined.{IsDisciplined, own_entries}
-use Rattle.chain_search.specs.discipline.Fitting.{Fits}
-use Rattle.chain_search.specs.discipline.Knowledge.{knows, knows_after}
-use Rattle.chain_search.specs.discipline.Recalled.{recalls, recalls_after}
-use Rattle.chain_search.specs.trace.Steps.{IsAnswer}
-use Rattle.chain_search.specs.trace.Trace.{command_of, commands_after, memory_after_entry, memory_of, turn_of}
-use Rattle.chain_search.specs.declared.trace.Entry.{Entry}
-use Rattle.chain_search.specs.declared.trace.Entry.TheVariants.{Begin, Step}
+use Rattle.traces.specs.discipline.Discipline.{IsAllowed, May}
+use Rattle.traces.specs.discipline.Disciplined.{IsDisciplined, own_entries}
+use Rattle.traces.specs.discipline.Fitting.{Fits}
+use Rattle.traces.specs.discipline.Knowledge.{knows, knows_after}
+use Rattle.traces.specs.discipline.Recalled.{recalls, recalls_after}
+use Rattle.traces.specs.trace.Steps.{IsAnswer}
+use Rattle.traces.specs.trace.Trace.{command_of, commands_after, memory_after_entry, memory_of, turn_of}
+use Rattle.traces.specs.declared.trace.Entry.{Entry}
+use Rattle.traces.specs.declared.trace.Entry.TheVariants.{Begin, Step}
 use Rattle.op_machine.specs.theorem.Index.{IsExactIndex}
 use Rattle.op_machine.specs.theorem.Linearized.{IsLinearized}
 use Rattle.op_machine.specs.theorem.Phases.{KeepsPhases}

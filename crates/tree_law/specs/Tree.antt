@@ -3,9 +3,9 @@ use Rattle.std.specs.Prelude.{◌≡◌, ◌≢◌, ◌<◌, ◌≤◌, ℕ, zer
 use Rattle.bw_model.specs.Log.{Update}
 use Rattle.base_page.specs.declared.item.Content.{Content}
 use Rattle.deltas.specs.declared.record.Record.{Record}
-use Rattle.chain_search.specs.chain.Chains.{content_in, level_in, low_in, high_in, right_in, is_removed}
+use Rattle.traces.specs.chain.Chains.{content_in, level_in, low_in, high_in, right_in, is_removed}
 use Rattle.tree_law.specs.Keys.{Key, IsUnder, Covers}
-use Rattle.chain_search.specs.discipline.Knowledge.{Knowledge}
+use Rattle.traces.specs.discipline.Knowledge.{Knowledge}
 use Rattle.tree_law.specs.Phase.{Stage, Fresh, Indexed, Merged, PageOwner, Nobody, Placed, Cleared, mark, rank, stage_removed, child_of}
 use Rattle.tree_law.specs.Shared.{Shared}
 use Rattle.tree_law.specs.Owners.{IsChain, Free, Linked, Owners, IsClosed, IsOut, Owns, OwnsPages, leaf_map, Knows}

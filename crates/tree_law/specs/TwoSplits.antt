@@ -6,9 +6,9 @@ use Rattle.bw_model.specs.declared.step.Step.TheVariants.{Slot, Row, Exchange, T
 use Rattle.bw_model.specs.declared.step.Answer.TheVariants.{Number, Content, Whether}
 use Rattle.deltas.specs.declared.record.Record.{Record}
 use Rattle.deltas.specs.declared.record.Record.TheVariants as delta
-use Rattle.chain_search.specs.discipline.Discipline.{base_from}
-use Rattle.chain_search.specs.declared.trace.Entry.{Entry}
-use Rattle.chain_search.specs.declared.trace.Entry.TheVariants.{Step}
+use Rattle.traces.specs.discipline.Discipline.{base_from}
+use Rattle.traces.specs.declared.trace.Entry.{Entry}
+use Rattle.traces.specs.declared.trace.Entry.TheVariants.{Step}
 use Rattle.op_machine.specs.theorem.Examples.{opening_leaf}
 use Rattle.tree_law.specs.Example.{a, root_a, enters, takes, places, roots}
 use Rattle.tree_law.specs.Keys.{Key}

@@ -1,6 +1,6 @@
 //! That the premises of the law can be met.
 ghost use Rattle.std.specs.Prelude.{◌++◌};
-ghost use Rattle.chain_search.specs.discipline.Disciplined.{IsDisciplined};
+ghost use Rattle.traces.specs.discipline.Disciplined.{IsDisciplined};
 ghost use Rattle.tree_law.specs.AllLinks.{all_links};
 ghost use Rattle.tree_law.specs.CursorPages.{last_page, upkeep};
 ghost use Rattle.op_machine.specs.theorem.Examples.{small};

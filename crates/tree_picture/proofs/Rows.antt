@@ -3,7 +3,7 @@ use Rattle.std.proofs.Common.{◌≡◌, ◌<◌, ◌+◌, ℕ, List, [], ◌∷
 use Rattle.std.proofs.lemmas.List.{append-nil, take_more}
 use Rattle.std.proofs.lemmas.Grind.{flat_map-append}
 use Rattle.std.specs.List.{flat_map}
-use Rattle.chain_search.specs.chain.SideChain.{LivePage}
+use Rattle.traces.specs.chain.SideChain.{LivePage}
 use Rattle.tree_picture.specs.Pids.{all_pids, level_pids}
 
 level_append : (xs ys : List LivePage) → level_pids (xs ++ ys) ≡ level_pids xs ++ level_pids ys

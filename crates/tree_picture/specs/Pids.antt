@@ -1,7 +1,7 @@
 -- The pages of a scene by their PIDs, level by level and from left to right.
 use Rattle.std.specs.Prelude.{ℕ, List, map}
 use Rattle.std.specs.List.{flat_map}
-use Rattle.chain_search.specs.chain.SideChain.{LivePage}
+use Rattle.traces.specs.chain.SideChain.{LivePage}
 
 abbrev pub level_pids : List LivePage → List ℕ
 level_pids pages = map (λ page. page.pid) pages

@@ -10,7 +10,7 @@ use Rattle.bw_model.specs.declared.step.Step.{Step}
 use Rattle.bw_model.specs.declared.step.Step.TheVariants.{Slot, Row, Epoch, Announce, PidBits, RowBits, Place, Exchange, TakePid, TakeRow, Enter, Leave, Retire, ReusePids, ReuseRows}
 use Rattle.deltas.specs.declared.record.Record.{Record}
 use Rattle.deltas.specs.Memory.{Memory, replaced_at}
-use Rattle.chain_search.specs.trace.Steps.{IsWordOf, memory_after}
+use Rattle.traces.specs.trace.Steps.{IsWordOf, memory_after}
 use Rattle.tree_words.specs.Layout.{pid_bits_at, row_bits_at, epoch_at, announced_at, width}
 use Rattle.tree_words.specs.Changes.{HasWord, SetsBits, word_after, SpellsParts, ChangesOneWord, StepsChangeOneWord, WordsStandFirst}
 use Rattle.tree_words.proofs.FreeBits.{replaced_same, replaced_other, word_kept, bits_set, word_apart, taken, found_free}

@@ -8,7 +8,7 @@ use mathlib.Core.Logic.{dite}
 use native.Mathlib.Decide.{ℕ_discrete}
 use Rattle.deltas.specs.Memory.{replaced_at}
 use Rattle.bw_model.specs.Words.{is_among}
-use Rattle.chain_search.specs.trace.Steps.{IsWordOf}
+use Rattle.traces.specs.trace.Steps.{IsWordOf}
 
 pub replaced_same : {X : Type 0} (n : ℕ) (x : X) (f : ℕ → X) → replaced_at n x f n ≡ x
 replaced_same n x f = rw (eq-eqb n n refl) refl

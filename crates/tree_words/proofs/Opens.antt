@@ -10,7 +10,7 @@ use Rattle.bw_model.specs.declared.limits.Limits.{Limits}
 use Rattle.base_page.specs.Pages.{empty_leaf}
 use Rattle.deltas.specs.declared.record.Record.TheVariants.{Base}
 use Rattle.deltas.specs.Memory.{opening}
-use Rattle.chain_search.specs.trace.Steps.{IsWordOf}
+use Rattle.traces.specs.trace.Steps.{IsWordOf}
 use Rattle.record_slots.specs.Layout.{no_bound, row_size, second_at, text_size}
 use Rattle.record_slots.specs.Parts.{first_word}
 use Rattle.record_slots.specs.Spelling.{words_left, words_of}

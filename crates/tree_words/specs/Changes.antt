@@ -8,7 +8,7 @@ use Rattle.bw_model.specs.declared.step.Step.{Step}
 use Rattle.bw_model.specs.declared.step.Step.TheVariants.{Slot, Row, Epoch, Announce, PidBits, RowBits, Place, Exchange, TakePid, TakeRow, Enter, Leave, Retire, ReusePids, ReuseRows}
 use Rattle.deltas.specs.declared.record.Record.{Record}
 use Rattle.deltas.specs.Memory.{Memory}
-use Rattle.chain_search.specs.trace.Steps.{IsAnswer, memory_after}
+use Rattle.traces.specs.trace.Steps.{IsAnswer, memory_after}
 use Rattle.tree_words.specs.Layout.{slot_at, pid_bits_at, row_bits_at, epoch_at, announced_at, row_at, width}
 use Rattle.tree_words.specs.Words.{SpellsWhere}
 use Rattle.tree_words.specs.declared.operations.Operation.{Operation}

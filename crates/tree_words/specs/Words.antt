@@ -3,7 +3,7 @@ use Rattle.std.specs.Prelude.{◌≡◌, ◌<◌, ℕ, List, length, slice_index
 use Rattle.bw_model.specs.declared.limits.Limits.{Limits}
 use Rattle.deltas.specs.declared.record.Record.{Record}
 use Rattle.deltas.specs.Memory.{Memory}
-use Rattle.chain_search.specs.trace.Steps.{IsWordOf}
+use Rattle.traces.specs.trace.Steps.{IsWordOf}
 use Rattle.record_slots.specs.Layout.{row_size}
 use Rattle.record_slots.specs.Spelling.{words_of}
 use Rattle.tree_words.specs.Layout.{slot_at, pid_bits_at, row_bits_at, epoch_at, announced_at, row_at, width, IsPad}

@@ -10,13 +10,13 @@ use Rattle.bw_model.specs.declared.limits.Limits.{Limits}
 use Rattle.bw_model.specs.declared.step.Answer.TheVariants as answer
 use Rattle.bw_model.specs.declared.step.Step.TheVariants.{Leave}
 use Rattle.base_page.proofs.KeyLaws.{either}
-use Rattle.chain_search.specs.declared.trace.Entry.{Entry}
-use Rattle.chain_search.specs.declared.trace.Entry.TheVariants.{Begin, Step}
-use Rattle.chain_search.specs.discipline.Disciplined.{is_entry_of, own_entries}
-use Rattle.chain_search.specs.trace.Run.{IsRun}
-use Rattle.chain_search.specs.trace.Trace.{command_of, commands_after}
-use Rattle.chain_search.proofs.Pushes.{slice_get_below, slice_get_kept, slice_get-push, slice_get-push_cases}
-use Rattle.chain_search.proofs.RunLaws.{IsRun-last}
+use Rattle.traces.specs.declared.trace.Entry.{Entry}
+use Rattle.traces.specs.declared.trace.Entry.TheVariants.{Begin, Step}
+use Rattle.traces.specs.discipline.Disciplined.{is_entry_of, own_entries}
+use Rattle.traces.specs.trace.Run.{IsRun}
+use Rattle.traces.specs.trace.Trace.{command_of, commands_after}
+use Rattle.traces.proofs.Pushes.{slice_get_below, slice_get_kept, slice_get-push, slice_get-push_cases}
+use Rattle.traces.proofs.RunLaws.{IsRun-last}
 use Rattle.op_machine.specs.theorem.Operations.{Finishes, IsOperation, Operation}
 use Rattle.bw_tree.specs.Calls.{answered_last, call_after, calls_along, calls_of}
 use Rattle.bw_tree.proofs.Going.{answered_snoc}

@@ -6,12 +6,12 @@ use Rattle.bw_model.specs.declared.command.Command.{Command}
 use Rattle.bw_model.specs.declared.command.Command.TheVariants as command
 use Rattle.bw_model.specs.declared.command.Reply.{Reply}
 use Rattle.bw_model.specs.declared.command.Reply.TheVariants as reply
-use Rattle.chain_search.specs.declared.trace.Entry.{Entry}
+use Rattle.traces.specs.declared.trace.Entry.{Entry}
 use Rattle.bw_model.specs.declared.step.Answer.TheVariants as answer
 use Rattle.bw_model.specs.declared.step.Step.TheVariants.{Leave}
-use Rattle.chain_search.specs.declared.trace.Entry.TheVariants.{Step}
-use Rattle.chain_search.specs.discipline.Disciplined.{own_entries}
-use Rattle.chain_search.specs.trace.Trace.{command_of}
+use Rattle.traces.specs.declared.trace.Entry.TheVariants.{Step}
+use Rattle.traces.specs.discipline.Disciplined.{own_entries}
+use Rattle.traces.specs.trace.Trace.{command_of}
 use Rattle.op_machine.specs.theorem.Operations.{Finishes, Operation}
 use Rattle.bw_tree.specs.Calls.{EndsWith, answered_last, calls_in, calls_of}
 use Rattle.bw_tree.specs.Runs.{IsOneHistory, StartsWith}

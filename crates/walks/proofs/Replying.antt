@@ -12,21 +12,21 @@ use Rattle.bw_model.specs.declared.command.Command.TheVariants as command
 use Rattle.bw_model.specs.declared.command.Reply.{Reply}
 use Rattle.bw_model.specs.declared.command.Reply.TheVariants as reply
 use Rattle.bw_model.specs.declared.limits.Limits.{Limits}
-use Rattle.chain_search.specs.declared.trace.Entry.{Entry}
-use Rattle.chain_search.specs.declared.trace.Entry.TheVariants.{Begin, Step}
-use Rattle.chain_search.specs.declared.trace.Turn.{Turn}
-use Rattle.chain_search.specs.trace.Run.{IsRun}
-use Rattle.chain_search.specs.trace.Trace.{command_of, commands_after, memory_at}
-use Rattle.chain_search.proofs.Pushes.{slice_get_below}
-use Rattle.chain_search.proofs.TraceLaws.{command_of-push}
+use Rattle.traces.specs.declared.trace.Entry.{Entry}
+use Rattle.traces.specs.declared.trace.Entry.TheVariants.{Begin, Step}
+use Rattle.traces.specs.declared.trace.Turn.{Turn}
+use Rattle.traces.specs.trace.Run.{IsRun}
+use Rattle.traces.specs.trace.Trace.{command_of, commands_after, memory_at}
+use Rattle.traces.proofs.Pushes.{slice_get_below}
+use Rattle.traces.proofs.TraceLaws.{command_of-push}
 use Rattle.op_machine.specs.theorem.Answered.{FindsTidy, IsTrueReply, RepliesAtPoint, ShowsPage}
 use Rattle.op_machine.specs.theorem.Linearized.{IsLinearized}
 use Rattle.op_machine.specs.theorem.Operations.{Finishes, IsOwnStep, Operation}
 use Rattle.op_machine.specs.theorem.Points.{IsPoint, log_at}
 use Rattle.base_page.proofs.KeyLaws.{and_right, either}
 use Rattle.bw_model.specs.Bytes.{is_below, is_under}
-use Rattle.chain_search.specs.chain.Chains.{covers, high_in, low_in}
-use Rattle.chain_search.specs.chain.SideChain.{LivePage}
+use Rattle.traces.specs.chain.Chains.{covers, high_in, low_in}
+use Rattle.traces.specs.chain.SideChain.{LivePage}
 use Rattle.walks.proofs.Spans.{begun_since}
 use Rattle.walks.specs.Pages.{end_under, place_under, pairs_under, IsPageOf, IsPageShown, WalkedPage, page_operation}
 use Rattle.walks.proofs.Cuts.{cut_pairs}

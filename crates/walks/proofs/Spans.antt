@@ -6,9 +6,9 @@ use Rattle.std.proofs.lemmas.Bool.{eqb-false, eqb-true}
 use Rattle.std.proofs.lemmas.List.Sums.{fold-append}
 use Rattle.bw_model.specs.declared.command.Command.{Command}
 use Rattle.base_page.proofs.KeyLaws.{either}
-use Rattle.chain_search.specs.declared.trace.Entry.{Entry}
-use Rattle.chain_search.specs.declared.trace.Entry.TheVariants.{Begin, Step}
-use Rattle.chain_search.specs.trace.Trace.{command_of, commands_after}
+use Rattle.traces.specs.declared.trace.Entry.{Entry}
+use Rattle.traces.specs.declared.trace.Entry.TheVariants.{Begin, Step}
+use Rattle.traces.specs.trace.Trace.{command_of, commands_after}
 
 -- It was begun at this place, and the actor begins nothing after that.
 pub record IsOpenAt (run : List Entry) (actor : ℕ) (command : Command) (start : ℕ) : Type 0 where

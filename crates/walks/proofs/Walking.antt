@@ -9,8 +9,8 @@ use Rattle.std.proofs.lemmas.List.Elements.{Contains-append_cases, Contains-appe
 use Rattle.bw_model.specs.Bytes.{is_below, is_under, key_cmp}
 use Rattle.bw_model.specs.declared.command.Reply.{Reply}
 use Rattle.base_page.proofs.KeyLaws.{and_both, and_left, and_right, below_from, below-trans, below_reach, either, not_true}
-use Rattle.chain_search.specs.declared.trace.Entry.{Entry}
-use Rattle.chain_search.proofs.Pushes.{slice_get-append_left, slice_get_below, slice_get_kept}
+use Rattle.traces.specs.declared.trace.Entry.{Entry}
+use Rattle.traces.proofs.Pushes.{slice_get-append_left, slice_get_below, slice_get_kept}
 use Rattle.op_machine.specs.theorem.Operations.{Finishes, Operation}
 use Rattle.bw_tree.specs.Runs.{StartsWith}
 use Rattle.walks.specs.Pages.{IsPageOf, IsPageShown, WalkedPage, end_under, page_operation, place_under}

@@ -3,8 +3,8 @@ use Rattle.std.specs.Prelude.{◌≡◌, ◌+◌, ◌≤◌, ◌++◌, ◌-◌, 
 use Rattle.bw_model.specs.declared.command.Command.{Command}
 use Rattle.bw_model.specs.declared.command.Command.TheVariants as command
 use Rattle.bw_model.specs.declared.command.Reply.{Reply}
-use Rattle.chain_search.specs.trace.Trace.{command_of}
-use Rattle.chain_search.specs.declared.trace.Entry.{Entry}
+use Rattle.traces.specs.trace.Trace.{command_of}
+use Rattle.traces.specs.declared.trace.Entry.{Entry}
 use Rattle.bw_tree.specs.Calls.{IsCalled, IsResumed}
 use Rattle.bw_tree.specs.Runs.{StartsWith}
 use Rattle.bw_tree.specs.Seats.{Seat}

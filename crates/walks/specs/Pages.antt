@@ -4,7 +4,7 @@ use Rattle.bw_model.specs.Bytes.{is_under}
 use Rattle.bw_model.specs.Pairs.{IsPairsOf}
 use Rattle.bw_model.specs.declared.command.Command.TheVariants as command
 use Rattle.bw_model.specs.declared.command.Reply.TheVariants as reply
-use Rattle.chain_search.specs.declared.trace.Entry.{Entry}
+use Rattle.traces.specs.declared.trace.Entry.{Entry}
 use Rattle.op_machine.specs.theorem.Operations.{Finishes, IsOperation, IsOwnStep, Operation}
 use Rattle.op_machine.specs.theorem.Points.{IsPoint, log_at}
 

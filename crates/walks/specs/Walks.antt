@@ -3,7 +3,7 @@ use Rattle.std.specs.Prelude.{◌≡◌, ◌+◌, ◌<◌, ◌≤◌, ℕ, Bool,
 use Rattle.std.specs.List.Sorted.{IsStrictlySortedBy}
 use Rattle.bw_model.specs.Bytes.{is_in_range, key_cmp}
 use Rattle.bw_model.specs.Log.{logged_value}
-use Rattle.chain_search.specs.declared.trace.Entry.{Entry}
+use Rattle.traces.specs.declared.trace.Entry.{Entry}
 use Rattle.op_machine.specs.theorem.Points.{log_at}
 use Rattle.walks.specs.Pages.{IsPageOf, WalkedPage}
 

@@ -2,8 +2,8 @@
 ghost use Rattle.std.specs.Prelude.{◌≡◌, ◌≤◌, ◌∷◌, [], false, IfSome};
 ghost use Rattle.deltas.specs.Spellable.{IsPid};
 ghost use Rattle.deltas.specs.declared.record.Record.TheVariants.{Base};
-ghost use Rattle.chain_search.specs.chain.Chains.{is_removed};
-ghost use Rattle.chain_search.specs.chain.Fitted.{IsPageChain};
+ghost use Rattle.traces.specs.chain.Chains.{is_removed};
+ghost use Rattle.traces.specs.chain.Fitted.{IsPageChain};
 
 use crate::built::{grown, page};
 use crate::plans::{key, leaf, version};

@@ -1,6 +1,6 @@
 //! Holds in an index page of many terms, and where such a page is split.
 ghost use Rattle.std.specs.Prelude.{◌≡◌, false};
-ghost use Rattle.chain_search.specs.chain.Chains.{is_removed};
+ghost use Rattle.traces.specs.chain.Chains.{is_removed};
 
 use crate::plans::grown::{at, with_hold, with_term};
 use crate::plans::{bare, leaf, version};

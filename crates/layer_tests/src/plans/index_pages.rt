@@ -1,7 +1,7 @@
 //! The two parts of an index page that was split at "k09".
 ghost use Rattle.std.specs.Prelude.{codes, ◌≡◌, ◌≤◌, ◌<◌, ◌∷◌, [], false, None, Some};
 ghost use Rattle.base_page.specs.declared.item.Content.TheVariants.{Child};
-ghost use Rattle.chain_search.specs.chain.Chains.{is_removed};
+ghost use Rattle.traces.specs.chain.Chains.{is_removed};
 
 use crate::plans::grown::based;
 use crate::plans::key;

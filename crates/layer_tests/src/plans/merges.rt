@@ -1,6 +1,6 @@
 //! Merges of a removed page into its left one, and the end of its term.
 ghost use Rattle.std.specs.Prelude.{◌≡◌, false, IfSome};
-ghost use Rattle.chain_search.specs.chain.Chains.{is_removed};
+ghost use Rattle.traces.specs.chain.Chains.{is_removed};
 ghost use Rattle.deltas.specs.Spellable.{IsPid};
 
 use crate::plans::grown::{

@@ -1,7 +1,7 @@
 //! What an index page may get at the edges: beside few items, under few deltas, on its level and in its range.
 ghost use Rattle.std.specs.Prelude.{◌≡◌, ◌≤◌, length, false};
 ghost use Rattle.bw_model.specs.Bytes.{longest};
-ghost use Rattle.chain_search.specs.chain.Chains.{is_removed};
+ghost use Rattle.traces.specs.chain.Chains.{is_removed};
 
 use crate::plans::grown::{consolidated, with_terms};
 use crate::plans::index_pages::{read, right};

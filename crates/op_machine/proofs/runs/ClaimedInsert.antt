@@ -12,13 +12,13 @@ use Rattle.bw_model.proofs.LogLaws.{logged_value-push}
 use Rattle.bw_model.specs.declared.step.Step.TheVariants.{Leave}
 use Rattle.bw_model.specs.declared.step.Answer.TheVariants.{Done}
 use Rattle.deltas.specs.Memory.{Memory}
-use Rattle.chain_search.specs.declared.trace.Entry.{Entry}
-use Rattle.chain_search.specs.declared.trace.Entry.TheVariants.{Begin, Step}
-use Rattle.chain_search.specs.chain.SideChain.{Spells}
-use Rattle.chain_search.specs.trace.Run.{IsRun}
-use Rattle.chain_search.specs.trace.Trace.{memory_at, turn_of}
-use Rattle.chain_search.proofs.Pushes.{slice_get_below}
-use Rattle.chain_search.proofs.RunLaws.{IsRun-from_steps}
+use Rattle.traces.specs.declared.trace.Entry.{Entry}
+use Rattle.traces.specs.declared.trace.Entry.TheVariants.{Begin, Step}
+use Rattle.traces.specs.chain.SideChain.{Spells}
+use Rattle.traces.specs.trace.Run.{IsRun}
+use Rattle.traces.specs.trace.Trace.{memory_at, turn_of}
+use Rattle.traces.proofs.Pushes.{slice_get_below}
+use Rattle.traces.proofs.RunLaws.{IsRun-from_steps}
 use Rattle.op_machine.specs.theorem.Operations.{Operation, IsOwnStep, Finishes}
 use Rattle.op_machine.specs.theorem.Points.{HasPoints, log_at, updates_at, updates_by}
 use Rattle.op_machine.specs.theorem.Answered.{IsAnswered, IsTrueReply, RepliesAt}

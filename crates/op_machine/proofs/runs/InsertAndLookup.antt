@@ -14,12 +14,12 @@ use Rattle.bw_model.specs.declared.step.Answer.{Answer}
 use Rattle.bw_model.specs.declared.step.Answer.TheVariants.{Number, Whether}
 use Rattle.deltas.specs.declared.record.Record.{Record}
 use Rattle.deltas.specs.Memory.{opening}
-use Rattle.chain_search.specs.declared.trace.Entry.TheVariants.{Begin, Step}
-use Rattle.chain_search.specs.trace.Steps.{IsWordOf}
-use Rattle.chain_search.specs.discipline.Learnt.{ShowsRow}
-use Rattle.chain_search.specs.trace.Run.{IsRun}
-use Rattle.chain_search.specs.trace.Trace.{memory_at, TakesStep, Happens}
-use Rattle.chain_search.proofs.RunLaws.{IsRun-from_steps}
+use Rattle.traces.specs.declared.trace.Entry.TheVariants.{Begin, Step}
+use Rattle.traces.specs.trace.Steps.{IsWordOf}
+use Rattle.traces.specs.discipline.Learnt.{ShowsRow}
+use Rattle.traces.specs.trace.Run.{IsRun}
+use Rattle.traces.specs.trace.Trace.{memory_at, TakesStep, Happens}
+use Rattle.traces.proofs.RunLaws.{IsRun-from_steps}
 use Rattle.op_machine.specs.theorem.Operations.{EndAtLeaves, Finishes, IsOperation, IsOwnStep, Operation, RepliesAtLeave}
 use Rattle.std.specs.Option.{option_map}
 use Rattle.std.specs.Ordering.{is_eq}
@@ -31,7 +31,7 @@ use Rattle.op_machine.specs.theorem.Points.{log_at, HasPoints, IsPoint, has_poin
 use Rattle.op_machine.specs.theorem.Answered.{IsAnswered}
 use Rattle.op_machine.specs.theorem.Quiet.{IsQuiet, HasMapOf}
 use Rattle.std.specs.Prelude.{map}
-use Rattle.chain_search.specs.trace.Trace.{turn_of}
+use Rattle.traces.specs.trace.Trace.{turn_of}
 use Rattle.op_machine.specs.theorem.Faithful.{IsFaithful, KnowsRow}
 use Rattle.op_machine.specs.theorem.Examples.{small, opening_leaf, put_a, insert_and_lookup}
 use Rattle.op_machine.specs.theorem.Linearized.{IsLinearized}

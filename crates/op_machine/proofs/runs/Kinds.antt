@@ -9,12 +9,12 @@ use Rattle.bw_model.specs.declared.step.Step.TheVariants.{Row, Exchange, Announc
 use Rattle.bw_model.specs.declared.step.Answer.{Answer}
 use Rattle.bw_model.specs.declared.step.Answer.TheVariants.{Whether}
 use Rattle.deltas.specs.declared.record.Record.{Record}
-use Rattle.chain_search.specs.declared.trace.Entry.{Entry}
-use Rattle.chain_search.specs.declared.trace.Entry.TheVariants.{Begin, Step}
-use Rattle.chain_search.specs.chain.Chains.{IsChainOf}
-use Rattle.chain_search.specs.trace.Run.{MayPlace}
-use Rattle.chain_search.specs.trace.Trace.{memory_at, memory_of, TakesStep}
-use Rattle.chain_search.proofs.ChainLaws.{unplaced}
+use Rattle.traces.specs.declared.trace.Entry.{Entry}
+use Rattle.traces.specs.declared.trace.Entry.TheVariants.{Begin, Step}
+use Rattle.traces.specs.chain.Chains.{IsChainOf}
+use Rattle.traces.specs.trace.Run.{MayPlace}
+use Rattle.traces.specs.trace.Trace.{memory_at, memory_of, TakesStep}
+use Rattle.traces.proofs.ChainLaws.{unplaced}
 use Rattle.op_machine.specs.theorem.Examples.{small, opening_leaf}
 use Rattle.op_machine.specs.theorem.Faithful.{touches_pages}
 use Rattle.op_machine.proofs.Listed.{all_at, passes_at}

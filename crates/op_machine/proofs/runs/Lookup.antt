@@ -12,13 +12,13 @@ use Rattle.bw_model.specs.declared.step.Answer.{Answer}
 use Rattle.bw_model.specs.declared.step.Answer.TheVariants.{Number}
 use Rattle.deltas.specs.declared.record.Record.{Record}
 use Rattle.deltas.specs.Memory.{Memory, opening}
-use Rattle.chain_search.specs.declared.trace.Entry.{Entry}
-use Rattle.chain_search.specs.declared.trace.Entry.TheVariants.{Begin, Step}
-use Rattle.chain_search.specs.trace.Run.{IsRun}
+use Rattle.traces.specs.declared.trace.Entry.{Entry}
+use Rattle.traces.specs.declared.trace.Entry.TheVariants.{Begin, Step}
+use Rattle.traces.specs.trace.Run.{IsRun}
 use Rattle.std.specs.Prelude.{map}
-use Rattle.chain_search.specs.trace.Trace.{turn_of}
-use Rattle.chain_search.specs.trace.Trace.{memory_at, TakesStep, IsStep}
-use Rattle.chain_search.proofs.RunLaws.{IsRun-from_steps}
+use Rattle.traces.specs.trace.Trace.{turn_of}
+use Rattle.traces.specs.trace.Trace.{memory_at, TakesStep, IsStep}
+use Rattle.traces.proofs.RunLaws.{IsRun-from_steps}
 use Rattle.op_machine.specs.theorem.Operations.{EndAtLeaves, Finishes, IsOperation, IsOwnStep, Operation, RepliesAtLeave}
 use Rattle.bw_model.specs.Log.{Update, logged_value}
 use Rattle.bw_model.specs.Replies.{reply_of}
@@ -27,9 +27,9 @@ use Rattle.op_machine.specs.theorem.Answered.{IsAnswered}
 use Rattle.op_machine.specs.theorem.Quiet.{IsQuiet, HasMapOf}
 use Rattle.std.specs.Prelude.{slice_range}
 use Rattle.std.specs.List.{count_by}
-use Rattle.chain_search.specs.chain.Chains.{IsChainOf, level_in}
-use Rattle.chain_search.proofs.ChainLaws.{IsChainOf-unique}
-use Rattle.chain_search.proofs.Pushes.{slice_get_below}
+use Rattle.traces.specs.chain.Chains.{IsChainOf, level_in}
+use Rattle.traces.proofs.ChainLaws.{IsChainOf-unique}
+use Rattle.traces.proofs.Pushes.{slice_get_below}
 use Rattle.op_machine.specs.theorem.Direct.{IsDirect, is_step_of}
 use Rattle.op_machine.specs.theorem.Faithful.{IsFaithful, KnowsRow}
 use Rattle.op_machine.specs.theorem.Index.{IsExactIndex, IsPageOfLevel, IsRootLevel}

@@ -8,8 +8,8 @@ use Rattle.bw_model.specs.declared.step.Step.TheVariants.{Slot, Row}
 use Rattle.bw_model.specs.declared.step.Answer.TheVariants.{Number, Content}
 use Rattle.bw_model.specs.declared.step.Link.TheVariants as link
 use Rattle.deltas.specs.declared.record.Record.{Record}
-use Rattle.chain_search.specs.declared.trace.Entry.TheVariants.{Begin, Step}
-use Rattle.chain_search.specs.trace.Trace.{TakesStep}
+use Rattle.traces.specs.declared.trace.Entry.TheVariants.{Begin, Step}
+use Rattle.traces.specs.trace.Trace.{TakesStep}
 use Rattle.op_machine.specs.theorem.Direct.{IsDirect}
 use Rattle.op_machine.specs.theorem.Faithful.{IsFaithful}
 use Rattle.op_machine.specs.theorem.Operations.{Operation}

@@ -12,13 +12,13 @@ use Rattle.bw_model.specs.declared.step.Step.TheVariants.{Epoch, Announce, Leave
 use Rattle.bw_model.specs.declared.step.Answer.{Answer}
 use Rattle.bw_model.specs.declared.step.Answer.TheVariants.{Done}
 use Rattle.deltas.specs.declared.record.Record.{Record}
-use Rattle.chain_search.specs.declared.trace.Entry.TheVariants.{Step}
-use Rattle.chain_search.specs.chain.Chains.{IsChainFrom, IsOnChain, chain_rows}
+use Rattle.traces.specs.declared.trace.Entry.TheVariants.{Step}
+use Rattle.traces.specs.chain.Chains.{IsChainFrom, IsOnChain, chain_rows}
 use Rattle.bw_model.specs.Words.{is_among}
-use Rattle.chain_search.specs.trace.Run.{IsRun}
-use Rattle.chain_search.specs.trace.Trace.{memory_at, TakesStep}
-use Rattle.chain_search.proofs.ChainLaws.{IsChainFrom-unique}
-use Rattle.chain_search.proofs.RunLaws.{IsRun-from_steps}
+use Rattle.traces.specs.trace.Run.{IsRun}
+use Rattle.traces.specs.trace.Trace.{memory_at, TakesStep}
+use Rattle.traces.proofs.ChainLaws.{IsChainFrom-unique}
+use Rattle.traces.proofs.RunLaws.{IsRun-from_steps}
 use Rattle.op_machine.specs.theorem.Reuse.{IsFreed, IsFreedByRule, UnlinksRow, HandsRow}
 use Rattle.op_machine.specs.theorem.Examples.{small, opening_leaf, row_reuse, hurried_reuse}
 use Rattle.op_machine.proofs.Listed.{EachAt-get, all_below-at, and_left, and_right, stands_at}

@@ -6,11 +6,11 @@ use Rattle.bw_model.specs.declared.limits.Limits.{Limits}
 use Rattle.bw_model.specs.declared.step.Answer.{Answer}
 use Rattle.bw_model.specs.declared.step.Step.{Step as StepOf}
 use Rattle.deltas.specs.declared.record.Record.{Record}
-use Rattle.chain_search.specs.discipline.Discipline.{IsAllowed}
-use Rattle.chain_search.specs.discipline.Fitting.{Fits}
-use Rattle.chain_search.specs.discipline.Knowledge.{Knowledge, learn, finished}
-use Rattle.chain_search.specs.discipline.Recalled.{Recalled, recall}
-use Rattle.chain_search.specs.discipline.Useful.{IsUseful}
+use Rattle.traces.specs.discipline.Discipline.{IsAllowed}
+use Rattle.traces.specs.discipline.Fitting.{Fits}
+use Rattle.traces.specs.discipline.Knowledge.{Knowledge, learn, finished}
+use Rattle.traces.specs.discipline.Recalled.{Recalled, recall}
+use Rattle.traces.specs.discipline.Useful.{IsUseful}
 use Rattle.op_machine.specs.machine.Hands.{Hand, empty_hand}
 use Rattle.op_machine.specs.machine.Ops.{Goes, IsAtRestWith}
 use Rattle.op_machine.specs.machine.UnderWay.{UnderWay}

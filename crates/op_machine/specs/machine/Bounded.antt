@@ -3,7 +3,7 @@ use Rattle.std.specs.Prelude.{◌<◌, ◌+◌, ◌*◌, ℕ, List, length, Opti
 use Rattle.bw_model.specs.declared.step.Answer.{Answer}
 use Rattle.bw_model.specs.declared.step.Step.{Step as StepOf}
 use Rattle.deltas.specs.declared.record.Record.{Record}
-use Rattle.chain_search.specs.discipline.Recalled.{Recalled, IsStepSpent}
+use Rattle.traces.specs.discipline.Recalled.{Recalled, IsStepSpent}
 use Rattle.descent.specs.ReadRounds as read
 use Rattle.descent.specs.WriteRounds as write
 use Rattle.descent.specs.Walks.{few_reads}

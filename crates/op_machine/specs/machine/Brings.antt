@@ -7,9 +7,9 @@ use Rattle.bw_model.specs.Replies.{command_key, reply_of}
 use Rattle.deltas.specs.declared.record.Record.{Record}
 use Rattle.deltas.specs.declared.record.Record.TheVariants.{Base}
 use Rattle.deltas.specs.declared.record.Record.TheVariants as newest
-use Rattle.chain_search.specs.chain.Chains.{IsChainFrom, covers, is_removed, level_in}
-use Rattle.chain_search.specs.discipline.Discipline.{found}
-use Rattle.chain_search.specs.discipline.Knowledge.{Knowledge}
+use Rattle.traces.specs.chain.Chains.{IsChainFrom, covers, is_removed, level_in}
+use Rattle.traces.specs.discipline.Discipline.{found}
+use Rattle.traces.specs.discipline.Knowledge.{Knowledge}
 use Rattle.installs.specs.declared.change.End.{End}
 use Rattle.installs.specs.declared.change.End.TheVariants.{Won}
 use Rattle.installs.specs.declared.plan.Plan.{Plan}

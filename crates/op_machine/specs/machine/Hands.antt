@@ -4,9 +4,9 @@ use Rattle.bw_model.specs.declared.limits.Limits.{Limits}
 use Rattle.deltas.specs.Memory.{replaced_at}
 use Rattle.deltas.specs.declared.record.Record.{Record}
 use Rattle.deltas.specs.declared.record.Record.TheVariants.{Base, Unterm}
-use Rattle.chain_search.specs.chain.Chains.{IsChainFrom, chain_rows}
-use Rattle.chain_search.specs.discipline.Fitting.{AreOutOfLimbo}
-use Rattle.chain_search.specs.discipline.Knowledge.{Absent, Unstamped, Knowledge, Limbos, taken_out}
+use Rattle.traces.specs.chain.Chains.{IsChainFrom, chain_rows}
+use Rattle.traces.specs.discipline.Fitting.{AreOutOfLimbo}
+use Rattle.traces.specs.discipline.Knowledge.{Absent, Unstamped, Knowledge, Limbos, taken_out}
 use Rattle.epochs.specs.Limbo.{Limbo}
 use Rattle.installs.specs.Spares.{Spares}
 use Rattle.installs.specs.declared.change.End.{End}

@@ -5,11 +5,11 @@ use Rattle.bw_model.specs.declared.step.Step.{Step as StepOf}
 use Rattle.bw_model.specs.declared.step.Step.TheVariants as step
 use Rattle.bw_model.specs.declared.step.Answer.{Answer}
 use Rattle.deltas.specs.declared.record.Record.{Record}
-use Rattle.chain_search.specs.chain.Chains.{IsChainFrom, covers, level_in}
-use Rattle.chain_search.specs.discipline.Discipline.{LacksRoom, MayReply, WasStanding}
-use Rattle.chain_search.specs.discipline.Knowledge.{Knowledge, Limbos, finished, learn}
+use Rattle.traces.specs.chain.Chains.{IsChainFrom, covers, level_in}
+use Rattle.traces.specs.discipline.Discipline.{LacksRoom, MayReply, WasStanding}
+use Rattle.traces.specs.discipline.Knowledge.{Knowledge, Limbos, finished, learn}
 use Rattle.bw_model.specs.declared.limits.Limits.{Limits}
-use Rattle.chain_search.specs.discipline.Recalled.{Recalled}
+use Rattle.traces.specs.discipline.Recalled.{Recalled}
 use Rattle.descent.specs.ReadRounds as read
 use Rattle.descent.specs.Versions.{IsAlive}
 use Rattle.descent.specs.WriteRounds as write

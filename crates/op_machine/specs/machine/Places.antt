@@ -4,7 +4,7 @@ use Rattle.bw_model.specs.declared.command.Reply.{Reply as ReplyOf}
 use Rattle.bw_model.specs.declared.limits.Limits.{Limits}
 use Rattle.bw_model.specs.declared.step.Answer.{Answer}
 use Rattle.deltas.specs.declared.record.Record.{Record}
-use Rattle.chain_search.specs.chain.Chains.{level_in, low_in}
+use Rattle.traces.specs.chain.Chains.{level_in, low_in}
 use Rattle.descent.specs.Courses as course
 use Rattle.descent.specs.ReadRounds as read
 use Rattle.descent.specs.Rounds.{Responds}

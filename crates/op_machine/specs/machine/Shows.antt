@@ -6,18 +6,18 @@ use Rattle.bw_model.specs.declared.step.Answer.{Answer}
 use Rattle.bw_model.specs.declared.step.Answer.TheVariants as answer
 use Rattle.bw_model.specs.declared.limits.Limits.{Limits}
 use Rattle.deltas.specs.declared.record.Record.{Record}
-use Rattle.chain_search.specs.discipline.Discipline.{May, MayFree, MayReply}
-use Rattle.chain_search.specs.discipline.Fitting.{Fits}
-use Rattle.chain_search.specs.discipline.Knowledge.{Knowledge, learn}
-use Rattle.chain_search.specs.discipline.Recalled.{Recalled, WasHead, recall}
-use Rattle.chain_search.specs.discipline.Useful.{IsUseful}
+use Rattle.traces.specs.discipline.Discipline.{May, MayFree, MayReply}
+use Rattle.traces.specs.discipline.Fitting.{Fits}
+use Rattle.traces.specs.discipline.Knowledge.{Knowledge, learn}
+use Rattle.traces.specs.discipline.Recalled.{Recalled, WasHead, recall}
+use Rattle.traces.specs.discipline.Useful.{IsUseful}
 use Rattle.descent.specs.ReadRounds as read
 use Rattle.descent.specs.WriteRounds as write
 use Rattle.descent.specs.Courses.{Seek}
 use Rattle.installs.specs.Changes as change
 use Rattle.installs.specs.Bounded as bound
 use Rattle.installs.specs.Spares.{Spares}
-use Rattle.chain_search.specs.trace.Within.{IsWithin}
+use Rattle.traces.specs.trace.Within.{IsWithin}
 use Rattle.installs.specs.declared.plan.Plan.{Plan}
 use Rattle.bw_model.specs.Replies.{is_writer}
 use Rattle.op_machine.specs.machine.Brings.{Brings, IsReadPlan, IsUsefulPlan}

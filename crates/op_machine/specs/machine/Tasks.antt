@@ -2,7 +2,7 @@
 use Rattle.std.specs.Prelude.{◌≡◌, ℕ, List, None, Some, IfSome, true, false}
 use Rattle.bw_model.specs.declared.command.Command.{Command}
 use Rattle.bw_model.specs.declared.limits.Limits.{Limits}
-use Rattle.chain_search.specs.discipline.Knowledge.{Knowledge}
+use Rattle.traces.specs.discipline.Knowledge.{Knowledge}
 use Rattle.installs.specs.Spares.{HaveRoom, Rest, Spares}
 
 -- whose an operation is, what it was asked, and which errands it has

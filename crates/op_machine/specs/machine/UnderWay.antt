@@ -3,7 +3,7 @@ use Rattle.std.specs.Prelude.{ℕ, Bool, true, false, Option, Some, None, IsSome
 use Rattle.bw_model.specs.declared.step.Answer.{Answer}
 use Rattle.bw_model.specs.declared.step.Step.{Step as StepOf}
 use Rattle.deltas.specs.declared.record.Record.{Record}
-use Rattle.chain_search.specs.discipline.Recalled.{Recalled, IsStepSpent, recall}
+use Rattle.traces.specs.discipline.Recalled.{Recalled, IsStepSpent, recall}
 use Rattle.op_machine.specs.machine.Hands.{Hand}
 use Rattle.op_machine.specs.machine.Ops.{Op, wanted_of}
 use Rattle.op_machine.specs.machine.Spending.{steps_left}

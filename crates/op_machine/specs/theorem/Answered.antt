@@ -15,11 +15,11 @@ use Rattle.base_page.specs.declared.page.Page.{Page as BasePage}
 use Rattle.deltas.specs.declared.record.Record.{Record}
 use Rattle.deltas.specs.declared.record.Record.TheVariants.{Base}
 use Rattle.deltas.specs.Memory.{Memory}
-use Rattle.chain_search.specs.declared.trace.Entry.{Entry}
-use Rattle.chain_search.specs.chain.Chains.{IsChainOf, covers, high_in, is_removed, low_in}
-use Rattle.chain_search.specs.chain.HeldBack.{HoldsBack}
-use Rattle.chain_search.specs.chain.SideChain.{LivePage, IsLeaves}
-use Rattle.chain_search.specs.trace.Trace.{memory_at}
+use Rattle.traces.specs.declared.trace.Entry.{Entry}
+use Rattle.traces.specs.chain.Chains.{IsChainOf, covers, high_in, is_removed, low_in}
+use Rattle.traces.specs.chain.HeldBack.{HoldsBack}
+use Rattle.traces.specs.chain.SideChain.{LivePage, IsLeaves}
+use Rattle.traces.specs.trace.Trace.{memory_at}
 use Rattle.op_machine.specs.theorem.Operations.{Operation, IsOperation, IsOwnStep, TakesOwnStep, Finishes}
 use Rattle.op_machine.specs.theorem.Points.{log_at, IsPoint}
 

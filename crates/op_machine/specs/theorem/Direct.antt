@@ -14,10 +14,10 @@ use Rattle.deltas.specs.declared.record.Record.{Record}
 use Rattle.deltas.specs.declared.record.Record.TheVariants as delta
 use Rattle.deltas.specs.declared.record.Remove.{Remove}
 use Rattle.deltas.specs.NamedPages.{NamesPage}
-use Rattle.chain_search.specs.declared.trace.Entry.{Entry}
-use Rattle.chain_search.specs.declared.trace.Entry.TheVariants.{Begin, Step}
-use Rattle.chain_search.specs.chain.Chains.{IsChainOf}
-use Rattle.chain_search.specs.trace.Trace.{memory_at}
+use Rattle.traces.specs.declared.trace.Entry.{Entry}
+use Rattle.traces.specs.declared.trace.Entry.TheVariants.{Begin, Step}
+use Rattle.traces.specs.chain.Chains.{IsChainOf}
+use Rattle.traces.specs.trace.Trace.{memory_at}
 use Rattle.op_machine.specs.theorem.Links.{link_of}
 use Rattle.op_machine.specs.theorem.Operations.{Operation, IsOperation, IsOwnStep, TakesOwnStep}
 

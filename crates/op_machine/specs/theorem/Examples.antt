@@ -11,9 +11,9 @@ use Rattle.base_page.specs.Pages.{Page, empty_leaf}
 use Rattle.base_page.specs.declared.item.Content.TheVariants.{Child}
 use Rattle.deltas.specs.declared.record.Record.{Record}
 use Rattle.deltas.specs.declared.record.Record.TheVariants as delta
-use Rattle.chain_search.specs.chain.SideChain.{LivePage}
-use Rattle.chain_search.specs.declared.trace.Entry.{Entry}
-use Rattle.chain_search.specs.declared.trace.Entry.TheVariants.{Begin, Step}
+use Rattle.traces.specs.chain.SideChain.{LivePage}
+use Rattle.traces.specs.declared.trace.Entry.{Entry}
+use Rattle.traces.specs.declared.trace.Entry.TheVariants.{Begin, Step}
 
 pub are_small : AreLimits 2 64 64 1
 are_small = record {

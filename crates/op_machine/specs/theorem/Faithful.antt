@@ -6,10 +6,10 @@ use Rattle.bw_model.specs.declared.step.Step.TheVariants.{Slot, Row, Place, Exch
 use Rattle.bw_model.specs.declared.step.Answer.{Answer}
 use Rattle.bw_model.specs.declared.step.Answer.TheVariants.{Whether}
 use Rattle.deltas.specs.declared.record.Record.{Record}
-use Rattle.chain_search.specs.declared.trace.Entry.{Entry}
-use Rattle.chain_search.specs.discipline.Learnt.{ShowsRow}
+use Rattle.traces.specs.declared.trace.Entry.{Entry}
+use Rattle.traces.specs.discipline.Learnt.{ShowsRow}
 use Rattle.bw_model.specs.Words.{is_among}
-use Rattle.chain_search.specs.trace.Trace.{TakesStep, memory_at}
+use Rattle.traces.specs.trace.Trace.{TakesStep, memory_at}
 
 -- The step may change what stands in the row; a take that got nothing doesn't.
 abbrev pub Disturbs : StepOf Record → Answer Record → ℕ → Type 0

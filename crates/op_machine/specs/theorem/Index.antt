@@ -5,10 +5,10 @@ use Rattle.bw_model.specs.declared.limits.Limits.{Limits}
 use Rattle.base_page.specs.declared.item.Content.TheVariants.{Child}
 use Rattle.deltas.specs.declared.record.Record.{Record}
 use Rattle.deltas.specs.Memory.{Memory}
-use Rattle.chain_search.specs.declared.trace.Entry.{Entry}
-use Rattle.chain_search.specs.chain.Chains.{IsChainOf, content_in, level_in, low_in, covers}
-use Rattle.chain_search.specs.chain.SideChain.{LivePage, IsSideChainFrom, IsWhole}
-use Rattle.chain_search.specs.trace.Trace.{memory_at}
+use Rattle.traces.specs.declared.trace.Entry.{Entry}
+use Rattle.traces.specs.chain.Chains.{IsChainOf, content_in, level_in, low_in, covers}
+use Rattle.traces.specs.chain.SideChain.{LivePage, IsSideChainFrom, IsWhole}
+use Rattle.traces.specs.trace.Trace.{memory_at}
 use Rattle.op_machine.specs.theorem.Phases.{IsInPhase, indexed, held, removed, merged}
 
 -- The page of the PID is of the level.

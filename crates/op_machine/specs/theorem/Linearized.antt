@@ -1,9 +1,9 @@
 -- What the theorem says of a run.
 use Rattle.std.specs.Prelude.{List, Bool}
 use Rattle.bw_model.specs.declared.limits.Limits.{Limits}
-use Rattle.chain_search.specs.declared.trace.Entry.{Entry}
-use Rattle.chain_search.specs.declared.trace.Turn.{Turn}
-use Rattle.chain_search.specs.trace.Run.{IsRunOf}
+use Rattle.traces.specs.declared.trace.Entry.{Entry}
+use Rattle.traces.specs.declared.trace.Turn.{Turn}
+use Rattle.traces.specs.trace.Run.{IsRunOf}
 use Rattle.op_machine.specs.theorem.Operations.{EndAtLeaves}
 use Rattle.op_machine.specs.theorem.Points.{HasPoints}
 use Rattle.op_machine.specs.theorem.Answered.{IsAnswered}

@@ -9,8 +9,8 @@ use Rattle.deltas.specs.declared.record.Record.{Record}
 use Rattle.deltas.specs.declared.record.Record.TheVariants.{Remove}
 use Rattle.deltas.specs.Links.{record_link}
 use Rattle.deltas.specs.Memory.{Memory}
-use Rattle.chain_search.specs.declared.trace.Entry.{Entry}
-use Rattle.chain_search.specs.trace.Trace.{IsStep}
+use Rattle.traces.specs.declared.trace.Entry.{Entry}
+use Rattle.traces.specs.trace.Trace.{IsStep}
 
 -- the link of an emptied slot, by the record that was its newest
 abbrev pub link_without : Record → Link

@@ -15,12 +15,12 @@ use Rattle.deltas.specs.declared.record.Hold.{Hold}
 use Rattle.deltas.specs.declared.record.Remove.{Remove}
 use Rattle.deltas.specs.declared.record.Merge.{Merge}
 use Rattle.deltas.specs.declared.record.Unterm.{Unterm}
-use Rattle.chain_search.specs.declared.trace.Entry.{Entry}
-use Rattle.chain_search.specs.chain.Chains.{IsChainOf, content_in, low_in, right_in}
+use Rattle.traces.specs.declared.trace.Entry.{Entry}
+use Rattle.traces.specs.chain.Chains.{IsChainOf, content_in, low_in, right_in}
 use Rattle.bw_model.specs.Words.{is_among}
 use Rattle.deltas.specs.Memory.{Memory}
-use Rattle.chain_search.specs.trace.Trace.{IsStep, Happens}
-use Rattle.chain_search.specs.chain.Unheld.{IsUnheld}
+use Rattle.traces.specs.trace.Trace.{IsStep, Happens}
+use Rattle.traces.specs.chain.Unheld.{IsUnheld}
 use Rattle.op_machine.specs.theorem.Links.{Wins, Installs}
 
 pub data Phase : Type 0 where

@@ -7,9 +7,9 @@ use Rattle.bw_model.specs.declared.command.Reply.{Reply}
 use Rattle.bw_model.specs.declared.command.Reply.TheVariants as kind
 use Rattle.bw_model.specs.Log.{Update, logged_value}
 use Rattle.bw_model.specs.Replies.{command_key, update_of}
-use Rattle.chain_search.specs.declared.trace.Entry.{Entry}
-use Rattle.chain_search.specs.declared.trace.Entry.TheVariants.{Begin, Step}
-use Rattle.chain_search.specs.trace.Trace.{command_of}
+use Rattle.traces.specs.declared.trace.Entry.{Entry}
+use Rattle.traces.specs.declared.trace.Entry.TheVariants.{Begin, Step}
+use Rattle.traces.specs.trace.Trace.{command_of}
 use Rattle.op_machine.specs.theorem.Operations.{Operation, IsOperation, IsOwnStep, Finishes}
 
 -- the update, if any, that the actor's command makes at the log

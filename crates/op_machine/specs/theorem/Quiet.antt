@@ -3,9 +3,9 @@ use Rattle.std.specs.Prelude.{◌≡◌, ◌≤◌, ◌↔◌, ℕ, List, length
 use Rattle.bw_model.specs.declared.limits.Limits.{Limits}
 use Rattle.bw_model.specs.Log.{Update, logged_value}
 use Rattle.deltas.specs.Memory.{Memory}
-use Rattle.chain_search.specs.declared.trace.Entry.{Entry}
-use Rattle.chain_search.specs.chain.SideChain.{LivePage, IsLeaves, IsWhole, Spells}
-use Rattle.chain_search.specs.trace.Trace.{memory_at}
+use Rattle.traces.specs.declared.trace.Entry.{Entry}
+use Rattle.traces.specs.chain.SideChain.{LivePage, IsLeaves, IsWhole, Spells}
+use Rattle.traces.specs.trace.Trace.{memory_at}
 use Rattle.op_machine.specs.theorem.Points.{log_at}
 
 -- The leaves are whole, and have at each key the value that the log says.

@@ -7,10 +7,10 @@ use Rattle.bw_model.specs.declared.step.Step.TheVariants.{Epoch, Announce, Excha
 use Rattle.bw_model.specs.declared.step.Answer.{Answer}
 use Rattle.bw_model.specs.declared.step.Answer.TheVariants.{Number, Whether}
 use Rattle.deltas.specs.declared.record.Record.{Record}
-use Rattle.chain_search.specs.declared.trace.Entry.{Entry}
-use Rattle.chain_search.specs.chain.Chains.{IsChainOf, IsOnChain, chain_rows}
+use Rattle.traces.specs.declared.trace.Entry.{Entry}
+use Rattle.traces.specs.chain.Chains.{IsChainOf, IsOnChain, chain_rows}
 use Rattle.bw_model.specs.Words.{is_among}
-use Rattle.chain_search.specs.trace.Trace.{TakesStep, memory_at}
+use Rattle.traces.specs.trace.Trace.{TakesStep, memory_at}
 
 -- The step takes the PID, or frees it; a take that got nothing doesn't.
 abbrev pub HandsPid : ℕ → StepOf Record → Answer Record → Type 0

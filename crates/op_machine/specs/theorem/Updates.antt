@@ -5,8 +5,8 @@ use Rattle.bw_model.specs.declared.step.Link.{Link}
 use Rattle.bw_model.specs.declared.step.Link.TheVariants as link
 use Rattle.bw_model.specs.Log.{Update}
 use Rattle.deltas.specs.Memory.{Memory}
-use Rattle.chain_search.specs.declared.trace.Entry.{Entry}
-use Rattle.chain_search.specs.trace.Trace.{Happens}
+use Rattle.traces.specs.declared.trace.Entry.{Entry}
+use Rattle.traces.specs.trace.Trace.{Happens}
 use Rattle.op_machine.specs.theorem.Links.{Wins}
 use Rattle.op_machine.specs.theorem.Points.{IsPoint, log_at}
 

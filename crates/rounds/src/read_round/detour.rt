@@ -2,7 +2,7 @@
 ghost use Rattle.std.specs.Prelude.{◌≡◌, ◌≢◌, ◌<◌, IsTrue, MatchOption, Some, true};
 ghost use Rattle.std.specs.Bool.{Decides};
 ghost use Rattle.std.specs.Option.{option_map};
-ghost use Rattle.chain_search.specs.chain.Chains.{is_removed, level_in, low_in, right_in};
+ghost use Rattle.traces.specs.chain.Chains.{is_removed, level_in, low_in, right_in};
 ghost use Rattle.descent.specs.ReadLegs.{IsPlain, Round};
 ghost use Rattle.descent.specs.ReadRounds.{CanTreatRead, IsSame, LacksLeft, TreatsRead, left_of, read_way};
 ghost use Rattle.descent.specs.Ways.{LeadsDown, LeadsOn, LeadsRight, StaysLeft};

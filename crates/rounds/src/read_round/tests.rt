@@ -1,9 +1,9 @@
 //! A reader's round over pages by hand, to the left of a page.
 ghost use Rattle.std.specs.Prelude.{◌≡◌, ◌≤◌, ◌∷◌, [], None, length};
 ghost use Rattle.bw_model.specs.Bytes.{longest};
-ghost use Rattle.chain_search.specs.chain.Chains.{low_in};
-ghost use Rattle.chain_search.specs.chain.Examples.{index};
-ghost use Rattle.chain_search.specs.chain.Fitted.{IsFitted};
+ghost use Rattle.traces.specs.chain.Chains.{low_in};
+ghost use Rattle.traces.specs.chain.Examples.{index};
+ghost use Rattle.traces.specs.chain.Fitted.{IsFitted};
 ghost use Rattle.deltas.specs.Spellable.{IsPid};
 ghost use Rattle.deltas.specs.declared.record.Record.TheVariants.{Base};
 ghost use Rattle.descent.specs.Ways.{precedes};

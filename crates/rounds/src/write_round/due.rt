@@ -2,7 +2,7 @@
 ghost use Rattle.std.specs.Prelude.{◌≡◌, ◌≢◌, IfSome, MatchOption, Some, true, false};
 ghost use Rattle.std.specs.Bool.{Decides};
 ghost use Rattle.base_page.specs.declared.item.Content.TheVariants.{Child};
-ghost use Rattle.chain_search.specs.chain.Chains.{content_in};
+ghost use Rattle.traces.specs.chain.Chains.{content_in};
 ghost use Rattle.descent.specs.Courses as goal;
 ghost use Rattle.descent.specs.WriteResponses.{CanTreatWrite, IsIdleOnWay, IsTended, TreatsWrite};
 ghost use Rattle.descent.specs.WriteRounds.{IsLong, SeeksLeaf};

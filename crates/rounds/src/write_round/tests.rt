@@ -1,7 +1,7 @@
 //! A writer's round over pages by hand, one page after another.
 ghost use Rattle.std.specs.Prelude.{◌≡◌, ◌<◌, ◌∷◌, [], true, false, IfSome};
-ghost use Rattle.chain_search.specs.chain.Chains.{is_removed, low_in};
-ghost use Rattle.chain_search.specs.chain.Fitted.{IsFitted};
+ghost use Rattle.traces.specs.chain.Chains.{is_removed, low_in};
+ghost use Rattle.traces.specs.chain.Fitted.{IsFitted};
 ghost use Rattle.deltas.specs.declared.record.Record.TheVariants.{Base};
 ghost use Rattle.descent.specs.WriteResponses.{CanMeetGoal};
 ghost use Rattle.descent.specs.WriteRounds.{write_way};

@@ -7,8 +7,8 @@ ghost use Rattle.base_page.specs.declared.items.TheConstants.{MAX_ITEMS};
 ghost use Rattle.deltas.specs.declared.record.Record.{Record};
 ghost use Rattle.deltas.specs.Records.{content_said, names};
 ghost use Rattle.record_slots.specs.Parts.{items_of};
-ghost use Rattle.chain_search.specs.chain.Chains.{content_in, IsItemsOf};
-ghost use Rattle.chain_search.specs.chain.Fitted.{IsFitted};
+ghost use Rattle.traces.specs.chain.Chains.{content_in, IsItemsOf};
+ghost use Rattle.traces.specs.chain.Fitted.{IsFitted};
 ghost use Rattle.row_chain.specs.Walks.{bound_under, count_under};
 
 use super::search::newest_of;

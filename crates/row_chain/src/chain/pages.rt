@@ -3,9 +3,9 @@ ghost use Rattle.std.specs.Prelude.{◌≡◌, ◌+◌, ◌∷◌, [], ℕ, fals
 ghost use Rattle.base_page.specs.Rules.{IsRuled};
 ghost use Rattle.deltas.specs.declared.record.Record.{Record};
 ghost use Rattle.deltas.specs.declared.record.Record.TheVariants.{Base};
-ghost use Rattle.chain_search.specs.chain.Chains.{is_removed, low_in};
-ghost use Rattle.chain_search.specs.discipline.Discipline.{base_from};
-ghost use Rattle.chain_search.specs.chain.Fitted.{IsPageChain, Makes};
+ghost use Rattle.traces.specs.chain.Chains.{is_removed, low_in};
+ghost use Rattle.traces.specs.discipline.Discipline.{base_from};
+ghost use Rattle.traces.specs.chain.Fitted.{IsPageChain, Makes};
 
 use crate::Chain;
 use base_page::Page;

@@ -3,8 +3,8 @@ ghost use Rattle.std.specs.Prelude.{◌≤◌, None, length};
 ghost use Rattle.bw_model.specs.Pairs.{ArePairsOf};
 ghost use Rattle.bw_model.specs.declared.pairs.TheConstants.{MAX_PAIRS};
 ghost use Rattle.base_page.specs.Pages.{IsAscending, content_at};
-ghost use Rattle.chain_search.specs.chain.Chains.{high_in};
-ghost use Rattle.chain_search.specs.discipline.Discipline.{found, value_of};
+ghost use Rattle.traces.specs.chain.Chains.{high_in};
+ghost use Rattle.traces.specs.discipline.Discipline.{found, value_of};
 
 use crate::Chain;
 use base_page::{Content, Item};

@@ -1,6 +1,6 @@
 //! The numbers of a chain's rows.
 ghost use Rattle.std.specs.Prelude.{◌≡◌};
-ghost use Rattle.chain_search.specs.chain.Chains.{chain_rows};
+ghost use Rattle.traces.specs.chain.Chains.{chain_rows};
 
 use crate::{Chain, MAX_RECORDS};
 use arrayvec::ArrayVec;

@@ -5,7 +5,7 @@ ghost use Rattle.base_page.specs.Pages.{child_in, value_in};
 ghost use Rattle.base_page.specs.Places.{IsGreatestChild, HasNoChild};
 ghost use Rattle.deltas.specs.declared.record.Record.{Record};
 ghost use Rattle.deltas.specs.Records.{content_said};
-ghost use Rattle.chain_search.specs.chain.Chains.{content_in, covers, level_in, low_in};
+ghost use Rattle.traces.specs.chain.Chains.{content_in, covers, level_in, low_in};
 ghost use Rattle.row_chain.specs.Walks.{is_named};
 
 use crate::{Chain, HeldRow};

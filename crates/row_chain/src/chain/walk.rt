@@ -3,7 +3,7 @@ ghost use Rattle.std.specs.Prelude.{◌≡◌, [], ◌∷◌, None, Some, if◌t
 ghost use Rattle.bw_model.specs.Bytes.{is_below};
 ghost use Rattle.base_page.specs.Pages.{content_at};
 ghost use Rattle.record_slots.specs.Parts.{items_of};
-ghost use Rattle.chain_search.specs.chain.Chains.{content_in};
+ghost use Rattle.traces.specs.chain.Chains.{content_in};
 ghost use Rattle.row_chain.specs.Walks.{greater, is_open, IsGreatestKey};
 
 use super::search::newest_of;

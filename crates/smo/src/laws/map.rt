@@ -8,7 +8,7 @@ ghost use Rattle.deltas.specs.declared.record.Remove.{Remove};
 ghost use Rattle.deltas.specs.declared.record.Merge.{Merge};
 ghost use Rattle.deltas.specs.declared.record.Unterm.{Unterm};
 ghost use Rattle.deltas.specs.Memory.{Memory};
-ghost use Rattle.chain_search.specs.chain.Fitted.{IsPageChain};
+ghost use Rattle.traces.specs.chain.Fitted.{IsPageChain};
 ghost use Rattle.smo.specs.declared.split.SplitPlan.{SplitPlan};
 ghost use Rattle.smo.specs.Versions.{Version};
 ghost use Rattle.smo.specs.Splits.{IsSplitPlan, split_to};

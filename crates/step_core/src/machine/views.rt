@@ -1,10 +1,10 @@
 //! What stands in a core, for who looks at it. Nothing here is a turn.
 ghost use Rattle.std.specs.Prelude.{◌≡◌, nat_lt, is_some, IfSome};
 ghost use Rattle.op_machine.specs.machine.Actors.{IsActor, running_command};
-ghost use Rattle.chain_search.specs.discipline.Knowledge.{knows};
-ghost use Rattle.chain_search.specs.discipline.Recalled.{recalls};
+ghost use Rattle.traces.specs.discipline.Knowledge.{knows};
+ghost use Rattle.traces.specs.discipline.Recalled.{recalls};
 ghost use Rattle.core_memory.specs.Tables.{memory_in};
-ghost use Rattle.chain_search.specs.trace.Trace.{command_of, memory_of};
+ghost use Rattle.traces.specs.trace.Trace.{command_of, memory_of};
 ghost use Rattle.tree_law.specs.LevelPages.{HasAllLevels};
 
 use super::Core;

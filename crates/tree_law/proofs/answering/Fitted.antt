@@ -5,9 +5,9 @@ use Rattle.tree_law.proofs.Words.{next_row, IsSpellable, Record, low_in, level_i
 use Rattle.tree_law.proofs.Words.{Absent, IsAnswer, IsWordOf, memory_of, Entry, Key, Free, Linked, Reached, OwnFits, PageFits, Nobody, Placed, Indexed, PageOwner, Keeps}
 use Rattle.tree_law.proofs.Words.{Fresh, shared, slot_in, row_in, IsState, phase_of, IsInTree, LimboFits, Outing, []}
 use Rattle.tree_law.proofs.links.Merging.{frozen_as}
-use Rattle.chain_search.specs.discipline.Fitting.{FitsWord, ReadsRemoved}
-use Rattle.chain_search.specs.discipline.Fitting.{FitsRow, FitsTaken, FitsTakenPid, AreOutOfLimbo, FitsExchange}
-use Rattle.chain_search.proofs.FittedLaws.{first_spellable}
+use Rattle.traces.specs.discipline.Fitting.{FitsWord, ReadsRemoved}
+use Rattle.traces.specs.discipline.Fitting.{FitsRow, FitsTaken, FitsTakenPid, AreOutOfLimbo, FitsExchange}
+use Rattle.traces.proofs.FittedLaws.{first_spellable}
 use Rattle.op_machine.specs.theorem.Phases as phase
 use Rattle.tree_law.proofs.epochs.Exchanging.{on_walk, slot_linked}
 use Rattle.tree_law.proofs.links.Keeping.{slot_of, met_placed}

@@ -3,7 +3,7 @@ use Rattle.tree_law.proofs.Words.{false, ◌⊎◌, [], ap, Option, None, List, 
 use Rattle.tree_law.proofs.Words.{IsChainFrom-unique, IsChainFrom, right_in, low_in, is_removed, level_in, IsFront, NamesChild, Knowledge, AreFitted, Key, Linked, Owners, Reached}
 use Rattle.tree_law.proofs.Words.{ChainNames, Placed, PageOwner, Cleared, rank_of, Shared, IsTree}
 use Rattle.std.proofs.lemmas.List.{length-append}
-use Rattle.chain_search.specs.discipline.Fitting.{SaysOf, IsReadWhole}
+use Rattle.traces.specs.discipline.Fitting.{SaysOf, IsReadWhole}
 use Rattle.tree_law.proofs.shape.{front_of, chain_stands, covers_from}
 use Rattle.tree_law.proofs.links.Keeping.{read_names, beyond_names}
 

@@ -3,7 +3,7 @@ use Rattle.tree_law.proofs.Words.{false, ap, refl, Option, List, true, inl, â—Œâ
 use Rattle.tree_law.proofs.Words.{IsSome, Command, Reply, Limits, Answer, Whether, Content, Link, StepOf, Row, Exchange, replaced_at, Record, May, begun, knows, Knowledge, finished, Ready}
 use Rattle.tree_law.proofs.Words.{learn, recall, Recalled, blank, recalls, IsAnswer, memory_of, IsUseful, Entry, Begin, Step, is_step_of, Links, Operation, IsUpdateLink, Accounts}
 use Rattle.tree_law.proofs.Words.{IsLast, Affords, IsDirectState, Recollects, Walks, StaysDirect, IsState, Opens, []}
-use Rattle.chain_search.specs.discipline.Recalled.{IsStepSpent}
+use Rattle.traces.specs.discipline.Recalled.{IsStepSpent}
 use Rattle.tree_law.proofs.answering.Fitted.{fits}
 use Rattle.tree_law.proofs.shape.Puts.{at_place, by_equal}
 use Rattle.tree_law.proofs.direct.Appended.{knows-push, last_begun, last_cases, recalls-push, takes_below}

@@ -3,7 +3,7 @@ use Rattle.tree_law.proofs.Words.{false, [], ap, refl, Option, suc, List, true, 
 use Rattle.tree_law.proofs.Words.{Number, StepOf, TakePid, Row, TakeRow, Slot, Exchange, Memory, Record, Remove, knows, Ready, Recalled, is_removal, Entry, Step, IsExchangeOf, IsCause, TakesNone}
 use Rattle.tree_law.proofs.Words.{IsTheStep, IsTake, link_of, Operation, IsLast, Recollects, Walks}
 use Rattle.deltas.specs.declared.record.Remove.{Remove as Removal}
-use Rattle.chain_search.specs.discipline.Recalled.{AnyNames, IsPaid, IsUnread}
+use Rattle.traces.specs.discipline.Recalled.{AnyNames, IsPaid, IsUnread}
 use Rattle.tree_law.proofs.trace.Searches.{takes_kept}
 use Rattle.tree_law.proofs.direct.Appended.{memory_last, takes_below, takes_last}
 use Rattle.tree_law.proofs.direct.Causes.{none_kept}

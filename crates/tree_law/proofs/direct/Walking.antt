@@ -2,7 +2,7 @@
 use Rattle.tree_law.proofs.Words.{false, ap, refl, Option, suc, List, true, inl, ◌≢◌, length, ◌++◌, inr, ◌∷◌, subst, sym, ℕ, ◌≡◌, Bool, zero, ◌∙◌, ◌<◌, arith, Some, ◌||◌, Reply, Limits}
 use Rattle.tree_law.proofs.Words.{Answer, Content, Number, StepOf, Leave, Row, Slot, PidBits, RowBits, Memory, replaced_at, Record, Knowledge, learn, recall, Recalled, is_removal, IsAnswer, Entry}
 use Rattle.tree_law.proofs.Words.{Step, TakesNone, IsTheStep, Operation, TakesOwnStep, IsLast, Walks, []}
-use Rattle.chain_search.specs.discipline.Recalled.{Walk, note, visit}
+use Rattle.traces.specs.discipline.Recalled.{Walk, note, visit}
 use Rattle.tree_law.proofs.links.Exchanged.{exchanged_alike}
 use Rattle.tree_law.proofs.trace.Owned.{pushed_length}
 use Rattle.tree_law.proofs.shape.Puts.{by_equal}

@@ -4,7 +4,7 @@ use Rattle.tree_law.proofs.Words.{Update, Reply, Limits, Exchange, Memory, repla
 use Rattle.tree_law.proofs.Words.{Unstamped, handed_page, is_on_walk, set_page, Key, IsHomed, Linked, Owners, Reached, Spare, PageFits, PageOwner, Cleared, Keeps, put, shared, slot_in, Times}
 use Rattle.tree_law.proofs.Words.{Timed, times_after, LimboFits, Outing, is_linked, is_cleared, IsTree}
 use Rattle.bw_model.specs.declared.step.Answer.TheVariants as answer
-use Rattle.chain_search.specs.discipline.Knowledge.{cleared}
+use Rattle.traces.specs.discipline.Knowledge.{cleared}
 use Rattle.tree_law.proofs.shape.{by_equal, eqb_same, eqb_true, eqb_apart, put_other, put_was, put_all, next_linked, own_base}
 use Rattle.tree_law.proofs.links.Stepping.{slot_put, root_apart}
 use Rattle.tree_law.proofs.epochs.Timing.{Turn, limbo_row, limbo_pid, held_later, announced_still, put_timed}

@@ -6,7 +6,7 @@ use Rattle.tree_law.proofs.Words.{level_in, MayExchange, IsAllowed, IsPassed, Ma
 use Rattle.tree_law.proofs.Words.{stamped, IsAnswer, memory_after, memory_at, memory_of, IsStep, Entry, Step, UnlinksPid, UnlinksRow, HandsPid, HandsRow, Key, IsInLimbo, Free, Linked, Owners, Reached}
 use Rattle.tree_law.proofs.Words.{Nobody, PageOwner, put, shared, slot_in, IsReadyPage, IsState, IsInTree, Times, Timed, LimboFits, Outing, IsTree, []}
 use Rattle.base_page.specs.Pages as pages
-use Rattle.chain_search.specs.trace.Trace.{TakesStep}
+use Rattle.traces.specs.trace.Trace.{TakesStep}
 use Rattle.op_machine.specs.theorem.Reuse.{IsFreedByRule}
 use Rattle.tree_law.proofs.links.Keeping.{slot_of}
 use Rattle.tree_law.proofs.epochs.Limbed.{LimboCase, as_it_was, is_stamped, is_passed, is_out, is_freed, RowOut, PageOut, FreesRows, FreesPids, limbo_case, walk_contained}

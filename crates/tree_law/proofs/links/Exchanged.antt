@@ -1,7 +1,7 @@
 -- What an exchange that won makes of what its actor knows.
 use Rattle.tree_law.proofs.Words.{refl, suc, inl, inr, ℕ, ◌≡◌, zero, Page, record_link, Record, Base, Split, Put, Delete, Unterm, SplitOf, UntermOf, Knowledge, Ready, Empty, OwnPage, Other, Gone}
 use Rattle.tree_law.proofs.Words.{Written, filled, rooted, OwnRow, emptied, exchanged, split_off, linked_over, handed_page, handed_over, set_page, rebuilt, updated, IsUpdateLink}
-use Rattle.chain_search.specs.discipline.Knowledge.{cleared}
+use Rattle.traces.specs.discipline.Knowledge.{cleared}
 
 pub data Exchanging (k : Knowledge) : ℕ → ℕ → ℕ → Knowledge → Type 0 where
   roots : (x y base : ℕ) → k.own.pages y ≡ Ready base → Exchanging k zero x y (handed_page y Other base k)

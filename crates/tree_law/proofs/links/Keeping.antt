@@ -3,7 +3,7 @@ use Rattle.tree_law.proofs.Words.{false, ◌⊎◌, ap, refl, Option, None, List
 use Rattle.tree_law.proofs.Words.{Done, Leave, Enter, ContentOf, Child, Record, right_in, low_in, is_removed, level_in, HasRead, IsMet, NamesChild, begun, Knowledge, finished, learn, forgotten, Key}
 use Rattle.tree_law.proofs.Words.{Owners, Reached, IsOut, Owner, LinkFits, InOrder, IsChain, IsClosed, SpellsLog, leaf_map, ChainNames, OwnsPages, Owns, Placed, Indexed}
 use Rattle.tree_law.proofs.Words.{PageOwner, Fresh, rank, Removed, Held, Merged, Stage, rank_of, child_of, mark, put, Shared, IsTree, spec, IsOff, Off, SidePage, InPlace, HasLevels, KnowsBy}
-use Rattle.chain_search.specs.discipline.Discipline.{IsBeyond}
+use Rattle.traces.specs.discipline.Discipline.{IsBeyond}
 use Rattle.tree_law.specs.Tree.{FreeAreUnowned}
 use Rattle.tree_law.proofs.shape.KeyOrder.{covers_from}
 use Rattle.tree_law.proofs.shape.Puts.{by_equal}

@@ -1,7 +1,7 @@
 -- What a step with its answer lets its actor know, by kinds.
 use Rattle.tree_law.proofs.Words.{false, suc, true, ℕ, zero, Answer, Whether, Content, Number, StepOf, ReuseRows, ReusePids, Leave, TakePid, Row, Place, TakeRow, Slot, Enter, Epoch, PidBits, Exchange}
 use Rattle.tree_law.proofs.Words.{RowBits, Announce, Record, Knowledge, learn, Empty, OwnRow, exchanged, set_page, Limbos, learn_head}
-use Rattle.chain_search.specs.discipline.Knowledge.{learn_slot, learn_record, learn_word, departed}
+use Rattle.traces.specs.discipline.Knowledge.{learn_slot, learn_record, learn_word, departed}
 
 -- an actor that goes on is neither entering nor leaving
 abbrev pub Stays : StepOf Record → Type 0

@@ -1,7 +1,7 @@
 -- Each step of the way to the removed leaf and to the leaf on its left is allowed, wherever the second actor takes it.
 use Rattle.tree_law.proofs.Words.{false, [], refl, List, true, inl, inr, ◌∷◌, ℕ, take, fold, Record, HasRead, IsMet, Knowledge, knows_after, opening_leaf, root_a, a, hold_a, remove_a, upper_b}
 use Rattle.tree_law.proofs.Words.{second_split, first_split}
-use Rattle.chain_search.specs.discipline.Discipline.{IsBeside}
+use Rattle.traces.specs.discipline.Discipline.{IsBeside}
 use Rattle.tree_law.specs.Removal.{walks_left}
 use Rattle.tree_law.proofs.runs.Linking.{whole}
 

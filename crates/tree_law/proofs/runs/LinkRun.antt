@@ -3,7 +3,7 @@ use Rattle.tree_law.proofs.Words.{false, [], refl, List, inl, inr, ◌∷◌, �
 use Rattle.tree_law.proofs.Words.{OwnPage, Other, Gone, opening_leaf, small, put_a, split_a, term_b, item_a, base_b, unterm_a, split_b, upper_a, deletion_a, merge_a, all_links, insert_a, root_a, a}
 use Rattle.tree_law.proofs.Words.{hold_a, remove_a}
 use Rattle.bw_model.specs.declared.command.Reply.TheVariants as reply
-use Rattle.chain_search.proofs.UnheldLaws.{unheld_at}
+use Rattle.traces.proofs.UnheldLaws.{unheld_at}
 use Rattle.tree_law.specs.AllLinks.{delete_a, lower_a}
 use Rattle.tree_law.proofs.runs.LinkFits.{put_fits, split_fits, hold_fits, remove_fits, merge_fits, unterm_fits, second_fits, term_fits, deletion_fits, upper_fitted}
 use Rattle.tree_law.proofs.runs.Linking.{whole, adds, puts_root}

@@ -4,7 +4,7 @@ use Rattle.tree_law.proofs.Words.{fold-append, IsFalse, IsTrue, ◌&&◌, ⊤, i
 use Rattle.tree_law.proofs.Words.{Row, TakeRow, Slot, Epoch, PidBits, Exchange, RowBits, Announce, Retire, Memory, Record, memory_of-push, command_of-push, MayReply, May, IsAllowed, MayFree}
 use Rattle.tree_law.proofs.Words.{IsDisciplinedFrom, knows, Knowledge, knows_after, IsAnswer, memory_after, command_of, memory_of, commands_after, Entry, Begin, Step, and_right, and_left, small}
 use Rattle.std.specs.Prelude.{is_none}
-use Rattle.chain_search.specs.trace.Trace.{memory_after_entry}
+use Rattle.traces.specs.trace.Trace.{memory_after_entry}
 
 -- whether the operations begin and go on in turn
 abbrev in_turn : (ℕ → Option Command) → List Entry → Bool

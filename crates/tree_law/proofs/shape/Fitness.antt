@@ -3,7 +3,7 @@ use Rattle.tree_law.proofs.Words.{◌⊎◌, refl, Option, None, List, inl, leng
 use Rattle.tree_law.proofs.Words.{empty_leaf, IsRuled, Item, opening, next_row, IsSpellablePage, HasPid, Record, Base, IsChainFrom-unique, IsChainFrom, FitsOn, IsFitted, FitsOver, AreFitted, IsAdded}
 use Rattle.tree_law.proofs.Words.{Linked, Owners, IsChain, IsClosed, Shared, []}
 use Rattle.std.specs.List.Sorted.{IsStrictlySortedBy}
-use Rattle.chain_search.specs.chain.Fitted.{IsPageChain}
+use Rattle.traces.specs.chain.Fitted.{IsPageChain}
 use Rattle.tree_law.proofs.trace.Opening.{opening_owners}
 use Rattle.tree_law.proofs.shape.Puts.{by_equal}
 use Rattle.tree_law.proofs.shape.Rows.{chain_was}

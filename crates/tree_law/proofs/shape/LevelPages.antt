@@ -6,8 +6,8 @@ use Rattle.std.specs.List.{AllByRecursion}
 use Rattle.std.proofs.lemmas.List.Elements.{recursion_from_All}
 use Rattle.base_page.specs.Pages.{IsOfLevel}
 use Rattle.base_page.specs.Rules.{IsFirstAt, is_held}
-use Rattle.chain_search.specs.chain.Fitted.{IsPageChain}
-use Rattle.chain_search.proofs.FittedLaws.{found_first, page_of, ruled}
+use Rattle.traces.specs.chain.Fitted.{IsPageChain}
+use Rattle.traces.proofs.FittedLaws.{found_first, page_of, ruled}
 use Rattle.tree_law.specs.LevelPages.{HasAllLevels}
 use Rattle.tree_law.proofs.shape.Exactness.{first_only, first_page}
 use Rattle.tree_law.proofs.shape.KeyOrder.{empty_lowest}

@@ -2,8 +2,8 @@
 use Rattle.tree_law.proofs.Words.{false, [], ap, refl, Option, suc, None, List, true, ◌∷◌, sym, ℕ, ◌≡◌, Bool, zero, ◌∙◌, ◌<◌, arith, Some, map, same_Some, Contains, MatchOption}
 use Rattle.tree_law.proofs.Words.{is_under, Update, logged_value, ContentOf, Memory, Record, IsChainOf, content_in, right_in, low_in, high_in, value_of, Knowledge, LivePage, IsSideChainFrom}
 use Rattle.tree_law.proofs.Words.{HasMapOf, Key, Covers, IsUnder, Owners, IsChain, leaf_map, shared, slot_in, row_in, IsTree, Level, SidePage, InPlace, IsPart}
-use Rattle.chain_search.specs.chain.SideChain.{IsWholeFrom, IsLeaves, Spells}
-use Rattle.chain_search.proofs.ChainLaws.{IsSideChainFrom-unique}
+use Rattle.traces.specs.chain.SideChain.{IsWholeFrom, IsLeaves, Spells}
+use Rattle.traces.proofs.ChainLaws.{IsSideChainFrom-unique}
 use Rattle.tree_law.proofs.shape.KeyOrder.{empty_lowest, covers_from, covers_to}
 use Rattle.tree_law.proofs.shape.Sides.{StartsFrom}
 use Rattle.tree_law.proofs.links.Updating.{value_of_map}

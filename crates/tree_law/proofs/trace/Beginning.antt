@@ -6,7 +6,7 @@ use Rattle.tree_law.proofs.Words.{Entry, Begin, and_right, same_operation, and_l
 use Rattle.tree_law.proofs.Words.{HandsRow, IsInLimbo, Owners, Indexed, put, shared, slot_in, IsReadyPage, Tells, operation_of, IsSearch, IsState, phase_of}
 use Rattle.tree_law.proofs.Words.{IsInTree, IsUnended, HaveStood, Times, Timed, Opens, IsTree, same_Some, []}
 use Rattle.std.proofs.Common.{leb}
-use Rattle.chain_search.proofs.RunLaws.{IsRun-none}
+use Rattle.traces.proofs.RunLaws.{IsRun-none}
 use Rattle.tree_law.proofs.epochs.Limbos.{limbo_push, freed_push, pid_longer, row_longer}
 use Rattle.tree_law.specs.TraceLaws.{BeginsKeep}
 use Rattle.tree_law.proofs.epochs.Timely.{calm_same, read_timed}

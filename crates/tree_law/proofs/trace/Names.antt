@@ -6,12 +6,12 @@ use Rattle.tree_law.proofs.Words.{memory_at-push, IsOnChain, chain_rows, IsChain
 use Rattle.tree_law.proofs.Words.{command_of, memory_of, IsStep, commands_after, Entry, Begin, Step, Key, IsReuse, IsMoved, Free, Linked, Owners, Reached, Spare, Placed, PageOwner, Cleared}
 use Rattle.tree_law.proofs.Words.{shared, slot_in, row_in, IsReadyPage, phase_of, IsInTree, IsNamed, IsTree, []}
 use Rattle.base_page.specs.Pages as pages
-use Rattle.chain_search.specs.trace.Run.{MayTake}
-use Rattle.chain_search.proofs.TraceLaws.{HasLearnt-push_cases}
+use Rattle.traces.specs.trace.Run.{MayTake}
+use Rattle.traces.proofs.TraceLaws.{HasLearnt-push_cases}
 use Rattle.op_machine.specs.theorem.Phases as phase
 use Rattle.op_machine.specs.theorem.Faithful.{IsFaithful, KnowsRow, Disturbs, touches_pages}
 use Rattle.op_machine.proofs.FaithLaws.{KnowsRow-before, KnowsRow-kept, KnowsRow-shown}
-use Rattle.chain_search.specs.discipline.Knowledge.{going_on}
+use Rattle.traces.specs.discipline.Knowledge.{going_on}
 use Rattle.tree_law.proofs.shape.{by_equal, put_same, put_other, put_true, slot_some, chain_linked, own_spare, false_if}
 use Rattle.tree_law.proofs.links.Exchanged.{exchanged_alike}
 use Rattle.tree_law.proofs.links.Keeping.{slot_of}

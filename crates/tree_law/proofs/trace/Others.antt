@@ -1,7 +1,7 @@
 -- What is an actor's own outlasts the entries of others.
 use Rattle.tree_law.proofs.Words.{false, [], ap, refl, Option, None, List, true, inl, ◌++◌, inr, ◌∷◌, sym, ℕ, ◌≡◌, ◌∙◌, Some, append_assoc, append-nil, fold-append, fold, if◌then◌else◌}
 use Rattle.tree_law.proofs.Words.{Command, Limits, own_entries, is_entry_of, knows_after, nothing, recall, Recalled, blank, recalls_after, commands_after, Entry, Begin, Step, Accounts}
-use Rattle.chain_search.specs.discipline.Disciplined.{Extends}
+use Rattle.traces.specs.discipline.Disciplined.{Extends}
 use Rattle.tree_law.specs.Own.{OwnLasts}
 use Rattle.tree_law.proofs.trace.OwnEntries.{after_other}
 use Rattle.tree_law.proofs.shape.Puts.{eqb_false, put_other}

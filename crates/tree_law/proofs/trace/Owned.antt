@@ -2,7 +2,7 @@
 use Rattle.tree_law.proofs.Words.{◌⊎◌, [], ap, refl, Option, suc, List, true, inl, length, ◌++◌, inr, ◌∷◌, sym, ℕ, ◌≡◌, Bool, ◌∙◌, ◌<◌, arith, Some, cases_lt, slice_get, Command, Reply, Answer}
 use Rattle.tree_law.proofs.Words.{StepOf, Record, slice_get_below, slice_get_kept, slice_get-push_cases, slice_get-push, Entry, Begin, Step, IsOperation, Operation, IsOwnStep, TakesOwnStep, IsPoint}
 use Rattle.tree_law.proofs.Words.{operation_of, IsUnended}
-use Rattle.chain_search.proofs.Pushes.{slice_get-append_left}
+use Rattle.traces.proofs.Pushes.{slice_get-append_left}
 use Rattle.op_machine.specs.theorem.Operations.{IsOwnEntry}
 
 pub pushed_length : {X : Type 0} (xs : List X) (x : X) → length (xs ++ x ∷ []) ≡ suc (length xs)

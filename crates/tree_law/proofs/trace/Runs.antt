@@ -1,6 +1,6 @@
 -- In a trace in which each actor obeys its discipline, the state stands after each entry.
 use Rattle.tree_law.proofs.Words.{[], List, ◌++◌, ◌∷◌, append_assoc, map, append-nil, Limits, IsDisciplined, IsDisciplinedFrom, turn_of, Entry, Begin, Step, IsLinearized, IsState}
-use Rattle.chain_search.specs.discipline.Disciplined.{MayStand}
+use Rattle.traces.specs.discipline.Disciplined.{MayStand}
 use Rattle.tree_law.specs.TraceLaws.{DisciplinedRuns}
 use Rattle.tree_law.proofs.trace.Beginning.{opens, begins}
 use Rattle.tree_law.proofs.trace.Steps.{steps, is_one_map}

@@ -3,7 +3,7 @@ use Rattle.tree_law.proofs.Words.{false, ◌⊎◌, ap, refl, Option, suc, None,
 use Rattle.tree_law.proofs.Words.{Command, Reply, Limits, Answer, Number, StepOf, PidBits, RowBits, Record, slice_get_below, memory_at-push, low_in, is_removed, LacksRoom, HoldsBack, begun}
 use Rattle.tree_law.proofs.Words.{Knowledge, finished, learn, LivePage, Entry, Begin, Step, WasHeldBack, Operation, TakesOwnStep, operation_of, IsSearch, IsUnended, WasRead, []}
 use Rattle.op_machine.specs.theorem.Answered.{FindsNothingFree}
-use Rattle.chain_search.specs.discipline.Knowledge.{Asked}
+use Rattle.traces.specs.discipline.Knowledge.{Asked}
 use Rattle.tree_law.proofs.shape.Puts.{by_equal}
 use Rattle.tree_law.proofs.links.Exchanged.{exchanged_alike}
 use Rattle.tree_law.proofs.trace.Owned.{pushed_length, own_kept, own_cases, takes_new}

@@ -3,7 +3,7 @@ use Rattle.tree_law.proofs.Words.{[], ap, refl, Option, None, List, inl, ◌≢�
 use Rattle.tree_law.proofs.Words.{logged_value, update_of, command_key, Command, Reply, Limits, Record, slice_get_below, IsChainFrom, low_in, level_in, high_in, MayReply, MayAnswer, knows}
 use Rattle.tree_law.proofs.Words.{memory_at, command_of, memory_of, Entry, WasHeldBack, RepliesAt, Operation, IsOwnStep, log_at, log_of, IsPoint, IsQuiet, UpdatesAtLinks, IsRepliedAt}
 use Rattle.tree_law.proofs.Words.{shared, Tells, operation_of, IsState, IsAnsweredBy, IsMarked, HasFound, HaveStood, WereRead, WasLeafWith}
-use Rattle.chain_search.specs.discipline.Discipline.{IsHeldBack, MayShowPage, MayCallTidy, MayGiveUp}
+use Rattle.traces.specs.discipline.Discipline.{IsHeldBack, MayShowPage, MayCallTidy, MayGiveUp}
 use Rattle.tree_law.proofs.answering.Answering.{answers}
 use Rattle.tree_law.proofs.shape.{chain_stands, shows}
 use Rattle.tree_law.proofs.trace.Remark.{remarked, log_of_same, log_at_same, marked', marked_now, told, told_other, updates', quiet'}

@@ -1,5 +1,5 @@
 use Rattle.std.proofs.Common.{◌≡◌, ℕ, subst, rules}
-use Rattle.chain_search.specs.declared.trace.Turn.TheVariants.{Begin}
+use Rattle.traces.specs.declared.trace.Turn.TheVariants.{Begin}
 use Rattle.bw_shell.specs.Refusal.{refusal_by}
 use Rattle.bw_shell.specs.Turns.{seen, Refuses}
 use Rattle.bw_shell.proofs.Refusals.{refused_turn}

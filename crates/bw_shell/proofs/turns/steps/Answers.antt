@@ -3,7 +3,7 @@ use Rattle.step_core.specs.Turns.{Core}
 use Rattle.step_core.specs.declared.event.Event.TheVariants.{Stepped}
 use Rattle.bw_shell.specs.Transcript.{StepsOn}
 use Rattle.bw_shell.specs.Turns.{TakesTurn, Trace, seen}
-use Rattle.chain_search.specs.declared.trace.Turn.TheVariants.{Step}
+use Rattle.traces.specs.declared.trace.Turn.TheVariants.{Step}
 use Rattle.bw_shell.proofs.Taken.{TurnTold, goes_told, stepped, steps_told, turn_told}
 use Rattle.bw_shell.proofs.Transcripts.{no_steps, steps_more}
 use Rattle.bw_shell.proofs.turns.steps.Goals as goal

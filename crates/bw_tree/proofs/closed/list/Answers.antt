@@ -1,4 +1,4 @@
-use Rattle.chain_search.specs.trace.Trace.{memory_of}
+use Rattle.traces.specs.trace.Trace.{memory_of}
 use Rattle.bw_tree.proofs.closed.list.Goals as goal
 
 pub returns : goal.returns

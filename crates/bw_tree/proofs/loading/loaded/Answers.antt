@@ -1,7 +1,7 @@
 use Rattle.std.proofs.Common.{◌≡◌, ℕ, None, ap, ◌∙◌, subst}
 use Rattle.bw_model.specs.declared.limits.Limits.{Limits}
-use Rattle.chain_search.specs.discipline.Disciplined.{Extends}
-use Rattle.chain_search.specs.trace.Trace.{command_of}
+use Rattle.traces.specs.discipline.Disciplined.{Extends}
+use Rattle.traces.specs.trace.Trace.{command_of}
 use Rattle.slot_rule.specs.Views.{Mine}
 use Rattle.bw_tree.specs.Calls.{calls_of}
 use Rattle.bw_tree.specs.Loaded.{HaveUpserted}

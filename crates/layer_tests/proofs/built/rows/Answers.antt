@@ -1,6 +1,6 @@
 use Rattle.std.proofs.Common.{sym, subst}
 use Rattle.deltas.specs.Spellable.{IsSpellable}
-use Rattle.chain_search.proofs.FittedLaws.{fits_at}
+use Rattle.traces.proofs.FittedLaws.{fits_at}
 use Rattle.layer_tests.proofs.built.rows.Goals as goal
 
 pub write-requires : goal.write-requires

@@ -1,4 +1,4 @@
-use Rattle.chain_search.proofs.FittedExamples.{index_chain_fits}
+use Rattle.traces.proofs.FittedExamples.{index_chain_fits}
 use Rattle.layer_tests.proofs.chains.index_chain.Goals as goal
 
 pub chain-requires : goal.chain-requires

@@ -1,6 +1,6 @@
 use Rattle.std.proofs.Common.{[], ◌∷◌, ◌∙◌, refl}
 use Rattle.std.specs.List.Sorted.{IsStrictlySortedBy}
-use Rattle.chain_search.proofs.FittedLaws.{items_unique}
+use Rattle.traces.proofs.FittedLaws.{items_unique}
 use Rattle.layer_tests.proofs.chains.item.Goals as goal
 
 pub returns : goal.returns

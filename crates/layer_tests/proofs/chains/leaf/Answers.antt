@@ -1,4 +1,4 @@
-use Rattle.chain_search.proofs.FittedExamples.{ruled_leaf}
+use Rattle.traces.proofs.FittedExamples.{ruled_leaf}
 use Rattle.layer_tests.proofs.chains.leaf.Goals as goal
 
 pub append-requires : goal.append-requires

@@ -1,4 +1,4 @@
-use Rattle.chain_search.proofs.FittedExamples.{split_index_fits}
+use Rattle.traces.proofs.FittedExamples.{split_index_fits}
 use Rattle.layer_tests.proofs.chains.split_index.Goals as goal
 
 pub chain-requires : goal.chain-requires

@@ -1,5 +1,5 @@
 use Rattle.std.proofs.Common.{arith}
-use Rattle.chain_search.proofs.FittedExamples.{index_chain_fits}
+use Rattle.traces.proofs.FittedExamples.{index_chain_fits}
 use Rattle.layer_tests.proofs.plans.bare.Goals as goal
 
 pub page-requires-clause-chain : goal.page-requires-clause-chain

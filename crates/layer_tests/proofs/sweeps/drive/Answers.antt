@@ -1,4 +1,4 @@
-use Rattle.chain_search.specs.discipline.Knowledge.{nothing}
+use Rattle.traces.specs.discipline.Knowledge.{nothing}
 use Rattle.layer_tests.proofs.sweeps.drive.Goals as goal
 
 pub next-requires-clause-told : goal.next-requires-clause-told

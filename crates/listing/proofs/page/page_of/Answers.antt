@@ -1,6 +1,6 @@
 use Rattle.std.proofs.Common.{◌≡◌, ◌<◌, ◌-◌, ap, arith, drop, length, subst, suc, ◌∙◌}
-use Rattle.chain_search.specs.chain.Fitted.{Makes}
-use Rattle.chain_search.proofs.FittedLaws.{ruled}
+use Rattle.traces.specs.chain.Fitted.{Makes}
+use Rattle.traces.proofs.FittedLaws.{ruled}
 use Rattle.listing.proofs.Chaining.{record_at, record_there, rows_long}
 use Rattle.listing.proofs.Making.{last_makes, next_fits, next_makes, not_empty}
 use Rattle.listing.proofs.page.page_of.Goals as goal

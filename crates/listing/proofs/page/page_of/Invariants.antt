@@ -1,7 +1,7 @@
 use Rattle.std.proofs.Common.{List, drop}
 use Rattle.deltas.specs.Memory.{Memory}
 use Rattle.deltas.specs.declared.record.Record.{Record}
-use Rattle.chain_search.specs.chain.Fitted.{Makes}
+use Rattle.traces.specs.chain.Fitted.{Makes}
 use Rattle.listing.specs.Listed.{StandsAt}
 use Rattle.listing.proofs.page.page_of.Given as goal
 

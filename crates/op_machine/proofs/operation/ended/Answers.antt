@@ -1,6 +1,6 @@
 use Rattle.std.proofs.Common.{◌≡◌, ap, subst, sym, ◌∙◌}
 use Rattle.bw_model.specs.Answers.{answer_of}
-use Rattle.chain_search.specs.discipline.Knowledge.{Limbos}
+use Rattle.traces.specs.discipline.Knowledge.{Limbos}
 use Rattle.op_machine.specs.machine.Places.{OpPlaces, state_of}
 use Rattle.op_machine.specs.machine.Shows.{learn_last, wanted_at}
 use Rattle.sweep.specs.Kept.{AreKept}

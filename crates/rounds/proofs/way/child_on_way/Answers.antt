@@ -1,8 +1,8 @@
 use Rattle.std.proofs.Common.{true, false, None}
 use Rattle.std.specs.Prelude.{IsTrue}
 use Rattle.base_page.specs.Places.{IsGreatestChild}
-use Rattle.chain_search.specs.chain.Chains.{content_in, low_in}
-use Rattle.chain_search.proofs.FittedLaws.{has_child}
+use Rattle.traces.specs.chain.Chains.{content_in, low_in}
+use Rattle.traces.proofs.FittedLaws.{has_child}
 use Rattle.descent.specs.Ways.{passes}
 use Rattle.descent.proofs.WayLaws.{goes_down}
 use Rattle.rounds.proofs.way.child_on_way.Goals as goal

@@ -1,5 +1,5 @@
 use Rattle.std.proofs.Common.{refl}
-use Rattle.chain_search.specs.chain.Chains.{high_in}
+use Rattle.traces.specs.chain.Chains.{high_in}
 use Rattle.descent.specs.Ways.{passes}
 use Rattle.rounds.proofs.WayTurns.{leads_right, stays_left}
 use Rattle.rounds.proofs.way.right_on_way.Goals as goal

@@ -1,7 +1,7 @@
 //! Pages by hand, for tests of rounds.
 ghost use Rattle.std.specs.Prelude.{◌≡◌, ◌<◌, ◌≤◌, ◌∷◌, [], ◌++◌, length, None, false};
 ghost use Rattle.bw_model.specs.Bytes.{longest};
-ghost use Rattle.chain_search.specs.chain.Fitted.{FitsOver, IsFitted, IsPageChain};
+ghost use Rattle.traces.specs.chain.Fitted.{FitsOver, IsFitted, IsPageChain};
 ghost use Rattle.deltas.specs.Spellable.{IsPid, IsRow};
 ghost use Rattle.deltas.specs.declared.record.Record.TheVariants.{Base};
 

@@ -1,5 +1,5 @@
 use Rattle.std.proofs.Common.{refl, subst, sym}
-use Rattle.chain_search.specs.chain.Fitted.{Makes}
+use Rattle.traces.specs.chain.Fitted.{Makes}
 use Rattle.scene.proofs.page.page_at.Goals as goal
 
 pub invariant_of-result : goal.invariant_of-result

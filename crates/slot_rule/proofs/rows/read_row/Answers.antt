@@ -4,7 +4,7 @@ use Rattle.std.proofs.lemmas.List.{length-take-le, take_all}
 use Rattle.std.proofs.Math.Seq.{take-suc-set}
 use Rattle.bw_model.specs.declared.step.Answer.TheVariants.{Content}
 use Rattle.bw_model.specs.declared.step.Step.TheVariants.{Row}
-use Rattle.chain_search.specs.declared.trace.Entry.{Entry}
+use Rattle.traces.specs.declared.trace.Entry.{Entry}
 use Rattle.record_slots.specs.Layout.{last_at, row_size}
 use Rattle.record_slots.specs.Spells.{IsSpelling}
 use Rattle.slot_rule.specs.Steps.{in_row, Took}

@@ -1,7 +1,7 @@
 use Rattle.std.proofs.Common.{◌≡◌, ◌≢◌, ◌<◌, refl, sym, ap, ◌∙◌, arith}
 use Rattle.base_page.specs.Rules.{held_count}
-use Rattle.chain_search.specs.chain.Chains.{is_removed, low_in}
-use Rattle.chain_search.specs.chain.Fitted.{Makes}
+use Rattle.traces.specs.chain.Chains.{is_removed, low_in}
+use Rattle.traces.specs.chain.Fitted.{Makes}
 use Rattle.smo.specs.Holds.{HasFreeNeighbours}
 use Rattle.smo.proofs.HoldFits.{planned}
 use Rattle.smo.proofs.Places.{decides_key, from_made, of_made}

@@ -1,8 +1,8 @@
 use Rattle.std.proofs.Common.{◌≡◌, ◌<◌, ◌≤◌, length, true, false, sym, ap, ◌∙◌, arith}
 use Rattle.base_page.specs.Rules.{held_count}
-use Rattle.chain_search.specs.chain.Chains.{is_removed, level_in}
-use Rattle.chain_search.specs.chain.Fitted.{IsFitted, Makes}
-use Rattle.chain_search.proofs.FittedLaws.{page_of, ruled}
+use Rattle.traces.specs.chain.Chains.{is_removed, level_in}
+use Rattle.traces.specs.chain.Fitted.{IsFitted, Makes}
+use Rattle.traces.proofs.FittedLaws.{page_of, ruled}
 use Rattle.smo.proofs.MergeFits.{planned}
 use Rattle.smo.proofs.Places.{from_made, of_made}
 use Rattle.smo.proofs.Removed.{few_removed}

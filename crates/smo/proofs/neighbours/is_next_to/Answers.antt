@@ -1,6 +1,6 @@
 use Rattle.std.proofs.Common.{◌≡◌, Some, rules, sym, ap, ◌∙◌}
 use Rattle.std.proofs.lemmas.Option.{same_Some}
-use Rattle.chain_search.specs.chain.Chains.{high_in, low_in, right_in}
+use Rattle.traces.specs.chain.Chains.{high_in, low_in, right_in}
 use Rattle.smo.proofs.Places.{decides_key}
 use Rattle.smo.proofs.neighbours.is_next_to.Goals as goal
 

@@ -1,7 +1,7 @@
 use Rattle.std.proofs.Common.{refl, sym, ap, ◌∙◌, arith}
-use Rattle.chain_search.specs.chain.Chains.{is_removed}
-use Rattle.chain_search.specs.chain.Fitted.{IsFitted}
-use Rattle.chain_search.proofs.FittedLaws.{page_of, ruled}
+use Rattle.traces.specs.chain.Chains.{is_removed}
+use Rattle.traces.specs.chain.Fitted.{IsFitted}
+use Rattle.traces.proofs.FittedLaws.{page_of, ruled}
 use Rattle.smo.proofs.RemoveFits.{planned}
 use Rattle.smo.specs.Sizes.{HasNoneHeld}
 use Rattle.smo.proofs.remove.plan_remove.Goals as goal

@@ -6,8 +6,8 @@ use Rattle.base_page.specs.declared.item.Content.TheVariants.{Child}
 use Rattle.base_page.specs.declared.item.Item.{Item}
 use Rattle.deltas.specs.Spellable.{IsPid}
 use Rattle.deltas.specs.declared.record.Record.TheVariants as kind
-use Rattle.chain_search.specs.chain.Chains.{is_removed, level_in, low_in}
-use Rattle.chain_search.specs.chain.Fitted.{IsFitted}
+use Rattle.traces.specs.chain.Chains.{is_removed, level_in, low_in}
+use Rattle.traces.specs.chain.Fitted.{IsFitted}
 use Rattle.smo.proofs.RootFits.{planned, root_stands, some}
 use Rattle.smo.proofs.root.plan_root.Goals as goal
 

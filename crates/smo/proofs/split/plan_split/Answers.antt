@@ -1,6 +1,6 @@
 use Rattle.std.proofs.Common.{◌≤◌, length, sym, ap, ◌∙◌, arith}
-use Rattle.chain_search.specs.chain.Chains.{is_removed}
-use Rattle.chain_search.specs.chain.Fitted.{IsFitted, Makes}
+use Rattle.traces.specs.chain.Chains.{is_removed}
+use Rattle.traces.specs.chain.Fitted.{IsFitted, Makes}
 use Rattle.smo.proofs.SplitFits.{apart, planned}
 use Rattle.smo.proofs.split.plan_split.Goals as goal
 

@@ -1,9 +1,9 @@
 use Rattle.std.proofs.Common.{◌≡◌, false, Option, Some, None, refl, sym, ap, ◌∙◌, arith}
 use Rattle.std.specs.Prelude.{is_some}
 use Rattle.base_page.specs.declared.item.Content.{Content}
-use Rattle.chain_search.specs.chain.Chains.{is_removed, low_in}
-use Rattle.chain_search.specs.chain.Fitted.{IsFitted}
-use Rattle.chain_search.proofs.FittedLaws.{page_of, ruled}
+use Rattle.traces.specs.chain.Chains.{is_removed, low_in}
+use Rattle.traces.specs.chain.Fitted.{IsFitted}
+use Rattle.traces.proofs.FittedLaws.{page_of, ruled}
 use Rattle.smo.proofs.TermFits.{planned}
 use Rattle.smo.proofs.term.plan_term.Goals as goal
 

@@ -1,8 +1,8 @@
 use Rattle.std.proofs.Common.{◌≡◌, false, refl, sym, ap, ◌∙◌, arith}
 use Rattle.std.specs.Prelude.{IfSome, IsFalse, IsTrue}
 use Rattle.bw_model.specs.Bytes.{is_below}
-use Rattle.chain_search.specs.chain.Chains.{high_in, is_removed, low_in}
-use Rattle.chain_search.specs.chain.Fitted.{IsFitted}
+use Rattle.traces.specs.chain.Chains.{high_in, is_removed, low_in}
+use Rattle.traces.specs.chain.Fitted.{IsFitted}
 use Rattle.smo.specs.Neighbours.{IsNextTo}
 use Rattle.smo.proofs.UntermFits.{planned}
 use Rattle.smo.proofs.unterm.plan_unterm.Goals as goal

@@ -1,5 +1,5 @@
 use Rattle.std.proofs.Common.{arith}
-use Rattle.chain_search.specs.chain.Fitted.{IsFitted}
+use Rattle.traces.specs.chain.Fitted.{IsFitted}
 use Rattle.smo.specs.Sizes.{HasNoneHeld}
 use Rattle.smo.proofs.Places.{made}
 use Rattle.smo.proofs.upkeep.plan_upkeep.Goals as goal

@@ -1,5 +1,5 @@
 use Rattle.std.proofs.Common.{◌++◌, ◌∙◌, ap, map}
-use Rattle.chain_search.specs.trace.Trace.{turn_of}
+use Rattle.traces.specs.trace.Trace.{turn_of}
 use Rattle.step_core.proofs.Stopping.{adds_entries, orderly, stops, whole}
 use Rattle.step_core.proofs.runs.run.Goals as goal
 

@@ -1,6 +1,6 @@
 use Rattle.std.proofs.Common.{[], ◌∷◌}
 use Rattle.std.proofs.lemmas.List.Sums.{fold-append}
-use Rattle.chain_search.proofs.TraceLaws.{command_of-push, memory_of-push}
+use Rattle.traces.proofs.TraceLaws.{command_of-push, memory_of-push}
 use Rattle.tree_law.proofs.law.entries_grow.Goals as goal
 
 pub returns : goal.returns

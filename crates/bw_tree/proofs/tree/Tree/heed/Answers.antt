@@ -1,6 +1,6 @@
 use Rattle.std.proofs.Common.{◌≡◌, refl, sym, ap, subst, ◌∙◌}
 use Rattle.bw_model.specs.declared.limits.Limits.{Limits}
-use Rattle.chain_search.specs.discipline.Disciplined.{Extends}
+use Rattle.traces.specs.discipline.Disciplined.{Extends}
 use Rattle.slot_rule.specs.declared.view.Reach.TheVariants.{Idle, Noted}
 use Rattle.slot_rule.specs.Views.{SitsAt, seen_of}
 use Rattle.bw_tree.specs.Notes.{Note}

@@ -1,5 +1,5 @@
 use Rattle.std.proofs.Common.{◌≡◌, [], List, sym, ap, subst, ◌∙◌}
-use Rattle.chain_search.specs.declared.trace.Entry.{Entry}
+use Rattle.traces.specs.declared.trace.Entry.{Entry}
 use Rattle.slot_rule.specs.declared.view.Reach.TheVariants.{Noted}
 use Rattle.slot_rule.specs.Views.{Mine, alone, noted, seen_of}
 use Rattle.bw_tree.proofs.tree.Tree.note.Goals as goal

@@ -1,5 +1,5 @@
 use Rattle.std.proofs.Common.{◌≡◌, false}
-use Rattle.chain_search.specs.chain.Chains.{is_removed}
+use Rattle.traces.specs.chain.Chains.{is_removed}
 use Rattle.layer_tests.proofs.plans.grown.with_terms.Given as goal
 
 abbrev pub invariant-loop-place : goal.invariant-loop-place

@@ -1,7 +1,7 @@
 use Rattle.std.proofs.Common.{◌≡◌, sym, ◌∙◌, arith}
 use Rattle.std.specs.Prelude.{IsTrue}
-use Rattle.chain_search.specs.chain.Chains.{covers, level_in}
-use Rattle.chain_search.specs.chain.Fitted.{IsPageChain}
+use Rattle.traces.specs.chain.Chains.{covers, level_in}
+use Rattle.traces.specs.chain.Fitted.{IsPageChain}
 use Rattle.smo.proofs.TestedLeaves.{delete_over}
 use Rattle.layer_tests.proofs.plans.grown.without.Goals as goal
 

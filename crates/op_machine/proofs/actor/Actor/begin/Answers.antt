@@ -1,7 +1,7 @@
 use Rattle.std.proofs.Common.{Some, ap, sym, subst, Option, ◌∙◌}
 use Rattle.bw_model.specs.Lent.{lent}
-use Rattle.chain_search.specs.discipline.Knowledge.{begun}
-use Rattle.chain_search.specs.discipline.Recalled.{blank}
+use Rattle.traces.specs.discipline.Knowledge.{begun}
+use Rattle.traces.specs.discipline.Recalled.{blank}
 use Rattle.op_machine.specs.machine.Outcomes.{is_leaving}
 use Rattle.op_machine.specs.machine.Tasks.{Task}
 use Rattle.op_machine.specs.machine.Actors.{IsActorWith}

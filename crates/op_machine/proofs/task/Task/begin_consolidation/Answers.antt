@@ -1,8 +1,8 @@
 use Rattle.std.proofs.Common.{◌≡◌, ◌<◌, ◌∙◌, length, ap, sym, subst}
 use Rattle.deltas.specs.declared.record.Record.TheVariants.{Base}
-use Rattle.chain_search.specs.chain.Chains.{chain_rows, low_in}
-use Rattle.chain_search.specs.chain.Fitted.{Makes}
-use Rattle.chain_search.specs.discipline.Discipline.{base_from}
+use Rattle.traces.specs.chain.Chains.{chain_rows, low_in}
+use Rattle.traces.specs.chain.Fitted.{Makes}
+use Rattle.traces.specs.discipline.Discipline.{base_from}
 use Rattle.rounds.specs.WriteRounds.{PlacedWrite}
 use Rattle.op_machine.proofs.Plans.{long_chain, one_chain}
 use Rattle.op_machine.proofs.task.Task.begin_consolidation.Goals as goal

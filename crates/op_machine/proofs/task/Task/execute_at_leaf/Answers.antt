@@ -1,7 +1,7 @@
 use Rattle.std.proofs.Common.{◌≡◌, ◌<◌, ◌∙◌, Some, true, false, length, refl, sym, ap, is_some}
 use Rattle.bw_model.specs.Replies.{command_key, reply_of, update_of}
-use Rattle.chain_search.specs.chain.Chains.{content_in}
-use Rattle.chain_search.specs.discipline.Discipline.{found}
+use Rattle.traces.specs.chain.Chains.{content_in}
+use Rattle.traces.specs.discipline.Discipline.{found}
 use Rattle.rounds.specs.WriteRounds.{PlacedWrite}
 use Rattle.smo.specs.Versions.{Version}
 use Rattle.smo.proofs.Places.{of_made}

@@ -1,7 +1,7 @@
 use Rattle.std.proofs.Common.{rules, ◌≡◌, Some, true}
 use Rattle.std.specs.Prelude.{MatchOption}
 use Rattle.base_page.specs.Places.{HasNoChild, IsGreatestChild}
-use Rattle.chain_search.specs.chain.Chains.{content_in, low_in}
+use Rattle.traces.specs.chain.Chains.{content_in, low_in}
 use Rattle.smo.specs.Versions.{Version}
 use Rattle.descent.specs.ReadLegs.{Down}
 use Rattle.descent.specs.ReadRounds.{left_of}

@@ -1,5 +1,5 @@
 use Rattle.std.proofs.Common.{rules, ◌<◌, inl, inr, refl}
-use Rattle.chain_search.specs.chain.Chains.{level_in}
+use Rattle.traces.specs.chain.Chains.{level_in}
 use Rattle.descent.specs.ReadRounds.{read_way}
 use Rattle.rounds.proofs.LegTurns.{above_leads, left_within}
 use Rattle.rounds.proofs.read_round.ReadRound.meet_removed.Goals as goal

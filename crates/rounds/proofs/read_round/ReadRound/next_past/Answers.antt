@@ -1,4 +1,4 @@
-use Rattle.chain_search.specs.chain.Chains.{low_in}
+use Rattle.traces.specs.chain.Chains.{low_in}
 use Rattle.descent.proofs.Passing.{before_on}
 use Rattle.rounds.proofs.read_round.ReadRound.next_past.Goals as goal
 

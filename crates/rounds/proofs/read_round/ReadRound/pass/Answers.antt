@@ -1,6 +1,6 @@
 use Rattle.std.proofs.Common.{◌≡◌, ◌≢◌, List, Some, inl, inr, refl, ap, subst, ◌∙◌}
 use Rattle.deltas.specs.declared.record.Record.{Record}
-use Rattle.chain_search.specs.chain.Chains.{right_in}
+use Rattle.traces.specs.chain.Chains.{right_in}
 use Rattle.smo.specs.Versions.{Version}
 use Rattle.descent.specs.Ways.{LeadsRight, StaysLeft, reaches}
 use Rattle.rounds.proofs.read_round.ReadRound.pass.Goals as goal

@@ -1,6 +1,6 @@
 use Rattle.std.proofs.Common.{rules}
 use Rattle.std.specs.Prelude.{IsTrue}
-use Rattle.chain_search.specs.chain.Chains.{low_in}
+use Rattle.traces.specs.chain.Chains.{low_in}
 use Rattle.descent.specs.Ways.{precedes}
 use Rattle.rounds.proofs.TestedRounds.{names_pages}
 use Rattle.rounds.proofs.read_round.tests.meet.Goals as goal

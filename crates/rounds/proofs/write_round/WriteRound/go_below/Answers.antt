@@ -1,5 +1,5 @@
 use Rattle.std.proofs.Common.{◌<◌, arith}
-use Rattle.chain_search.specs.chain.Chains.{level_in}
+use Rattle.traces.specs.chain.Chains.{level_in}
 use Rattle.descent.specs.WriteRounds.{write_way}
 use Rattle.descent.proofs.WayLaws.{down_within}
 use Rattle.rounds.proofs.write_round.WriteRound.go_below.Goals as goal

@@ -1,5 +1,5 @@
 use Rattle.std.proofs.Common.{sym, ap, subst, ◌∙◌}
-use Rattle.chain_search.specs.chain.Fitted.{IsFitted}
+use Rattle.traces.specs.chain.Fitted.{IsFitted}
 use Rattle.smo.specs.Versions.{Version}
 use Rattle.rounds.proofs.TestedRounds.{names_pages}
 use Rattle.rounds.proofs.write_round.tests.treated.Goals as goal

@@ -3,10 +3,10 @@ use Rattle.std.specs.Prelude.{MatchOption}
 use Rattle.bw_model.specs.Bytes.{is_below}
 use Rattle.base_page.specs.Pages.{child_in}
 use Rattle.base_page.specs.Places.{IsGreatestChild, HasNoChild}
-use Rattle.chain_search.specs.chain.Chains.{content_in}
+use Rattle.traces.specs.chain.Chains.{content_in}
 use Rattle.row_chain.specs.Walks.{IsGreatestKey}
 use Rattle.row_chain.proofs.ChildWalks.{child_at_greatest}
-use Rattle.chain_search.proofs.FittedLaws.{has_child}
+use Rattle.traces.proofs.FittedLaws.{has_child}
 use Rattle.row_chain.proofs.chain.Chain.child_below.Goals as goal
 
 pub returns-in-Some-clause-child : goal.returns-in-Some-clause-child

@@ -2,9 +2,9 @@ use Rattle.std.proofs.Common.{sym, ◌∙◌}
 use Rattle.std.specs.Prelude.{not}
 use Rattle.bw_model.specs.Bytes.{is_below, is_under}
 use Rattle.base_page.proofs.KeyLaws.{and_left}
-use Rattle.chain_search.specs.chain.Chains.{low_in, high_in}
+use Rattle.traces.specs.chain.Chains.{low_in, high_in}
 use Rattle.row_chain.proofs.ChildWalks.{child_here, child_upto}
-use Rattle.chain_search.proofs.FittedLaws.{has_child}
+use Rattle.traces.proofs.FittedLaws.{has_child}
 use Rattle.row_chain.proofs.chain.Chain.child_of.Goals as goal
 
 pub returns-in-Some-clause-child : goal.returns-in-Some-clause-child

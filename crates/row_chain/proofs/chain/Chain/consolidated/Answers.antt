@@ -1,6 +1,6 @@
 use Rattle.std.proofs.Common.{◌≡◌, false, refl, ◌∙◌, arith}
 use Rattle.deltas.specs.declared.record.Record.TheVariants.{Base}
-use Rattle.chain_search.proofs.FittedLaws.{stands}
+use Rattle.traces.proofs.FittedLaws.{stands}
 use Rattle.row_chain.proofs.chain.Chain.consolidated.Goals as goal
 
 pub returns-clause-base : goal.returns-clause-base

@@ -1,5 +1,5 @@
 use Rattle.std.proofs.Common.{◌≡◌, drop}
-use Rattle.chain_search.specs.chain.Chains.{high_in}
+use Rattle.traces.specs.chain.Chains.{high_in}
 use Rattle.row_chain.proofs.chain.Chain.ends_after.Given as goal
 
 abbrev pub invariant-loop-newest : goal.invariant-loop-newest

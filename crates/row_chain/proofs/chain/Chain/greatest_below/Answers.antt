@@ -2,7 +2,7 @@ use Rattle.std.proofs.Common.{◌≡◌, ◌+◌, List, [], ◌∷◌, ◌++◌,
 use Rattle.std.proofs.lemmas.List.{take_more}
 use Rattle.bw_model.specs.Bytes.{is_below}
 use Rattle.deltas.specs.declared.record.Record.{Record}
-use Rattle.chain_search.specs.chain.Chains.{content_in}
+use Rattle.traces.specs.chain.Chains.{content_in}
 use Rattle.row_chain.specs.Walks.{is_open, IsGreatestKey}
 use Rattle.row_chain.proofs.WalkLaws.{walked}
 use Rattle.row_chain.proofs.chain.Chain.greatest_below.Goals as goal

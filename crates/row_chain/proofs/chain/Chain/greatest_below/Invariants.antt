@@ -1,6 +1,6 @@
 use Rattle.std.proofs.Common.{take}
 use Rattle.bw_model.specs.Bytes.{is_below}
-use Rattle.chain_search.specs.chain.Chains.{content_in}
+use Rattle.traces.specs.chain.Chains.{content_in}
 use Rattle.row_chain.specs.Walks.{IsGreatestKey}
 use Rattle.row_chain.proofs.chain.Chain.greatest_below.Given as goal
 

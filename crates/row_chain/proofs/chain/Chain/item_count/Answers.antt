@@ -1,10 +1,10 @@
 use Rattle.std.proofs.Common.{◌≡◌, ◌≤◌, ◌+◌, List, [], None, length, drop, refl, sym, subst, ◌∙◌, arith}
 use Rattle.deltas.specs.declared.record.Record.{Record}
-use Rattle.chain_search.specs.chain.Chains.{IsItemsOf}
-use Rattle.chain_search.specs.chain.Fitted.{IsFitted}
+use Rattle.traces.specs.chain.Chains.{IsItemsOf}
+use Rattle.traces.specs.chain.Fitted.{IsFitted}
 use Rattle.row_chain.specs.Walks.{bound_under, count_under}
 use Rattle.row_chain.proofs.CountLaws.{count_all, rest_is, unchanged}
-use Rattle.chain_search.proofs.FittedLaws.{page_of}
+use Rattle.traces.proofs.FittedLaws.{page_of}
 use Rattle.row_chain.proofs.Counts.{fitted_from, from_place, none_left}
 use Rattle.row_chain.proofs.chain.Chain.item_count.Goals as goal
 

@@ -1,6 +1,6 @@
 use Rattle.std.proofs.Common.{◌≡◌, ◌≤◌, ◌+◌, ◌*◌, List, length, drop}
 use Rattle.base_page.specs.declared.item.Item.{Item}
-use Rattle.chain_search.specs.chain.Chains.{IsItemsOf}
+use Rattle.traces.specs.chain.Chains.{IsItemsOf}
 use Rattle.row_chain.specs.Walks.{count_under}
 use Rattle.row_chain.proofs.chain.Chain.item_count.Given as goal
 

@@ -2,8 +2,8 @@ use Rattle.std.proofs.Common.{◌≡◌, ◌<◌, List, length, drop, sym, ap, s
 use Rattle.deltas.specs.declared.record.Record.{Record}
 use Rattle.deltas.specs.declared.record.Record.TheVariants.{Base}
 use Rattle.deltas.specs.Fits.{FitsOnPage}
-use Rattle.chain_search.specs.chain.Fitted.{IsFitted, Makes}
-use Rattle.chain_search.proofs.FittedLaws.{ruled}
+use Rattle.traces.specs.chain.Fitted.{IsFitted, Makes}
+use Rattle.traces.proofs.FittedLaws.{ruled}
 use Rattle.row_chain.proofs.Making.{base_makes, fits_above}
 use Rattle.row_chain.proofs.chain.Chain.page.Goals as goal
 

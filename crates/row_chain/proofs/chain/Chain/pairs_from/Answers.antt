@@ -1,7 +1,7 @@
 use Rattle.std.proofs.Common.{None}
 use Rattle.bw_model.specs.Pairs.{ArePairsOf}
 use Rattle.base_page.specs.Pages.{content_at}
-use Rattle.chain_search.specs.discipline.Discipline.{value_of}
+use Rattle.traces.specs.discipline.Discipline.{value_of}
 use Rattle.row_chain.proofs.PairLaws.{pairs_in}
 use Rattle.row_chain.proofs.chain.Chain.pairs_from.Goals as goal
 

@@ -1,5 +1,5 @@
 use Rattle.std.proofs.Common.{◌≡◌, drop}
-use Rattle.chain_search.specs.chain.Chains.{right_in}
+use Rattle.traces.specs.chain.Chains.{right_in}
 use Rattle.row_chain.proofs.chain.Chain.right.Given as goal
 
 abbrev pub invariant-loop-newest : goal.invariant-loop-newest

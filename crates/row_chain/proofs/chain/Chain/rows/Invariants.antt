@@ -1,5 +1,5 @@
 use Rattle.std.proofs.Common.{◌≡◌, ◌≤◌, ◌++◌, length, drop}
-use Rattle.chain_search.specs.chain.Chains.{chain_rows}
+use Rattle.traces.specs.chain.Chains.{chain_rows}
 use Rattle.row_chain.proofs.chain.Chain.rows.Given as goal
 
 abbrev pub invariant-loop-record : goal.invariant-loop-record

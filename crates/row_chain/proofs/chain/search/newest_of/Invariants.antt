@@ -1,6 +1,6 @@
 use Rattle.std.proofs.Common.{◌≡◌, ◌++◌, List, drop}
 use Rattle.deltas.specs.declared.record.Record.{Record}
-use Rattle.chain_search.specs.chain.Chains.{content_in}
+use Rattle.traces.specs.chain.Chains.{content_in}
 use Rattle.row_chain.specs.Walks.{is_named}
 use Rattle.row_chain.proofs.chain.search.newest_of.Given as goal
 

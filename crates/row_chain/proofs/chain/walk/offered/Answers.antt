@@ -1,6 +1,6 @@
 use Rattle.std.proofs.Common.{◌≡◌, true, Some, None, sym, subst, ◌∙◌}
 use Rattle.std.specs.Prelude.{[], ◌∷◌}
-use Rattle.chain_search.specs.chain.Chains.{content_in}
+use Rattle.traces.specs.chain.Chains.{content_in}
 use Rattle.row_chain.specs.Walks.{is_open, IsGreatestKey}
 use Rattle.row_chain.proofs.WalkLaws.{offers_items}
 use Rattle.record_slots.specs.Parts.{items_of}

@@ -5,7 +5,7 @@ use Rattle.deltas.specs.declared.record.Hold.{Hold}
 use Rattle.deltas.specs.declared.record.Merge.{Merge}
 use Rattle.deltas.specs.declared.record.Term.{Term}
 use Rattle.deltas.specs.declared.record.Unterm.{Unterm}
-use Rattle.chain_search.specs.chain.Chains.{content_in}
+use Rattle.traces.specs.chain.Chains.{content_in}
 use Rattle.smo.specs.Linking.{Decides}
 use Rattle.smo.specs.Splits.{split_to}
 use Rattle.smo.proofs.MapKept.{from_left, from_removed, halves}

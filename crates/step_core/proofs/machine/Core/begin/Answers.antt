@@ -1,7 +1,7 @@
 use Rattle.std.proofs.Common.{ap, arith, refl}
-use Rattle.chain_search.specs.discipline.Knowledge.{knows}
-use Rattle.chain_search.specs.discipline.Recalled.{recalls}
-use Rattle.chain_search.specs.declared.trace.Entry.TheVariants.{Begin}
+use Rattle.traces.specs.discipline.Knowledge.{knows}
+use Rattle.traces.specs.discipline.Recalled.{recalls}
+use Rattle.traces.specs.declared.trace.Entry.TheVariants.{Begin}
 use Rattle.step_core.proofs.Cored.{begin_goes, core_begins, core_begun, core_others}
 use Rattle.step_core.specs.declared.event.RunError.TheVariants.{Memory}
 use Rattle.step_core.proofs.Reserving.{granted, refused}

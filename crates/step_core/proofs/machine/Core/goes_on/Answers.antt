@@ -1,6 +1,6 @@
 use Rattle.std.proofs.Common.{◌≡◌, None, sym, subst}
-use Rattle.chain_search.specs.declared.trace.Turn.{Turn}
-use Rattle.chain_search.specs.declared.trace.Turn.TheVariants.{Step}
+use Rattle.traces.specs.declared.trace.Turn.{Turn}
+use Rattle.traces.specs.declared.trace.Turn.TheVariants.{Step}
 use Rattle.step_core.proofs.Cored.{core_leaves, core_leaving, core_shown}
 use Rattle.step_core.specs.Turns.{BeginsOrLeaves, refusal_of}
 use Rattle.step_core.proofs.machine.Core.goes_on.Goals as goal

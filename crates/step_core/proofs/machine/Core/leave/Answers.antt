@@ -5,10 +5,10 @@ use Rattle.bw_model.specs.declared.step.Step.TheVariants.{Leave}
 use Rattle.op_machine.specs.machine.Actors.{Actor}
 use Rattle.step_core.specs.Actors.{NeedsRoom}
 use Rattle.step_core.proofs.Replaced.{get_same}
-use Rattle.chain_search.specs.trace.Steps.{memory_after}
-use Rattle.chain_search.specs.discipline.Knowledge.{knows}
-use Rattle.chain_search.specs.discipline.Recalled.{recalls}
-use Rattle.chain_search.specs.declared.trace.Entry.TheVariants.{Step}
+use Rattle.traces.specs.trace.Steps.{memory_after}
+use Rattle.traces.specs.discipline.Knowledge.{knows}
+use Rattle.traces.specs.discipline.Recalled.{recalls}
+use Rattle.traces.specs.declared.trace.Entry.TheVariants.{Step}
 use Rattle.step_core.proofs.Cored.{core_affords, core_asks, core_leaving, core_others, core_stepped, core_took, core_wants, step_goes}
 use Rattle.step_core.proofs.Lawful.{heads}
 use Rattle.step_core.proofs.Linked.{event_is, told_to}

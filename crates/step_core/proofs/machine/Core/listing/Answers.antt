@@ -1,5 +1,5 @@
 use Rattle.std.proofs.Common.{sym, subst}
-use Rattle.chain_search.specs.trace.Trace.{memory_of}
+use Rattle.traces.specs.trace.Trace.{memory_of}
 use Rattle.listing.specs.Listed.{IsListing}
 use Rattle.step_core.proofs.machine.Core.listing.Goals as goal
 

@@ -1,5 +1,5 @@
 use Rattle.std.proofs.Common.{subst}
-use Rattle.chain_search.specs.trace.Trace.{memory_of}
+use Rattle.traces.specs.trace.Trace.{memory_of}
 use Rattle.tree_law.specs.LevelPages.{HasAllLevels}
 use Rattle.step_core.proofs.machine.Core.memory.Goals as goal
 

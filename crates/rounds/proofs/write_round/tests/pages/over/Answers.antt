@@ -1,4 +1,4 @@
-use Rattle.chain_search.proofs.FittedLaws.{base_stands}
+use Rattle.traces.proofs.FittedLaws.{base_stands}
 use Rattle.rounds.proofs.write_round.tests.pages.over.Goals as goal
 
 pub write-requires : goal.write-requires

@@ -1,0 +1,107 @@
+-- What an operation recalls of its own reads, and which of its steps a cause pays for.
+use Rattle.std.specs.Prelude.{◌≡◌, ◌≢◌, ◌<◌, ◌+◌, ◌/◌, ◌%◌, ◌^◌, ◌⊎◌, ◌||◌, ◌&&◌, not, if◌then◌else◌, ℕ, zero, suc, List, [], ◌∷◌, Bool, true, false, Option, None, Some, IsTrue, IsFalse, ⊤}
+use Rattle.std.specs.Int.{bit_at}
+use Rattle.std.specs.List.{fold}
+use Rattle.bw_model.specs.declared.step.Answer.{Answer}
+use Rattle.bw_model.specs.declared.step.Answer.TheVariants.{Number, Content, Whether}
+use Rattle.bw_model.specs.declared.step.Step.{Step as StepOf}
+use Rattle.bw_model.specs.declared.step.Step.TheVariants.{Slot, Row, PidBits, RowBits, Exchange, TakePid, TakeRow, Leave}
+use Rattle.deltas.specs.declared.record.Record.{Record}
+use Rattle.deltas.specs.declared.record.Record.TheVariants.{Remove}
+use Rattle.deltas.specs.Memory.{replaced_at}
+use Rattle.deltas.specs.NamedPages.{NamesPage}
+use Rattle.traces.specs.declared.trace.Entry.{Entry}
+use Rattle.traces.specs.declared.trace.Entry.TheVariants.{Begin, Step}
+
+-- what it has read since it last read slot 0, unless it has left since then
+pub record Walk : Type 0 where
+  pub rooted : Bool  -- whether it has read slot 0
+  pub visited : List ℕ  -- pages whose slots it has read, the last one first; once it has gone on from a removed page, those since then
+  pub records : List Record  -- records that it has read, the last one first
+  pub removed : Bool  -- whether one of these removes a page
+  pub passed : Bool  -- whether it has gone on from there: it has read a slot since
+
+pub record Recalled : Type 0 where
+  pub heads : ℕ → Option ℕ  -- slots, as last read since its last exchange of the slot
+  pub pids : ℕ → Option ℕ  -- words of free PIDs, as last read since its last take
+  pub rows : ℕ → Option ℕ  -- words of free rows, as last read since its last take
+  pub walk : Walk
+
+abbrev pub no_walk : Walk
+no_walk = record { rooted = false; visited = []; records = []; removed = false; passed = false }
+
+abbrev pub blank : Recalled
+blank = record { heads = λ slot. None; pids = λ word. None; rows = λ word. None; walk = no_walk }
+
+abbrev pub is_removal : Record → Bool
+is_removal (Remove remove) = true
+is_removal _ = false
+
+-- the pages that count when the next slot is read: where a removal was read, it is the first one
+abbrev pub trail : Walk → List ℕ
+trail walk = if walk.removed && not walk.passed then [] else walk.visited
+
+-- a slot was read: with slot 0 a walk begins
+abbrev pub visit : ℕ → Walk → Walk
+visit zero walk = record no_walk { rooted = true }
+visit (suc page) walk = record walk { visited = suc page ∷ trail walk; passed = walk.removed }
+
+-- a record was read
+abbrev pub note : Record → Walk → Walk
+note content walk = record walk { records = content ∷ walk.records; removed = is_removal content || walk.removed }
+
+abbrev pub recall : Recalled → StepOf Record → Answer Record → Recalled
+recall r (Slot slot) (Number n) = record r { heads = replaced_at slot (Some n) r.heads; walk = visit slot r.walk }
+recall r (Row row) (Content content) = record r { walk = note content r.walk }
+recall r (PidBits word) (Number bits) = record r { pids = replaced_at word (Some bits) r.pids }
+recall r (RowBits word) (Number bits) = record r { rows = replaced_at word (Some bits) r.rows }
+recall r (Exchange slot old new) answer = record r { heads = replaced_at slot None r.heads }
+recall r (TakePid pid) answer = record r { pids = λ word. None; rows = λ word. None }
+recall r (TakeRow row) answer = record r { pids = λ word. None; rows = λ word. None }
+recall r Leave answer = record r { walk = no_walk }
+recall r step answer = r
+
+abbrev pub recalls_after : (ℕ → Recalled) → Entry → ℕ → Recalled
+recalls_after rs (Begin actor command) = replaced_at actor blank rs
+recalls_after rs (Step actor step answer reply) = replaced_at actor (recall (rs actor) step answer) rs
+
+-- what each actor recalls after the entries
+abbrev pub recalls : List Entry → ℕ → Recalled
+recalls entries = fold recalls_after (λ actor. blank) entries
+
+-- the slot was read, with a number in it
+abbrev pub WasHead : Recalled → ℕ → ℕ → Type 0
+WasHead r slot number = (0 < number) × (r.heads slot ≡ Some number)
+
+-- the number was free in its word
+abbrev pub WasFree : (ℕ → Option ℕ) → ℕ → Type 0
+WasFree words number = (bits : ℕ) × (words (number / 64) ≡ Some bits) × (bit_at bits (number % 64) ≡ 1)
+
+-- the page is none of these
+abbrev pub IsUnread : ℕ → List ℕ → Type 0
+IsUnread page [] = ⊤
+IsUnread page (other ∷ others) = (page ≢ other) × IsUnread page others
+
+-- one of the records names the page
+abbrev pub AnyNames : List Record → ℕ → Type 0
+AnyNames [] page = ⊥
+AnyNames (content ∷ contents) page = NamesPage content page ⊎ AnyNames contents page
+
+-- The step is a cause: an exchange over a number that was read in the slot, whether it won or not (the slot of an own page is
+-- never read, so filling it, and emptying it again, pays nothing); a take that missed a number that was free; since slot 0
+-- was last read, the first removal, or, before that, the first read of a page's slot that holds 0, though a record names the page.
+abbrev pub IsPaid : Recalled → StepOf Record → Answer Record → Type 0
+IsPaid r (Exchange slot old new) (Whether won) = WasHead r slot old
+IsPaid r (TakePid pid) (Whether false) = WasFree r.pids pid
+IsPaid r (TakeRow row) (Whether false) = WasFree r.rows row
+IsPaid r (Slot (suc page)) (Number zero) = IsTrue r.walk.rooted × IsFalse r.walk.removed × IsUnread (suc page) r.walk.visited × AnyNames r.walk.records (suc page)
+IsPaid r (Row row) (Content (Remove remove)) = IsTrue r.walk.rooted × IsFalse r.walk.removed
+IsPaid r step answer = ⊥
+
+-- Of the steps that were left at most there are fewer now, or the step was a cause, and is worth that many more.
+abbrev pub IsSpentWith : ℕ → Recalled → StepOf Record → Answer Record → ℕ → ℕ → Type 0
+IsSpentWith worth r step answer left rest = (rest < left) ⊎ (IsPaid r step answer × (rest < left + worth))
+
+-- of an operation: a cause is worth 2^18 steps
+abbrev pub IsStepSpent : Recalled → StepOf Record → Answer Record → ℕ → ℕ → Type 0
+IsStepSpent r step answer left rest = IsSpentWith (2 ^ 18) r step answer left rest
