@@ -18,7 +18,7 @@ pub enum Upkeep {
 }
 
 /// The removal of the page where its term is held, else the hold of its term; none exactly where the page is page 1, or has more
-/// than a few items or a held one, or its term is neither held nor may be.
+/// than a few items or a held one, or its term is neither held nor may be. Most pages are told by their number of items alone.
 pub fn plan_upkeep<A: Allocator>(parent: &PageInHand<A>, page: &PageInHand<A>) -> Option<Upkeep>
     ensures { MatchOption result (IsIdle parent.now page.now) (IsUpkeep parent.now page.now) }
 {
