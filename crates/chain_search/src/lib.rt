@@ -7,9 +7,6 @@ mod delta;
 mod examples;
 mod few_items;
 mod laws;
-mod replies;
-mod shared;
-mod table;
 mod trace;
 
 pub use chain::Chain;
@@ -22,7 +19,4 @@ pub use laws::{
     chain_is_one, chains_make_pages, command_grows, learnt_stays, memory_grows, run_grows,
     run_shrinks, side_chain_is_one, updates_fit,
 };
-pub use replies::{BoxedPairs, BoxedReply};
-pub use shared::{SharedEntry, SharedRecord, answer_of, shared_step, step_again, step_of};
-pub use table::Table;
 pub use trace::{Entry, Turn};

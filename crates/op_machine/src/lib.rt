@@ -7,7 +7,6 @@ mod errands;
 mod examples;
 mod hand;
 mod laws;
-mod link;
 mod listing;
 mod operation;
 mod places;
@@ -28,6 +27,5 @@ pub use hand::Hand;
 pub use laws::{
     knowledge_stays, late_mark_keeps_log, log_grows, one_leaf_has_the_map, phases_grow,
 };
-pub use link::exchange_link;
 pub use listing::logged_pairs;
 pub use operation::Operation;
