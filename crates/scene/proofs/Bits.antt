@@ -3,7 +3,7 @@ use Rattle.std.proofs.Common.{◌≡◌, ◌<◌, ◌≤◌, ◌+◌, ◌*◌, �
 use Rattle.std.specs.Prelude.{bit_and, not, if◌then◌else◌}
 use Rattle.std.specs.Int.{bit_at}
 use Rattle.std.proofs.lemmas.Nat.{one_shl}
-use Rattle.traces.proofs.Tables.{tested}
+use Rattle.core_memory.proofs.Tables.{tested}
 use Rattle.traces.specs.trace.Steps.{IsWordOf}
 use Rattle.scene.specs.Counts.{how_many}
 
