@@ -18,26 +18,26 @@ pub record Entries : Type 0 where
   pub room : ℕ
 
 -- the command and the reply at a place; past the end some other one
-abbrev pub command_at : List Command → ℕ → Command
-command_at commands place = slice_index_or commands place (Page [])
+abbrev pub command_listed : List Command → ℕ → Command
+command_listed commands place = slice_index_or commands place (Page [])
 
-abbrev pub reply_at : List Reply → ℕ → Reply
-reply_at replies place = slice_index_or replies place reply.None
+abbrev pub reply_listed : List Reply → ℕ → Reply
+reply_listed replies place = slice_index_or replies place reply.None
 
 -- the entry of what happened
 abbrev pub entry_of : List Command → List Reply → Happening Record → Entry
-entry_of commands replies (Begin actor place) = entry.Begin actor (command_at commands place)
+entry_of commands replies (Begin actor place) = entry.Begin actor (command_listed commands place)
 entry_of commands replies (Step actor step answer) = entry.Step actor step answer None
-entry_of commands replies (Leave actor place) = entry.Step actor step.Leave Done (Some (reply_at replies place))
+entry_of commands replies (Leave actor place) = entry.Step actor step.Leave Done (Some (reply_listed replies place))
 
 abbrev pub entries_of : List Command → List Reply → List (Happening Record) → List Entry
 entries_of commands replies happened = map (entry_of commands replies) happened
 
 -- Of so many commands and replies, what happened has one.
-abbrev pub HasPlace : ℕ → ℕ → Happening Record → Type 0
-HasPlace commands replies (Begin actor place) = place < commands
-HasPlace commands replies (Step actor step answer) = Unit {0}
-HasPlace commands replies (Leave actor place) = place < replies
+abbrev pub HasCommandOrReply : ℕ → ℕ → Happening Record → Type 0
+HasCommandOrReply commands replies (Begin actor place) = place < commands
+HasCommandOrReply commands replies (Step actor step answer) = Unit {0}
+HasCommandOrReply commands replies (Leave actor place) = place < replies
 
 -- How many entries there may be: those that there are, and as many as each of the three lists takes.
 abbrev pub room_of : ℕ → ℕ → ℕ → ℕ → ℕ

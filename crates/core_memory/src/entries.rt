@@ -1,7 +1,7 @@
 //! What was done, entry by entry. Commands and replies stand in lists of their own, so that an entry is short.
 ghost use Rattle.std.specs.Prelude.{◌≡◌, ◌<◌, ◌≤◌, ◌++◌, ◌∷◌, [], None, Some, length, slice_get, OnErr, OnOk};
 ghost use Rattle.traces.specs.declared.trace.Entry.TheVariants as entry;
-ghost use Rattle.core_memory.specs.Entries.{HasPlace, entry_of};
+ghost use Rattle.core_memory.specs.Entries.{HasCommandOrReply, entry_of};
 
 use crate::steps::{answer_of, step_of};
 use crate::{BoxedReply, SharedRecord};
@@ -30,13 +30,13 @@ impl<A: Allocator> Model for Entries<A> {
     ghost use Rattle.std.specs.Prelude.{◌-◌, length};
     ghost use Rattle.std.specs.List.{All};
     ghost use Rattle.std.specs.Vec.{vec_capacity};
-    ghost use Rattle.core_memory.specs.Entries.{Entries, HasPlace, entries_of, room_of};
+    ghost use Rattle.core_memory.specs.Entries.{Entries, HasCommandOrReply, entries_of, room_of};
 
     ghost Value = { Entries };
 
     ghost view = { λ e. record { items = entries_of e.commands.items e.replies.items e.happened.items; room = room_of (length e.happened.items) (vec_capacity e.happened - length e.happened.items) (vec_capacity e.commands - length e.commands.items) (vec_capacity e.replies - length e.replies.items) } };
 
-    ghost invariant = { λ e. All (HasPlace (length e.commands.items) (length e.replies.items)) e.happened.items };
+    ghost invariant = { λ e. All (HasCommandOrReply (length e.commands.items) (length e.replies.items)) e.happened.items };
 }
 
 impl<A: Allocator + Copy> Entries<A> {
@@ -128,7 +128,7 @@ fn read<A: Allocator>(
     commands: &[Command],
     replies: &[BoxedReply<A>],
 ) -> Entry
-    requires { HasPlace (length commands.now) (length replies.now) happening.now }
+    requires { HasCommandOrReply (length commands.now) (length replies.now) happening.now }
     ensures { result ≡ entry_of commands.now replies.now happening.now }
 {
     match happening {
