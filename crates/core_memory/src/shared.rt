@@ -53,7 +53,7 @@ impl<A: Allocator> SharedRecord<A> {
         Ok(SharedRecord { words })
     }
 
-    /// The record, decoded: about 6 KB. Not inlined: no step of a core needs it.
+    /// The record, decoded: about 6 KB. Not inlined: of a core's steps only an exchange that won needs it.
     #[inline(never)]
     pub fn record(&self) -> Record
         ensures { result ≡ self.now }

@@ -8,7 +8,8 @@ use core_memory::Table;
 use deltas::Record;
 use std::alloc::Allocator;
 
-/// What the exchange of the slot from `old` to `new` does where it wins, by the records of the table.
+/// What the exchange of the slot from `old` to `new` does where it wins, by the records of the table. Not inlined: no other step needs room for a record.
+#[inline(never)]
 pub(crate) fn exchange_link<A: Allocator>(
     table: &Table<A>,
     slot: u16,
