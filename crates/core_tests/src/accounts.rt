@@ -1,8 +1,8 @@
 //! What a trace says of each row and each PID: where it is at the end, and that each step found it where it was to be.
 
-use crate::by_hand::{finish, reply};
+use crate::by_hand::comes_to_rest;
 use crate::numbers::{Numbers, bit, has_bit, number};
-use bw_model::{Answer, Command, Key, Limits, Link, Reply, Step};
+use bw_model::{Answer, Key, Limits, Link, Reply, Step};
 use core_memory::Entries;
 use deltas::Record;
 use std::alloc::{AllocError, Global};
@@ -73,22 +73,30 @@ fn words_on(before: u64, word: u8, bits: u64) -> u64 {
 }
 
 impl Accounts {
-    /// As a tree opens.
-    fn new(alloc: Global, limits: &Limits) -> Result<Accounts, AllocError> {
-        let mut slots = vec![in alloc; 0u16; limits.pids as usize]?;
-        for slot in slots.iter_mut().take(2) {
-            *slot = 1;
-        }
-        Ok(Accounts {
+    /// Of a tree that isn't open yet.
+    fn new(alloc: Global, limits: &Limits) -> Accounts {
+        Accounts {
             limits: *limits,
             epoch: limits.epoch,
-            slots,
-            placed: vec![in alloc; OPENING; limits.rows as usize]?,
-            rows: Numbers::new(alloc, limits.rows)?,
-            pids: Numbers::new(alloc, limits.pids)?,
-            actors: vec![in alloc; OUTSIDE; limits.actors as usize]?,
+            slots: Vec::new(alloc),
+            placed: Vec::new(alloc),
+            rows: Numbers::new(alloc),
+            pids: Numbers::new(alloc),
+            actors: Vec::new(alloc),
             number: 0,
-        })
+        }
+    }
+
+    /// The tree opens.
+    fn open(&mut self) -> Result<(), AllocError> {
+        self.slots.resize(self.limits.pids as usize, 0)?;
+        for slot in self.slots.iter_mut().take(2) {
+            *slot = 1;
+        }
+        self.placed.resize(self.limits.rows as usize, OPENING)?;
+        self.actors.resize(self.limits.actors as usize, OUTSIDE)?;
+        self.rows.open(self.limits.rows)?;
+        self.pids.open(self.limits.pids)
     }
 
     fn slot(&self, page: u16) -> u16 {
@@ -378,6 +386,17 @@ impl Accounts {
         }
     }
 
+    /// Whether all entries may follow, one after another.
+    fn follow_all(&mut self, entries: &Entries) -> bool {
+        for place in 0..entries.len() {
+            match entries.entry(place) {
+                Some(entry) if self.follows(&entry) => {}
+                _ => return false,
+            }
+        }
+        true
+    }
+
     /// The rows of the chain of a page, if each is linked.
     fn chain_length(&self, page: u16) -> Option<usize> {
         let head = self.slot(page);
@@ -406,57 +425,20 @@ impl Accounts {
                 }
             }
         }
-        (rows, pages)
-            == (
-                self.rows.linked_and_in_limbo().0,
-                self.pids.linked_and_in_limbo().0,
-            )
+        (rows, pages) == (self.rows.linked(), self.pids.linked())
     }
 
-    /// How many rows, and how many PIDs, are in limbo.
-    fn in_limbo(&self) -> (usize, usize) {
-        (
-            self.rows.linked_and_in_limbo().1,
-            self.pids.linked_and_in_limbo().1,
-        )
+    /// Whether that is so, and no row or PID is in limbo.
+    fn is_settled(&self) -> bool {
+        self.is_whole() && self.rows.in_limbo() == 0 && self.pids.in_limbo() == 0
     }
-}
-
-/// What a trace has made of rows and PIDs, if each of its steps found what it was to.
-fn accounts_of(alloc: Global, limits: &Limits, entries: &Entries) -> Option<Accounts> {
-    let mut accounts = Accounts::new(alloc, limits).ok()?;
-    for place in 0..entries.len() {
-        if !accounts.follows(&entries.entry(place)?) {
-            return None;
-        }
-    }
-    Some(accounts)
 }
 
 /// Whether each step of a trace found each row and PID where it was to be, and at the end those that are neither free nor spares are
 /// just those of the tree.
 pub(crate) fn is_sound(alloc: Global, limits: &Limits, entries: &Entries) -> bool {
-    match accounts_of(alloc, limits, entries) {
-        Some(accounts) => accounts.is_whole() && accounts.in_limbo() == (0, 0),
-        None => false,
-    }
-}
-
-/// Whether all operations are done, and then four deletes of a key by each actor, after which each has freed all that it took out.
-pub(crate) fn comes_to_rest(core: &mut Core, key: &Key) -> bool {
-    for actor in 0..16u8 {
-        if core.is_busy(actor) && finish(core, actor).is_none() {
-            return false;
-        }
-    }
-    for turn in 0..64u8 {
-        let actor = turn % 16;
-        let is_one = u64::from(actor) < core.limits().actors;
-        if is_one && reply(core, actor, Command::Delete(key.copied())).is_none() {
-            return false;
-        }
-    }
-    true
+    let mut accounts = Accounts::new(alloc, limits);
+    accounts.open().is_ok() && accounts.follow_all(entries) && accounts.is_settled()
 }
 
 /// Whether a core comes to rest, and its trace is sound then.

@@ -1,8 +1,12 @@
 //! Turns by hand, with what they are to tell.
 
-use bw_model::{Command, Link, Reply};
+use bw_model::{Command, Key, Link, Reply};
+use std::alloc::Allocator;
 use step_core::{Core, Event};
 use traces::Turn;
+
+/// Lets a core go. A function in which a core is dropped costs the proof two seconds more than one that hands it to this.
+pub(crate) fn let_go<A: Allocator>(_core: Core<A>) {}
 
 /// Whether an actor begins an operation.
 pub(crate) fn begins(core: &mut Core, actor: u8, command: Command) -> bool {
@@ -98,4 +102,21 @@ pub(crate) fn reply(core: &mut Core, actor: u8, command: Command) -> Option<Repl
 /// Whether an actor's command has this reply.
 pub(crate) fn replies(core: &mut Core, actor: u8, command: Command, wanted: Reply) -> bool {
     begins(core, actor, command) && finishes(core, actor, wanted)
+}
+
+/// Whether all operations are done, and then four deletes of a key by each actor, after which each has freed all that it took out.
+pub(crate) fn comes_to_rest(core: &mut Core, key: &Key) -> bool {
+    for actor in 0..16u8 {
+        if core.is_busy(actor) && finish(core, actor).is_none() {
+            return false;
+        }
+    }
+    for turn in 0..64u8 {
+        let actor = turn % 16;
+        let is_one = u64::from(actor) < core.limits().actors;
+        if is_one && reply(core, actor, Command::Delete(key.copied())).is_none() {
+            return false;
+        }
+    }
+    true
 }

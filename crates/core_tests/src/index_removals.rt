@@ -1,6 +1,6 @@
 //! A tree of 200 keys that shrinks to nothing: index pages of level 1 are removed, and others act while one is.
 
-use crate::by_hand::{begins, finish, finishes, replies, takes, until};
+use crate::by_hand::{begins, finish, finishes, let_go, replies, takes, until};
 use bw_model::{Answer, Command, Key, Limits, Link, Reply, Step, Value};
 use core_memory::Entries;
 use deltas::Record;
@@ -112,28 +112,39 @@ fn turns_of(alloc: Global, entries: &Entries) -> Option<Vec<Turn>> {
     Some(turns)
 }
 
-/// Whether a run of the same turns links the removal of a page of level 1 in the same operation.
-fn is_run(alloc: Global, entries: &Entries, at: Option<u32>) -> Option<bool> {
+/// The operation in which a run of the turns links the removal of a page of level 1.
+fn rerun(alloc: Global, turns: &[Turn]) -> Option<u32> {
+    let trace = run(alloc, Limits::new(2, 256, 4096, 1).ok()?, turns).ok()?;
+    removes(&trace.entries)
+}
+
+/// The operation in which the removal of a page of level 1 is linked first, where a run of the same turns links it in the same one.
+fn run_removal(alloc: Global, entries: &Entries) -> Option<u32> {
     let turns = turns_of(alloc, entries)?;
-    let trace = run(alloc, Limits::new(2, 256, 4096, 1).ok()?, turns.as_slice()).ok()?;
-    Some(at.is_some() && removes(&trace.entries) == at)
+    let at = removes(entries);
+    if rerun(alloc, turns.as_slice()) == at {
+        return at;
+    }
+    None
+}
+
+/// Whether the core lists no key.
+pub(crate) fn is_empty(alloc: Global, core: &Core) -> bool {
+    matches!(core.listing(alloc), Ok(pairs) if pairs.is_empty())
 }
 
 /// Whether all keys come and go, so that none is left.
 fn comes_and_goes(alloc: Global, core: &mut Core) -> bool {
-    goes(core, 0, 2 * KEYS) && matches!(core.listing(alloc), Ok(pairs) if pairs.is_empty())
+    goes(core, 0, 2 * KEYS) && is_empty(alloc, core)
 }
 
 /// The operation that first removes a page of level 1, where all goes as it is to.
 fn first_removal(alloc: Global) -> Option<u32> {
     let mut core = opened(alloc)?;
-    if !comes_and_goes(alloc, &mut core) {
-        return None;
-    }
+    let right = comes_and_goes(alloc, &mut core);
     let trace = core.into_trace();
-    let at = removes(&trace.entries);
-    if is_run(alloc, &trace.entries, at)? {
-        return at;
+    if right {
+        return run_removal(alloc, &trace.entries);
     }
     None
 }
@@ -214,7 +225,11 @@ fn stops(core: &mut Core, at: u32, steps: u32, meanwhile: Meanwhile) -> Option<b
 /// The same on a new core.
 fn stops_anew(alloc: Global, at: u32, steps: u32, meanwhile: Meanwhile) -> Option<bool> {
     match opened(alloc) {
-        Some(mut core) => stops(&mut core, at, steps, meanwhile),
+        Some(mut core) => {
+            let right = stops(&mut core, at, steps, meanwhile);
+            let_go(core);
+            right
+        }
         None => Some(false),
     }
 }
@@ -307,10 +322,12 @@ fn first_gone(alloc: Global, way: Way) -> Option<u32> {
         Way::HeldLeaf => stays_while_a_leaf_is_held(&mut core),
         Way::Neighbours => neighbours_go(&mut core),
     };
-    if !right || !matches!(core.listing(alloc), Ok(pairs) if pairs.is_empty()) {
-        return None;
+    let right = right && is_empty(alloc, &core);
+    let trace = core.into_trace();
+    if right {
+        return removes(&trace.entries);
     }
-    removes(&core.into_trace().entries)
+    None
 }
 
 // Before the lookup 236 operations, four deletes, a tidying and a delete begin; before the delete of k100 the delete of k164, and 28 more.
@@ -323,19 +340,25 @@ fn index_pages_go_where_they_may(rt: HostRuntime) {
 /// The insert that first splits a page of level 1.
 fn first_split(alloc: Global) -> Option<u32> {
     let mut core = opened(alloc)?;
-    if !goes(&mut core, 0, KEYS) {
-        return None;
+    let right = goes(&mut core, 0, KEYS);
+    let trace = core.into_trace();
+    if right {
+        return links(&trace.entries, false);
     }
-    links(&core.into_trace().entries, false)
+    None
+}
+
+/// Whether that insert stops anywhere.
+fn split_stops(alloc: Global) -> bool {
+    match first_split(alloc) {
+        Some(at) => stops_anywhere(alloc, at, 1, Meanwhile::Trims),
+        None => false,
+    }
 }
 
 #[test]
 fn a_split_of_an_index_page_stops_anywhere(rt: HostRuntime) {
-    let Some(at) = first_split(rt.alloc()) else {
-        assert!(rt; false);
-        return;
-    };
-    assert!(rt; stops_anywhere(rt.alloc(), at, 1, Meanwhile::Trims));
+    assert!(rt; split_stops(rt.alloc()));
 }
 
 #[test]

@@ -42,13 +42,20 @@ pub(crate) struct Numbers {
 }
 
 impl Numbers {
-    /// As a tree opens: 1 is linked, what is above is free.
-    pub(crate) fn new(alloc: Global, limit: u64) -> Result<Numbers, AllocError> {
-        let mut places = vec![in alloc; Place::Free; limit as usize]?;
-        for place in places.iter_mut().take(2) {
+    /// Of a tree that isn't open yet.
+    pub(crate) fn new(alloc: Global) -> Numbers {
+        Numbers {
+            places: Vec::new(alloc),
+        }
+    }
+
+    /// The tree opens: 1 is linked, what is above is free.
+    pub(crate) fn open(&mut self, limit: u64) -> Result<(), AllocError> {
+        self.places.resize(limit as usize, Place::Free)?;
+        for place in self.places.iter_mut().take(2) {
             *place = Place::Linked;
         }
-        Ok(Numbers { places })
+        Ok(())
     }
 
     fn place(&self, number: u16) -> Place {
@@ -169,7 +176,7 @@ impl Numbers {
     }
 
     /// How many are linked, without 0, and how many are in limbo.
-    pub(crate) fn linked_and_in_limbo(&self) -> (usize, usize) {
+    fn linked_and_in_limbo(&self) -> (usize, usize) {
         let (mut linked, mut limbo) = (0usize, 0usize);
         for place in self.places.as_slice() {
             match place {
@@ -179,5 +186,13 @@ impl Numbers {
             }
         }
         (linked.saturating_sub(1), limbo)
+    }
+
+    pub(crate) fn linked(&self) -> usize {
+        self.linked_and_in_limbo().0
+    }
+
+    pub(crate) fn in_limbo(&self) -> usize {
+        self.linked_and_in_limbo().1
     }
 }

@@ -1,6 +1,6 @@
 //! Cursor pages of small trees, by hand.
 
-use crate::by_hand::replies;
+use crate::by_hand::{let_go, replies};
 use crate::scripts::{Ask, Line, Say, after, is_told, runs};
 use bw_model::{Command, Key, Pairs, Reply, Value};
 use std::alloc::Global;
@@ -59,7 +59,9 @@ fn has_two_pages(alloc: Global) -> bool {
         return false;
     };
     let last = [Line::Replies(0, Ask::Page(16), Say::Page(16, 17, None))];
-    replies(&mut core, 0, between(), Reply::Inserted) && runs(alloc, &mut core, &last)
+    let right = replies(&mut core, 0, between(), Reply::Inserted) && runs(alloc, &mut core, &last);
+    let_go(core);
+    right
 }
 
 #[test]

@@ -33,6 +33,24 @@ fn has_page(values: &[u32], from: u32, end: u32, items: &[(Key, Value)]) -> bool
     left.next().is_none()
 }
 
+/// Whether the items are the pairs from a number up to an end, now or before one of these changes, of which the last is the newest.
+fn had_page(
+    values: &mut [u32],
+    changes: &[(u32, u32)],
+    (from, end): (u32, u32),
+    items: &[(Key, Value)],
+) -> bool {
+    for (number, before) in changes.iter().rev() {
+        if has_page(values, from, end, items) {
+            return true;
+        }
+        if let Some(place) = values.get_mut(*number as usize) {
+            *place = *before;
+        }
+    }
+    has_page(values, from, end, items)
+}
+
 impl PlainMap {
     /// No values.
     pub(crate) fn new(alloc: Global) -> Result<PlainMap, AllocError> {
@@ -79,14 +97,8 @@ impl PlainMap {
             Some(key) => number_of(key).unwrap_or(0),
         };
         let mut values = self.values.clone()?;
-        for (number, before) in self.changes.as_slice().iter().skip(since).rev() {
-            if has_page(values.as_slice(), from, end, items.as_slice()) {
-                return Ok(true);
-            }
-            if let Some(place) = values.get_mut(*number as usize) {
-                *place = *before;
-            }
-        }
-        Ok(has_page(values.as_slice(), from, end, items.as_slice()))
+        let changes = self.changes.as_slice();
+        let past = changes.get(since..).unwrap_or(&[]);
+        Ok(had_page(values.as_mut_slice(), past, (from, end), items.as_slice()))
     }
 }

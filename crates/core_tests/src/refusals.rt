@@ -1,7 +1,9 @@
 //! Each growth of memory refused in turn: want of memory is answered, nothing is changed, and the same call made again is answered as if
 //! there had been no refusal.
 
+use crate::by_hand::let_go;
 use crate::numbered;
+use crate::scripts::opened;
 use bw_model::{Command, Key, Limits, OpenError, Value};
 use refusing::Refusing;
 use std::alloc::{AllocError, Allocator, Global};
@@ -96,11 +98,19 @@ fn run_wants_memory(rt: HostRuntime) -> Result<(), Fail> {
     Ok(())
 }
 
+/// Whether the twin lists these pairs.
+fn lists(alloc: Global, twin: &Core, pairs: &[(Key, Value)]) -> bool {
+    match twin.listing(alloc) {
+        Ok(same) => same.as_slice() == pairs,
+        Err(_) => false,
+    }
+}
+
 /// Whether both cores list the same pairs.
 fn list_alike(alloc: Global, core: &Core<Heap<'_>>, twin: &Core) -> bool {
-    match (core.listing(alloc), twin.listing(alloc)) {
-        (Ok(pairs), Ok(same)) => pairs == same,
-        _ => false,
+    match core.listing(alloc) {
+        Ok(pairs) => lists(alloc, twin, pairs.as_slice()),
+        Err(_) => false,
     }
 }
 
@@ -125,6 +135,27 @@ fn turn_without<'a>(
     (event, left)
 }
 
+/// Whether the twin takes the turn so, too.
+fn takes_alike(event: &Result<Event, RunError>, twin: &mut Core, turn: &Turn) -> bool {
+    *event == twin.turn(turn.clone().unwrap())
+}
+
+/// Whether a turn is refused for want of memory while this growth is; if not, both take it alike. The core is like its twin then. None where
+/// anything else comes.
+fn is_refused<'a>(
+    alloc: Global,
+    heap: Heap<'a>,
+    core: &mut Core<Heap<'a>>,
+    twin: &mut Core,
+    turn: &Turn,
+    growth: u64,
+) -> Option<bool> {
+    let (event, left) = turn_without(heap, core, turn, growth);
+    let refused = matches!(event, Err(RunError::Memory(at)) if at == twin.turns());
+    let right = refused || (takes_alike(&event, twin, turn) && left == 0);
+    (right && are_alike(alloc, core, twin)).then_some(refused)
+}
+
 /// How many growths a turn wants: each of them is refused in turn, for want of memory, and the core is like its twin still; then both take
 /// the turn alike. None where anything else comes.
 fn growths<'a>(
@@ -134,18 +165,28 @@ fn growths<'a>(
     twin: &mut Core,
     turn: &Turn,
 ) -> Option<u64> {
-    let refused = Err(RunError::Memory(twin.turns()));
     for growth in 0..MOST {
-        let (event, left) = turn_without(heap, core, turn, growth);
-        if event != refused {
-            let same = event == twin.turn(turn.clone().unwrap());
-            return (same && left == 0 && are_alike(alloc, core, twin)).then_some(growth);
-        }
-        if !are_alike(alloc, core, twin) {
-            return None;
+        if !is_refused(alloc, heap, core, twin, turn, growth)? {
+            return Some(growth);
         }
     }
     None
+}
+
+/// Whether a turn wants memory exactly where it is said.
+fn wants_memory<'a>(
+    alloc: Global,
+    heap: Heap<'a>,
+    core: &mut Core<Heap<'a>>,
+    twin: &mut Core,
+    turn: &Turn,
+    wants: &[u64],
+) -> bool {
+    let wants = wants.contains(&core.turns());
+    match growths(alloc, heap, core, twin, turn) {
+        Some(growths) => (growths > 0) == wants,
+        None => false,
+    }
 }
 
 /// Takes the turns, of each growth that is wanted refused in turn. Says how many were taken before one that doesn't want memory exactly
@@ -159,10 +200,8 @@ fn all_refused<'a>(
     wants: &[u64],
 ) -> u64 {
     for turn in turns {
-        let wants = wants.contains(&core.turns());
-        match growths(alloc, heap, core, twin, turn) {
-            Some(growths) if (growths > 0) == wants => {}
-            _ => break,
+        if !wants_memory(alloc, heap, core, twin, turn, wants) {
+            return core.turns();
         }
     }
     core.turns()
@@ -173,11 +212,25 @@ fn taken_by_twins(alloc: Global, first: &[Turn], turns: &[Turn], wants: &[u64]) 
     let limits = Limits::new(1, 64, 64, 1).ok()?;
     let heap = Refusing::new(alloc);
     let mut twin = Core::open(alloc, limits).ok()?;
-    let mut core = Core::<Heap<'_>>::open(&heap, limits).ok()?;
-    if !are_taken(&mut core, first) || !are_taken(&mut twin, first) {
-        return None;
-    }
-    Some(all_refused(alloc, &heap, &mut core, &mut twin, turns, wants))
+    let taken = taken_beside(alloc, &heap, &mut twin, first, turns, wants);
+    let_go(twin);
+    taken
+}
+
+/// The same beside a twin.
+fn taken_beside<'a>(
+    alloc: Global,
+    heap: Heap<'a>,
+    twin: &mut Core,
+    first: &[Turn],
+    turns: &[Turn],
+    wants: &[u64],
+) -> Option<u64> {
+    let mut core = Core::<Heap<'a>>::open(heap, *twin.limits()).ok()?;
+    let are_taken = are_taken(&mut core, first) && are_taken(twin, first);
+    let taken = all_refused(alloc, heap, &mut core, twin, turns, wants);
+    let_go(core);
+    are_taken.then_some(taken)
 }
 
 /// How many of the updates are taken so.
@@ -191,16 +244,24 @@ fn turn_wants_memory(rt: HostRuntime) {
     assert!(rt; updates_taken(rt.alloc()) == Some(23));
 }
 
+/// A turn that begins an operation, and so many steps.
+fn begun(alloc: Global, begin: Turn, steps: u32) -> Result<Vec<Turn>, AllocError> {
+    let mut turns = Vec::new(alloc);
+    turns.push(begin)?;
+    for _ in 0..steps {
+        turns.push(Turn::Step(0))?;
+    }
+    Ok(turns)
+}
+
 /// Before which turns a cursor page behind one insert wants memory: where the trace has to grow, at 16, and for its pairs, at its
 /// last step.
 const PAGE_WANTS: [u64; 2] = [16, 18];
 
 /// How many turns of an insert and a cursor page are taken so.
 fn page_taken(alloc: Global) -> Option<u64> {
-    let mut first = vec![in alloc; Turn::Step(0); 11].ok()?;
-    first[0] = insert(Key::default(), Value::default());
-    let mut turns = vec![in alloc; Turn::Step(0); 8].ok()?;
-    turns[0] = Turn::Begin(0, Command::Page(Key::default()));
+    let first = begun(alloc, insert(Key::default(), Value::default()), 10).ok()?;
+    let turns = begun(alloc, Turn::Begin(0, Command::Page(Key::default())), 7).ok()?;
     taken_by_twins(alloc, first.as_slice(), turns.as_slice(), &PAGE_WANTS)
 }
 
@@ -234,8 +295,7 @@ const SPLIT_WANTS: [u64; 7] = [250, 256, 266, 277, 279, 291, 306];
 /// How many turns of the inserts are taken so.
 fn split_taken(alloc: Global) -> Option<u64> {
     let first = inserts(alloc).ok()?;
-    let mut turns = vec![in alloc; Turn::Step(0); 59].ok()?;
-    turns[0] = Turn::Begin(0, numbered::insert(16));
+    let turns = begun(alloc, Turn::Begin(0, numbered::insert(16)), 58).ok()?;
     taken_by_twins(alloc, first.as_slice(), turns.as_slice(), &SPLIT_WANTS)
 }
 
@@ -256,31 +316,42 @@ fn are_taken<A: Allocator + Copy>(core: &mut Core<A>, turns: &[Turn]) -> bool {
 
 /// Whether each growth of a listing that is refused is told as want of memory, one at least, up to where there is none more and the
 /// pairs are listed as if none had been refused.
-fn lists_at_last(alloc: Global, core: &Core) -> Option<bool> {
-    let pairs = core.listing(alloc).ok()?;
-    let heap = Refusing::new(alloc);
+fn lists_at_last(heap: Heap<'_>, core: &Core, pairs: &[(Key, Value)]) -> bool {
     for growth in 0..MOST {
         heap.set(growth);
-        match core.listing::<Heap<'_>>(&heap) {
-            Err(error) if error == RunError::Memory(core.turns()) => {}
-            Ok(listed) => {
-                let same = listed.as_slice() == pairs.as_slice();
-                return Some(same && heap.left() == 0 && growth > 0 && pairs.len() == 16);
-            }
-            Err(_) => return None,
+        match is_listed(heap, core, pairs) {
+            Some(true) => return heap.left() == 0 && growth > 0,
+            Some(false) => {}
+            None => return false,
         }
     }
-    None
+    false
+}
+
+/// Whether the core lists these pairs, or lacks memory for it; none where anything else comes.
+fn is_listed(heap: Heap<'_>, core: &Core, pairs: &[(Key, Value)]) -> Option<bool> {
+    match core.listing::<Heap<'_>>(heap) {
+        Ok(listed) => (listed.as_slice() == pairs).then_some(true),
+        Err(error) => (error == RunError::Memory(core.turns())).then_some(false),
+    }
 }
 
 /// Whether the listing of sixteen pairs is refused so.
+fn sixteen_lack(alloc: Global, core: &Core) -> bool {
+    let heap = Refusing::new(alloc);
+    match core.listing(alloc) {
+        Ok(pairs) => pairs.len() == 16 && lists_at_last(&heap, core, pairs.as_slice()),
+        Err(_) => false,
+    }
+}
+
+/// The same on a new core, once the pairs are inserted.
 fn listing_lacks(alloc: Global) -> Option<bool> {
     let turns = inserts(alloc).ok()?;
-    let mut core = Core::open(alloc, Limits::new(1, 64, 64, 1).ok()?).ok()?;
-    if !are_taken(&mut core, turns.as_slice()) {
-        return None;
-    }
-    lists_at_last(alloc, &core)
+    let mut core = opened(alloc, 1, 64, 1)?;
+    let lacks = are_taken(&mut core, turns.as_slice()) && sixteen_lack(alloc, &core);
+    let_go(core);
+    Some(lacks)
 }
 
 #[test]

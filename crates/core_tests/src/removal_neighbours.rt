@@ -1,6 +1,6 @@
 //! Two actors that each remove a leaf, where the leaves are neighbours.
 
-use crate::by_hand::{begins, takes};
+use crate::by_hand::{begins, let_go, takes};
 use crate::pages::value;
 use crate::scripts::{Ask, Line, Say, after, runs};
 use bw_model::Reply;
@@ -26,15 +26,19 @@ const TIDIED: [Line; 5] = [
     Line::Lists(&LEFT, 10),
 ];
 
-/// Whether the actors' operations are done with these replies where they take so many steps in turns.
-fn take_turns(core: &mut Core, first: u32, second: u32, wanted: (Reply, Reply)) -> bool {
+/// Whether a reply says that this key is deleted.
+fn is_deleted(reply: &Option<Reply>, number: u8) -> bool {
+    *reply == Some(Reply::Deleted(value(number)))
+}
+
+/// Whether the actors' operations have deleted their keys where they take so many steps in turns.
+fn take_turns(core: &mut Core, first: u32, second: u32) -> bool {
     let (mut one, mut other) = (None, None);
     let mut took = true;
     for _ in 0..1000u32 {
         took = took && takes(core, 0, first, &mut one) && takes(core, 1, second, &mut other);
     }
-    let told = (one, other) == (Some(wanted.0), Some(wanted.1));
-    took && told
+    took && is_deleted(&one, 9) && is_deleted(&other, 17)
 }
 
 /// Whether both keys are deleted where the actors take so many steps in turns.
@@ -42,11 +46,12 @@ fn alternates(alloc: Global, first: u32, second: u32) -> bool {
     let Some(mut core) = after(alloc, 2, 256, &SMALL_NEIGHBOURS) else {
         return false;
     };
-    let wanted = (Reply::Deleted(value(9)), Reply::Deleted(value(17)));
-    begins(&mut core, 0, Ask::Delete(9).command())
+    let right = begins(&mut core, 0, Ask::Delete(9).command())
         && begins(&mut core, 1, Ask::Delete(17).command())
-        && take_turns(&mut core, first, second, wanted)
-        && runs(alloc, &mut core, &TIDIED)
+        && take_turns(&mut core, first, second)
+        && runs(alloc, &mut core, &TIDIED);
+    let_go(core);
+    right
 }
 
 #[test]
@@ -67,19 +72,26 @@ fn neighbours_are_removed_in_turns(rt: HostRuntime) {
     }
 }
 
-/// Whether both keys are deleted where actor 0 stops after so many steps, and actor 1 then goes on to its end.
+/// Whether both keys are deleted on this core where actor 0 stops after so many steps, and actor 1 then goes on to its end.
+fn goes_on(alloc: Global, core: &mut Core, mine: u8, others: u8, steps: u32) -> bool {
+    let mut done = None;
+    let other = [Line::Replies(1, Ask::Delete(others), Say::Deleted(others))];
+    begins(core, 0, Ask::Delete(mine).command())
+        && takes(core, 0, steps, &mut done)
+        && runs(alloc, core, &other)
+        && takes(core, 0, 1000, &mut done)
+        && is_deleted(&done, mine)
+        && runs(alloc, core, &TIDIED)
+}
+
+/// Whether they are on a new core.
 fn stops(alloc: Global, mine: u8, others: u8, steps: u32) -> bool {
     let Some(mut core) = after(alloc, 2, 256, &SMALL_NEIGHBOURS) else {
         return false;
     };
-    let mut done = None;
-    let other = [Line::Replies(1, Ask::Delete(others), Say::Deleted(others))];
-    begins(&mut core, 0, Ask::Delete(mine).command())
-        && takes(&mut core, 0, steps, &mut done)
-        && runs(alloc, &mut core, &other)
-        && takes(&mut core, 0, 1000, &mut done)
-        && done == Some(Reply::Deleted(value(mine)))
-        && runs(alloc, &mut core, &TIDIED)
+    let right = goes_on(alloc, &mut core, mine, others, steps);
+    let_go(core);
+    right
 }
 
 /// Whether nothing goes wrong after any number of steps, of every fourth one.

@@ -1,6 +1,6 @@
 //! Lookups and cursor pages between each two stages of a removal.
 
-use crate::by_hand::{begins, finish, steps, until};
+use crate::by_hand::{begins, finish, let_go, steps, until};
 use crate::scripts::{Ask, Line, Say, runs};
 use crate::small_leaves::with_small_leaf;
 use bw_model::{Link, Reply};
@@ -53,7 +53,7 @@ fn are_read(alloc: Global) -> bool {
     let Some(mut core) = at_stage(alloc, 0) else {
         return false;
     };
-    runs(alloc, &mut core, &found(apart))
+    let right = runs(alloc, &mut core, &found(apart))
         && stands(alloc, &mut core, &[Link::Hold, Link::Remove], apart)
         && stands(
             alloc,
@@ -61,7 +61,9 @@ fn are_read(alloc: Global) -> bool {
             &[Link::Merge, Link::Unterm, Link::Clear],
             merged,
         )
-        && runs(alloc, &mut core, &END)
+        && runs(alloc, &mut core, &END);
+    let_go(core);
+    right
 }
 
 #[test]
@@ -81,27 +83,39 @@ fn comes_to(core: &mut Core, stage: usize) -> bool {
 /// A tree in which it has come there.
 pub(crate) fn at_stage(alloc: Global, stage: usize) -> Option<Core> {
     let mut core = with_small_leaf(alloc)?;
-    comes_to(&mut core, stage).then_some(core)
+    if comes_to(&mut core, stage) {
+        return Some(core);
+    }
+    let_go(core);
+    None
 }
 
-/// What a reader that has taken so many steps at one stage is answered, where the delete goes on to its end in the middle of the
-/// reader's way.
-fn answer(alloc: Global, stage: usize, taken: u32, ask: Ask) -> Option<Reply> {
-    let mut core = at_stage(alloc, stage)?;
-    let stopped = begins(&mut core, 1, ask.command()) && steps(&mut core, 1, taken, None);
-    if !stopped || finish(&mut core, 0).is_none() {
+/// What a reader that has taken so many steps is answered, where the delete goes on to its end in the middle of the reader's way.
+fn answer(core: &mut Core, taken: u32, ask: Ask) -> Option<Reply> {
+    let stopped = begins(core, 1, ask.command()) && steps(core, 1, taken, None);
+    if !stopped || finish(core, 0).is_none() {
         return None;
     }
-    let (reply, _) = finish(&mut core, 1)?;
+    let (reply, _) = finish(core, 1)?;
     Some(reply)
 }
 
-/// Whether a reader that stops there has one of these replies.
-fn is_answered(alloc: Global, stage: usize, taken: u32, ask: Ask, wanted: [Say; 2]) -> bool {
-    match answer(alloc, stage, taken, ask) {
-        Some(reply) => reply == wanted[0].reply() || reply == wanted[1].reply(),
+/// Whether the reply is one of these.
+fn is_one_of(reply: &Option<Reply>, wanted: [Say; 2]) -> bool {
+    match reply {
+        Some(reply) => *reply == wanted[0].reply() || *reply == wanted[1].reply(),
         None => false,
     }
+}
+
+/// Whether a reader that stops at this stage has one of these replies.
+fn is_answered(alloc: Global, stage: usize, taken: u32, ask: Ask, wanted: [Say; 2]) -> bool {
+    let Some(mut core) = at_stage(alloc, stage) else {
+        return false;
+    };
+    let right = is_one_of(&answer(&mut core, taken, ask), wanted);
+    let_go(core);
+    right
 }
 
 /// Whether a lookup and a cursor page of k10 are answered wherever they stand while the delete goes on from one stage to its end.

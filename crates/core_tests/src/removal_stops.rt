@@ -1,6 +1,6 @@
 //! A delete that removes a leaf, stopped after each of its steps, while another actor goes on at the leaf and beside it.
 
-use crate::by_hand::begun;
+use crate::by_hand::{begun, let_go};
 use crate::scripts::{Ask, Line, Say, is_told, runs};
 use crate::small_leaves::{ELEVEN, TWELVE, with_small_leaf};
 use bw_model::Link;
@@ -12,11 +12,13 @@ fn go_on(alloc: Global, steps: u32, there: &[Line], gone: &[Line]) -> bool {
     let Some(mut core) = with_small_leaf(alloc) else {
         return false;
     };
-    match begun(&mut core, Ask::Delete(12).command(), steps, Link::Delete) {
+    let right = match begun(&mut core, Ask::Delete(12).command(), steps, Link::Delete) {
         Some(true) => runs(alloc, &mut core, gone),
         Some(false) => runs(alloc, &mut core, there),
         None => false,
-    }
+    };
+    let_go(core);
+    right
 }
 
 /// Actor 1 looks a key of the leaf up and changes its value; the delete goes on after that.

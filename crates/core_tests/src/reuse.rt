@@ -1,7 +1,7 @@
 //! Rows and PIDs that are used again, and what an actor that stays inside keeps out of use.
 
-use crate::accounts::{comes_to_rest, is_settled, is_sound};
-use crate::by_hand::{begins, finish, replies, reply, steps};
+use crate::accounts::{is_settled, is_sound};
+use crate::by_hand::{begins, comes_to_rest, finishes, replies, reply, steps};
 use crate::numbered;
 use crate::pages::{key, value};
 use crate::scripts::{Ask, Line, Say, after, opened};
@@ -87,7 +87,8 @@ fn come_and_go(alloc: Global) -> Option<bool> {
     let end = rounds(100);
     let mut core = opened(alloc, 2, 256, 1)?;
     let right = served(&mut core, 0, end) == Some(end) && is_round(alloc, &core);
-    Some(right && is_settled(alloc, core, &key(20)))
+    let settled = is_settled(alloc, core, &key(20));
+    Some(right && settled)
 }
 
 // Each round removes a page and makes one: the identifiers would do for 61 rounds, the rows for fewer than ten.
@@ -97,30 +98,35 @@ fn pages_come_and_go(rt: HostRuntime) {
 }
 
 /// Whether all goes on as it is to where actor 2 stays inside from the second round on: before so many rounds are done the others
-/// find no room, since nothing is freed, and once it has left there is room again.
-fn waits(alloc: Global, rows: u64, epoch: u64, count: u32) -> Option<[bool; 9]> {
+/// find no room, and once it has left there is room again. Beside it, between which turns it stays inside.
+fn stays(alloc: Global, core: &mut Core, count: u32) -> ([bool; 6], u64, u64) {
+    let (first, end) = (rounds(2), rounds(count));
+    let grown = served(core, 0, first) == Some(first);
+    let entered = begins(core, 2, Command::Get(key(10))) && steps(core, 2, 5, None);
+    let since = core.turns();
+    let stop = served(core, first, end).unwrap_or(end);
+    let until = core.turns();
+    let right = [
+        grown,
+        entered,
+        stop < end,
+        finishes(core, 2, Reply::Value(value(10))),
+        served(core, stop, end) == Some(end),
+        is_round(alloc, core),
+    ];
+    (right, since, until)
+}
+
+/// Whether it is so on a new core, where nothing is freed meanwhile.
+fn waits(alloc: Global, rows: u64, epoch: u64, count: u32) -> Option<[bool; 4]> {
     let mut core = opened(alloc, 3, rows, epoch)?;
     let limits = *core.limits();
-    let (first, end) = (rounds(2), rounds(count));
-    let grown = served(&mut core, 0, first) == Some(first);
-    let begun = begins(&mut core, 2, Command::Get(key(10)));
-    let entered = steps(&mut core, 2, 5, None);
-    let since = core.turns();
-    let stop = served(&mut core, first, end)?;
-    let until = core.turns();
-    let (found, _) = finish(&mut core, 2)?;
-    let again = served(&mut core, stop, end) == Some(end);
-    let listed = is_round(alloc, &core);
+    let (right, since, until) = stays(alloc, &mut core, count);
     let rests = comes_to_rest(&mut core, &key(20));
     let trace = core.into_trace();
     let entries = &trace.entries;
     Some([
-        grown,
-        begun && entered,
-        stop < end,
-        found == Reply::Value(value(10)),
-        again,
-        listed,
+        right == [true; 6],
         rests,
         retired_and_freed(entries, since, until).1 == 0,
         is_sound(alloc, &limits, entries),
@@ -136,7 +142,7 @@ fn what_an_actor_inside_may_reach_waits(rt: HostRuntime) {
         (128, LAST_EPOCH, 12),
         (2048, 1, 70),
     ] {
-        assert!(rt; waits(rt.alloc(), rows, epoch, count) == Some([true; 9]));
+        assert!(rt; waits(rt.alloc(), rows, epoch, count) == Some([true; 4]));
     }
 }
 
@@ -263,7 +269,8 @@ fn goes_on(alloc: Global) -> Option<bool> {
     let right = inserted(&mut core) == Some(448)
         && all_deleted(&mut core, 0, 200)
         && all_inserted(&mut core, 448, 600);
-    Some(right && is_settled(alloc, core, &numbered::key(0)))
+    let settled = is_settled(alloc, core, &numbered::key(0));
+    Some(right && settled)
 }
 
 // The identifiers do for 448 keys. Once leaves at the other end are removed, the tree grows on.

@@ -1,11 +1,12 @@
 //! Runs by hand, with the counts of steps and the replies that are wanted of them.
 
+use crate::by_hand::let_go;
 use crate::pages::{key, value};
-use crate::scripts::{Ask, Line, Say, is_told};
+use crate::scripts::{Ask, Line, Say, is_told, opened};
 use bw_model::{Command, Limits, Link, Reply};
 use core_memory::Entries;
 use std::alloc::{AllocError, Global};
-use step_core::{Core, RunError, run};
+use step_core::{RunError, run};
 use traces::{Entry, Turn};
 
 const LOOKUP_AND_INSERT: [Line; 9] = [
@@ -108,13 +109,18 @@ fn begins() -> Turn {
     Turn::Begin(0, Ask::Get(1).command())
 }
 
+/// How a turn of an actor that isn't there is refused, a second begin, and a step without an operation.
+fn refusals(alloc: Global) -> [Option<RunError>; 3] {
+    [
+        refusal(alloc, 2, &[Turn::Step(3)]),
+        refusal(alloc, 2, &[begins(), begins()]),
+        refusal(alloc, 2, &[Turn::Step(0)]),
+    ]
+}
+
 #[test]
 fn refuses_turns(rt: HostRuntime) {
-    let refused = [
-        refusal(rt.alloc(), 2, &[Turn::Step(3)]),
-        refusal(rt.alloc(), 2, &[begins(), begins()]),
-        refusal(rt.alloc(), 2, &[Turn::Step(0)]),
-    ];
+    let refused = refusals(rt.alloc());
     let wanted = [
         Some(RunError::NoActor(0)),
         Some(RunError::Unfinished(1)),
@@ -125,9 +131,11 @@ fn refuses_turns(rt: HostRuntime) {
 
 /// How a core of one actor refuses the turns, and how many it has taken before.
 fn stopped(alloc: Global, turns: &[Turn]) -> Option<(RunError, u64)> {
-    let mut core = Core::open(alloc, limits(1)?).ok()?;
-    let refused = core.take_turns(turns).err()?;
-    Some((refused, core.turns()))
+    let mut core = opened(alloc, 1, 64, 1)?;
+    let refused = core.take_turns(turns).err();
+    let taken = core.turns();
+    let_go(core);
+    Some((refused?, taken))
 }
 
 /// The two inserts with another turn in a place, as `run` refuses them, where a core refuses them the same, and has taken the turns before.

@@ -317,11 +317,12 @@ fn seen(
         kinds,
         keys,
     };
-    let mut core = Core::open(alloc, Limits::new(u64::from(actors), pids, rows, 1).ok()?).ok()?;
+    let limits = Limits::new(u64::from(actors), pids, rows, 1).ok()?;
     let mut twin = Twin::new(alloc).ok()?;
+    let mut core = Core::open(alloc, limits).ok()?;
     let agrees = agrees(alloc, &mut core, &mut twin, &schedule);
-    let right = agrees && is_settled(alloc, core, &key(1023));
-    right.then_some((twin.roots, twin.full, twin.changed_since))
+    let settled = is_settled(alloc, core, &key(1023));
+    (agrees && settled).then_some((twin.roots, twin.full, twin.changed_since))
 }
 
 // All rows but one leaf's are used again and again.

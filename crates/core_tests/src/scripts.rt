@@ -1,6 +1,6 @@
 //! Scripts: lines of what actors do with the keys k01, k02 and on, and what each line is to tell.
 
-use crate::by_hand::{begins, ends, finishes, replies, steps, until};
+use crate::by_hand::{begins, ends, finishes, let_go, replies, steps, until};
 use crate::pages::{key, page, value};
 use crate::small_leaves::{deletes, inserts, lists};
 use bw_model::{Command, Key, Limits, Link, Reply};
@@ -129,7 +129,11 @@ pub(crate) fn runs(alloc: Global, core: &mut Core, lines: &[Line]) -> bool {
 /// A core with so many actors and rows, once these lines have told what they are to.
 pub(crate) fn after(alloc: Global, actors: u64, rows: u64, lines: &[Line]) -> Option<Core> {
     let mut core = opened(alloc, actors, rows, 1)?;
-    runs(alloc, &mut core, lines).then_some(core)
+    if runs(alloc, &mut core, lines) {
+        return Some(core);
+    }
+    let_go(core);
+    None
 }
 
 /// A core with so many actors and rows, and 64 page identifiers, at this epoch.
@@ -139,5 +143,11 @@ pub(crate) fn opened(alloc: Global, actors: u64, rows: u64, epoch: u64) -> Optio
 
 /// Whether all lines tell what they are to on a new core with so many actors and rows.
 pub(crate) fn is_told(alloc: Global, actors: u64, rows: u64, lines: &[Line]) -> bool {
-    after(alloc, actors, rows, lines).is_some()
+    match after(alloc, actors, rows, lines) {
+        Some(core) => {
+            let_go(core);
+            true
+        }
+        None => false,
+    }
 }

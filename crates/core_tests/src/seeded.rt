@@ -86,10 +86,15 @@ impl Beside {
 
     /// Whether the core lists exactly the map's pairs.
     fn is_listed(&self, alloc: Global, core: &Core) -> Result<bool, AllocError> {
-        let Ok(pairs) = core.listing(alloc) else {
-            return Ok(false);
-        };
-        let mut left = pairs.as_slice().iter();
+        match core.listing(alloc) {
+            Ok(pairs) => self.has(alloc, pairs.as_slice()),
+            Err(_) => Ok(false),
+        }
+    }
+
+    /// Whether these are exactly the map's pairs.
+    fn has(&self, alloc: Global, pairs: &[(Key, Value)]) -> Result<bool, AllocError> {
+        let mut left = pairs.iter();
         for (number, turn) in &self.map {
             if left.next() != Some(&(key(*number), value_of(alloc, *turn)?)) {
                 return Ok(false);
@@ -141,10 +146,12 @@ fn are_taken(alloc: Global, core: &mut Core, beside: &mut Beside, seed: u64) -> 
 /// How many slots of merged pages these turns clear; none where they aren't taken so, or a row or PID is not where it is to be at the
 /// end.
 fn cleared(alloc: Global, seed: u64) -> Result<Option<u32>, Fail> {
-    let mut core = Core::open(alloc, Limits::new(4, 256, 4096, 1)?)?;
+    let limits = Limits::new(4, 256, 4096, 1)?;
     let mut beside = Beside::new(alloc);
-    let taken = are_taken(alloc, &mut core, &mut beside, seed)?;
-    Ok((taken && is_settled(alloc, core, &key(99))).then_some(beside.cleared))
+    let mut core = Core::open(alloc, limits)?;
+    let taken = are_taken(alloc, &mut core, &mut beside, seed);
+    let settled = is_settled(alloc, core, &key(99));
+    Ok((taken? && settled).then_some(beside.cleared))
 }
 
 /// How many slots these seeds clear, each without a fault.

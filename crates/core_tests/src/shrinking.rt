@@ -2,7 +2,7 @@
 
 ghost use Rattle.std.specs.Prelude.{◌<◌};
 
-use crate::by_hand::{begins, replies, reply};
+use crate::by_hand::{begins, let_go, replies, reply};
 use crate::numbered::{are_first, insert, key, value};
 use crate::scripts::opened;
 use bw_model::{Command, Key, Pairs, Reply};
@@ -91,7 +91,7 @@ fn is_empty(alloc: Global, core: &mut Core) -> bool {
 /// Whether the tree grows to nine leaves, of eight keys each but the last, and shrinks to one, and whether it does so once more.
 fn lives_twice(alloc: Global, order: Order) -> Option<[bool; 9]> {
     let mut core = opened(alloc, 2, 4096, 1)?;
-    Some([
+    let right = [
         grows(&mut core),
         lists(alloc, &core, KEYS),
         leaves(&mut core) == Some(9),
@@ -101,7 +101,9 @@ fn lives_twice(alloc: Global, order: Order) -> Option<[bool; 9]> {
         lists(alloc, &core, KEYS),
         shrinks(&mut core, order),
         is_empty(alloc, &mut core),
-    ])
+    ];
+    let_go(core);
+    Some(right)
 }
 
 #[test]
@@ -168,7 +170,7 @@ fn is_tidied(core: &mut Core) -> bool {
 /// Whether the tree grows, shrinks by two actors to one leaf, and grows again.
 fn is_shared(alloc: Global, order: Order) -> Option<[bool; 7]> {
     let mut core = opened(alloc, 2, 4096, 1)?;
-    Some([
+    let right = [
         grows(&mut core),
         shrinks_in_turns(&mut core, order),
         lists(alloc, &core, 0),
@@ -176,7 +178,9 @@ fn is_shared(alloc: Global, order: Order) -> Option<[bool; 7]> {
         is_empty(alloc, &mut core),
         grows(&mut core),
         lists(alloc, &core, KEYS),
-    ])
+    ];
+    let_go(core);
+    Some(right)
 }
 
 #[test]

@@ -1,6 +1,6 @@
 //! An insert that splits pages, stopped after each of its steps, while another actor goes on at both sides of the split.
 
-use crate::by_hand::{begins, begun, finish, replies};
+use crate::by_hand::{begins, begun, finish, let_go, replies};
 use crate::numbered::{found, insert, is_pair, key};
 use crate::scripts::opened;
 use bw_model::{Command, Key, Link, Reply, Value};
@@ -20,7 +20,11 @@ fn grows(core: &mut Core, count: u32) -> bool {
 /// A core with these keys.
 fn grown(alloc: Global, count: u32) -> Option<Core> {
     let mut core = opened(alloc, 2, 512, 1)?;
-    grows(&mut core, count).then_some(core)
+    if grows(&mut core, count) {
+        return Some(core);
+    }
+    let_go(core);
+    None
 }
 
 /// Whether a number's key is listed: that of an even number below the last, of one of the two odd ones, and of the last if it was put.
@@ -73,14 +77,31 @@ fn goes_on(core: &mut Core, alloc: Global, last: u32, steps: u32) -> bool {
     told == [true; 7]
 }
 
+/// How many steps an insert takes.
+fn inserted(core: &mut Core, last: u32) -> Option<u32> {
+    if !begins(core, 0, insert(last)) {
+        return None;
+    }
+    let (reply, steps) = finish(core, 0)?;
+    (reply == Reply::Inserted).then_some(steps)
+}
+
 /// How many steps an insert behind the keys takes alone.
 fn steps_alone(alloc: Global, count: u32, last: u32) -> Option<u32> {
     let mut core = grown(alloc, count)?;
-    if !begins(&mut core, 0, insert(last)) {
-        return None;
-    }
-    let (reply, steps) = finish(&mut core, 0)?;
-    (reply == Reply::Inserted).then_some(steps)
+    let steps = inserted(&mut core, last);
+    let_go(core);
+    steps
+}
+
+/// Whether all goes right on a new core.
+fn goes_on_anew(alloc: Global, count: u32, last: u32, steps: u32) -> bool {
+    let Some(mut core) = grown(alloc, count) else {
+        return false;
+    };
+    let right = goes_on(&mut core, alloc, last, steps);
+    let_go(core);
+    right
 }
 
 /// Whether it takes so many steps, and all goes right wherever it stops after a multiple of some of them.
@@ -88,13 +109,8 @@ fn stops_anywhere(alloc: Global, count: u32, stride: u32, steps: u32) -> bool {
     let last = count.wrapping_add(1).wrapping_mul(2);
     for place in 0..steps {
         let stop = place.saturating_mul(stride);
-        if stop < steps {
-            let Some(mut core) = grown(alloc, count) else {
-                return false;
-            };
-            if !goes_on(&mut core, alloc, last, stop) {
-                return false;
-            }
+        if stop < steps && !goes_on_anew(alloc, count, last, stop) {
+            return false;
         }
     }
     steps_alone(alloc, count, last) == Some(steps)

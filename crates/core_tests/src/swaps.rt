@@ -1,11 +1,12 @@
 //! A swap that stops after each of its steps, while another actor splits the leaf of its key, or removes it.
 
-use crate::by_hand::{begins, begun, finish, takes};
+use crate::by_hand::{begins, begun, finish, let_go, takes};
 use crate::removal_readers::at_stage;
 use crate::scripts::{Ask, Line, Say, after, runs};
 use crate::small_leaves::ELEVEN;
 use bw_model::{Link, Reply};
 use std::alloc::Global;
+use step_core::Core;
 
 /// A swap of the value that k10 has from the beginning on.
 const SWAP: Ask = Ask::Swap(10, 10, 30);
@@ -44,17 +45,16 @@ fn swaps(alloc: Global, meanwhile: &Meanwhile, steps: u32) -> bool {
         Line::Finishes(0, Say::Swapped),
         Line::Lists(meanwhile.left, 30),
     ];
-    begun(&mut core, SWAP.command(), steps, Link::Put).is_some()
+    let right = begun(&mut core, SWAP.command(), steps, Link::Put).is_some()
         && runs(alloc, &mut core, meanwhile.happens)
-        && runs(alloc, &mut core, &last)
+        && runs(alloc, &mut core, &last);
+    let_go(core);
+    right
 }
 
 /// Whether all is right where the key is given a third value, too, while the swap stops after so many steps.
-fn differs(alloc: Global, meanwhile: &Meanwhile, steps: u32) -> bool {
-    let Some(mut core) = after(alloc, 2, 256, meanwhile.before) else {
-        return false;
-    };
-    let (had, wanted) = match begun(&mut core, SWAP.command(), steps, Link::Put) {
+fn differs_on(alloc: Global, core: &mut Core, meanwhile: &Meanwhile, steps: u32) -> bool {
+    let (had, wanted) = match begun(core, SWAP.command(), steps, Link::Put) {
         Some(true) => (30, Say::Swapped),
         Some(false) => (10, Say::Differs(50)),
         None => return false,
@@ -64,17 +64,34 @@ fn differs(alloc: Global, meanwhile: &Meanwhile, steps: u32) -> bool {
         Line::Finishes(0, wanted),
         Line::Lists(meanwhile.left, 50),
     ];
-    runs(alloc, &mut core, meanwhile.happens) && runs(alloc, &mut core, &last)
+    runs(alloc, core, meanwhile.happens) && runs(alloc, core, &last)
+}
+
+/// The same on a new core.
+fn differs(alloc: Global, meanwhile: &Meanwhile, steps: u32) -> bool {
+    let Some(mut core) = after(alloc, 2, 256, meanwhile.before) else {
+        return false;
+    };
+    let right = differs_on(alloc, &mut core, meanwhile, steps);
+    let_go(core);
+    right
+}
+
+/// How many steps the swap takes.
+fn swapped(core: &mut Core) -> Option<u32> {
+    if !begins(core, 0, SWAP.command()) {
+        return None;
+    }
+    let (reply, steps) = finish(core, 0)?;
+    (reply == Reply::Swapped && steps > 9).then_some(steps)
 }
 
 /// How many steps the swap takes alone.
 fn steps_of(alloc: Global, meanwhile: &Meanwhile) -> Option<u32> {
     let mut core = after(alloc, 2, 256, meanwhile.before)?;
-    if !begins(&mut core, 0, SWAP.command()) {
-        return None;
-    }
-    let (reply, steps) = finish(&mut core, 0)?;
-    (reply == Reply::Swapped && steps > 9).then_some(steps)
+    let steps = swapped(&mut core);
+    let_go(core);
+    steps
 }
 
 /// Whether the swap takes more than nine steps, and all goes right wherever it stops.
@@ -100,19 +117,25 @@ fn a_leaf_is_removed_under_a_swap(rt: HostRuntime) {
     assert!(rt; stops_anywhere(rt.alloc(), &REMOVES));
 }
 
-/// Whether all is right where actor 1 begins the swap at a stage of the leaf's removal, and stops after so many steps until the
-/// removal is done.
+/// Whether all is right where actor 1 begins the swap, and stops after so many steps until the removal is done.
+fn goes_on(alloc: Global, core: &mut Core, taken: u32) -> bool {
+    let mut done = None;
+    begins(core, 1, SWAP.command())
+        && takes(core, 1, taken, &mut done)
+        && runs(alloc, core, &[Line::Finishes(0, Say::Deleted(12))])
+        && takes(core, 1, 1000, &mut done)
+        && done == Some(Reply::Swapped)
+        && runs(alloc, core, &[Line::Lists(&ELEVEN, 30)])
+}
+
+/// The same at a stage of the leaf's removal.
 fn goes_through(alloc: Global, stage: usize, taken: u32) -> bool {
     let Some(mut core) = at_stage(alloc, stage) else {
         return false;
     };
-    let mut done = None;
-    begins(&mut core, 1, SWAP.command())
-        && takes(&mut core, 1, taken, &mut done)
-        && runs(alloc, &mut core, &[Line::Finishes(0, Say::Deleted(12))])
-        && takes(&mut core, 1, 1000, &mut done)
-        && done == Some(Reply::Swapped)
-        && runs(alloc, &mut core, &[Line::Lists(&ELEVEN, 30)])
+    let right = goes_on(alloc, &mut core, taken);
+    let_go(core);
+    right
 }
 
 #[test]

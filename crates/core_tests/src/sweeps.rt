@@ -1,7 +1,7 @@
 //! An upsert that begins with a sweep, stopped after each of its steps, while other actors go on.
 
 use crate::accounts::is_settled;
-use crate::by_hand::{begins, finish, replies, steps};
+use crate::by_hand::{begins, finish, finishes, let_go, replies, steps};
 use crate::pages::{key, value};
 use crate::reuse::{has_letters, is_round, rounds, served_by};
 use crate::scripts::opened;
@@ -20,7 +20,11 @@ fn with_limbo(alloc: Global) -> Option<Core> {
         served_by(&mut core, 0, 0, rounds(6)),
         finish(&mut core, 1).is_some(),
     ];
-    (told == [true; 4]).then_some(core)
+    if told == [true; 4] {
+        return Some(core);
+    }
+    let_go(core);
+    None
 }
 
 fn upsert() -> Command {
@@ -29,29 +33,29 @@ fn upsert() -> Command {
 
 /// Whether all is right where actor 0 stops after so many steps of an upsert, actor 2 begins to look a key up, actor 1 removes a page
 /// and makes one, and then all go on.
-fn goes_on(alloc: Global, stop: u32) -> Option<[bool; 9]> {
+fn goes(core: &mut Core, stop: u32) -> [bool; 11] {
+    [
+        begins(core, 0, upsert()),
+        steps(core, 0, stop, None),
+        begins(core, 2, Command::Get(key(11))),
+        steps(core, 2, 5, None),
+        served_by(core, 1, rounds(6), rounds(7)),
+        finishes(core, 0, Reply::Replaced(value(9))),
+        served_by(core, 1, rounds(7), rounds(8)),
+        finishes(core, 2, Reply::Value(value(11))),
+        served_by(core, 0, rounds(8), rounds(9)),
+        served_by(core, 2, rounds(9), rounds(10)),
+        replies(core, 1, Command::Get(key(11)), Reply::Value(value(11))),
+    ]
+}
+
+/// The same on a core with limbo, whose pairs and rows are what they are to be then.
+fn goes_on(alloc: Global, stop: u32) -> Option<[bool; 3]> {
     let mut core = with_limbo(alloc)?;
-    let first = [
-        begins(&mut core, 0, upsert()),
-        steps(&mut core, 0, stop, None),
-        begins(&mut core, 2, Command::Get(key(11))),
-        steps(&mut core, 2, 5, None),
-        served_by(&mut core, 1, rounds(6), rounds(7)),
-    ];
-    let (swept, _) = finish(&mut core, 0)?;
-    let goes = served_by(&mut core, 1, rounds(7), rounds(8));
-    let (found, _) = finish(&mut core, 2)?;
-    Some([
-        first == [true; 5],
-        swept == Reply::Replaced(value(9)),
-        goes,
-        found == Reply::Value(value(11)),
-        served_by(&mut core, 0, rounds(8), rounds(9)),
-        served_by(&mut core, 2, rounds(9), rounds(10)),
-        replies(&mut core, 1, Command::Get(key(11)), Reply::Value(value(11))),
-        is_round(alloc, &core),
-        is_settled(alloc, core, &key(20)),
-    ])
+    let goes = goes(&mut core, stop) == [true; 11];
+    let listed = is_round(alloc, &core);
+    let settled = is_settled(alloc, core, &key(20));
+    Some([goes, listed, settled])
 }
 
 /// A letter for each step of a sweep, and for the entry.
@@ -86,6 +90,6 @@ fn the_steps_of_a_long_sweep(rt: HostRuntime) {
 #[test]
 fn a_sweep_stops_anywhere(rt: HostRuntime) {
     for stop in 0..11u32 {
-        assert!(rt; goes_on(rt.alloc(), stop) == Some([true; 9]));
+        assert!(rt; goes_on(rt.alloc(), stop) == Some([true; 3]));
     }
 }

@@ -1,6 +1,6 @@
 //! A tree of 1,000 keys that grows and shrinks to nothing, ten times, by four actors whose turns are drawn.
 
-use crate::index_removals::removes;
+use crate::index_removals::{is_empty, removes};
 use crate::numbered::{insert, key, value};
 use bw_model::{Command, Limits, Reply, Schedule};
 use std::alloc::Global;
@@ -91,9 +91,7 @@ fn turns(core: &mut Core, tide: Tide, seed: u64) -> bool {
 
 /// Whether the tree rises and falls, and has no keys then.
 fn rises_and_falls(alloc: Global, core: &mut Core, seed: u64) -> bool {
-    turns(core, Tide::Rises, seed)
-        && turns(core, Tide::Falls, seed)
-        && matches!(core.listing(alloc), Ok(pairs) if pairs.is_empty())
+    turns(core, Tide::Rises, seed) && turns(core, Tide::Falls, seed) && is_empty(alloc, core)
 }
 
 /// Whether it does so ten times.

@@ -1,6 +1,6 @@
 //! Upkeep that is asked for, by hand.
 
-use crate::by_hand::reply;
+use crate::by_hand::{let_go, reply};
 use crate::scripts::{Ask, Line, Say, after, is_told, runs};
 use bw_model::{Link, Reply};
 use std::alloc::Global;
@@ -77,7 +77,11 @@ const FULL: [Line; 2] = [
 /// Whether a tidying finds no room while another actor stays inside, and changes nothing.
 fn is_full(alloc: Global) -> bool {
     match after(alloc, 2, 64, &INSIDE) {
-        Some(mut core) => is_filled(&mut core) && runs(alloc, &mut core, &FULL),
+        Some(mut core) => {
+            let full = is_filled(&mut core) && runs(alloc, &mut core, &FULL);
+            let_go(core);
+            full
+        }
         None => false,
     }
 }

@@ -1,27 +1,28 @@
 //! Walks over all cursor pages of a tree, each from where the one before it ended.
 
-use crate::by_hand::{begins, replies, reply};
+use crate::by_hand::{begins, let_go, replies, reply};
 use crate::numbered::{insert, key, value};
 use bw_model::{Command, Key, Limits, Pairs, Reply, Value};
 use std::alloc::{AllocError, Global};
-use std::test::Fail;
 use step_core::{Core, Event};
 use traces::Turn;
 
 type Listing = Vec<(Key, Value)>;
 
-/// A core with the keys of the first so many even numbers from 2 on, in another order than theirs.
-fn grown(alloc: Global, count: u32) -> Option<Core> {
-    let limits = Limits::new(2, 256, 8192, 1).ok()?;
-    let mut core = Core::open(alloc, limits).ok()?;
+fn opened(alloc: Global) -> Option<Core> {
+    Core::open(alloc, Limits::new(2, 256, 8192, 1).ok()?).ok()
+}
+
+/// Whether the keys of the first so many even numbers from 2 on are inserted, in another order than theirs.
+fn grows(core: &mut Core, count: u32) -> bool {
     for place in 0..count {
         let number = place.wrapping_mul(37) % count + 1;
         let even = insert(number.wrapping_mul(2));
-        if !replies(&mut core, 0, even, Reply::Inserted) {
-            return None;
+        if !replies(core, 0, even, Reply::Inserted) {
+            return false;
         }
     }
-    Some(core)
+    true
 }
 
 /// Adds the pairs of a page.
@@ -49,20 +50,35 @@ fn walked(alloc: Global, core: &mut Core) -> Result<Option<Listing>, AllocError>
     Ok(None)
 }
 
+/// Whether a walk lists these pairs.
+fn walk_lists(alloc: Global, core: &mut Core, listing: &Listing) -> bool {
+    match walked(alloc, core) {
+        Ok(Some(pairs)) => pairs == *listing,
+        _ => false,
+    }
+}
+
 /// Whether a walk lists all pairs, which are so many.
-fn walk_lists_all(alloc: Global, core: &mut Core, count: usize) -> Option<bool> {
-    let listing = core.listing(alloc).ok()?;
-    let pairs = walked(alloc, core).ok()?;
-    Some(listing.len() == count && pairs == Some(listing))
+fn walk_lists_all(alloc: Global, core: &mut Core, count: usize) -> bool {
+    match core.listing(alloc) {
+        Ok(listing) => listing.len() == count && walk_lists(alloc, core, &listing),
+        Err(_) => false,
+    }
+}
+
+/// Whether it does on a new core.
+fn walk_lists_all_anew(alloc: Global) -> bool {
+    let Some(mut core) = opened(alloc) else {
+        return false;
+    };
+    let right = grows(&mut core, 300) && walk_lists_all(alloc, &mut core, 300);
+    let_go(core);
+    right
 }
 
 #[test]
-fn a_walk_lists_all_pairs(rt: HostRuntime) -> Result<(), Fail> {
-    let Some(mut core) = grown(rt.alloc(), 300) else {
-        return Err(Fail::from("no tree grew"));
-    };
-    assert!(rt; walk_lists_all(rt.alloc(), &mut core, 300) == Some(true));
-    Ok(())
+fn a_walk_lists_all_pairs(rt: HostRuntime) {
+    assert!(rt; walk_lists_all_anew(rt.alloc()));
 }
 
 /// Whether the items are the listing's pairs from a key up to the next one.
@@ -106,6 +122,48 @@ fn disturb(core: &mut Core, begun: u32) -> Option<u32> {
     Some(count)
 }
 
+/// A listing, which is kept, and a step of actor 1: its reply, if the step tells one.
+fn listed_step(
+    alloc: Global,
+    core: &mut Core,
+    listings: &mut Vec<Listing>,
+) -> Option<Option<Reply>> {
+    listings.push(core.listing(alloc).ok()?).ok()?;
+    match core.turn(Turn::Step(1)) {
+        Ok(Event::Done(reply)) => Some(Some(reply)),
+        Ok(_) => Some(None),
+        Err(_) => None,
+    }
+}
+
+/// The reply of actor 1, with a listing before each of its steps and eleven turns of the other actor between them, and how many commands
+/// that one has begun by then.
+fn reply_between(
+    alloc: Global,
+    core: &mut Core,
+    listings: &mut Vec<Listing>,
+    begun: u32,
+) -> Option<(Reply, u32)> {
+    let mut count = begun;
+    for _ in 0..1000u32 {
+        if let Some(reply) = listed_step(alloc, core, listings)? {
+            return Some((reply, count));
+        }
+        count = disturb(core, count)?;
+    }
+    None
+}
+
+/// Whether the items are the part of one of these listings.
+fn was_listed(listings: &[Listing], from: &Key, next: Option<&Key>, items: &Pairs) -> bool {
+    for listing in listings {
+        if is_part(listing, from, next, items) {
+            return true;
+        }
+    }
+    false
+}
+
 /// A page of actor 1, with eleven turns of the other actor between its steps, if it has the pairs that were listed before one of them.
 fn page_between(
     alloc: Global,
@@ -114,24 +172,15 @@ fn page_between(
     begun: u32,
 ) -> Option<(Pairs, Option<Key>, u32)> {
     let mut listings = Vec::new(alloc);
-    let mut count = begun;
     if !begins(core, 1, Command::Page(from.copied())) {
         return None;
     }
-    for _ in 0..1000u32 {
-        listings.push(core.listing(alloc).ok()?).ok()?;
-        if let Event::Done(reply) = core.turn(Turn::Step(1)).ok()? {
-            let Reply::Page { items, next } = reply else {
-                return None;
-            };
-            for listing in listings.as_slice() {
-                if is_part(listing, from, next.as_ref(), &items) {
-                    return Some((items, next, count));
-                }
-            }
-            return None;
-        }
-        count = disturb(core, count)?;
+    let (reply, count) = reply_between(alloc, core, &mut listings, begun)?;
+    let Reply::Page { items, next } = reply else {
+        return None;
+    };
+    if was_listed(listings.as_slice(), from, next.as_ref(), &items) {
+        return Some((items, next, count));
     }
     None
 }
@@ -164,15 +213,28 @@ fn has_even_keys(listing: &Listing, count: u32) -> bool {
     number == count.wrapping_add(1).wrapping_mul(2)
 }
 
+/// Whether a walk over a tree of 300 keys lists the even keys, while another actor changes odd ones more than a hundred times.
+fn goes_on(alloc: Global, core: &mut Core) -> bool {
+    if !grows(core, 300) {
+        return false;
+    }
+    match walked_between(alloc, core) {
+        Some((pairs, changes)) => has_even_keys(&pairs, 300) && changes > 100,
+        None => false,
+    }
+}
+
+/// Whether it does on a new core.
+fn goes_on_anew(alloc: Global) -> bool {
+    let Some(mut core) = opened(alloc) else {
+        return false;
+    };
+    let right = goes_on(alloc, &mut core);
+    let_go(core);
+    right
+}
+
 #[test]
-fn a_walk_goes_on_under_changes(rt: HostRuntime) -> Result<(), Fail> {
-    let Some(mut core) = grown(rt.alloc(), 300) else {
-        return Err(Fail::from("no tree grew"));
-    };
-    let Some((pairs, changes)) = walked_between(rt.alloc(), &mut core) else {
-        return Err(Fail::from("a page is of no moment"));
-    };
-    assert!(rt; has_even_keys(&pairs, 300));
-    assert!(rt; changes > 100);
-    Ok(())
+fn a_walk_goes_on_under_changes(rt: HostRuntime) {
+    assert!(rt; goes_on_anew(rt.alloc()));
 }

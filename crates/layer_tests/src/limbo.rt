@@ -186,7 +186,7 @@ const LIMBO: &[(&str, &[Act<'static>])] = &[
 #[test]
 fn does_as_it_is_told(rt: HostRuntime) {
     for (rule, acts) in LIMBO {
-        assert_eq!(rt; done(rt.alloc(), acts), acts.len(), "{rule}");
+        assert!(rt; done(rt.alloc(), acts) == acts.len(), "{rule}");
     }
 }
 

@@ -8,21 +8,41 @@ use std::alloc::Global;
 /// An allocator that refuses one growth, and counts.
 type Heap<'a> = &'a Refusing<Global>;
 
-/// Whether all rows and PIDs below 64 come into limbo, and are handed on, a word of each.
-fn goes_round(limbo: &mut Limbo<Heap<'_>>) -> bool {
+/// Whether an item comes into limbo.
+fn comes(limbo: &mut Limbo<Heap<'_>>, item: Item) -> bool {
+    let accepts = limbo.accepts(item);
+    if accepts {
+        limbo.unlinked(item);
+    }
+    accepts
+}
+
+/// Whether all rows and PIDs below 64 come into limbo.
+fn fills(limbo: &mut Limbo<Heap<'_>>) -> bool {
     for number in 1..64u16 {
-        for item in [Item::Row(number), Item::Pid(number)] {
-            if !limbo.accepts(item) {
-                return false;
-            }
-            limbo.unlinked(item);
+        if !comes(limbo, Item::Row(number)) || !comes(limbo, Item::Pid(number)) {
+            return false;
         }
     }
+    true
+}
+
+/// Whether they do, and are handed on, a word of each.
+fn goes_round(limbo: &mut Limbo<Heap<'_>>) -> bool {
+    let fills = fills(limbo);
     limbo.stamped(1);
     limbo.may_free(&[0]);
-    limbo.next_word() == Some(Reuse::Rows(0, u64::MAX - 1))
-        && limbo.next_word() == Some(Reuse::Pids(0, u64::MAX - 1))
-        && limbo.is_empty()
+    let words = [limbo.next_word(), limbo.next_word()];
+    let all = u64::MAX - 1;
+    let handed = words == [Some(Reuse::Rows(0, all)), Some(Reuse::Pids(0, all))];
+    fills && handed && limbo.is_empty()
+}
+
+/// Whether a new list goes round twice, and wants no memory for it.
+fn lasts(heap: Heap<'_>, limbo: Limbo<Heap<'_>>) -> bool {
+    let mut limbo = limbo;
+    let goes = [goes_round(&mut limbo), goes_round(&mut limbo)];
+    goes == [true; 2] && heap.left() == 0
 }
 
 /// How many growths a new limbo list wants, where each that is refused is told as want of memory; and whether it goes round twice while
@@ -31,10 +51,7 @@ fn growths(heap: Heap<'_>, limits: &Limits) -> Option<(u64, bool)> {
     for growth in 0..100u64 {
         heap.set(growth);
         match Limbo::<Heap<'_>>::new(heap, limits) {
-            Ok(mut limbo) => {
-                let goes = goes_round(&mut limbo) && goes_round(&mut limbo);
-                return Some((growth, goes && heap.left() == 0));
-            }
+            Ok(limbo) => return Some((growth, lasts(heap, limbo))),
             Err(OpenError::Memory) => {}
             Err(OpenError::BadEpoch) => return None,
         }
@@ -50,5 +67,5 @@ fn limbo_takes_memory_once(rt: HostRuntime) {
         Ok(limits) => growths(&heap, &limits),
         Err(_) => None,
     };
-    assert_eq!(rt; counted, Some((2, true)));
+    assert!(rt; counted == Some((2, true)));
 }

@@ -49,19 +49,31 @@ fn changed() -> Page {
     with_value(filled(), b"k12", b"v12")
 }
 
+/// How many items a page has, and whether it has room for so many more, and for one more than these.
+fn room(page: &Page, more: usize) -> (usize, [bool; 2]) {
+    let next = more.saturating_add(1);
+    (
+        page.items().len(),
+        [page.has_room(more), page.has_room(next)],
+    )
+}
+
 #[test]
 fn fills_a_leaf(rt: HostRuntime) {
-    let page = changed();
-    let room = [page.has_room(8), page.has_room(9)];
-    assert_eq!(rt; (page.items().len(), room), (16, [true, false]));
+    assert!(rt; room(&changed(), 8) == (16, [true, false]));
+}
+
+/// Whether the value is changed, and then taken out.
+fn changes_and_takes_out(page: Page) -> [bool; 2] {
+    let found = finds(&page, b"k12", b"v12");
+    let key = key(b"k12");
+    let page = page.without(&key);
+    [found, page.find(&key).is_none()]
 }
 
 #[test]
 fn changes_a_value_and_takes_it_out(rt: HostRuntime) {
-    let page = changed();
-    let found = finds(&page, b"k12", b"v12");
-    let page = page.without(&key(b"k12"));
-    assert_eq!(rt; [found, page.find(&key(b"k12")).is_none()], [true; 2]);
+    assert!(rt; changes_and_takes_out(changed()) == [true; 2]);
 }
 
 /// Whether the leaf was cut at `k09`, where page 2 begins.
@@ -88,7 +100,7 @@ fn cut_and_joined() -> Option<(bool, usize, Option<u16>)> {
 
 #[test]
 fn cuts_and_joins_a_leaf(rt: HostRuntime) {
-    assert_eq!(rt; cut_and_joined(), Some((true, 16, None)));
+    assert!(rt; cut_and_joined() == Some((true, 16, None)));
 }
 
 /// An index page with page 1 at the empty key and page 2 at `k09`.
@@ -105,21 +117,22 @@ fn child_below(page: &Page, at: &[u8]) -> Option<u16> {
     page.child_below(&key(at))
 }
 
+/// Children of a page by keys, and below keys.
+fn children(page: &Page) -> [Option<u16>; 6] {
+    [
+        child_of(page, b""),
+        child_of(page, b"k08"),
+        child_of(page, b"k09"),
+        child_of(page, b"k17"),
+        child_below(page, b"k09"),
+        child_below(page, b""),
+    ]
+}
+
 #[test]
 fn finds_children_by_their_separators(rt: HostRuntime) {
-    let root = root();
-    let children = [
-        child_of(&root, b""),
-        child_of(&root, b"k08"),
-        child_of(&root, b"k09"),
-        child_of(&root, b"k17"),
-        child_below(&root, b"k09"),
-        child_below(&root, b""),
-    ];
-    assert_eq!(rt;
-        children,
-        [Some(1), Some(1), Some(2), Some(2), Some(1), None]
-    );
+    let wanted = [Some(1), Some(1), Some(2), Some(2), Some(1), None];
+    assert!(rt; children(&root()) == wanted);
 }
 
 /// Whether page 2 is held at `k09`, and page 1 is found at the empty key.
@@ -131,12 +144,16 @@ fn is_held(page: &Page) -> bool {
     page.content(&key(b"k09")) == Some(&term) && page.items().child_at(&key(b"")) == Some(1)
 }
 
+/// Whether a page has no value at `k09`, is held there then, and is removed at last.
+fn holds_and_goes(page: Page) -> [bool; 3] {
+    let ninth = key(b"k09");
+    let bare = page.find(&ninth).is_none();
+    let held = page.with_held(&ninth);
+    let is_held = is_held(&held);
+    [bare, is_held, held.with_removed().is_removed()]
+}
+
 #[test]
 fn holds_a_child_and_is_removed(rt: HostRuntime) {
-    let root = root();
-    let bare = root.find(&key(b"k09")).is_none();
-    let held = root.with_held(&key(b"k09"));
-    let is_held = is_held(&held);
-    let removed = held.with_removed().is_removed();
-    assert_eq!(rt; [bare, is_held, removed], [true; 3]);
+    assert!(rt; holds_and_goes(root()) == [true; 3]);
 }

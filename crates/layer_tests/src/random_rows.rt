@@ -32,7 +32,7 @@ fn refused(words: &mut Pcg32) -> u32 {
 // A header has 40 bits that are given: of so many rows none has that.
 #[test]
 fn drawn_words_spell_nothing(rt: HostRuntime) {
-    assert_eq!(rt; refused(&mut Pcg32::seed_from_u64(38)), ROWS);
+    assert!(rt; refused(&mut Pcg32::seed_from_u64(38)) == ROWS);
 }
 
 /// A word that may be of use in a row: any one, a small one, a text of three bytes, a header, or one with one bit.

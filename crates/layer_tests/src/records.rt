@@ -45,19 +45,30 @@ fn put_thrice() -> Page {
     with_put(with_put(page, b"b", b"2"), b"a", b"3")
 }
 
+/// Whether the first put is found, and the last one is, and two keys are there then.
+fn puts() -> [bool; 3] {
+    let first = with_put(Page::empty_leaf(), b"a", b"1");
+    let page = put_thrice();
+    [
+        finds(&first, b"a", Some(b"1")),
+        finds(&page, b"a", Some(b"3")),
+        page.items().len() == 2,
+    ]
+}
+
 #[test]
 fn puts_in_a_leaf(rt: HostRuntime) {
-    let first = finds(&with_put(Page::empty_leaf(), b"a", b"1"), b"a", Some(b"1"));
-    let page = put_thrice();
-    let both = [finds(&page, b"a", Some(b"3")), page.items().len() == 2];
-    assert_eq!(rt; (first, both), (true, [true; 2]));
+    assert!(rt; puts() == [true; 3]);
+}
+
+/// Whether the page has `b` alone.
+fn has_b(page: &Page) -> [bool; 2] {
+    [finds(page, b"a", None), finds(page, b"b", Some(b"2"))]
 }
 
 #[test]
 fn deletes_in_a_leaf(rt: HostRuntime) {
-    let page = deleted(put_thrice(), b"a");
-    let found = [finds(&page, b"a", None), finds(&page, b"b", Some(b"2"))];
-    assert_eq!(rt; found, [true; 2]);
+    assert!(rt; has_b(&deleted(put_thrice(), b"a")) == [true; 2]);
 }
 
 /// The lower part of a leaf from `k05` on with two keys, once it was split at `k09`.
@@ -85,7 +96,7 @@ fn is_lower(page: &Page) -> bool {
 
 #[test]
 fn splits_a_leaf(rt: HostRuntime) {
-    assert_eq!(rt; split_leaf().map(|page| is_lower(&page)), Some(true));
+    assert!(rt; matches!(split_leaf(), Some(page) if is_lower(&page)));
 }
 
 /// Whether the page is removed by a record, and how many items it has then.
@@ -99,9 +110,13 @@ fn removed(page: Page) -> Option<(bool, usize)> {
     None
 }
 
+fn split_and_removed() -> Option<(bool, usize)> {
+    removed(split_leaf()?)
+}
+
 #[test]
 fn removes_a_leaf(rt: HostRuntime) {
-    assert_eq!(rt; split_leaf().and_then(removed), Some((true, 1)));
+    assert!(rt; split_and_removed() == Some((true, 1)));
 }
 
 /// What a leaf from `k09` to `k17`, with one item, brings to its left page.
@@ -128,30 +143,34 @@ fn says(record: &Record, at: &[u8], text: Option<&[u8]>) -> bool {
     record.content_said(&key(at)) == content
 }
 
+fn named(merge: &Record) -> [bool; 4] {
+    [
+        names(merge, b"k08"),
+        names(merge, b"k09"),
+        names(merge, b"k16"),
+        names(merge, b"k17"),
+    ]
+}
+
 #[test]
 fn names_the_keys_of_a_merge(rt: HostRuntime) {
-    let merge = merge();
-    let named = [
-        names(&merge, b"k08"),
-        names(&merge, b"k09"),
-        names(&merge, b"k16"),
-        names(&merge, b"k17"),
-    ];
-    assert_eq!(rt; named, [false, true, true, false]);
+    assert!(rt; named(&merge()) == [false, true, true, false]);
+}
+
+fn said(merge: &Record) -> [bool; 2] {
+    [says(merge, b"k09", None), says(merge, b"k10", Some(b"v10"))]
 }
 
 #[test]
 fn says_what_a_merge_brings(rt: HostRuntime) {
-    let merge = merge();
-    let said = [
-        says(&merge, b"k09", None),
-        says(&merge, b"k10", Some(b"v10")),
-    ];
-    assert_eq!(rt; said, [true; 2]);
+    assert!(rt; said(&merge()) == [true; 2]);
+}
+
+fn linked(merge: &Record) -> (Option<u16>, Link) {
+    (merge.next(), merge.link())
 }
 
 #[test]
 fn shows_how_a_merge_is_linked(rt: HostRuntime) {
-    let merge = merge();
-    assert_eq!(rt; (merge.next(), merge.link()), (Some(7), Link::Merge));
+    assert!(rt; linked(&merge()) == (Some(7), Link::Merge));
 }

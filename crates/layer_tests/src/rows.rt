@@ -151,7 +151,7 @@ fn writes_the_rows_of_a_leaf_and_a_put(rt: HostRuntime) {
         key: key(b"a"),
         value: value(b"1"),
     });
-    assert_eq!(rt; [writes(&leaf, OPENING), writes(&put, PUT)], [true; 2]);
+    assert!(rt; writes(&leaf, OPENING) && writes(&put, PUT));
 }
 
 #[test]
@@ -168,7 +168,7 @@ fn writes_the_rows_of_a_split_and_a_hold(rt: HostRuntime) {
         separator: key(b"k09"),
         child: 2,
     });
-    assert_eq!(rt; [writes(&split, SPLIT), writes(&hold, HOLD)], [true; 2]);
+    assert!(rt; writes(&split, SPLIT) && writes(&hold, HOLD));
 }
 
 #[test]
@@ -214,11 +214,8 @@ fn refuses_rows_that_spell_nothing(rt: HostRuntime) {
 
 #[test]
 fn refuses_rows_of_one_word(rt: HostRuntime) {
-    let refused = [
-        is_refused(&[0; ROW_WORDS]),
-        is_refused(&[u64::MAX; ROW_WORDS]),
-    ];
-    assert_eq!(rt; refused, [true; 2]);
+    let refused = is_refused(&[0; ROW_WORDS]) && is_refused(&[u64::MAX; ROW_WORDS]);
+    assert!(rt; refused);
 }
 
 #[test]
@@ -254,6 +251,6 @@ const TURNED: &[(Words, u32)] = &[
 #[test]
 fn each_bit_of_a_row_counts(rt: HostRuntime) {
     for (words, spelled) in TURNED {
-        assert_eq!(rt; spelled_by_one_bit(&row(words)), Some(*spelled));
+        assert!(rt; spelled_by_one_bit(&row(words)) == Some(*spelled));
     }
 }

@@ -41,15 +41,24 @@ fn told(epoch: u64, announced: &[u64], step: &Step<Record>) -> Told
     }
 }
 
+/// A step by a text and a number, and the bits that it frees.
+fn named(step: &Step<Record>) -> (&'static str, Option<u64>, Option<u64>) {
+    match step {
+        Step::Epoch => ("epoch", None, None),
+        Step::Retire(epoch) => ("retire ", Some(*epoch), None),
+        Step::Announce(other) => ("a", Some(u64::from(*other)), None),
+        Step::ReuseRows(word, bits) => ("rows ", Some(u64::from(*word)), Some(*bits)),
+        Step::ReusePids(word, bits) => ("pids ", Some(u64::from(*word)), Some(*bits)),
+        _ => ("?", None, None),
+    }
+}
+
 /// Adds a step to the log.
 fn show(log: &mut Log, step: &Step<Record>) {
-    let _ = match step {
-        Step::Epoch => write!(log, "epoch "),
-        Step::Retire(epoch) => write!(log, "retire {epoch} "),
-        Step::Announce(other) => write!(log, "a{other} "),
-        Step::ReuseRows(word, bits) => write!(log, "rows {word}:{bits:x} "),
-        Step::ReusePids(word, bits) => write!(log, "pids {word}:{bits:x} "),
-        _ => write!(log, "? "),
+    let _ = match named(step) {
+        (name, Some(number), Some(bits)) => write!(log, "{name}{number}:{bits:x} "),
+        (name, Some(number), _) => write!(log, "{name}{number} "),
+        (name, _, _) => write!(log, "{name} "),
     };
 }
 
@@ -214,7 +223,7 @@ const SWEEPS: &[(&str, u64, u8, &[Case])] = &[
 fn goes_step_by_step(rt: HostRuntime) {
     for (rule, actors, actor, cases) in SWEEPS {
         let gone = swept(rt.alloc(), *actors, *actor, cases);
-        assert_eq!(rt; gone, cases.len(), "{rule}");
+        assert!(rt; gone == cases.len(), "{rule}");
     }
 }
 
@@ -249,5 +258,5 @@ const TAKEN_OUT: &[Case] = &[(
 
 #[test]
 fn frees_what_was_taken_out(rt: HostRuntime) {
-    assert_eq!(rt; swept_out(rt.alloc(), TAKEN_OUT), TAKEN_OUT.len());
+    assert!(rt; swept_out(rt.alloc(), TAKEN_OUT) == TAKEN_OUT.len());
 }
