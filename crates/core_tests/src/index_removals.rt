@@ -4,7 +4,7 @@ use crate::by_hand::{begins, finish, finishes, let_go, replies, takes, until};
 use bw_model::{Answer, Command, Key, Limits, Link, Reply, Step, Value};
 use core_memory::Entries;
 use deltas::Record;
-use std::alloc::{AllocError, Global};
+use std::alloc::Global;
 use step_core::{Core, run};
 use traces::{Entry, Turn};
 

@@ -13,7 +13,7 @@ use crate::rows::Rows;
 use arrayvec::ArrayVec;
 use base_page::Page;
 use deltas::{Record, apply};
-use traces::MAX_RECORDS;
+use row_chain::MAX_RECORDS;
 
 /// The page that the chain of a PID makes: the base, changed by each delta from the oldest on.
 pub fn page_of<M: Rows>(rows: &M, pid: u16) -> Page
