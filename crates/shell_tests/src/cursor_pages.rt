@@ -1,9 +1,8 @@
 //! Cursor pages.
 
-use crate::numbered::Numbered;
-use crate::runs::{Rows, agree, limits};
+use crate::numbered::{LIMITS, Part, Width, runs};
+use crate::runs::{Rows, agree};
 use shell_lines::Language;
-use std::test::Fail;
 
 #[test]
 fn an_empty_page(rt: HostRuntime) {
@@ -13,52 +12,54 @@ fn an_empty_page(rt: HostRuntime) {
     agree(&rt, rt.alloc(), Language::Script, rows);
 }
 
-// Of two leaves the first has k01 to k08, the second the rest.
-#[test]
-fn pages_of_two_leaves(rt: HostRuntime) -> Result<(), Fail> {
-    let mut script = Numbered::new(rt.alloc(), false);
-    script.insert(1, 17)?;
-    script.add(
+const TWO_LEAVES: &[Part<'_>] = &[
+    Part::Inserts(1, 17),
+    Part::Adds(
         "begin 0 page k05\nfinish 0\n",
         "0 page 4 k05 v05 k06 v06 k07 v07 k08 v08 next k09\n",
-    )?;
-    script.add("begin 0 insert k085 y\nfinish 0\n", "0 inserted\n")?;
-    script.add(
+    ),
+    Part::Adds("begin 0 insert k085 y\nfinish 0\n", "0 inserted\n"),
+    Part::Adds(
         "begin 0 page k16\nfinish 0\n",
         "0 page 2 k16 v16 k17 v17 end\n",
-    )?;
-    script.add(
+    ),
+    Part::Adds(
         "begin 0 page k081\nfinish 0\n",
         "0 page 1 k085 y next k09\n",
-    )?;
-    script.add("begin 0 page k18\nfinish 0\n", "0 page 0 end\n")?;
-    script.runs(&rt, rt.alloc(), limits(&rt));
-    Ok(())
+    ),
+    Part::Adds("begin 0 page k18\nfinish 0\n", "0 page 0 end\n"),
+];
+
+// Of two leaves the first has k01 to k08, the second the rest.
+#[test]
+fn pages_of_two_leaves(rt: HostRuntime) {
+    runs(&rt, rt.alloc(), LIMITS, Width::Two, TWO_LEAVES);
 }
+
+const WALK: &[Part<'_>] = &[
+    Part::Inserts(1, 17),
+    Part::Adds(
+        "begin 0 page =\nturn 0 2\nbegin 1 delete k02\nfinish 1\n",
+        "1 deleted v02\n",
+    ),
+    Part::Adds(
+        "finish 0\n",
+        "0 page 7 k01 v01 k03 v03 k04 v04 k05 v05 k06 v06 k07 v07 k08 v08 next k09\n",
+    ),
+    Part::Adds(
+        "begin 1 insert k02 x\nfinish 1\nbegin 1 upsert k10 y\nfinish 1\n",
+        "1 inserted\n1 replaced v10\n",
+    ),
+    Part::Adds(
+        "begin 0 page k09\nfinish 0\n",
+        "0 page 9 k09 v09 k10 y k11 v11 k12 v12 k13 v13 k14 v14 k15 v15 k16 v16 k17 v17 end\n",
+    ),
+];
 
 // From each page's next to the end, while another actor changes pages that were not shown yet and pages that were.
 #[test]
-fn a_walk_under_changes(rt: HostRuntime) -> Result<(), Fail> {
-    let mut script = Numbered::new(rt.alloc(), false);
-    script.insert(1, 17)?;
-    script.add(
-        "begin 0 page =\nturn 0 2\nbegin 1 delete k02\nfinish 1\n",
-        "1 deleted v02\n",
-    )?;
-    script.add(
-        "finish 0\n",
-        "0 page 7 k01 v01 k03 v03 k04 v04 k05 v05 k06 v06 k07 v07 k08 v08 next k09\n",
-    )?;
-    script.add(
-        "begin 1 insert k02 x\nfinish 1\nbegin 1 upsert k10 y\nfinish 1\n",
-        "1 inserted\n1 replaced v10\n",
-    )?;
-    script.add(
-        "begin 0 page k09\nfinish 0\n",
-        "0 page 9 k09 v09 k10 y k11 v11 k12 v12 k13 v13 k14 v14 k15 v15 k16 v16 k17 v17 end\n",
-    )?;
-    script.runs(&rt, rt.alloc(), limits(&rt));
-    Ok(())
+fn a_walk_under_changes(rt: HostRuntime) {
+    runs(&rt, rt.alloc(), LIMITS, Width::Two, WALK);
 }
 
 #[test]

@@ -1,8 +1,9 @@
 //! Turns of actors that a seed draws.
 
-use crate::runs::{Rows, agree, limits, prints, whole};
+use crate::runs::{Rows, agree, limits, prints};
 use shell_lines::Language;
-use std::test::Fail;
+use std::alloc::{AllocError, Global};
+use std::process::Abort;
 
 // The first draws of seed 1 among two actors, worked out from the generator's published definition.
 const DRAWS: [u8; 24] = [
@@ -11,36 +12,45 @@ const DRAWS: [u8; 24] = [
 
 const BEGINS: &str = "begin 0 insert a 1\nbegin 1 insert b 2\n";
 
-// Actor 0 is done by its tenth turn, which is draw 14. Actor 1 reads one record more, and is done by its eleventh, draw 24.
-#[test]
-fn draws_are_turns(rt: HostRuntime) -> Result<(), Fail> {
-    let mut lines = String::from_str(rt.alloc(), BEGINS)?;
+const BOTH: &str = "0 inserted\n1 inserted\npairs 2\na 1\nb 2\n";
+
+/// The draws as turns. Actor 0 is done by its tenth turn, which is draw 14.
+fn turns(alloc: Global) -> Result<String, AllocError> {
+    let mut lines = String::from_str(alloc, BEGINS)?;
     for (number, actor) in DRAWS.iter().enumerate() {
         if *actor == 1 || number <= 13 {
             writeln!(lines, "turn {actor} 1")?;
         }
     }
     lines.push_str("list\n")?;
-    let by_hand = whole(rt.alloc(), Language::Weave, limits(&rt), lines.as_bytes());
-    let all = "0 inserted\n1 inserted\npairs 2\na 1\nb 2\n";
-    assert_eq!(rt; by_hand.output.as_slice(), all.as_bytes());
+    Ok(lines)
+}
+
+/// So many turns that are drawn.
+fn mixed(alloc: Global, count: u32) -> Result<String, AllocError> {
+    format!(in alloc; "{BEGINS}mix 1 {count}\nlist\n")
+}
+
+/// Runs the lines, which are to print this.
+fn print(rt: &impl Abort, alloc: Global, lines: Result<String, AllocError>, output: &str) {
+    let lines = lines.expect(rt, "memory");
+    prints(rt, alloc, limits(rt), lines.as_bytes(), output.as_bytes());
+}
+
+// Actor 0 is done by its tenth turn, which is draw 14. Actor 1 reads one record more, and is done by its eleventh, draw 24.
+#[test]
+fn draws_are_turns(rt: HostRuntime) {
+    let alloc = rt.alloc();
+    print(&rt, alloc, turns(alloc), BOTH);
     for (count, output) in [
         (13, "pairs 1\na 1\n"),
         (14, "0 inserted\npairs 1\na 1\n"),
         (23, "0 inserted\npairs 2\na 1\nb 2\n"),
-        (24, all),
-        (100000, all),
+        (24, BOTH),
+        (100000, BOTH),
     ] {
-        let lines = format!(in rt.alloc(); "{BEGINS}mix 1 {count}\nlist\n")?;
-        prints(
-            &rt,
-            rt.alloc(),
-            limits(&rt),
-            lines.as_bytes(),
-            output.as_bytes(),
-        );
+        print(&rt, alloc, mixed(alloc, count), output);
     }
-    Ok(())
 }
 
 // Two lines draw anew, each from its seed; actors without an operation are passed over.

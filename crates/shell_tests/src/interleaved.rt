@@ -2,9 +2,8 @@
 
 ghost use Rattle.std.specs.Prelude.{◌<◌};
 
-use crate::runs::whole;
+use crate::runs::prints;
 use bw_model::Limits;
-use shell_lines::Language;
 use std::alloc::{AllocError, Global};
 use std::collections::BTreeMap;
 use std::test::Fail;
@@ -24,6 +23,31 @@ enum Verb {
     Insert,
     Upsert,
     Delete,
+}
+
+impl Verb {
+    fn word(self) -> &'static str {
+        match self {
+            Verb::Get => "get",
+            Verb::Insert => "insert",
+            Verb::Upsert => "upsert",
+            Verb::Delete => "delete",
+        }
+    }
+
+    // What it is answered, where its key has a value, and where it has none.
+    fn reply(self, had: bool) -> &'static str {
+        match (self, had) {
+            (Verb::Get, false) => "none",
+            (Verb::Get, true) => "value",
+            (Verb::Insert, false) => "inserted",
+            (Verb::Insert, true) => "exists",
+            (Verb::Upsert, false) => "set",
+            (Verb::Upsert, true) => "replaced",
+            (Verb::Delete, false) => "absent",
+            (Verb::Delete, true) => "deleted",
+        }
+    }
 }
 
 #[derive(Clone, Copy)]
@@ -52,11 +76,10 @@ impl Script {
 
     fn begin(&mut self, actor: u64, operation: Operation) -> Result<(), AllocError> {
         let Operation { verb, key, value } = operation;
+        let word = verb.word();
         match verb {
-            Verb::Get => writeln!(self.lines, "begin {actor} get k{key}"),
-            Verb::Insert => writeln!(self.lines, "begin {actor} insert k{key} v{value}"),
-            Verb::Upsert => writeln!(self.lines, "begin {actor} upsert k{key} v{value}"),
-            Verb::Delete => writeln!(self.lines, "begin {actor} delete k{key}"),
+            Verb::Get | Verb::Delete => writeln!(self.lines, "begin {actor} {word} k{key}"),
+            _ => writeln!(self.lines, "begin {actor} {word} k{key} v{value}"),
         }
     }
 
@@ -74,16 +97,10 @@ impl Script {
         writeln!(self.lines, "finish {actor}")?;
         let old = self.pairs.get(&operation.key).copied();
         let changes = self.changes(operation);
-        let out = &mut self.printed;
-        match (operation.verb, old) {
-            (Verb::Get, None) => writeln!(out, "{actor} none")?,
-            (Verb::Get, Some(old)) => writeln!(out, "{actor} value v{old}")?,
-            (Verb::Insert, None) => writeln!(out, "{actor} inserted")?,
-            (Verb::Insert, Some(old)) => writeln!(out, "{actor} exists v{old}")?,
-            (Verb::Upsert, None) => writeln!(out, "{actor} set")?,
-            (Verb::Upsert, Some(old)) => writeln!(out, "{actor} replaced v{old}")?,
-            (Verb::Delete, None) => writeln!(out, "{actor} absent")?,
-            (Verb::Delete, Some(old)) => writeln!(out, "{actor} deleted v{old}")?,
+        let word = operation.verb.reply(old.is_some());
+        match old {
+            Some(old) => writeln!(self.printed, "{actor} {word} v{old}")?,
+            None => writeln!(self.printed, "{actor} {word}")?,
         }
         if changes {
             match operation.verb {
@@ -144,6 +161,14 @@ impl Script {
         self.list()?;
         Ok(())
     }
+
+    fn rounds(&mut self) -> Result<(), Fail> {
+        let mut seed = 1;
+        for round in 0..48u32 {
+            self.round(&mut seed, round / 12 % 2 == 0)?;
+        }
+        Ok(())
+    }
 }
 
 // Filling makes more of the keys, else fewer.
@@ -164,13 +189,9 @@ fn draw_operation(seed: &mut u64, filling: bool, key: u64) -> Operation {
 #[test]
 fn operations_between_one_another(rt: HostRuntime) -> Result<(), Fail> {
     let mut script = Script::new(rt.alloc());
-    let mut seed = 1;
-    for round in 0..48u32 {
-        script.round(&mut seed, round / 12 % 2 == 0)?;
-    }
-    let limits = Limits::new(3, 64, 256, 1)?;
-    let woven = whole(rt.alloc(), Language::Weave, limits, script.lines.as_bytes());
-    assert_eq!(rt; woven.output.as_slice(), script.printed.as_bytes());
-    assert_eq!(rt; woven.status, 0);
+    script.rounds()?;
+    let limits = Limits::new(3, 64, 256, 1).expect(&rt, "limits");
+    let (lines, printed) = (script.lines.as_bytes(), script.printed.as_bytes());
+    prints(&rt, rt.alloc(), limits, lines, printed);
     Ok(())
 }

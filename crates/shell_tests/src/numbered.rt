@@ -5,88 +5,147 @@ use bw_model::Limits;
 use std::alloc::{AllocError, Global};
 use std::process::Abort;
 
-// Lines, and what they are to print. The keys are k01 and so on with the values v01 and so on; where they are wide, k001 and v001.
+/// Lines of a script, and what they are to print.
+#[derive(Clone, Copy)]
+pub enum Part<'a> {
+    /// These lines, which print this.
+    Adds(&'a str, &'a str),
+    /// The same so many times.
+    Repeats(u32, &'a str, &'a str),
+    /// Inserts of keys that are absent, from one number to another, each without a stop.
+    Inserts(u32, u32),
+    /// Deletes of keys that are there, from one number down to another, each without a stop.
+    Deletes(u32, u32),
+    /// Such deletes, and inserts of the same keys, so many times.
+    Swings(u32, u32, u32),
+    /// A listing begins, with so many pairs.
+    Lists(u32),
+    /// The keys from one number to another are the next in a listing.
+    Pairs(u32, u32),
+    /// A listing has exactly the first so many keys.
+    ListsFirst(u32),
+}
+
+/// How keys and values are written: k01 and v01, and so on, or k001 and v001.
+#[derive(Clone, Copy)]
+pub enum Width {
+    Two,
+    Three,
+}
+
+impl Width {
+    /// Adds a number between two texts.
+    fn put(self, text: &mut String, before: &str, n: u32, behind: &str) -> Result<(), AllocError> {
+        match self {
+            Width::Two => write!(text, "{before}{n:02}{behind}"),
+            Width::Three => write!(text, "{before}{n:03}{behind}"),
+        }
+    }
+}
+
+/// Lines, and what they are to print.
 #[derive(Drop)]
-pub struct Numbered {
-    wide: bool,
+struct Numbered {
+    width: Width,
     lines: String,
     printed: String,
 }
 
 impl Numbered {
-    pub fn new(alloc: Global, wide: bool) -> Numbered {
-        Numbered {
-            wide,
-            lines: String::new(alloc),
-            printed: String::new(alloc),
-        }
-    }
-
-    // Adds lines, and what they print.
-    pub fn add(&mut self, lines: &str, printed: &str) -> Result<(), AllocError> {
-        self.lines.push_str(lines)?;
-        self.printed.push_str(printed)
-    }
-
-    // Inserts keys that are absent, from one number to another, each without a stop.
-    pub fn insert(&mut self, first: u32, last: u32) -> Result<(), AllocError> {
+    fn insert(&mut self, first: u32, last: u32) -> Result<(), AllocError> {
         for n in first..=last {
-            if self.wide {
-                writeln!(self.lines, "begin 0 insert k{n:03} v{n:03}\nfinish 0")?;
-            } else {
-                writeln!(self.lines, "begin 0 insert k{n:02} v{n:02}\nfinish 0")?;
-            }
+            self.width
+                .put(&mut self.lines, "begin 0 insert k", n, " v")?;
+            self.width.put(&mut self.lines, "", n, "\nfinish 0\n")?;
             self.printed.push_str("0 inserted\n")?;
         }
         Ok(())
     }
 
-    // Deletes keys that are there, from one number down to another, each without a stop.
-    pub fn delete(&mut self, first: u32, last: u32) -> Result<(), AllocError> {
+    fn delete(&mut self, first: u32, last: u32) -> Result<(), AllocError> {
         for n in (last..=first).rev() {
-            if self.wide {
-                writeln!(self.lines, "begin 0 delete k{n:03}\nfinish 0")?;
-                writeln!(self.printed, "0 deleted v{n:03}")?;
-            } else {
-                writeln!(self.lines, "begin 0 delete k{n:02}\nfinish 0")?;
-                writeln!(self.printed, "0 deleted v{n:02}")?;
-            }
+            self.width
+                .put(&mut self.lines, "begin 0 delete k", n, "\nfinish 0\n")?;
+            self.width.put(&mut self.printed, "0 deleted v", n, "\n")?;
         }
         Ok(())
     }
 
-    // A listing is to begin, with so many pairs.
-    pub fn list(&mut self, count: u32) -> Result<(), AllocError> {
+    fn pairs(&mut self, first: u32, last: u32) -> Result<(), AllocError> {
+        for n in first..=last {
+            self.width.put(&mut self.printed, "k", n, " v")?;
+            self.width.put(&mut self.printed, "", n, "\n")?;
+        }
+        Ok(())
+    }
+
+    fn repeat(&mut self, times: u32, lines: &str, printed: &str) -> Result<(), AllocError> {
+        for _ in 0..times {
+            self.lines.push_str(lines)?;
+            self.printed.push_str(printed)?;
+        }
+        Ok(())
+    }
+
+    fn swing(&mut self, times: u32, first: u32, last: u32) -> Result<(), AllocError> {
+        for _ in 0..times {
+            self.delete(last, first)?;
+            self.insert(first, last)?;
+        }
+        Ok(())
+    }
+
+    fn list(&mut self, count: u32) -> Result<(), AllocError> {
         self.lines.push_str("list\n")?;
         writeln!(self.printed, "pairs {count}")
     }
 
-    // The keys from one number to another are the next in a listing.
-    pub fn pairs(&mut self, first: u32, last: u32) -> Result<(), AllocError> {
-        for n in first..=last {
-            if self.wide {
-                writeln!(self.printed, "k{n:03} v{n:03}")?;
-            } else {
-                writeln!(self.printed, "k{n:02} v{n:02}")?;
-            }
-        }
-        Ok(())
-    }
-
-    // A listing is to have exactly the first keys.
-    pub fn list_first(&mut self, count: u32) -> Result<(), AllocError> {
+    fn list_first(&mut self, count: u32) -> Result<(), AllocError> {
         self.list(count)?;
         self.pairs(1, count)
     }
 
-    // Runs the lines, which are to print what was said, and of which none is refused.
-    pub fn runs(&self, rt: &impl Abort, alloc: Global, limits: Limits) {
-        prints(
-            rt,
-            alloc,
-            limits,
-            self.lines.as_bytes(),
-            self.printed.as_bytes(),
-        );
+    fn add(&mut self, part: &Part<'_>) -> Result<(), AllocError> {
+        match *part {
+            Part::Adds(lines, printed) => self.repeat(1, lines, printed),
+            Part::Repeats(times, lines, printed) => self.repeat(times, lines, printed),
+            Part::Inserts(first, last) => self.insert(first, last),
+            Part::Deletes(first, last) => self.delete(first, last),
+            Part::Swings(times, first, last) => self.swing(times, first, last),
+            Part::Lists(count) => self.list(count),
+            Part::Pairs(first, last) => self.pairs(first, last),
+            Part::ListsFirst(count) => self.list_first(count),
+        }
+    }
+
+    fn add_all(&mut self, parts: &[Part<'_>]) -> Result<(), AllocError> {
+        for part in parts {
+            self.add(part)?;
+        }
+        Ok(())
     }
 }
+
+/// Runs the parts one after another, which are to print what they say, and of which no line is refused. The limits are actors, PIDs, rows
+/// and the epoch.
+pub fn runs(
+    rt: &impl Abort,
+    alloc: Global,
+    (actors, pids, rows, epoch): (u64, u64, u64, u64),
+    width: Width,
+    parts: &[Part<'_>],
+) {
+    let limits = Limits::new(actors, pids, rows, epoch).expect(rt, "limits");
+    let mut script = Numbered {
+        width,
+        lines: String::new(alloc),
+        printed: String::new(alloc),
+    };
+    let added = script.add_all(parts).is_ok();
+    assert!(rt; added, "memory");
+    let (lines, printed) = (script.lines.as_bytes(), script.printed.as_bytes());
+    prints(rt, alloc, limits, lines, printed);
+}
+
+/// The limits of most scripts.
+pub const LIMITS: (u64, u64, u64, u64) = (2, 64, 256, 1);

@@ -1,7 +1,7 @@
 //! Lines of drawn words and bytes: a line is refused for a reason of the grammar, or for none.
 
 use crate::interleaved::draw;
-use crate::runs::{add, whole};
+use crate::runs::{add, joined, whole};
 use bw_model::Limits;
 use failing_streams::Ran;
 use shell_lines::Language;
@@ -113,18 +113,28 @@ fn add_bytes(line: &mut Vec<u8>, seed: &mut u64, most: u64) -> Result<(), AllocE
     Ok(())
 }
 
-/// A line: of words, or of words with a few bytes behind them, or of bytes.
-fn drawn_line(alloc: Global, seed: &mut u64, forms: &[&str]) -> Result<Vec<u8>, AllocError> {
-    let mut line = Vec::new(alloc);
+/// Adds a line: of words, or of words with a few bytes behind them, or of bytes.
+fn add_line(input: &mut Vec<u8>, seed: &mut u64, forms: &[&str]) -> Result<(), AllocError> {
     match draw(seed, 8) {
-        0 => add_bytes(&mut line, seed, 40)?,
-        1 | 2 | 3 => add_words(&mut line, seed, forms)?,
+        0 => add_bytes(input, seed, 40),
+        1 | 2 | 3 => add_words(input, seed, forms),
         _ => {
-            add_words(&mut line, seed, forms)?;
-            add_bytes(&mut line, seed, 3)?;
+            add_words(input, seed, forms)?;
+            add_bytes(input, seed, 3)
         }
     }
-    Ok(line)
+}
+
+/// A first line, and a drawn one.
+fn drawn_input(
+    alloc: Global,
+    seed: &mut u64,
+    forms: &[&str],
+    first: &[u8],
+) -> Result<Vec<u8>, AllocError> {
+    let mut input = joined(alloc, &[(first, 1)])?;
+    add_line(&mut input, seed, forms)?;
+    Ok(input)
 }
 
 /// The last line of an output.
@@ -160,12 +170,8 @@ fn ends(
     let mut seed = 1;
     let mut ends = [0u32; 6];
     for _ in 0..LINES {
-        let mut input = Vec::new(alloc);
-        add(&mut input, first, 1)?;
-        let line = drawn_line(alloc, &mut seed, forms)?;
-        add(&mut input, line.as_slice(), 1)?;
-        let woven = whole(alloc, language, limits, input.as_slice());
-        let Some(end) = end(&woven) else {
+        let input = drawn_input(alloc, &mut seed, forms, first)?;
+        let Some(end) = end(&whole(alloc, language, limits, input.as_slice())) else {
             return Ok(None);
         };
         if let Some(count) = ends.get_mut(end) {

@@ -66,6 +66,15 @@ pub fn add(text: &mut Vec<u8>, part: &[u8], times: u32) -> Result<(), AllocError
     Ok(())
 }
 
+// The parts one behind another, each so many times.
+pub fn joined(alloc: Global, parts: &[(&[u8], u32)]) -> Result<Vec<u8>, AllocError> {
+    let mut text = Vec::new(alloc);
+    for (part, times) in parts {
+        add(&mut text, part, *times)?;
+    }
+    Ok(text)
+}
+
 // One run turn by turn, what it is to write, and that nothing is refused.
 pub fn prints(rt: &impl Abort, alloc: Global, limits: Limits, input: &[u8], output: &[u8]) {
     let woven = whole(alloc, Language::Weave, limits, input);

@@ -1,7 +1,9 @@
 //! Scripts: one command a line.
 
-use crate::runs::{Rows, agree, limits, whole};
+use crate::runs::{Rows, Woven, agree, limits, whole};
+use bw_model::Limits;
 use shell_lines::Language;
+use std::alloc::{AllocError, Global};
 use std::test::Fail;
 
 #[test]
@@ -54,29 +56,46 @@ fn refused_commands(rt: HostRuntime) {
     agree(&rt, rt.alloc(), Language::Script, rows);
 }
 
+/// Adds a command.
+fn add_command(lines: &mut String, number: u32) -> Result<(), AllocError> {
+    let key = number.wrapping_mul(7) % 23;
+    match number % 6 {
+        0 | 1 => write!(lines, "insert k{key} v{number}"),
+        2 => write!(lines, "upsert k{key} ="),
+        3 => write!(lines, "page k{key}"),
+        4 => write!(lines, "delete k{key}"),
+        _ => write!(lines, "tidy k{key}"),
+    }
+}
+
+/// Adds commands, each between these words, and a listing.
+fn add_commands(lines: &mut String, before: &str, behind: &str) -> Result<(), AllocError> {
+    for number in 0..60u32 {
+        lines.push_str(before)?;
+        add_command(lines, number)?;
+        lines.push_str(behind)?;
+    }
+    lines.push_str("list\n")
+}
+
+/// What these commands print.
+fn printed(
+    alloc: Global,
+    limits: Limits,
+    language: Language,
+    (before, behind): (&str, &str),
+) -> Result<Woven, AllocError> {
+    let mut lines = String::new(alloc);
+    add_commands(&mut lines, before, behind)?;
+    Ok(whole(alloc, language, limits, lines.as_bytes()))
+}
+
 // Each command is what an operation of actor 0 is, from its begin to its end.
 #[test]
 fn scripts_are_finished_operations(rt: HostRuntime) -> Result<(), Fail> {
-    let mut script = String::new(rt.alloc());
-    let mut weave = String::new(rt.alloc());
-    for i in 0..60u32 {
-        let key = i.wrapping_mul(7) % 23;
-        let command = match i % 6 {
-            0 | 1 => format!(in rt.alloc(); "insert k{key} v{i}")?,
-            2 => format!(in rt.alloc(); "upsert k{key} =")?,
-            3 => format!(in rt.alloc(); "page k{key}")?,
-            4 => format!(in rt.alloc(); "delete k{key}")?,
-            _ => format!(in rt.alloc(); "tidy k{key}")?,
-        };
-        writeln!(script, "{command}")?;
-        writeln!(weave, "begin 0 {command}\nfinish 0")?;
-    }
-    script.push_str("list\n")?;
-    weave.push_str("list\n")?;
-    let limits = limits(&rt);
-    let one = whole(rt.alloc(), Language::Script, limits, script.as_bytes());
-    let other = whole(rt.alloc(), Language::Weave, limits, weave.as_bytes());
-    assert_eq!(rt; one.output.as_slice(), other.output.as_slice());
-    assert_eq!(rt; (one.status, other.status), (0, 0));
+    let (alloc, limits) = (rt.alloc(), limits(&rt));
+    let one = printed(alloc, limits, Language::Script, ("", "\n"))?;
+    let other = printed(alloc, limits, Language::Weave, ("begin 0 ", "\nfinish 0\n"))?;
+    assert!(rt; one.is(other.output.as_slice(), 0) && other.status == 0);
     Ok(())
 }

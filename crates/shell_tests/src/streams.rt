@@ -1,6 +1,6 @@
 //! Long lines, and streams that fail.
 
-use crate::runs::{add, limits, run, run_into, whole};
+use crate::runs::{joined, limits, run, run_into, whole};
 use bw_model::Limits;
 use failing_streams::{Breaking, Choppy, NEVER};
 use shell_lines::Language;
@@ -10,11 +10,7 @@ use std::test::Fail;
 
 // A line with so many zeros, which asks for a turn of an actor without an operation, by seven bytes more.
 fn turn_line(alloc: Global, zeros: u32) -> Result<Vec<u8>, AllocError> {
-    let mut line = Vec::new(alloc);
-    add(&mut line, b"turn ", 1)?;
-    add(&mut line, b"0", zeros)?;
-    add(&mut line, b" 1", 1)?;
-    Ok(line)
+    joined(alloc, &[(b"turn ", 1), (b"0", zeros), (b" 1", 1)])
 }
 
 // Whether this is what is printed for a first line, with a last LF and without, however many bytes come with each read.
@@ -24,9 +20,7 @@ fn is_refused(
     line: &[u8],
     output: &[u8],
 ) -> Result<bool, AllocError> {
-    let mut ended = Vec::new(alloc);
-    add(&mut ended, line, 1)?;
-    add(&mut ended, b"\nlist\n", 1)?;
+    let ended = joined(alloc, &[(line, 1), (b"\nlist\n", 1)])?;
     for size in [1, 7, 1000, 1023, 1024, 1025, 1026, 4096] {
         for input in [line, ended.as_slice()] {
             let input = Choppy::sound(input, size);
@@ -178,30 +172,29 @@ fn is_printed(
 fn one_byte_at_a_time(rt: HostRuntime) -> Result<(), Fail> {
     let limits = limits(&rt);
     for (language, input, output) in RUNS {
-        let mut ended = Vec::new(rt.alloc());
-        add(&mut ended, input, 1)?;
-        add(&mut ended, b"\n", 1)?;
-        assert!(rt; is_printed(rt.alloc(), limits, *language, input, output));
-        assert!(rt; is_printed(rt.alloc(), limits, *language, ended.as_slice(), output));
+        let ended = joined(rt.alloc(), &[(input, 1), (b"\n", 1)])?;
+        let printed = is_printed(rt.alloc(), limits, *language, input, output)
+            && is_printed(rt.alloc(), limits, *language, ended.as_slice(), output);
+        assert!(rt; printed);
     }
     Ok(())
+}
+
+// Whether this is printed, by six writes at most.
+fn is_written(alloc: Global, limits: Limits, input: Choppy<'_>, output: &[u8]) -> bool {
+    let woven = run(alloc, Language::Weave, limits, input, 4096, NEVER);
+    woven.is(output, 0) && woven.writes <= 6
 }
 
 // Thousands of lines, read in one piece and byte by byte, and written in few pieces.
 #[test]
 fn many_lines(rt: HostRuntime) -> Result<(), Fail> {
-    let mut lines = Vec::new(rt.alloc());
-    add(&mut lines, INPUT, 1)?;
-    add(&mut lines, b"\n", 1)?;
-    add(&mut lines, b"begin 0 get a\n\nfinish 0\n", 3000)?;
-    let mut output = Vec::new(rt.alloc());
-    add(&mut output, OUTPUT, 1)?;
-    add(&mut output, b"0 none\n", 3000)?;
+    let last: &[u8] = b"begin 0 get a\n\nfinish 0\n";
+    let lines = joined(rt.alloc(), &[(INPUT, 1), (b"\n", 1), (last, 3000)])?;
+    let output = joined(rt.alloc(), &[(OUTPUT, 1), (b"0 none\n", 3000)])?;
     for size in [1, 4096] {
         let input = Choppy::sound(lines.as_slice(), size);
-        let woven = run(rt.alloc(), Language::Weave, limits(&rt), input, 4096, NEVER);
-        assert!(rt; woven.is(output.as_slice(), 0));
-        assert!(rt; woven.writes <= 6);
+        assert!(rt; is_written(rt.alloc(), limits(&rt), input, output.as_slice()));
     }
     Ok(())
 }

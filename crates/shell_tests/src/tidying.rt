@@ -1,9 +1,8 @@
 //! Upkeep that is asked for.
 
-use crate::runs::{Rows, add, agree, prints};
-use bw_model::Limits;
+use crate::numbered::{Part, Width, runs};
+use crate::runs::{Rows, agree};
 use shell_lines::Language;
-use std::test::Fail;
 
 // Fourteen steps: the epoch, the entry, two slots, two records, a word of free rows, the take, the place, the exchange, two slots,
 // one record, the leave. The next lookup reads one record.
@@ -36,23 +35,19 @@ fn a_delta_is_tidied(rt: HostRuntime) {
     agree(&rt, rt.alloc(), Language::Weave, rows);
 }
 
+const NO_ROW: &[Part<'_>] = &[
+    Part::Adds("begin 1 get a\nturn 1 2\n", ""),
+    Part::Adds("begin 0 upsert a x\nfinish 0\n", "0 set\n"),
+    Part::Repeats(55, "begin 0 upsert a x\nfinish 0\n", "0 replaced x\n"),
+    Part::Adds(
+        "begin 0 tidy a\nfinish 0\nbegin 0 page =\nfinish 0\n",
+        "0 full\n0 page 1 a x end\n",
+    ),
+];
+
 // A get stays at its second turn all the while. Fifty-six updates and six consolidations use the 62 free rows, as the last of them
 // leaves eight deltas.
 #[test]
-fn no_row_is_left_to_tidy(rt: HostRuntime) -> Result<(), Fail> {
-    let limits = Limits::new(2, 64, 64, 1)?;
-    let mut input = Vec::new(rt.alloc());
-    add(&mut input, b"begin 1 get a\nturn 1 2\n", 1)?;
-    add(&mut input, b"begin 0 upsert a x\nfinish 0\n", 56)?;
-    add(
-        &mut input,
-        b"begin 0 tidy a\nfinish 0\nbegin 0 page =\nfinish 0\n",
-        1,
-    )?;
-    let mut output = Vec::new(rt.alloc());
-    add(&mut output, b"0 set\n", 1)?;
-    add(&mut output, b"0 replaced x\n", 55)?;
-    add(&mut output, b"0 full\n0 page 1 a x end\n", 1)?;
-    prints(&rt, rt.alloc(), limits, input.as_slice(), output.as_slice());
-    Ok(())
+fn no_row_is_left_to_tidy(rt: HostRuntime) {
+    runs(&rt, rt.alloc(), (2, 64, 64, 1), Width::Two, NO_ROW);
 }

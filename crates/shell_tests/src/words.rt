@@ -29,12 +29,19 @@ fn said_by(settings: &Settings) -> Said {
     }
 }
 
-/// What words come to, of which the line has those behind the program's name.
-fn answer_to(alloc: Global, line: &str) -> Result<Said, AllocError> {
-    let mut words = vec![in alloc; String::from_str(alloc, "bwtree")?]?;
+/// The words of a line, behind the program's name.
+fn words(alloc: Global, line: &str) -> Result<Vec<String>, AllocError> {
+    let mut words = Vec::new(alloc);
+    words.push(String::from_str(alloc, "bwtree")?)?;
     for word in line.split(' ') {
         words.push(String::from_str(alloc, word)?)?;
     }
+    Ok(words)
+}
+
+/// What the words of a line come to.
+fn answer_to(alloc: Global, line: &str) -> Result<Said, AllocError> {
+    let words = words(alloc, line)?;
     Ok(match options(alloc, words.as_slice()) {
         Ok(settings) => said_by(&settings),
         Err(OptionsError::Clap(error)) if error.use_stderr() => Said::Refused,
@@ -81,8 +88,7 @@ fn numbers_of_options(rt: HostRuntime) -> Result<(), Fail> {
         ),
     ];
     for (line, wanted) in table {
-        let said = answer_to(rt.alloc(), line)?;
-        assert_eq!(rt; said, wanted, "{line}");
+        assert!(rt; answer_to(rt.alloc(), line)? == wanted, "{line}");
     }
     Ok(())
 }
