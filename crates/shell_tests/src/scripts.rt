@@ -1,7 +1,8 @@
 //! Scripts: one command a line.
 
-use crate::runs::{Rows, Woven, agree, limits, whole};
+use crate::runs::{Rows, agree, limits, whole};
 use bw_model::Limits;
+use failing_streams::Ran;
 use shell_lines::Language;
 use std::alloc::{AllocError, Global};
 use std::test::Fail;
@@ -84,7 +85,7 @@ fn printed(
     limits: Limits,
     language: Language,
     (before, behind): (&str, &str),
-) -> Result<Woven, AllocError> {
+) -> Result<Ran, AllocError> {
     let mut lines = String::new(alloc);
     add_commands(&mut lines, before, behind)?;
     Ok(whole(alloc, language, limits, lines.as_bytes()))
