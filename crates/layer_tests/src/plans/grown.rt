@@ -60,16 +60,16 @@ pub(crate) fn split<R: Abort + AllocGlobal>(
     low: Key,
     count: u8,
     right: u16,
-) -> Option<(PageInHand, PageInHand)>
+) -> (PageInHand, PageInHand)
     requires pid { IsPid pid }
     requires right { IsPid right }
-    ensures alive { IfSome result (λ pages. is_removed pages.0.chain ≡ false) }
-    ensures right { IfSome result (λ pages. is_removed pages.1.chain ≡ false) }
+    ensures alive { is_removed result.0.chain ≡ false }
+    ensures right { is_removed result.1.chain ≡ false }
 {
     let whole = version(rt, pid, 0, leaf(low, count));
-    let plan = plan_split(&whole)?;
+    let plan = plan_split(&whole).expect(rt, "a split");
     let left = grown(rt, &whole, Record::Split(plan.split(right)));
-    Some((left, based(rt, right, plan.upper)))
+    (left, based(rt, right, plan.upper))
 }
 
 /// The root over a page and its right.
@@ -77,11 +77,10 @@ pub(crate) fn root_over<R: Abort + AllocGlobal>(
     rt: &R,
     left: &PageInHand,
     right: &PageInHand,
-) -> Option<PageInHand>
-    ensures { IfSome result (λ root. is_removed root.chain ≡ false) }
+) -> PageInHand
+    ensures { is_removed result.chain ≡ false }
 {
-    let root = plan_root(left, right)?;
-    Some(based(rt, 5, root))
+    based(rt, 5, plan_root(left, right).expect(rt, "a root"))
 }
 
 /// The parent with the term of a new page.

@@ -9,8 +9,8 @@ use std::process::Abort;
 
 /// Whether the right page comes into the left one, once it is removed under a root over both; none where it isn't removed.
 fn merges<R: Abort + AllocGlobal>(rt: &R, left: &PageInHand, right: &PageInHand) -> Option<bool> {
-    let root = root_over(rt, left, right)?;
-    let root = held(rt, &root, right)?;
+    let root = root_over(rt, left, right);
+    let root = held(rt, &root, right).expect(rt, "a hold");
     let gone = removed(rt, &root, right)?;
     Some(plan_merge(left, &gone).is_some())
 }

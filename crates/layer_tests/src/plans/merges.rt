@@ -1,5 +1,5 @@
 //! Merges of a removed page into its left one, and the end of its term.
-ghost use Rattle.std.specs.Prelude.{◌≡◌, false, IfSome};
+ghost use Rattle.std.specs.Prelude.{◌≡◌, false};
 ghost use Rattle.traces.specs.chain.Chains.{is_removed};
 ghost use Rattle.deltas.specs.Spellable.{IsPid};
 
@@ -20,21 +20,21 @@ struct Family {
     gone: PageInHand,
 }
 
-fn related<R: Abort + AllocGlobal>(rt: &R) -> Option<Family>
-    ensures root { IfSome result (λ pages. is_removed pages.root.chain ≡ false) }
-    ensures left { IfSome result (λ pages. is_removed pages.left.chain ≡ false) }
+fn related<R: Abort + AllocGlobal>(rt: &R) -> Family
+    ensures root { is_removed result.root.chain ≡ false }
+    ensures left { is_removed result.left.chain ≡ false }
 {
-    let (left, _) = split(rt, 1, Key::default(), 16, 2)?;
-    let (whole, _) = split(rt, 2, at(8), 24, 3)?;
+    let (left, _) = split(rt, 1, Key::default(), 16, 2);
+    let (whole, _) = split(rt, 2, at(8), 24, 3);
     let right = thinned(rt, whole, 12);
-    let root = held(rt, &root_over(rt, &left, &right)?, &right)?;
-    let gone = removed(rt, &root, &right)?;
-    Some(Family {
+    let root = held(rt, &root_over(rt, &left, &right), &right).expect(rt, "a hold");
+    let gone = removed(rt, &root, &right).expect(rt, "a removal");
+    Family {
         root,
         left,
         right,
         gone,
-    })
+    }
 }
 
 /// Whether the left page gets the removed one.
@@ -88,7 +88,7 @@ fn loses(
 
 #[test]
 fn merges_a_removed_page(rt: HostRuntime) {
-    let pages = related(&rt).expect(&rt, "a removal");
+    let pages = related(&rt);
     let brought = brings(&pages.left, &pages.gone, 12, Some(at(16)), Some(3));
     let refused = [
         merges(&pages.left, &pages.right),
@@ -99,7 +99,7 @@ fn merges_a_removed_page(rt: HostRuntime) {
 
 #[test]
 fn merges_a_removed_base(rt: HostRuntime) {
-    let pages = related(&rt).expect(&rt, "a removal");
+    let pages = related(&rt);
     let gone = removed(&rt, &pages.root, &version(&rt, 2, 0, leaf(at(8), 11)));
     let brought = gone.map(|gone| brings(&pages.left, &gone, 11, None, None));
     assert_eq!(rt; brought, Some(true));
@@ -111,29 +111,29 @@ fn merges_left_of<R: Abort + AllocGlobal>(
     removed: &PageInHand,
     count: u8,
     right: u16,
-) -> Option<bool>
+) -> bool
     requires right { IsPid right }
 {
-    let (left, _) = split(rt, 4, Key::default(), count, right)?;
-    Some(merges(&left, removed))
+    let (left, _) = split(rt, 4, Key::default(), count, right);
+    merges(&left, removed)
 }
 
 #[test]
 fn merges_into_the_left_page_alone(rt: HostRuntime) {
-    let gone = related(&rt).expect(&rt, "a removal").gone;
+    let gone = related(&rt).gone;
     let before = merges_left_of(&rt, &gone, 17, 2);
     let before_another = merges_left_of(&rt, &gone, 16, 3);
     let up_to_the_ninth = merges_left_of(&rt, &gone, 18, 2);
     let endless = merges(&version(&rt, 4, 0, leaf(Key::default(), 8)), &gone);
     assert_eq!(rt;
-        [before, before_another, up_to_the_ninth, Some(endless)],
-        [Some(true), Some(false), Some(false), Some(false)]
+        [before, before_another, up_to_the_ninth, endless],
+        [true, false, false, false]
     );
 }
 
 #[test]
 fn merges_under_eight_deltas(rt: HostRuntime) {
-    let pages = related(&rt).expect(&rt, "a removal");
+    let pages = related(&rt);
     let seven = without(&rt, without(&rt, thinned(&rt, pages.left, 0), 4), 5);
     let given = merges(&seven, &pages.gone);
     let refused = merges(&without(&rt, seven, 6), &pages.gone);
@@ -147,7 +147,7 @@ fn ends_the_term_of_a_merged_page(rt: HostRuntime) {
         left,
         right,
         gone,
-    } = related(&rt).expect(&rt, "a removal");
+    } = related(&rt);
     let whole = joined(&rt, &left, &gone).expect(&rt, "a merge");
     let ended = [
         loses(&root, &whole, &gone, 8, 2),
@@ -165,15 +165,15 @@ fn ends_no_term_that_is_not_held(rt: HostRuntime) {
         right,
         gone,
         ..
-    } = related(&rt).expect(&rt, "a removal");
+    } = related(&rt);
     let whole = joined(&rt, &left, &gone).expect(&rt, "a merge");
-    let unheld = root_over(&rt, &left, &right).expect(&rt, "a root");
+    let unheld = root_over(&rt, &left, &right);
     assert!(rt; !unterms(&unheld, &whole, &gone));
 }
 
 #[test]
 fn ends_a_term_under_seven_deltas(rt: HostRuntime) {
-    let pages = related(&rt).expect(&rt, "a removal");
+    let pages = related(&rt);
     let whole = joined(&rt, &pages.left, &pages.gone).expect(&rt, "a merge");
     let seven = with_terms(&rt, pages.root, 0, 6);
     let given = loses(&seven, &whole, &pages.gone, 8, 2);
@@ -183,7 +183,7 @@ fn ends_a_term_under_seven_deltas(rt: HostRuntime) {
 
 #[test]
 fn ends_a_term_inside_its_left_page(rt: HostRuntime) {
-    let pages = related(&rt).expect(&rt, "a removal");
+    let pages = related(&rt);
     let endless = version(&rt, 1, 0, leaf(Key::default(), 3));
     let beside = version(&rt, 4, 0, leaf(at(8), 12));
     let ended = [
@@ -197,21 +197,21 @@ fn ends_a_term_inside_its_left_page(rt: HostRuntime) {
 fn last_of_three<R: Abort + AllocGlobal>(
     rt: &R,
     left: &PageInHand,
-) -> Option<(PageInHand, PageInHand, PageInHand)>
-    ensures root { IfSome result (λ pages. is_removed pages.0.chain ≡ false) }
+) -> (PageInHand, PageInHand, PageInHand)
+    ensures root { is_removed result.0.chain ≡ false }
 {
-    let (middle, last) = split(rt, 2, at(8), 24, 3)?;
+    let (middle, last) = split(rt, 2, at(8), 24, 3);
     let last = thinned(rt, last, 16);
-    let root = posted(rt, &root_over(rt, left, &middle)?, &last)?;
-    let root = held(rt, &root, &last)?;
-    let gone = removed(rt, &root, &last)?;
-    Some((root, middle, gone))
+    let root = posted(rt, &root_over(rt, left, &middle), &last).expect(rt, "a term");
+    let root = held(rt, &root, &last).expect(rt, "a hold");
+    let gone = removed(rt, &root, &last).expect(rt, "a removal");
+    (root, middle, gone)
 }
 
 #[test]
 fn ends_no_term_beyond_its_left_page(rt: HostRuntime) {
-    let (left, _) = split(&rt, 1, Key::default(), 16, 2).expect(&rt, "a split");
-    let (root, middle, gone) = last_of_three(&rt, &left).expect(&rt, "a removal");
+    let (left, _) = split(&rt, 1, Key::default(), 16, 2);
+    let (root, middle, gone) = last_of_three(&rt, &left);
     let whole = joined(&rt, &middle, &gone).expect(&rt, "a merge");
     let ended = [
         unterms(&root, &left, &gone),
@@ -228,7 +228,7 @@ fn removes_no_first_page(rt: HostRuntime) {
         left,
         right,
         ..
-    } = related(&rt).expect(&rt, "a removal");
+    } = related(&rt);
     let thin = thinned(&rt, left, 0);
     let bare = version(&rt, 1, 0, leaf(Key::default(), 0));
     let given = [

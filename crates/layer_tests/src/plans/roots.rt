@@ -23,37 +23,37 @@ fn has_both(root: &Page) -> bool {
 
 #[test]
 fn roots_over_a_page_and_its_right(rt: HostRuntime) {
-    let (left, right) = split(&rt, 1, Key::default(), 16, 2).expect(&rt, "a split");
+    let (left, right) = split(&rt, 1, Key::default(), 16, 2);
     let root = plan_root(&left, &right);
     assert_eq!(rt; root.map(|root| is_over_both(&root)), Some(true));
 }
 
 #[test]
 fn roots_over_the_first_page_alone(rt: HostRuntime) {
-    let (left, right) = split(&rt, 2, at(8), 24, 3).expect(&rt, "a split");
+    let (left, right) = split(&rt, 2, at(8), 24, 3);
     assert!(rt; plan_root(&left, &right).is_none());
 }
 
 #[test]
 fn roots_over_the_page_to_the_right_alone(rt: HostRuntime) {
-    let (left, _) = split(&rt, 1, Key::default(), 16, 2).expect(&rt, "a split");
+    let (left, _) = split(&rt, 1, Key::default(), 16, 2);
     let other = version(&rt, 3, 0, leaf(at(8), 16));
     let beyond = version(&rt, 2, 0, leaf(at(9), 16));
     assert!(rt; plan_root(&left, &other).is_none() && plan_root(&left, &beyond).is_none());
 }
 
-/// Whether there is a root over a page and its right, once that one is removed; none where it isn't.
-fn roots_over_removed<R: Abort + AllocGlobal>(rt: &R) -> Option<bool> {
-    let (left, right) = split(rt, 1, Key::default(), 16, 2)?;
+/// Whether there is a root over a page and its right, once that one is removed.
+fn roots_over_removed<R: Abort + AllocGlobal>(rt: &R) -> bool {
+    let (left, right) = split(rt, 1, Key::default(), 16, 2);
     let right = thinned(rt, right, 8);
-    let root = held(rt, &root_over(rt, &left, &right)?, &right)?;
-    let gone = removed(rt, &root, &right)?;
-    Some(plan_root(&left, &gone).is_some())
+    let root = held(rt, &root_over(rt, &left, &right), &right).expect(rt, "a hold");
+    let gone = removed(rt, &root, &right).expect(rt, "a removal");
+    plan_root(&left, &gone).is_some()
 }
 
 #[test]
 fn roots_over_no_removed_page(rt: HostRuntime) {
-    assert_eq!(rt; roots_over_removed(&rt), Some(false));
+    assert!(rt; !roots_over_removed(&rt));
 }
 
 /// The level of the root over an index page of this level and a page to its right.

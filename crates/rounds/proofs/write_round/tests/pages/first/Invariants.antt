@@ -5,4 +5,4 @@ use Rattle.deltas.specs.declared.record.Record.TheVariants.{Delete}
 use Rattle.rounds.proofs.write_round.tests.pages.first.Given as goal
 
 abbrev pub invariant-loop : goal.invariant-loop
-invariant-loop l = AllByRecursion (λ (r : Record). r ≡ Delete (record { next = 3; key = l.page.low })) l.part × (length l.part ≡ l.counter)
+invariant-loop g l = AllByRecursion (λ (r : Record). r ≡ Delete (record { next = 3; key = l.page.low })) l.part × (length l.part ≡ l.counter)
