@@ -1,7 +1,8 @@
 -- The rows of a chain, as they are read one after another.
 use Rattle.std.proofs.Common.{◌≡◌, ◌<◌, ◌+◌, ℕ, zero, suc, List, [], ◌∷◌, ◌++◌, length, get_or, Option, None, Some, MatchOption, refl, sym, ap, ◌∙◌, arith, append_assoc}
-use Rattle.std.specs.Prelude.{slice_get, unwrap_or}
+use Rattle.std.specs.Prelude.{unwrap_or}
 use Rattle.std.proofs.lemmas.List.{length-append}
+use Rattle.std.proofs.lemmas.Option.{same_Some}
 use Rattle.deltas.specs.declared.record.Record.{Record}
 use Rattle.deltas.specs.Records.{next_row}
 use Rattle.traces.specs.chain.Chains.{IsChainFrom, chain_rows}
@@ -61,21 +62,21 @@ module _ (rows : ℕ → Option Record) (row : ℕ) (chain : List Record) (read 
     all_read leads = after None leads
 
 -- what stands in each row
-row_at : (rows : ℕ → Option Record) (row : ℕ) (chain : List Record) → IsChainFrom rows row chain → (place : ℕ) → place < length chain → (r : ℕ)
-    → (newest : Record) × (slice_get chain place ≡ Some newest) × (rows (get_or (chain_rows row chain) place r) ≡ Some newest)
-row_at rows row [] is place within r = absurd is
-row_at rows row (newest ∷ under) is zero within r = (newest, refl, is.0)
-row_at rows row (newest ∷ under) is (suc place) within r = go (next_row newest) is.1 (λ below more. row_at rows below under more place (omega (arith, within)) r)
+pub row_at : (rows : ℕ → Option Record) (row : ℕ) (chain : List Record) → IsChainFrom rows row chain → (place : ℕ) → place < length chain → (r : ℕ) (d : Record)
+    → rows (get_or (chain_rows row chain) place r) ≡ Some (get_or chain place d)
+row_at rows row [] is place within r d = absurd is
+row_at rows row (newest ∷ under) is zero within r d = is.0
+row_at rows row (newest ∷ under) is (suc place) within r d = go (next_row newest) is.1 (λ below more. row_at rows below under more place (omega (arith, within)) r d)
   where
     go : (next : Option ℕ) → MatchOption next (under ≡ []) (λ below. IsChainFrom rows below under)
-        → ((below : ℕ) → IsChainFrom rows below under → (older : Record) × (slice_get under place ≡ Some older) × (rows (get_or (chain_rows below under) place r) ≡ Some older))
-        → (older : Record) × (slice_get under place ≡ Some older) × (rows (get_or (chain_rows (unwrap_or next 0) under) place r) ≡ Some older)
+        → ((below : ℕ) → IsChainFrom rows below under → rows (get_or (chain_rows below under) place r) ≡ Some (get_or under place d))
+        → rows (get_or (chain_rows (unwrap_or next 0) under) place r) ≡ Some (get_or under place d)
     go None ends deeper = absurd (omega (arith, ap length ends, within))
     go (Some below) more deeper = deeper below more
 
-module _ (rows : ℕ → Option Record) (row : ℕ) (chain : List Record) (is : IsChainFrom rows row chain) (read : List ℕ) (whole : read ≡ chain_rows row chain) (place : ℕ) (within : place < length chain) (r : ℕ) where
-  pub record_there : (newest : Record) × (slice_get chain place ≡ Some newest) × (rows (get_or read place r) ≡ Some newest)
-  record_there = let (newest, at, there) = row_at rows row chain is place within r in (newest, at, rw whole there)
+module _ (rows : ℕ → Option Record) (row : ℕ) (chain : List Record) (is : IsChainFrom rows row chain) (read : List ℕ) (whole : read ≡ chain_rows row chain) (place : ℕ) (within : place < length chain) (r : ℕ) (d : Record) where
+  pub record_there : rows (get_or read place r) ≡ Some (get_or chain place d)
+  record_there = rw whole (row_at rows row chain is place within r d)
 
-  pub record_at : (newest : Record) → rows (get_or read place r) ≡ Some newest → slice_get chain place ≡ Some newest
-  record_at newest there = let (other, at, here) = record_there in at ∙ sym here ∙ there
+  pub record_at : (newest : Record) → rows (get_or read place r) ≡ Some newest → newest ≡ get_or chain place d
+  record_at newest there = same_Some newest (get_or chain place d) (sym there ∙ record_there)

@@ -1,4 +1,3 @@
 mod Bits
-mod Chains
 mod Descents
 mod Sides

@@ -1,22 +1,30 @@
-use Rattle.std.proofs.Common.{◌≡◌, ◌<◌, ◌-◌, ap, arith, drop, length, subst, suc, ◌∙◌}
+use Rattle.std.proofs.Common.{◌≡◌, ◌<◌, ◌-◌, Some, ap, arith, drop, get_or, length, subst, suc, sym, ◌∙◌}
+use Rattle.deltas.specs.declared.record.Record.{Record}
+use Rattle.deltas.specs.declared.record.Record.TheVariants.{Base, Remove}
 use Rattle.traces.specs.chain.Fitted.{Makes}
 use Rattle.traces.proofs.FittedLaws.{ruled}
+use Rattle.row_chain.proofs.Bases.{some}
+use Rattle.row_chain.proofs.Making.{base_at, base_makes, fits_above}
 use Rattle.listing.proofs.Chaining.{record_at, record_there, rows_long}
-use Rattle.listing.proofs.Making.{last_makes, next_fits, next_makes, not_empty}
+use Rattle.listing.proofs.Making.{next_makes}
 use Rattle.listing.proofs.page.page_of.Goals as goal
+
+-- what is never read: each place has a record
+no_record : Record
+no_record = Remove (record { level = 0; next = 1 })
 
 pub overflow_sub-base : goal.overflow_sub-base
 overflow_sub-base g c =
     let (memory, chain, has, stands) = c.requires.stands in
     let long = c.len-base.ensures.value ∙ ap length (c.rows_of-chain.ensures memory chain has stands) ∙ rows_long (memory.slots c.args.pid) chain in
-    let many : 0 < length chain = not_empty chain stands.fits.fitted in
+    let many : 0 < length chain = some chain stands.fits.fitted in
     omega (arith, long, many)
 
 pub bounds-deref-base : goal.bounds-deref-base
 bounds-deref-base g c =
     let (memory, chain, has, stands) = c.requires.stands in
     let long = c.len-base.ensures.value ∙ ap length (c.rows_of-chain.ensures memory chain has stands) ∙ rows_long (memory.slots c.args.pid) chain in
-    let many : 0 < length chain = not_empty chain stands.fits.fitted in
+    let many : 0 < length chain = some chain stands.fits.fitted in
     let same = ap length c.deref.ensures.0 in
     omega (arith, c.len-base.ensures.value, long, many, same)
 
@@ -25,19 +33,19 @@ base_at-page-requires g c =
     let (memory, chain, has, stands) = c.requires.stands in
     let rows = c.rows_of-chain.ensures memory chain has stands in
     let long = c.len-base.ensures.value ∙ ap length rows ∙ rows_long (memory.slots c.args.pid) chain in
-    let many : 0 < length chain = not_empty chain stands.fits.fitted in
-    let (last, at, there) = record_there memory.rows (memory.slots c.args.pid) chain stands.records c.deref.result.now (c.deref.ensures.0 ∙ rows) (c.len-base.result - 1) (omega (arith, long, many)) 0 in
-    let (page, is, makes) = last_makes chain stands.fits.fitted (c.len-base.result - 1) (omega (arith, long, many)) last at in
-    (memory, page, has, rw is at there)
+    let many : 0 < length chain = some chain stands.fits.fitted in
+    let (page, is) = base_at chain (c.len-base.result - 1) no_record stands.fits.fitted (omega (arith, long, many)) in
+    let there = record_there memory.rows (memory.slots c.args.pid) chain stands.records c.deref.result.now (c.deref.ensures.0 ∙ rows) (c.len-base.result - 1) (omega (arith, long, many)) 0 no_record in
+    (memory, page, has, there ∙ ap Some is)
 
 pub loop-place-init : goal.loop-place-init
 loop-place-init g c = λ memory chain has stands.
     let rows = c.rows_of-chain.ensures memory chain has stands in
     let long = c.len-base.ensures.value ∙ ap length rows ∙ rows_long (memory.slots c.args.pid) chain in
-    let many : 0 < length chain = not_empty chain stands.fits.fitted in
-    let at = record_at memory.rows (memory.slots c.args.pid) chain stands.records c.deref.result.now (c.deref.ensures.0 ∙ rows) (c.len-base.result - 1) (omega (arith, long, many)) 0 _ (c.base_at-page.ensures memory has) in
-    let (page, is, makes) = last_makes chain stands.fits.fitted (c.len-base.result - 1) (omega (arith, long, many)) _ at in
-    subst (Makes (drop (c.len-base.result - 1) chain)) (cc is) makes
+    let many : 0 < length chain = some chain stands.fits.fitted in
+    let base = Base c.base_at-page.result in
+    let at = record_at memory.rows (memory.slots c.args.pid) chain stands.records c.deref.result.now (c.deref.ensures.0 ∙ rows) (c.len-base.result - 1) (omega (arith, long, many)) 0 base base (c.base_at-page.ensures memory has) in
+    base_makes chain (c.len-base.result - 1) c.base_at-page.result stands.fits.fitted (omega (arith, long, many)) (sym at)
 
 pub record-requires : goal.record-requires
 record-requires g c =
@@ -45,27 +53,25 @@ record-requires g c =
     let rows = c.rows_of-chain.ensures memory chain has stands in
     let long = c.len-base.ensures.value ∙ ap length rows ∙ rows_long (memory.slots c.args.pid) chain in
     let within : c.loop-place.place - 1 < length chain = omega (arith, long, c.loop-place.auto.place, c.loop-place-test.true) in
-    let (newest, at, there) = record_there memory.rows (memory.slots c.args.pid) chain stands.records c.deref-in-loop-place.result.now (c.deref-in-loop-place.ensures.0 ∙ rows) (c.loop-place.place - 1) within 0 in
-    (memory, newest, has, there)
+    (memory, get_or chain (c.loop-place.place - 1) no_record, has, record_there memory.rows (memory.slots c.args.pid) chain stands.records c.deref-in-loop-place.result.now (c.deref-in-loop-place.ensures.0 ∙ rows) (c.loop-place.place - 1) within 0 no_record)
 
 pub apply-page-requires : goal.apply-page-requires
 apply-page-requires g c =
     let (memory, chain, has, stands) = c.requires.stands in
     let rows = c.rows_of-chain.ensures memory chain has stands in
     let long = c.len-base.ensures.value ∙ ap length rows ∙ rows_long (memory.slots c.args.pid) chain in
-    let within : suc (c.loop-place.place - 1) < length chain = omega (arith, long, c.loop-place.auto.place, c.loop-place-test.true) in
-    let at = record_at memory.rows (memory.slots c.args.pid) chain stands.records c.deref-in-loop-place.result.now (c.deref-in-loop-place.ensures.0 ∙ rows) (c.loop-place.place - 1) (omega (arith, within)) 0 _ (c.record.ensures memory has) in
-    let next : c.loop-place.place ≡ suc (c.loop-place.place - 1) = omega (arith, c.loop-place-test.true) in
-    next_fits chain stands.fits.fitted (c.loop-place.place - 1) within _ at _ (subst (λ n. Makes (drop n chain) c.loop-place.page) next (c.loop-place.invariant memory chain has stands))
+    let within : c.loop-place.place < length chain = omega (arith, long, c.loop-place.auto.place, c.loop-place-test.true) in
+    let at = record_at memory.rows (memory.slots c.args.pid) chain stands.records c.deref-in-loop-place.result.now (c.deref-in-loop-place.ensures.0 ∙ rows) (c.loop-place.place - 1) (omega (arith, within)) 0 c.record.result c.record.result (c.record.ensures memory has) in
+    fits_above chain c.loop-place.place c.loop-place.page c.record.result stands.fits.fitted c.loop-place-test.true within (c.loop-place.invariant memory chain has stands) at
 
 pub loop-place-preserved : goal.loop-place-preserved
 loop-place-preserved g c = λ memory chain has stands.
     let rows = c.rows_of-chain.ensures memory chain has stands in
     let long = c.len-base.ensures.value ∙ ap length rows ∙ rows_long (memory.slots c.args.pid) chain in
     let within : c.loop-place.place - 1 < length chain = omega (arith, long, c.loop-place.auto.place, c.loop-place-test.true) in
-    let at = record_at memory.rows (memory.slots c.args.pid) chain stands.records c.deref-in-loop-place.result.now (c.deref-in-loop-place.ensures.0 ∙ rows) (c.loop-place.place - 1) within 0 _ (c.record.ensures memory has) in
+    let at = record_at memory.rows (memory.slots c.args.pid) chain stands.records c.deref-in-loop-place.result.now (c.deref-in-loop-place.ensures.0 ∙ rows) (c.loop-place.place - 1) within 0 c.record.result c.record.result (c.record.ensures memory has) in
     let next : c.loop-place.place ≡ suc (c.loop-place.place - 1) = omega (arith, c.loop-place-test.true) in
-    next_makes chain (c.loop-place.place - 1) _ at _ _ (subst (λ n. Makes (drop n chain) c.loop-place.page) next (c.loop-place.invariant memory chain has stands)) c.apply-page.ensures.applies
+    next_makes chain (c.loop-place.place - 1) within c.record.result at _ _ (subst (λ n. Makes (drop n chain) c.loop-place.page) next (c.loop-place.invariant memory chain has stands)) c.apply-page.ensures.applies
 
 pub returns-clause-ruled : goal.returns-clause-ruled
 returns-clause-ruled g c =

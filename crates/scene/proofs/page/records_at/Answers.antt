@@ -1,9 +1,14 @@
 use Rattle.std.proofs.Common.{◌≡◌, ◌<◌, [], ◌∷◌, ◌++◌, add-one, ap, arith, length, refl, sym, take, ◌∙◌}
-use Rattle.std.proofs.Math.Seq.{take-length}
+use Rattle.std.proofs.Math.Seq.{take-length, take-suc}
+use Rattle.deltas.specs.declared.record.Record.{Record}
+use Rattle.deltas.specs.declared.record.Record.TheVariants.{Remove}
 use Rattle.core_memory.specs.Tables.{memory_in}
 use Rattle.listing.proofs.Chaining.{record_at, record_there, rows_long}
-use Rattle.scene.proofs.Chains.{take_next}
 use Rattle.scene.proofs.page.records_at.Goals as goal
+
+-- what is never read: each place has a record
+no_record : Record
+no_record = Remove (record { level = 0; next = 1 })
 
 pub unreachable-requires : goal.unreachable-requires
 unreachable-requires g c =
@@ -11,16 +16,16 @@ unreachable-requires g c =
     let memory = memory_in c.args.table.now in
     let whole = c.rows_of-rows.ensures memory chain refl stands in
     let within : c.loop-place.place < length chain = omega (arith, c.loop-place-test.true, c.len-place-end.ensures.value, ap length whole ∙ rows_long (memory.slots c.args.pid) chain) in
-    let (newest, at, there) = record_there memory.rows (memory.slots c.args.pid) chain stands.records c.deref.result.now (c.deref.ensures.0 ∙ whole) c.loop-place.place within 0 in
-    c.in_default.not-Some newest (c.record.ensures ∙ there)
+    c.in_default.not-Some _ (c.record.ensures ∙ record_there memory.rows (memory.slots c.args.pid) chain stands.records c.deref.result.now (c.deref.ensures.0 ∙ whole) c.loop-place.place within 0 no_record)
 
 pub loop-place-preserved : goal.loop-place-preserved
 loop-place-preserved g c = λ chain stands.
     let memory = memory_in c.args.table.now in
     let whole = c.rows_of-rows.ensures memory chain refl stands in
     let within : c.loop-place.place < length chain = omega (arith, c.loop-place-test.true, c.len-place-end.ensures.value, ap length whole ∙ rows_long (memory.slots c.args.pid) chain) in
-    let at = record_at memory.rows (memory.slots c.args.pid) chain stands.records c.deref.result.now (c.deref.ensures.0 ∙ whole) c.loop-place.place within 0 c.in-Some.record (sym c.record.ensures ∙ c.in-Some.is) in
-    c.in_ok-push.ensures.items ∙ ap (λ r. r ++ c.in-Some.record ∷ []) (c.loop-place.invariant chain stands) ∙ sym (take_next chain c.loop-place.place c.in-Some.record at) ∙ ap (λ n. take n chain) (sym (add-one c.loop-place.place))
+    let at = record_at memory.rows (memory.slots c.args.pid) chain stands.records c.deref.result.now (c.deref.ensures.0 ∙ whole) c.loop-place.place within 0 c.in-Some.record c.in-Some.record (sym c.record.ensures ∙ c.in-Some.is) in
+    let longer = take-suc chain c.loop-place.place c.in-Some.record within ∙ ap (λ r. take c.loop-place.place chain ++ r ∷ []) (sym at) in
+    c.in_ok-push.ensures.items ∙ ap (λ r. r ++ c.in-Some.record ∷ []) (c.loop-place.invariant chain stands) ∙ sym longer ∙ ap (λ n. take n chain) (sym (add-one c.loop-place.place))
 
 pub returns : goal.returns
 returns g c = λ chain stands.
