@@ -4,8 +4,13 @@ use Rattle.std.specs.Prelude.{unwrap_or}
 use Rattle.std.proofs.lemmas.List.{length-append}
 use Rattle.std.proofs.lemmas.Option.{same_Some}
 use Rattle.deltas.specs.declared.record.Record.{Record}
+use Rattle.deltas.specs.declared.record.Record.TheVariants.{Remove}
 use Rattle.deltas.specs.Records.{next_row}
 use Rattle.traces.specs.chain.Chains.{IsChainFrom, chain_rows}
+
+-- what stands past the end of a chain, where it doesn't matter
+pub no_record : Record
+no_record = Remove (record { level = 0; next = 1 })
 
 -- Of the chain these rows were read; the others stand from the next row on.
 pub record HasRead (rows : ℕ → Option Record) (row : ℕ) (chain : List Record) (read : List ℕ) (next : ℕ) : Type 0 where

@@ -1,17 +1,12 @@
 use Rattle.std.proofs.Common.{◌≡◌, ◌<◌, ◌-◌, Some, ap, arith, drop, get_or, length, subst, suc, sym, ◌∙◌}
-use Rattle.deltas.specs.declared.record.Record.{Record}
-use Rattle.deltas.specs.declared.record.Record.TheVariants.{Base, Remove}
+use Rattle.deltas.specs.declared.record.Record.TheVariants.{Base}
 use Rattle.traces.specs.chain.Fitted.{Makes}
 use Rattle.traces.proofs.FittedLaws.{ruled}
 use Rattle.row_chain.proofs.Bases.{some}
 use Rattle.row_chain.proofs.Making.{base_at, base_makes, fits_above}
-use Rattle.listing.proofs.Chaining.{record_at, record_there, rows_long}
+use Rattle.listing.proofs.Chaining.{no_record, record_at, record_there, rows_long}
 use Rattle.listing.proofs.Making.{next_makes}
 use Rattle.listing.proofs.page.page_of.Goals as goal
-
--- what is never read: each place has a record
-no_record : Record
-no_record = Remove (record { level = 0; next = 1 })
 
 pub overflow_sub-base : goal.overflow_sub-base
 overflow_sub-base g c =

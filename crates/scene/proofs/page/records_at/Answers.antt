@@ -1,14 +1,8 @@
 use Rattle.std.proofs.Common.{◌≡◌, ◌<◌, [], ◌∷◌, ◌++◌, add-one, ap, arith, length, refl, sym, take, ◌∙◌}
 use Rattle.std.proofs.Math.Seq.{take-length, take-suc}
-use Rattle.deltas.specs.declared.record.Record.{Record}
-use Rattle.deltas.specs.declared.record.Record.TheVariants.{Remove}
 use Rattle.core_memory.specs.Tables.{memory_in}
-use Rattle.listing.proofs.Chaining.{record_at, record_there, rows_long}
+use Rattle.listing.proofs.Chaining.{no_record, record_at, record_there, rows_long}
 use Rattle.scene.proofs.page.records_at.Goals as goal
-
--- what is never read: each place has a record
-no_record : Record
-no_record = Remove (record { level = 0; next = 1 })
 
 pub unreachable-requires : goal.unreachable-requires
 unreachable-requires g c =
