@@ -45,7 +45,7 @@ impl<A: Allocator> Model for Course<A> {
 }
 
 impl<A: Allocator + Copy> Course<A> {
-    /// Down to the leaf of the key. Takes the memory for the rows of two pages, 52 KB, and is refused for want of it alone. No later
+    /// Down to the leaf of the key. Takes the memory for the rows of two pages, 106 KB, and is refused for want of it alone. No later
     /// call takes memory.
     pub(crate) fn new(alloc: A) -> Result<Course<A>, AllocError>
         ensures { IfOk result (λ course. course.course ≡ record { goal = down_to None; parent = None; left = None }) }

@@ -57,7 +57,7 @@ impl<A: Allocator> Model for Descent<A> {
 }
 
 impl<A: Allocator + Copy> Descent<A> {
-    /// A descent before its first step. Takes the memory for the rows of two pages, 52 KB, and is refused for want of it alone. No
+    /// A descent before its first step. Takes the memory for the rows of two pages, 106 KB, and is refused for want of it alone. No
     /// later call takes memory.
     pub(crate) fn new(alloc: A, limits: &Limits) -> Result<Descent<A>, AllocError>
         ensures { IfOk result (λ descent. descent.way ≡ record { limits = limits.now; state = state.Root }) }

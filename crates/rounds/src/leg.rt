@@ -37,7 +37,7 @@ impl<A: Allocator> Model for Leg<A> {
 }
 
 impl<A: Allocator + Copy> Leg<A> {
-    /// Down, with no page above. Takes the memory for the rows of a page, 26 KB, and is refused for want of it alone. No later call
+    /// Down, with no page above. Takes the memory for the rows of a page, 53 KB, and is refused for want of it alone. No later call
     /// takes memory.
     pub(crate) fn new(alloc: A) -> Result<Leg<A>, AllocError>
         ensures { IfOk result (λ leg. leg.leg ≡ Down None) }

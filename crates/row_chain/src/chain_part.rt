@@ -31,7 +31,7 @@ impl<A: Allocator> Model for ChainPart<A> {
 }
 
 impl<A: Allocator + Copy> ChainPart<A> {
-    /// Nothing read yet. Takes the memory for all rows, 26 KB; refused for want of it alone. No later call takes memory.
+    /// Nothing read yet. Takes the memory for all rows, 53 KB; refused for want of it alone. No later call takes memory.
     pub fn new(alloc: A) -> Result<ChainPart<A>, AllocError>
         ensures { IfOk result (λ part. part ≡ []) }
     {

@@ -23,7 +23,7 @@ impl<A: Allocator> Model for HeldRow<A> {
 }
 
 impl<A: Allocator> HeldRow<A> {
-    /// A place for a row, 2 KB, in which nothing was read yet; refused for want of memory alone.
+    /// A place for a row, 4 KB, in which nothing was read yet; refused for want of memory alone.
     pub fn new(alloc: A) -> Result<HeldRow<A>, AllocError>
         ensures { IfOk result (λ row. row ≡ kind.Remove (record { level = 0; next = 1 })) }
     {

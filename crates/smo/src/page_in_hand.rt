@@ -34,7 +34,7 @@ impl<A: Allocator> Model for PageInHand<A> {
 }
 
 impl<A: Allocator + Copy> PageInHand<A> {
-    /// A place for pages, before one was read: it has the page that opens a tree. Takes the memory for all rows, 26 KB, and is refused
+    /// A place for pages, before one was read: it has the page that opens a tree. Takes the memory for all rows, 53 KB, and is refused
     /// for want of it alone. No later call takes memory.
     pub fn new(alloc: A) -> Result<PageInHand<A>, AllocError>
         ensures { IfOk result (λ page. page.chain ≡ Base empty_leaf ∷ []) }
