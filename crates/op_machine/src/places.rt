@@ -70,7 +70,7 @@ impl<A: Allocator> Model for Places<A> {
 }
 
 impl<A: Allocator + Copy> Places<A> {
-    /// Places in which nothing was done yet. Takes the memory for the rows of both rounds, 208 KB, and is refused for want of it
+    /// Places in which nothing was done yet. Takes the memory for the rows of both rounds, 426 KB, and is refused for want of it
     /// alone. No later call takes memory.
     pub(crate) fn new(alloc: A, limits: &Limits) -> Result<Places<A>, AllocError>
         ensures reader { IfOk result (λ places. places.reader.round.limits ≡ limits.now) }

@@ -75,7 +75,7 @@ impl<A: Allocator> Model for ReadRound<A> {
 }
 
 impl<A: Allocator + Copy> ReadRound<A> {
-    /// The round to the leaf of the lowest key, before its first step. Takes the memory for the rows of four pages, 104 KB, and is
+    /// The round to the leaf of the lowest key, before its first step. Takes the memory for the rows of four pages, 213 KB, and is
     /// refused for want of it alone. No later call takes memory.
     pub fn new(alloc: A, limits: &Limits) -> Result<ReadRound<A>, AllocError>
         ensures { IfOk result (λ round. round.round ≡ record { limits = limits.now; key = []; goal = goal.Seek; leg = Down None; state = Root }) }

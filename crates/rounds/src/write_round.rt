@@ -53,7 +53,7 @@ impl<A: Allocator> Model for WriteRound<A> {
 impl<A: Allocator + Copy> WriteRound<A> {
     /// The round to the leaf of the lowest key, before its first step, where as many deltas are due as on any page, and no index page is
     /// held or removed. Takes the memory for
-    /// the rows of four pages, 104 KB, and is refused for want of it alone. No later call takes memory.
+    /// the rows of four pages, 213 KB, and is refused for want of it alone. No later call takes memory.
     pub fn new(alloc: A, limits: &Limits) -> Result<WriteRound<A>, AllocError>
         ensures { IfOk result (λ round. round.round ≡ record { limits = limits.now; key = []; due = 8; tends = false; floor = 0; goal = goal.Seek; parent = None; left = None; state = Root }) }
     {
