@@ -1,8 +1,8 @@
 #!/bin/sh
 # Whether the documents' copies are what they are copies of: bench/copies.sh. The gate reads crates/ alone, and takes no links there.
 # A block of a document is a copy where the line of text before it ends in the name of a file in parentheses and a colon; of a block of
-# crates.txt each line is to stand there. Each file in crates/guide/src but lib.rt is to be shown in docs/GUIDE.md, and each of docs/pictures is the
-# stdout of a crate. Prints a line for each copy that differs, and ends with status 1 where one does.
+# crates.txt each line is to stand there. Each file in crates/guide/src but lib.rt is to be shown in docs/GUIDE.md, and docs/pictures are, one behind another,
+# the stdout of crate pictures. Prints a line for each copy that differs, and ends with status 1 where one does.
 set -eu
 top=$(CDPATH='' cd -- "$(dirname -- "$0")/.." && pwd)
 cd "$top"
@@ -41,8 +41,5 @@ done
 for file in crates/guide/src/*.rt; do
     [ "$file" = crates/guide/src/lib.rt ] || grep -q " $file\$" "$copy/list" || differs "docs/GUIDE.md: $file is not shown"
 done
-for picture in docs/pictures/*.svg; do
-    crate=picture_$(basename "$picture" .svg)
-    cmp -s "$picture" "crates/$crate/stdout" || differs "$picture: crates/$crate/stdout"
-done
+(cd docs/pictures && cat split.svg root.svg removal.svg epoch.svg) | cmp -s - crates/pictures/stdout || differs "docs/pictures: crates/pictures/stdout"
 exit "$status"

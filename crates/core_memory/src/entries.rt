@@ -19,11 +19,20 @@ pub(crate) enum Happening<R> {
 }
 
 /// The entries, oldest first: some 40 bytes each, and beside them the command and the reply of each operation.
-#[derive(Drop)]
 pub struct Entries<A: Allocator = Global> {
     happened: Vec<Happening<SharedRecord<A>>, A>,
     commands: Vec<Command, A>,
     replies: Vec<BoxedReply<A>, A>,
+}
+
+impl<A: Allocator> Drop for Entries<A> {
+    fn drop(self) {
+        let Entries {
+            happened: _,
+            commands: _,
+            replies: _,
+        } = self;
+    }
 }
 
 impl<A: Allocator> Model for Entries<A> {

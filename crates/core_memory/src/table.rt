@@ -13,7 +13,6 @@ use std::alloc::{AllocError, Allocator, Global};
 use std::marker::Model;
 
 /// Slots and records by number, words of free bits, the epoch, and what each actor announced.
-#[derive(Drop)]
 pub struct Table<A: Allocator = Global> {
     limits: Limits,
     slots: Vec<u16, A>,
@@ -22,6 +21,20 @@ pub struct Table<A: Allocator = Global> {
     row_bits: Vec<u64, A>,
     epoch: u64,
     announced: Vec<u64, A>,
+}
+
+impl<A: Allocator> Drop for Table<A> {
+    fn drop(self) {
+        let Table {
+            limits: _,
+            slots: _,
+            rows: _,
+            pid_bits: _,
+            row_bits: _,
+            epoch: _,
+            announced: _,
+        } = self;
+    }
 }
 
 impl<A: Allocator> Model for Table<A> {

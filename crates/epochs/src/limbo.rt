@@ -11,10 +11,15 @@ use std::alloc::{AllocError, Allocator, Global};
 use std::marker::Model;
 
 /// The rows and PIDs that an actor has taken out of the tree and not freed yet, each once.
-#[derive(Drop)]
 pub struct Limbo<A: Allocator = Global> {
     rows: LimboList<A>,
     pids: LimboList<A>,
+}
+
+impl<A: Allocator> Drop for Limbo<A> {
+    fn drop(self) {
+        let Limbo { rows: _, pids: _ } = self;
+    }
 }
 
 impl<A: Allocator> Model for Limbo<A> {

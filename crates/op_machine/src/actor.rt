@@ -17,11 +17,20 @@ use std::alloc::{Allocator, Global};
 use std::marker::Model;
 
 /// What an actor keeps between operations, and the operation that it is at, or the room for the next one.
-#[derive(Drop)]
 pub struct Actor<A: Allocator = Global> {
     hand: Hand<A>,
     operation: Operation<A>,
     is_running: bool,
+}
+
+impl<A: Allocator> Drop for Actor<A> {
+    fn drop(self) {
+        let Actor {
+            hand: _,
+            operation: _,
+            is_running: _,
+        } = self;
+    }
 }
 
 impl<A: Allocator> Model for Actor<A> {

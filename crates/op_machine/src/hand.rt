@@ -15,10 +15,18 @@ use sweep::{chains_go_to_limbo, take_out};
 
 /// What an actor keeps between operations: the rows and the PID that it took and never linked, and what it took out of the tree and
 /// has not freed.
-#[derive(Drop)]
 pub struct Hand<A: Allocator = Global> {
     pub(crate) spares: Spares,
     pub(crate) limbo: Limbo<A>,
+}
+
+impl<A: Allocator> Drop for Hand<A> {
+    fn drop(self) {
+        let Hand {
+            spares: _,
+            limbo: _,
+        } = self;
+    }
 }
 
 impl<A: Allocator> Model for Hand<A> {

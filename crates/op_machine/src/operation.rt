@@ -42,11 +42,20 @@ use sweep::{Sweep, limbos_are_kept};
 
 /// An operation that is under way, or the room for the next one: what it was asked, the sweep with which a writer begins, and the
 /// places of what comes after that.
-#[derive(Drop)]
 pub struct Operation<A: Allocator = Global> {
     task: Task,
     sweep: Option<Sweep>,
     places: Places<A>,
+}
+
+impl<A: Allocator> Drop for Operation<A> {
+    fn drop(self) {
+        let Operation {
+            task: _,
+            sweep: _,
+            places: _,
+        } = self;
+    }
 }
 
 impl<A: Allocator> Model for Operation<A> {

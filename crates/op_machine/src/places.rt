@@ -51,7 +51,6 @@ pub(crate) enum Stand {
 }
 
 /// The places of an operation's rounds and of its change, what comes after the change, and the reply.
-#[derive(Drop)]
 pub(crate) struct Places<A: Allocator = Global> {
     stand: Stand,
     reader: ReadRound<A>,
@@ -59,6 +58,19 @@ pub(crate) struct Places<A: Allocator = Global> {
     change: Change,
     then: Then,
     reply: Reply,
+}
+
+impl<A: Allocator> Drop for Places<A> {
+    fn drop(self) {
+        let Places {
+            stand: _,
+            reader: _,
+            writer: _,
+            change: _,
+            then: _,
+            reply: _,
+        } = self;
+    }
 }
 
 impl<A: Allocator> Model for Places<A> {

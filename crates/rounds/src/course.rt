@@ -27,13 +27,24 @@ pub(crate) enum Aim {
 
 /// Where a writer's round goes, with a place for the parent of the pages that are read, and one for the page to whose right the round
 /// has gone. Where such a page isn't kept, one from before stands in its place.
-#[derive(Drop)]
 pub(crate) struct Course<A: Allocator = Global> {
     aim: Aim,
     has_parent: bool,
     has_left: bool,
     parent: PageInHand<A>,
     left: PageInHand<A>,
+}
+
+impl<A: Allocator> Drop for Course<A> {
+    fn drop(self) {
+        let Course {
+            aim: _,
+            has_parent: _,
+            has_left: _,
+            parent: _,
+            left: _,
+        } = self;
+    }
 }
 
 impl<A: Allocator> Model for Course<A> {

@@ -38,12 +38,22 @@ pub(crate) enum Seen {
 
 /// A way from the root, page by page: slot 0 is read first, then the page that it names, and then each page to which its round
 /// goes on. The rows of the page that is read have places of their own, until it is whole and becomes the page in hand.
-#[derive(Drop)]
 pub(crate) struct Descent<A: Allocator = Global> {
     limits: Limits,
     at: At,
     part: ChainPart<A>,
     page: PageInHand<A>,
+}
+
+impl<A: Allocator> Drop for Descent<A> {
+    fn drop(self) {
+        let Descent {
+            limits: _,
+            at: _,
+            part: _,
+            page: _,
+        } = self;
+    }
 }
 
 impl<A: Allocator> Model for Descent<A> {

@@ -22,10 +22,15 @@ pub(crate) enum On {
 }
 
 /// The leg on which a round is, with a place for the page above, or for the removed page that the round goes round.
-#[derive(Drop)]
 pub(crate) struct Leg<A: Allocator = Global> {
     on: On,
     page: PageInHand<A>,
+}
+
+impl<A: Allocator> Drop for Leg<A> {
+    fn drop(self) {
+        let Leg { on: _, page: _ } = self;
+    }
 }
 
 impl<A: Allocator> Model for Leg<A> {

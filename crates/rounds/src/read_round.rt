@@ -57,13 +57,24 @@ pub(crate) enum Going {
 }
 
 /// One round of a reader from the root to a leaf, and the next one in the same place.
-#[derive(Drop)]
 pub struct ReadRound<A: Allocator = Global> {
     key: KeyWords,
     going: Going,
     leg: Leg<A>,
     aside: PageInHand<A>,
     descent: Descent<A>,
+}
+
+impl<A: Allocator> Drop for ReadRound<A> {
+    fn drop(self) {
+        let ReadRound {
+            key: _,
+            going: _,
+            leg: _,
+            aside: _,
+            descent: _,
+        } = self;
+    }
 }
 
 impl<A: Allocator> Model for ReadRound<A> {

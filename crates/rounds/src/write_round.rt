@@ -32,7 +32,6 @@ use std::alloc::{AllocError, Allocator, Global};
 use std::marker::Model;
 
 /// One round of a writer from the root, and the next one in the same place.
-#[derive(Drop)]
 pub struct WriteRound<A: Allocator = Global> {
     key: KeyWords,
     due: usize,
@@ -40,6 +39,19 @@ pub struct WriteRound<A: Allocator = Global> {
     floor: u8,
     course: Course<A>,
     descent: Descent<A>,
+}
+
+impl<A: Allocator> Drop for WriteRound<A> {
+    fn drop(self) {
+        let WriteRound {
+            key: _,
+            due: _,
+            tends: _,
+            floor: _,
+            course: _,
+            descent: _,
+        } = self;
+    }
 }
 
 impl<A: Allocator> Model for WriteRound<A> {

@@ -12,10 +12,15 @@ pub const MAX_RECORDS: usize = 13;
 
 /// The rows of a page's chain that were read so far, the newest first. There are places for as many as a chain has at most, from
 /// the opening on: a row that is read changes places with what stood in the next one, so that none is copied.
-#[derive(Drop)]
 pub struct ChainPart<A: Allocator = Global> {
     rows: Vec<HeldRow<A>, A>,
     count: usize,
+}
+
+impl<A: Allocator> Drop for ChainPart<A> {
+    fn drop(self) {
+        let ChainPart { rows: _, count: _ } = self;
+    }
 }
 
 impl<A: Allocator> Model for ChainPart<A> {

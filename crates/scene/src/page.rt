@@ -15,11 +15,20 @@ use std::alloc::{AllocError, Allocator, Global};
 use std::marker::Model;
 
 /// A page by its PID: the records of its chain, the newest first, and the page that they make.
-#[derive(Drop)]
 pub struct ScenePage<A: Allocator = Global> {
     pid: u16,
     records: Vec<Record, A>,
     page: Page,
+}
+
+impl<A: Allocator> Drop for ScenePage<A> {
+    fn drop(self) {
+        let ScenePage {
+            pid: _,
+            records: _,
+            page: _,
+        } = self;
+    }
 }
 
 impl<A: Allocator> Model for ScenePage<A> {

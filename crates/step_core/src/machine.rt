@@ -22,7 +22,6 @@ use traces::Turn;
 use tree_law::{entries_grow, leaves_stand, opens, opens_directly};
 
 /// All actors over one memory, which an allocator gives, and room for the record that is read.
-#[derive(Drop)]
 pub struct Core<A: Allocator = Global> {
     alloc: A,
     limits: Limits,
@@ -30,6 +29,19 @@ pub struct Core<A: Allocator = Global> {
     actors: Vec<Actor<A>, A>,
     trace: Entries<A>,
     room: HeldRow<A>,
+}
+
+impl<A: Allocator> Drop for Core<A> {
+    fn drop(self) {
+        let Core {
+            alloc: _,
+            limits: _,
+            memory: _,
+            actors: _,
+            trace: _,
+            room: _,
+        } = self;
+    }
 }
 
 impl<A: Allocator> Model for Core<A> {
@@ -356,8 +368,14 @@ impl<A: Allocator> Core<A> {
     pub fn into_trace(self) -> Trace<A>
         ensures { result.entries.items ≡ self.entries }
     {
-        Trace {
-            entries: self.trace,
-        }
+        let Core {
+            alloc: _,
+            limits: _,
+            memory: _,
+            actors: _,
+            trace,
+            room: _,
+        } = self;
+        Trace { entries: trace }
     }
 }

@@ -1,0 +1,27 @@
+//! The program that draws the trees of docs/pictures: one picture for each part of its input. Between two parts stands an empty line.
+#![tactic(auto)]
+
+use bw_model::Limits;
+use bw_shell::{Reader, Writer};
+use drawing::draw;
+use std::io;
+use std::process::ExitCode;
+
+fn main(rt: HostRuntime) -> ExitCode {
+    let alloc = rt.alloc();
+    let Ok(limits) = Limits::new(2, 64, 256, 1) else {
+        return ExitCode::FAILURE;
+    };
+    let Ok(parts) = io::read_to_string(alloc, rt.reader()) else {
+        return ExitCode::FAILURE;
+    };
+    let mut output = Writer::new(io::writer(&rt));
+    for part in parts.split("\n\n") {
+        let mut input = Reader::new(part.as_bytes());
+        let status = draw(alloc, limits, &mut input, &mut output);
+        if status != 0 {
+            return ExitCode::from(status);
+        }
+    }
+    ExitCode::SUCCESS
+}
