@@ -1,4 +1,3 @@
-pub mod Showing
 pub mod Transcripts
 pub mod Feeding
 pub mod Weaving

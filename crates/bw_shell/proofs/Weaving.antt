@@ -6,10 +6,10 @@ use Rattle.bw_shell.specs.Turns.{Trace, IsOneMap, opening_trace}
 use Rattle.bw_model.specs.declared.limits.Limits.{Limits}
 use Rattle.std.proofs.lemmas.List.{append-nil}
 use Rattle.bw_shell.specs.declared.refusal.RefusedLine.{RefusedLine}
-use Rattle.bw_shell.specs.Output.{Sink, Puts, Prints, Writes}
+use Rattle.streams.specs.Output.{Sink, Puts, Prints, Writes}
 use Rattle.bw_shell.specs.Text.{last_line}
 use Rattle.bw_shell.specs.Weave.{IsTranscriptFrom, HasRun, IsWholeRun}
-use Rattle.bw_shell.proofs.Showing.{shows_then}
+use Rattle.streams.proofs.Showing.{shows_then, writes_whole}
 
 pub consumes_none : (a : Option (List ℕ)) → Consumes a a []
 consumes_none None = tt
@@ -51,27 +51,6 @@ no_items (x ∷ xs) h = absurd (omega arith)
 -- what the status says: 1 where something is wrong, 0 where nothing is
 pub one_else : (status : ℕ) (P : Type 0) → status ≡ 1 → (P → ⊥) → (status ≡ 0) ↔ P
 one_else status P one no_p = (λ e. absurd (omega arith), λ p. absurd (no_p p))
-
--- all of a text that began with nothing held back, and has ended so
-pub writes_whole : (a b : Sink) (t : List ℕ) → Prints a b (t ++ []) → a.failed ≡ false → a.held ≡ [] → (b.failed ≡ false → b.held ≡ [])
-    → Writes a.contents b.contents t (not b.failed)
-writes_whole a b t s sound fresh ends = at b.failed refl
-  where
-    p : Puts a b (t ++ []) (not b.failed)
-    p = s.puts sound
-
-    splits : t ≡ p.written ++ p.rest
-    splits = sym (append-nil t) ∙ sym (ap (λ (l : List ℕ). l ++ (t ++ [])) fresh) ∙ p.splits
-
-    at : (f : Bool) → b.failed ≡ f → Writes a.contents b.contents t (not b.failed)
-    at true e = record { written = p.written; rest = p.rest; splits = splits; appends = p.appends; all = λ h. cc (sym (ap not e) ∙ h) }
-    at false e = record {
-      written = p.written;
-      rest = p.rest;
-      splits = splits;
-      appends = p.appends;
-      all = λ h. splits ∙ ap (λ (l : List ℕ). p.written ++ l) (p.all h ∙ ends e) ∙ append-nil p.written;
-    }
 
 pub is_whole_run : {language : Language} (limits : Limits) (in_old in_new : Option (List ℕ)) (rf : Bool) (a b c d : Sink) (after : Trace) (line : Option RefusedLine) (status : ℕ)
     → HasRun language (opening_trace limits) in_old in_new rf a b after line → IsOneMap after → Prints b c (last_line line) → Prints c d []

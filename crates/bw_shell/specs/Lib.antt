@@ -1,5 +1,4 @@
 pub mod Lines
-pub mod Output
 pub mod Refusal
 pub mod Text
 pub mod Turns

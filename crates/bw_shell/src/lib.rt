@@ -2,18 +2,14 @@
 #![tactic(auto)]
 
 mod lines;
-mod over_std;
 mod pieces;
 mod refusal;
 mod run;
-mod streams;
 mod texts;
 mod turns;
 mod whole;
 
 pub use lines::lines_are_exact;
-pub use over_std::{HELD, READS, Reader, Writer};
 pub use refusal::{Refusal, RefusedLine};
-pub use streams::{Failed, Input, Output, outputs_add_up};
 pub use texts::{show_listing, show_lone_refusal, show_number, show_refused, show_reply};
 pub use whole::{Woven, script, status, weave, weave_core};

@@ -6,13 +6,13 @@ ghost use Rattle.bw_shell.specs.Turns.{seen};
 ghost use Rattle.bw_shell.specs.Weave.{AskedRuns, RequestRuns, DrawRuns, LineRuns};
 
 use crate::refusal::{Refusal, RefusedLine};
-use crate::streams::Output;
 use crate::texts::{show_finished, show_listing, show_turned};
 use crate::turns::{begin, pairs_of, schedule_over, step, steps};
 use bw_model::{Command, Link};
 use shell_lines::{Language, LineError, Request, parse};
 use std::alloc::Global;
 use step_core::Core;
+use streams::Output;
 
 /// How many turns `until` and `finish` take at most.
 const MANY: u64 = 100_000;

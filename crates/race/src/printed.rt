@@ -1,11 +1,12 @@
 //! Results are printed.
 
 ghost use Rattle.std.specs.List.{flat_map};
-ghost use Rattle.bw_shell.specs.Output.{Prints};
+ghost use Rattle.streams.specs.Output.{Prints};
 ghost use Rattle.race.specs.Results.{job_reply_text, result_text, results_text};
 
 use bw_model::Reply;
-use bw_shell::{Output, outputs_add_up, show_number, show_reply};
+use bw_shell::{show_number, show_reply};
+use streams::{Output, outputs_add_up};
 use workers::JobResult;
 
 fn show_job_reply<O: Output>(out: &mut O, job: u32, reply: &Reply)

@@ -1,11 +1,12 @@
 //! Whole runs over streams that give and take few bytes at a time, and fail.
 
 use bw_model::Limits;
-use bw_shell::{Reader, Writer, script, weave};
+use bw_shell::{script, weave};
 use failing_streams::{Breaking, Choppy, NEVER, Ran};
 use shell_lines::Language;
 use std::alloc::{AllocError, Global};
 use std::process::Abort;
+use streams::{Reader, Writer};
 
 pub fn run_into(
     alloc: Global,

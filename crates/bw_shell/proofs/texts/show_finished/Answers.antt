@@ -1,4 +1,4 @@
-use Rattle.bw_shell.proofs.Showing.{shows_then, no_text}
+use Rattle.streams.proofs.Showing.{shows_then, no_text}
 use Rattle.bw_shell.proofs.texts.show_finished.Goals as goal
 
 pub returns-in-GoesOn : goal.returns-in-GoesOn

@@ -4,7 +4,7 @@ use Rattle.std.proofs.lemmas.List.{append_assoc, append-nil, take-append-drop, t
 use Rattle.std.proofs.lemmas.Grind.{flat_map-append}
 use Rattle.std.specs.List.{flat_map}
 use Rattle.std.specs.Io.KnownBytes.{Appends, Keeps}
-use Rattle.bw_shell.specs.Output.{Sink, Puts, Prints, Writes}
+use Rattle.streams.specs.Output.{Sink, Puts, Prints, Writes}
 
 pub appends_nothing : (a : Option (List ℕ)) → Appends a a []
 appends_nothing None = tt
@@ -119,6 +119,27 @@ passed_on a b mid bytes whole p q sound none is_failed = record {
     nothing_left : (w r : List ℕ) → bytes ≡ w → bytes ≡ w ++ r → r ≡ []
     nothing_left w [] e s = refl
     nothing_left w (x ∷ xs) e s = let len = ap length (sym e ∙ s) in let sum = length-append w (x ∷ xs) in absurd (omega (arith, len, sum))
+
+-- all of a text that began with nothing held back, and has ended so
+pub writes_whole : (a b : Sink) (t : List ℕ) → Prints a b (t ++ []) → a.failed ≡ false → a.held ≡ [] → (b.failed ≡ false → b.held ≡ [])
+    → Writes a.contents b.contents t (not b.failed)
+writes_whole a b t s sound fresh ends = at b.failed refl
+  where
+    p : Puts a b (t ++ []) (not b.failed)
+    p = s.puts sound
+
+    splits : t ≡ p.written ++ p.rest
+    splits = sym (append-nil t) ∙ sym (ap (λ (l : List ℕ). l ++ (t ++ [])) fresh) ∙ p.splits
+
+    at : (f : Bool) → b.failed ≡ f → Writes a.contents b.contents t (not b.failed)
+    at true e = record { written = p.written; rest = p.rest; splits = splits; appends = p.appends; all = λ h. cc (sym (ap not e) ∙ h) }
+    at false e = record {
+      written = p.written;
+      rest = p.rest;
+      splits = splits;
+      appends = p.appends;
+      all = λ h. splits ∙ ap (λ (l : List ℕ). p.written ++ l) (p.all h ∙ ends e) ∙ append-nil p.written;
+    }
 
 pub flat_more : {A : Type 0} (f : A → List ℕ) (xs : List A) (i : ℕ) (x : A) → i < length xs → x ≡ get_or xs i x
     → flat_map f (take (i + 1) xs) ≡ flat_map f (take i xs) ++ f x

@@ -1,9 +1,9 @@
 use Rattle.std.proofs.Common.{[], ◌++◌, sym}
 use Rattle.std.proofs.lemmas.List.{append-nil}
-use Rattle.bw_shell.specs.Output.{Prints}
-use Rattle.bw_shell.proofs.Showing.{no_text, shows_then}
-use Rattle.bw_shell.proofs.Weaving.{writes_whole}
-use Rattle.bw_shell.proofs.streams.outputs_add_up.Goals as goal
+use Rattle.streams.specs.Output.{Prints}
+use Rattle.streams.proofs.Showing.{no_text, shows_then}
+use Rattle.streams.proofs.Showing.{writes_whole}
+use Rattle.streams.proofs.traits.outputs_add_up.Goals as goal
 
 pub returns-clause-none : goal.returns-clause-none
 returns-clause-none c = no_text

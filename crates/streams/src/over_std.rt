@@ -1,9 +1,9 @@
 //! The readers and writers of std, as inputs and outputs.
 
 ghost use Rattle.std.specs.Prelude.{◌≡◌, ◌^◌, ◌≤◌, [], false, length};
-ghost use Rattle.bw_shell.specs.Output.{Writes};
+ghost use Rattle.streams.specs.Output.{Writes};
 
-use crate::streams::{Failed, Input, Output};
+use crate::traits::{Failed, Input, Output};
 use arrayvec::ArrayVec;
 use std::io::{Read, Write};
 

@@ -1,6 +1,6 @@
 use Rattle.std.proofs.Common.{◌≡◌, ◌∙◌, sym, refl, ap, true, false}
-use Rattle.bw_shell.proofs.Showing.{passed_on, err_holds}
-use Rattle.bw_shell.proofs.over_std.WriterOutput.show.Goals as goal
+use Rattle.streams.proofs.Showing.{passed_on, err_holds}
+use Rattle.streams.proofs.over_std.WriterOutput.show.Goals as goal
 
 pub returns-then-not-write_out-2 : goal.returns-then-not-write_out-2
 returns-then-not-write_out-2 g c =
