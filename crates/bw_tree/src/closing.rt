@@ -103,7 +103,7 @@ fn joined<A: Allocator>(words: &TreeWords, limits: &Limits, seats: Vec<BwSeat<A>
     let mut whole = blank(words);
     let mut seats = seats;
     while let Some(seat) = seats.pop() {
-        join(words, &mut whole, seat.place, limits);
+        join(words, &mut whole, seat.into_place(), limits);
     }
     whole
 }

@@ -1,5 +1,5 @@
 //! A seat of a running tree.
-ghost use Rattle.std.specs.Prelude.{◌≡◌, ℕ, None, Some, IsSome, is_none};
+ghost use Rattle.std.specs.Prelude.{◌≡◌, ◌∷◌, [], ℕ, None, Some, IsSome, is_none};
 ghost use Rattle.op_machine.specs.machine.Actors.{ActsOn, IsGoing, IsToldActor, running_command, wanted_by};
 ghost use Rattle.bw_model.specs.declared.limits.Limits.{Limits as LimitsSeen};
 ghost use Rattle.bw_model.specs.declared.step.Answer.TheVariants.{Done};
@@ -9,7 +9,8 @@ ghost use Rattle.bw_tree.specs.Seats.{IsSame, unfinished_command};
 ghost use Rattle.bw_tree.specs.Told.{reply_if};
 ghost use Rattle.traces.specs.discipline.Knowledge.{Knowledge};
 ghost use Rattle.traces.specs.discipline.Recalled.{Recalled};
-ghost use Rattle.slot_rule.specs.Views.{IsOf};
+ghost use Rattle.slot_rule.specs.Views.{IsOf, part};
+ghost use Rattle.slot_rule.specs.declared.view.Reach.TheVariants.{Idle};
 
 use crate::called::Called;
 use crate::law::{TreeWords, laws_of_runs, runs_are_one_history};
@@ -22,13 +23,24 @@ use std::alloc::{Allocator, Global};
 use std::marker::Model;
 
 /// A seat of a tree: one actor, and the thread that has the seat is the actor. It has room for the row that is read.
-#[derive(Drop)]
 pub struct BwSeat<A: Allocator = Global> {
     pub(crate) place: TableSeat,
     pub(crate) limits: Limits,
     pub(crate) number: u8,
     pub(crate) actor: Actor<A>,
     pub(crate) room: HeldRow<A>,
+}
+
+impl<A: Allocator> Drop for BwSeat<A> {
+    fn drop(self) {
+        let BwSeat {
+            place: _,
+            limits: _,
+            number: _,
+            actor: _,
+            room: _,
+        } = self;
+    }
 }
 
 impl<A: Allocator> Model for BwSeat<A> {
@@ -48,6 +60,21 @@ impl<A: Allocator> BwSeat<A> {
         ensures { result ≡ is_none (unfinished_command self.now) }
     {
         !self.actor.is_running()
+    }
+
+    /// Its seat at the table of words, for whoever closes the tree.
+    pub(crate) fn into_place(self) -> TableSeat
+        ensures table { result.table_id ≡ self.table }
+        ensures part { result.me.0 ≡ part self.limits self.actor self.seen Idle ∷ [] }
+    {
+        let BwSeat {
+            place,
+            limits: _,
+            number: _,
+            actor: _,
+            room: _,
+        } = self;
+        place
     }
 
     /// What it has seen is one history.

@@ -18,7 +18,7 @@ join-requires-clause-other g c =
     let (done, whole, has) = c.loop-seat.invariant.joined in
     let rest : c.loop-seat.seats.items ≡ c.pop.new.self.items ++ c.in-Some.seat ∷ [] = c.in-Some.ensures.items in
     let own : IsSeatOf _ c.in-Some.seat = is_one _ c.args.seats.items c.pop.new.self.items done c.in-Some.seat c.requires.own (whole ∙ ap (λ seats. seats ++ done) rest) in
-    ap (λ (seat : Seat). seat.table) c.seat.view_is ∙ own.table
+    c.into_place.ensures.table ∙ own.table
 
 pub loop-seat-preserved : goal.loop-seat-preserved
 loop-seat-preserved g c =
@@ -26,14 +26,12 @@ loop-seat-preserved g c =
     let rest : c.loop-seat.seats.items ≡ c.pop.new.self.items ++ c.in-Some.seat ∷ [] = c.in-Some.ensures.items in
     let all : c.args.seats.items ≡ (c.pop.new.self.items ++ c.in-Some.seat ∷ []) ++ done = whole ∙ ap (λ seats. seats ++ done) rest in
     let own : IsSeatOf _ c.in-Some.seat = is_one _ c.args.seats.items c.pop.new.self.items done c.in-Some.seat c.requires.own all in
-    let place : c.seat.inside.place.me.0 ≡ part c.in-Some.seat.limits c.in-Some.seat.actor c.in-Some.seat.seen Idle ∷ [] =
-    subst (λ (seat : Seat). c.seat.inside.place.me.0 ≡ part seat.limits seat.actor seat.seen Idle ∷ []) c.seat.view_is (ap (λ me. me.0) c.seat.invariant.place) in
     record {
       table = c.join.ensures.same ∙ c.loop-seat.invariant.table;
       home = ap (λ me. me.1) c.join.ensures.both ∙ c.loop-seat.invariant.home;
       joined = (
         c.in-Some.seat ∷ done,
         all ∙ append_assoc c.pop.new.self.items (c.in-Some.seat ∷ []) done,
-        puts_behind c.args.limits.now c.in-Some.seat done _ _ _ has place own.limits (ap (λ me. me.0) c.join.ensures.both),
+        puts_behind c.args.limits.now c.in-Some.seat done _ _ _ has c.into_place.ensures.part own.limits (ap (λ me. me.0) c.join.ensures.both),
       );
     }
