@@ -65,7 +65,7 @@ impl<A: Allocator> BwSeat<A> {
     /// Its seat at the table of words, for whoever closes the tree.
     pub(crate) fn into_place(self) -> TableSeat
         ensures table { result.table_id ≡ self.table }
-        ensures part { result.me.0 ≡ part self.limits self.actor self.seen Idle ∷ [] }
+        ensures part { result.me ≡ (part self.limits self.actor self.seen Idle ∷ [], []) }
     {
         let BwSeat {
             place,

@@ -20,6 +20,9 @@ join-requires-clause-other g c =
     let own : IsSeatOf _ c.in-Some.seat = is_one _ c.args.seats.items c.pop.new.self.items done c.in-Some.seat c.requires.own (whole ∙ ap (λ seats. seats ++ done) rest) in
     c.into_place.ensures.table ∙ own.table
 
+pub join-requires-clause-home : goal.join-requires-clause-home
+join-requires-clause-home g c = ap (λ me. me.1) c.into_place.ensures.part
+
 pub loop-seat-preserved : goal.loop-seat-preserved
 loop-seat-preserved g c =
     let (done, whole, has) = c.loop-seat.invariant.joined in
@@ -32,6 +35,6 @@ loop-seat-preserved g c =
       joined = (
         c.in-Some.seat ∷ done,
         all ∙ append_assoc c.pop.new.self.items (c.in-Some.seat ∷ []) done,
-        puts_behind c.args.limits.now c.in-Some.seat done _ _ _ has c.into_place.ensures.part own.limits (ap (λ me. me.0) c.join.ensures.both),
+        puts_behind c.args.limits.now c.in-Some.seat done _ _ _ has (ap (λ me. me.0) c.into_place.ensures.part) own.limits (ap (λ me. me.0) c.join.ensures.both),
       );
     }
