@@ -17,6 +17,8 @@ pub struct ChainPart<A: Allocator = Global> {
     count: usize,
 }
 
+// Written out, here and in what is made of chains: so it is one call for whoever drops it, where a derived one is proved anew at each exit
+// (docs/DECISIONS.md, 78).
 impl<A: Allocator> Drop for ChainPart<A> {
     fn drop(self) {
         let ChainPart { rows: _, count: _ } = self;
