@@ -7,6 +7,7 @@ use Rattle.bw_model.specs.Bytes.{is_in_range, is_under}
 use Rattle.base_page.specs.declared.item.Content.TheVariants.{Child}
 use Rattle.base_page.specs.declared.item.Item.{Item}
 use Rattle.base_page.specs.Pages.{Page, IsOfLevel, IsPage}
+use Rattle.base_page.proofs.KeyLaws.{itself}
 use Rattle.deltas.specs.declared.record.Record.TheVariants.{Base}
 use Rattle.deltas.specs.Spellable.{HasPid, IsPid}
 use Rattle.traces.specs.chain.Fitted.{IsPageChain}
@@ -44,15 +45,16 @@ one_stands level low high right child is_page top ends named is_pid = record {
 abbrev pub lower : ℕ → Page
 lower level = page_of level [] (Some (codes "k09")) (Some 2) 1
 
-abbrev pub upper : Page
-upper = page_of 1 (codes "k09") None None 3
-
 pub lower_stands : (level : ℕ) → 0 < level → level ≤ 15 → IsPageChain (Base (lower level) ∷ [])
 lower_stands level index top =
     one_stands level [] (Some (codes "k09")) (Some 2) 1 (one_is_page level [] (Some (codes "k09")) (Some 2) 1 index refl refl) top refl (omega arith, omega arith) (omega arith, omega arith)
 
-pub upper_is_page : IsPage upper
-upper_is_page = one_is_page 1 (codes "k09") None None 3 (omega arith) refl refl
+within_itself : (low : List ℕ) → IsTrue (is_in_range low None low)
+within_itself low = rw (itself low) refl
 
-pub upper_stands : IsPageChain (Base upper ∷ [])
-upper_stands = one_stands 1 (codes "k09") None None 3 upper_is_page (omega arith) refl tt (omega arith, omega arith)
+module _ (level : ℕ) (low : List ℕ) (child : ℕ) (index : 0 < level) where
+  pub is_page : IsPage (page_of level low None None child)
+  is_page = one_is_page level low None None child index refl (within_itself low)
+
+  pub stands : level ≤ 15 → IsPid child → IsPageChain (Base (page_of level low None None child) ∷ [])
+  stands top is_pid = one_stands level low None None child is_page top refl tt is_pid

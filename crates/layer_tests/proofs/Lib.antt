@@ -1,1 +1,2 @@
 pub mod IndexPages
+pub mod Rounds

@@ -57,11 +57,19 @@ pub(crate) fn page<R: Abort + AllocGlobal>(
     page
 }
 
-/// The page with one delta more, in row 7.
-pub(crate) fn grown<R: Abort + AllocGlobal>(rt: &R, page: &PageInHand, newest: Record) -> PageInHand
-    requires over { FitsOver page.now.chain newest × (length page.now.chain ≤ 12) }
-    ensures pid { result.pid ≡ page.now.pid }
-    ensures chain { result.chain ≡ newest ∷ page.now.chain }
+/// The row gets what the other one has.
+fn copy(row: &mut HeldRow, other: &HeldRow)
+    ensures { row.new ≡ other.now }
+{
+    other.row().keeps_rules();
+    row.write(&other.row().record());
+}
+
+/// The page gets one delta more, in row 7.
+pub(crate) fn grow<R: Abort + AllocGlobal>(rt: &R, page: &mut PageInHand, newest: Record)
+    requires over { FitsOver page.old.chain newest × (length page.old.chain ≤ 12) }
+    ensures pid { page.new.pid ≡ page.old.pid }
+    ensures chain { page.new.chain ≡ newest ∷ page.old.chain }
 {
     page.chain().keeps_rules();
     let mut part = ChainPart::new(rt.alloc()).expect(rt, "memory for rows");
@@ -69,11 +77,8 @@ pub(crate) fn grown<R: Abort + AllocGlobal>(rt: &R, page: &PageInHand, newest: R
     row.write(&newest);
     part.push(&mut row);
     for under in page.chain().as_slice() {
-        under.row().keeps_rules();
-        row.write(&under.row().record());
+        copy(&mut row, under);
         part.push(&mut row);
     }
-    let mut grown = PageInHand::new(rt.alloc()).expect(rt, "memory for a page");
-    grown.take(page.pid(), 7, &mut part);
-    grown
+    page.take(page.pid(), 7, &mut part);
 }

@@ -1,25 +1,20 @@
 //! Chains by hand, which have all nine kinds of record.
-ghost use Rattle.std.specs.Prelude.{◌≡◌, ◌≤◌, [], ◌∷◌, false, length};
+ghost use Rattle.std.specs.Prelude.{codes, ◌≡◌, ◌≤◌, length, false};
 ghost use Rattle.bw_model.specs.Bytes.{longest};
-ghost use Rattle.base_page.specs.declared.item.Content.TheVariants.{Child};
 ghost use Rattle.deltas.specs.declared.record.Record.TheVariants as kind;
-ghost use Rattle.traces.specs.chain.Examples.{leaf, leaf_chain, index, index_chain, index_split, split_index, long_index};
+ghost use Rattle.traces.specs.chain.Chains.{is_removed};
+ghost use Rattle.traces.specs.chain.Examples.{leaf, leaf_chain, index_chain, index_split, split_index, long_index};
 
 use crate::built::chain;
+use crate::plans::index_pages::{item, term as term_of};
+use crate::plans::{index, key};
 use crate::texts;
-use base_page::{Content, Items, Page};
+use base_page::{Content, Page};
 use bw_model::{Key, MAX_PAIRS, Pairs, Value};
 use deltas::{Delete, Hold, Merge, Put, Record, Remove, Split, Term, Unterm};
 use row_chain::Chain;
 use row_search::KeyWords;
 use std::process::Abort;
-
-fn key(text: &[u8]) -> Key
-    requires { length text.now ≤ longest }
-    ensures { result ≡ text.now }
-{
-    Key::from_slice(text).unwrap()
-}
 
 fn value(text: &[u8]) -> Value
     requires { length text.now ≤ longest }
@@ -28,22 +23,20 @@ fn value(text: &[u8]) -> Value
     Value::from_slice(text).unwrap()
 }
 
-/// The items of one key.
-fn item(key: Key, content: Content) -> Items
-    ensures { result ≡ record { key = key; content = content } ∷ [] }
+/// The separator of all deltas.
+fn ninth() -> Key
+    ensures { result ≡ codes "k09" }
 {
-    let mut items = Items::new();
-    items.put(key, content);
-    items
+    key(b"k09")
 }
 
-fn term(next: u16, separator: Key, child: u16) -> Record
-    ensures { result ≡ kind.Term (record { level = 1; next = next; separator = separator; child = child }) }
+pub(crate) fn term(next: u16, child: u16) -> Record
+    ensures { result ≡ kind.Term (record { level = 1; next = next; separator = codes "k09"; child = child }) }
 {
     Record::Term(Term {
         level: 1,
         next,
-        separator,
+        separator: ninth(),
         child,
     })
 }
@@ -53,7 +46,7 @@ fn leaf() -> Page
     ensures { result ≡ leaf }
 {
     let mut items = item(key(b"k08"), Content::Value(value(b"v08")));
-    items.append(&item(key(b"k09"), Content::Value(value(b"v09"))));
+    items.append(&item(ninth(), Content::Value(value(b"v09"))));
     Page::new(0, key(b"a"), None, None, items)
 }
 
@@ -73,70 +66,46 @@ fn leaf_chain<R: Abort + AllocGlobal>(rt: &R) -> Chain
     let merge = Record::Merge(Merge {
         level: 0,
         next: 12,
-        low: key(b"k09"),
+        low: ninth(),
         high: None,
         right: None,
-        items: item(key(b"k09"), Content::Value(value(b"w09"))),
+        items: item(ninth(), Content::Value(value(b"w09"))),
     });
     let split = Record::Split(Split {
         level: 0,
         next: 11,
-        separator: key(b"k09"),
+        separator: ninth(),
         page: 2,
     });
     chain(rt, &[remove, delete, put, merge, split], leaf())
 }
 
-fn hold(next: u16, separator: Key, child: u16) -> Record
-    ensures { result ≡ kind.Hold (record { level = 1; next = next; separator = separator; child = child }) }
+pub(crate) fn hold(next: u16, child: u16) -> Record
+    ensures { result ≡ kind.Hold (record { level = 1; next = next; separator = codes "k09"; child = child }) }
 {
     Record::Hold(Hold {
         level: 1,
         next,
-        separator,
+        separator: ninth(),
         child,
     })
 }
 
-fn unterm(next: u16, separator: Key, child: u16) -> Record
-    ensures { result ≡ kind.Unterm (record { level = 1; next = next; separator = separator; child = child }) }
+fn unterm(next: u16, child: u16) -> Record
+    ensures { result ≡ kind.Unterm (record { level = 1; next = next; separator = codes "k09"; child = child }) }
 {
     Record::Unterm(Unterm {
         level: 1,
         next,
-        separator,
+        separator: ninth(),
         child,
     })
-}
-
-fn child(page: u16) -> Content
-    ensures { result ≡ Child page false }
-{
-    Content::Child { page, held: false }
-}
-
-/// The index page under the deltas.
-fn index() -> Page
-    ensures { result ≡ index }
-{
-    Page::new(
-        1,
-        Key::default(),
-        None,
-        None,
-        item(Key::default(), child(1)),
-    )
 }
 
 fn index_chain<R: Abort + AllocGlobal>(rt: &R) -> Chain
     ensures { result ≡ index_chain }
 {
-    let deltas = [
-        term(7, key(b"k09"), 3),
-        unterm(6, key(b"k09"), 2),
-        hold(5, key(b"k09"), 2),
-        term(4, key(b"k09"), 2),
-    ];
+    let deltas = [term(7, 3), unterm(6, 2), hold(5, 2), term(4, 2)];
     chain(rt, &deltas, index())
 }
 
@@ -146,7 +115,7 @@ fn index_split() -> Record
     Record::Split(Split {
         level: 1,
         next: 8,
-        separator: key(b"k09"),
+        separator: ninth(),
         page: 4,
     })
 }
@@ -156,10 +125,10 @@ fn split_index<R: Abort + AllocGlobal>(rt: &R) -> Chain
 {
     let deltas = [
         index_split(),
-        term(7, key(b"k09"), 3),
-        unterm(6, key(b"k09"), 2),
-        hold(5, key(b"k09"), 2),
-        term(4, key(b"k09"), 2),
+        term(7, 3),
+        unterm(6, 2),
+        hold(5, 2),
+        term(4, 2),
     ];
     chain(rt, &deltas, index())
 }
@@ -170,19 +139,19 @@ fn long_index<R: Abort + AllocGlobal>(rt: &R) -> Chain
     let merge = Record::Merge(Merge {
         level: 1,
         next: 9,
-        low: key(b"k09"),
+        low: ninth(),
         high: None,
         right: None,
-        items: item(key(b"k09"), child(5)),
+        items: item(ninth(), term_of(5)),
     });
     let deltas = [
-        hold(10, key(b"k09"), 5),
+        hold(10, 5),
         merge,
         index_split(),
-        term(7, key(b"k09"), 3),
-        unterm(6, key(b"k09"), 2),
-        hold(5, key(b"k09"), 2),
-        term(4, key(b"k09"), 2),
+        term(7, 3),
+        unterm(6, 2),
+        hold(5, 2),
+        term(4, 2),
     ];
     chain(rt, &deltas, index())
 }
@@ -191,12 +160,11 @@ fn words(text: &[u8]) -> KeyWords {
     KeyWords::of(&texts::key(text))
 }
 
-/// Whether the chain has this value at the key, or none.
-fn finds(chain: &Chain, at: &[u8], text: Option<&[u8]>) -> bool {
-    match (chain.find(&words(at)), text) {
-        (None, None) => true,
-        (Some(value), Some(text)) => value.as_slice() == text,
-        _ => false,
+/// Whether the chain has this value at the key, or none where no text is given.
+fn finds(chain: &Chain, at: &[u8], text: &[u8]) -> bool {
+    match chain.find(&words(at)) {
+        Some(value) => value.as_slice() == text,
+        None => text.is_empty(),
     }
 }
 
@@ -210,116 +178,86 @@ fn child_below(chain: &Chain, at: &[u8]) -> Option<u16> {
 
 /// Whether the chain shows these pairs from the key on.
 fn shows(chain: &Chain, from: &[u8], texts: &[(&[u8], &[u8])]) -> bool {
-    chain.pairs_from(&texts::key(from)) == pairs(texts)
-}
-
-fn pairs(texts: &[(&[u8], &[u8])]) -> Pairs {
     let mut pairs = Pairs::new();
     for (key, value) in texts {
         if pairs.as_slice().len() < MAX_PAIRS {
             pairs.push(texts::key(key), texts::value(value));
         }
     }
-    pairs
+    chain.pairs_from(&texts::key(from)) == pairs
 }
 
 /// How many items the chain has, and how many the page that it makes.
-fn counted(chain: &Chain) -> (usize, usize) {
-    (chain.item_count(), chain.page().items().len())
+fn counted(chain: &Chain) -> [usize; 2] {
+    [chain.item_count(), chain.page().items().len()]
 }
 
-/// How many deltas the chain has, its level, and its right.
-fn shape(chain: &Chain) -> (usize, u8, Option<u16>) {
-    (chain.deltas(), chain.level(), chain.right())
+/// Whether the removed leaf decides its keys.
+fn decides(chain: &Chain) -> bool {
+    let put = finds(chain, b"k07", b"v07") & finds(chain, b"k08", b"");
+    let merged = finds(chain, b"k09", b"w09") & chain.content(&words(b"k10")).is_none();
+    put & merged & chain.covers(&words(b"k09"))
+}
+
+/// Whether it has five deltas, is removed, and ends nowhere.
+fn ends_nowhere(chain: &Chain) -> bool {
+    let ends = chain.high().is_none() & chain.right().is_none();
+    let removed = chain.is_removed() & chain.page().is_removed();
+    ends & removed & (chain.deltas() == 5) & (chain.level() == 0)
+}
+
+/// Whether it shows its pairs from a key on.
+fn shows_pairs(chain: &Chain) -> bool {
+    let both: [(&[u8], &[u8]); 2] = [(b"k07", b"v07"), (b"k09", b"w09")];
+    let all = shows(chain, b"a", &both) & shows(chain, b"k07", &both);
+    all & shows(chain, b"k08", &both[1..]) & shows(chain, b"k10", &[])
+}
+
+/// Whether the removed leaf does all that.
+fn is_leaf(chain: Chain) -> bool {
+    let counted = counted(&chain) == [2, 2];
+    counted & decides(&chain) & ends_nowhere(&chain) & shows_pairs(&chain)
 }
 
 #[test]
-fn decides_the_keys_of_a_leaf(rt: HostRuntime) {
-    let chain = leaf_chain(&rt);
-    let decided = [
-        finds(&chain, b"k07", Some(b"v07")),
-        finds(&chain, b"k08", None),
-        finds(&chain, b"k09", Some(b"w09")),
-        chain.content(&words(b"k10")).is_none(),
-        chain.covers(&words(b"k09")),
-    ];
-    assert_eq!(rt; decided, [true; 5]);
+fn decides_the_keys_of_a_removed_leaf(rt: HostRuntime) {
+    assert!(rt; is_leaf(leaf_chain(&rt)));
 }
 
-#[test]
-fn ends_a_removed_leaf_nowhere(rt: HostRuntime) {
-    let chain = leaf_chain(&rt);
-    let ends = [
-        chain.is_removed(),
-        chain.high().is_none(),
-        chain.page().is_removed(),
-    ];
-    assert_eq!(rt; (shape(&chain), ends), ((5, 0, None), [true; 3]));
-}
-
-#[test]
-fn finds_the_children_of_an_index_page(rt: HostRuntime) {
-    let chain = index_chain(&rt);
+/// Whether the chain has these children at and below keys, and so many items.
+fn leads(chain: Chain, wanted: [Option<u16>; 6], count: usize) -> bool {
     let children = [
         child_of(&chain, b"k08"),
+        child_of(&chain, b"k09"),
         child_of(&chain, b"k10"),
+        child_below(&chain, b"k10"),
         child_below(&chain, b"k09"),
         child_below(&chain, b""),
     ];
-    assert_eq!(rt; children, [Some(1), Some(3), Some(1), None]);
+    (children == wanted) & (counted(&chain) == [count, count])
+}
+
+#[test]
+fn finds_the_children_of_index_pages(rt: HostRuntime) {
+    let (one, three, five) = (Some(1), Some(3), Some(5));
+    let leads = [
+        leads(index_chain(&rt), [one, three, three, three, one, None], 2),
+        leads(split_index(&rt), [one, one, one, one, one, None], 1),
+        leads(long_index(&rt), [one, five, five, five, one, None], 2),
+    ];
+    assert!(rt; leads == [true; 3]);
+}
+
+/// Whether an index page has no pairs, and the page that it makes has two items, and page 3 at "k09".
+fn is_consolidated(chain: Chain) -> bool
+    requires { is_removed chain ≡ false }
+{
+    let page = chain.consolidated();
+    let child = page.child_of(&texts::key(b"k09"));
+    shows(&chain, b"k08", &[]) & (page.items().len() == 2) & (child == Some(3))
 }
 
 #[test]
 fn consolidates_an_index_page(rt: HostRuntime) {
-    let page = index_chain(&rt).consolidated();
-    let child = page.child_of(&texts::key(b"k09"));
-    assert_eq!(rt; (page.items().len(), child), (2, Some(3)));
-}
-
-#[test]
-fn finds_no_child_past_a_split(rt: HostRuntime) {
-    let chain = split_index(&rt);
-    let children = [
-        child_of(&chain, b"k08"),
-        child_of(&chain, b"k09"),
-        child_below(&chain, b"k10"),
-    ];
-    assert_eq!(rt; children, [Some(1); 3]);
-}
-
-#[test]
-fn finds_the_held_child_of_a_merge(rt: HostRuntime) {
-    let chain = long_index(&rt);
-    let children = [
-        child_of(&chain, b"k10"),
-        child_of(&chain, b"k09"),
-        child_below(&chain, b"k10"),
-        child_below(&chain, b"k09"),
-        child_below(&chain, b""),
-    ];
-    assert_eq!(rt; children, [Some(5), Some(5), Some(5), Some(1), None]);
-}
-
-#[test]
-fn shows_the_pairs_from_a_key(rt: HostRuntime) {
-    let chain = leaf_chain(&rt);
-    let shown = [
-        shows(&chain, b"a", &[(b"k07", b"v07"), (b"k09", b"w09")]),
-        shows(&chain, b"k07", &[(b"k07", b"v07"), (b"k09", b"w09")]),
-        shows(&chain, b"k08", &[(b"k09", b"w09")]),
-        shows(&chain, b"k10", &[]),
-        shows(&index_chain(&rt), b"k08", &[]),
-    ];
-    assert_eq!(rt; shown, [true; 5]);
-}
-
-#[test]
-fn counts_the_items_of_each_kind_of_record(rt: HostRuntime) {
-    let counts = [
-        counted(&leaf_chain(&rt)),
-        counted(&index_chain(&rt)),
-        counted(&split_index(&rt)),
-        counted(&long_index(&rt)),
-    ];
-    assert_eq!(rt; counts, [(2, 2), (2, 2), (1, 1), (2, 2)]);
+    assert!(rt; is_consolidated(index_chain(&rt)));
 }

@@ -8,6 +8,8 @@ mod chains;
 #[cfg(test)]
 mod changes;
 #[cfg(test)]
+mod first_rows;
+#[cfg(test)]
 mod limbo;
 #[cfg(test)]
 mod limbo_memory;
@@ -18,6 +20,8 @@ mod plans;
 #[cfg(test)]
 mod random_rows;
 #[cfg(test)]
+mod reads;
+#[cfg(test)]
 mod records;
 #[cfg(test)]
 mod rows;
@@ -25,3 +29,5 @@ mod rows;
 mod sweeps;
 #[cfg(test)]
 mod texts;
+#[cfg(test)]
+mod writes;

@@ -1,8 +1,8 @@
 //! Pages by hand: a leaf that is filled and cut, and an index page.
 
-use crate::texts::{key, value};
+use crate::texts::{finds, key, value};
 use base_page::{Content, Items, Page};
-use bw_model::{Key, Value};
+use bw_model::Key;
 
 /// The leaf with the key's value, where it has room for it.
 fn with_value(page: Page, at: &[u8], text: &[u8]) -> Page {
@@ -40,67 +40,51 @@ fn filled() -> Page {
     page
 }
 
-fn finds(page: &Page, at: &[u8], text: &[u8]) -> bool {
-    page.find(&key(at)) == Some(&value(text))
-}
-
 /// The leaf with another value at `k12`.
 fn changed() -> Page {
     with_value(filled(), b"k12", b"v12")
 }
 
-/// How many items a page has, and whether it has room for so many more, and for one more than these.
-fn room(page: &Page, more: usize) -> (usize, [bool; 2]) {
-    let next = more.saturating_add(1);
-    (
-        page.items().len(),
-        [page.has_room(more), page.has_room(next)],
-    )
-}
-
-#[test]
-fn fills_a_leaf(rt: HostRuntime) {
-    assert!(rt; room(&changed(), 8) == (16, [true, false]));
+/// Whether a page of 16 items has room for 8 more, and for no more than these.
+fn has_room_for_eight(page: &Page) -> bool {
+    page.items().len() == 16 && page.has_room(8) && !page.has_room(9)
 }
 
 /// Whether the value is changed, and then taken out.
-fn changes_and_takes_out(page: Page) -> [bool; 2] {
+fn changes_and_takes_out(page: Page) -> bool {
     let found = finds(&page, b"k12", b"v12");
-    let key = key(b"k12");
-    let page = page.without(&key);
-    [found, page.find(&key).is_none()]
-}
-
-#[test]
-fn changes_a_value_and_takes_it_out(rt: HostRuntime) {
-    assert!(rt; changes_and_takes_out(changed()) == [true; 2]);
+    found & finds(&page.without(&key(b"k12")), b"k12", b"")
 }
 
 /// Whether the leaf was cut at `k09`, where page 2 begins.
 fn is_cut(lower: &Page, upper: &Page) -> bool {
     let ninth = key(b"k09");
-    let ends = lower.high() == Some(&ninth) && lower.right() == Some(2);
-    ends && lower.items().len() == 8 && !lower.covers(&ninth) && upper.low() == &ninth
+    let ends = lower.high() == Some(&ninth);
+    ends & (lower.right() == Some(2)) & !lower.covers(&ninth) & (upper.low() == &ninth)
 }
 
-/// Whether the leaf is cut in its middle, and how many items it has and what its right is once its halves are joined.
-fn cut_and_joined() -> Option<(bool, usize, Option<u16>)> {
-    let page = filled();
+/// Whether the leaf is cut in its middle, and has all items and no right once its halves are joined.
+fn is_cut_and_joined(page: Page) -> bool {
     if page.items().len() != 16 {
-        return None;
+        return false;
     }
     let (lower, upper) = page.cut_at(8, 2);
-    let cut = is_cut(&lower, &upper);
+    let cut = is_cut(&lower, &upper) & (lower.items().len() == 8);
     if !lower.has_room(upper.items().len()) {
-        return None;
+        return false;
     }
     let whole = lower.joined(&upper);
-    Some((cut, whole.items().len(), whole.right()))
+    cut & (whole.items().len() == 16) & whole.right().is_none()
 }
 
 #[test]
-fn cuts_and_joins_a_leaf(rt: HostRuntime) {
-    assert!(rt; cut_and_joined() == Some((true, 16, None)));
+fn a_leaf_is_filled_and_cut(rt: HostRuntime) {
+    let leaf = [
+        has_room_for_eight(&changed()),
+        changes_and_takes_out(changed()),
+        is_cut_and_joined(filled()),
+    ];
+    assert!(rt; leaf == [true; 3]);
 }
 
 /// An index page with page 1 at the empty key and page 2 at `k09`.
@@ -129,12 +113,6 @@ fn children(page: &Page) -> [Option<u16>; 6] {
     ]
 }
 
-#[test]
-fn finds_children_by_their_separators(rt: HostRuntime) {
-    let wanted = [Some(1), Some(1), Some(2), Some(2), Some(1), None];
-    assert!(rt; children(&root()) == wanted);
-}
-
 /// Whether page 2 is held at `k09`, and page 1 is found at the empty key.
 fn is_held(page: &Page) -> bool {
     let term = Content::Child {
@@ -145,15 +123,15 @@ fn is_held(page: &Page) -> bool {
 }
 
 /// Whether a page has no value at `k09`, is held there then, and is removed at last.
-fn holds_and_goes(page: Page) -> [bool; 3] {
+fn holds_and_goes(page: Page) -> bool {
     let ninth = key(b"k09");
     let bare = page.find(&ninth).is_none();
     let held = page.with_held(&ninth);
-    let is_held = is_held(&held);
-    [bare, is_held, held.with_removed().is_removed()]
+    bare & is_held(&held) & held.with_removed().is_removed()
 }
 
 #[test]
-fn holds_a_child_and_is_removed(rt: HostRuntime) {
-    assert!(rt; holds_and_goes(root()) == [true; 3]);
+fn an_index_page_finds_children_and_holds_one(rt: HostRuntime) {
+    let wanted = [Some(1), Some(1), Some(2), Some(2), Some(1), None];
+    assert!(rt; children(&root()) == wanted && holds_and_goes(root()));
 }

@@ -9,7 +9,7 @@ use record_slots::{BadRow, ROW_WORDS, from_words, to_words};
 pub(crate) type Words = &'static [(usize, u64)];
 
 /// The row that has these words.
-fn row(words: Words) -> [u64; ROW_WORDS] {
+pub(crate) fn row(words: Words) -> [u64; ROW_WORDS] {
     let mut row = [0; ROW_WORDS];
     for (place, word) in words {
         if *place < ROW_WORDS {
@@ -20,10 +20,10 @@ fn row(words: Words) -> [u64; ROW_WORDS] {
 }
 
 /// The opening leaf.
-const OPENING: Words = &[(0, 0x02000001), (12, 255)];
+pub(crate) const OPENING: Words = &[(0, 0x02000001), (12, 255)];
 
 /// `a` has `1`, over row 1.
-const PUT: Words = &[
+pub(crate) const PUT: Words = &[
     (0, 0x02010002),
     (1, 1),
     (21, 1),
@@ -36,7 +36,7 @@ const PUT: Words = &[
 const DELETE: Words = &[(0, 0x02000003), (1, 7), (3, 3), (4, 0x6b30390000000000)];
 
 /// A leaf is split at `k09`, with page 2 to the right, over row 11.
-const SPLIT: Words = &[
+pub(crate) const SPLIT: Words = &[
     (0, 0x02000004),
     (1, 11),
     (2, 2),
@@ -54,7 +54,7 @@ const TERM: Words = &[
 ];
 
 /// The term of `k09` and child 2 is held, over row 5.
-const HOLD: Words = &[
+pub(crate) const HOLD: Words = &[
     (0, 0x02000106),
     (1, 5),
     (2, 2),
@@ -143,19 +143,19 @@ fn writes(content: &Record, words: Words) -> bool {
     to_words(content) == row(words)
 }
 
-#[test]
-fn writes_the_rows_of_a_leaf_and_a_put(rt: HostRuntime) {
+/// Whether a leaf and a put have their rows.
+fn writes_a_leaf_and_a_put() -> bool {
     let leaf = Record::Base(Page::empty_leaf());
     let put = Record::Put(Put {
         next: 1,
         key: key(b"a"),
         value: value(b"1"),
     });
-    assert!(rt; writes(&leaf, OPENING) && writes(&put, PUT));
+    writes(&leaf, OPENING) & writes(&put, PUT)
 }
 
-#[test]
-fn writes_the_rows_of_a_split_and_a_hold(rt: HostRuntime) {
+/// Whether a split and a hold have theirs.
+fn writes_a_split_and_a_hold() -> bool {
     let split = Record::Split(Split {
         level: 0,
         next: 11,
@@ -168,14 +168,12 @@ fn writes_the_rows_of_a_split_and_a_hold(rt: HostRuntime) {
         separator: key(b"k09"),
         child: 2,
     });
-    assert!(rt; writes(&split, SPLIT) && writes(&hold, HOLD));
+    writes(&split, SPLIT) & writes(&hold, HOLD)
 }
 
 #[test]
-fn reads_a_row_of_each_kind(rt: HostRuntime) {
-    for words in EACH_KIND {
-        assert!(rt; is_spelled(&row(words)));
-    }
+fn writes_the_rows_of_records(rt: HostRuntime) {
+    assert!(rt; writes_a_leaf_and_a_put() & writes_a_split_and_a_hold());
 }
 
 /// Rows with one word changed, so that they spell nothing.
@@ -205,22 +203,25 @@ pub(crate) fn with(words: Words, place: usize, word: u64) -> [u64; ROW_WORDS] {
     row
 }
 
+/// Whether each of these is refused.
+fn are_refused() -> bool {
+    for (words, place, word) in SPOILT {
+        if !is_refused(&with(words, *place, *word)) {
+            return false;
+        }
+    }
+    true
+}
+
 #[test]
 fn refuses_rows_that_spell_nothing(rt: HostRuntime) {
-    for (words, place, word) in SPOILT {
-        assert!(rt; is_refused(&with(words, *place, *word)));
-    }
-}
-
-#[test]
-fn refuses_rows_of_one_word(rt: HostRuntime) {
-    let refused = is_refused(&[0; ROW_WORDS]) && is_refused(&[u64::MAX; ROW_WORDS]);
-    assert!(rt; refused);
-}
-
-#[test]
-fn refuses_equal_keys(rt: HostRuntime) {
-    assert!(rt; is_refused(&row(EQUAL_KEYS)));
+    let refused = [
+        is_refused(&[0; ROW_WORDS]),
+        is_refused(&[u64::MAX; ROW_WORDS]),
+        is_refused(&row(EQUAL_KEYS)),
+        are_refused(),
+    ];
+    assert!(rt; refused == [true; 4]);
 }
 
 /// How many of the rows that differ in one bit spell a record, counted by the rules of a row.
@@ -248,9 +249,20 @@ const TURNED: &[(Words, u32)] = &[
     (UNTERM, 3 + 13 + 11 + 4 + 24),
 ];
 
+/// How many of these ten rows are their record's, and have so many that differ in one bit and spell a record, from the first on.
+fn counted() -> u8 {
+    let mut counted = 0u8;
+    for (words, spelled) in TURNED {
+        let row = row(words);
+        if !is_spelled(&row) || spelled_by_one_bit(&row) != Some(*spelled) {
+            return counted;
+        }
+        counted = counted.saturating_add(1);
+    }
+    counted
+}
+
 #[test]
 fn each_bit_of_a_row_counts(rt: HostRuntime) {
-    for (words, spelled) in TURNED {
-        assert!(rt; spelled_by_one_bit(&row(words)) == Some(*spelled));
-    }
+    assert_eq!(rt; counted(), 10);
 }

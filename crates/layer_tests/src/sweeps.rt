@@ -113,31 +113,31 @@ fn goes(limits: &Limits, actor: u8, limbo: &mut Limbo, case: &Case) -> bool
     log.as_str().trim_end() == steps && limbo.is_empty() == empty
 }
 
-/// How many of the sweeps go as they say, from the first on, with these limits.
-fn gone(limits: &Limits, actor: u8, limbo: &mut Limbo, cases: &[Case]) -> usize
+/// Whether the sweeps go as they say, one after another.
+fn all_go(limits: &Limits, actor: u8, limbo: &mut Limbo, cases: &[Case]) -> bool
     requires actor { actor < limits.now.actors }
     requires lists { IsLimboOf limits.now limbo.old }
 {
-    for (place, case) in cases.iter().enumerate() {
+    for case in cases {
         if !goes(limits, actor, limbo, case) {
-            return place;
+            return false;
         }
     }
-    cases.len()
+    true
 }
 
-/// How many of an actor's sweeps go as they say, from the first on, of so many actors.
-fn swept(alloc: Global, actors: u64, actor: u8, cases: &[Case]) -> usize {
+/// Whether an actor's sweeps go as they say, of so many actors.
+fn swept(alloc: Global, actors: u64, actor: u8, cases: &[Case]) -> bool {
     let Ok(limits) = Limits::new(actors, 64, 256, 1) else {
-        return 0;
-    };
-    let Ok(mut limbo) = Limbo::new(alloc, &limits) else {
-        return 0;
+        return false;
     };
     if u64::from(actor) >= actors {
-        return 0;
+        return false;
     }
-    gone(&limits, actor, &mut limbo, cases)
+    match Limbo::new(alloc, &limits) {
+        Ok(mut limbo) => all_go(&limits, actor, &mut limbo, cases),
+        Err(_) => false,
+    }
 }
 
 /// Of how many actors which one sweeps, one sweep after another.
@@ -219,12 +219,16 @@ const SWEEPS: &[(&str, u64, u8, &[Case])] = &[
     ),
 ];
 
-#[test]
-fn goes_step_by_step(rt: HostRuntime) {
-    for (rule, actors, actor, cases) in SWEEPS {
-        let gone = swept(rt.alloc(), *actors, *actor, cases);
-        assert!(rt; gone == cases.len(), "{rule}");
+/// How many of these six rules sweeps keep, from the first on.
+fn kept(alloc: Global) -> u8 {
+    let mut kept = 0u8;
+    for (_, actors, actor, cases) in SWEEPS {
+        if !swept(alloc, *actors, *actor, cases) {
+            return kept;
+        }
+        kept = kept.saturating_add(1);
     }
+    kept
 }
 
 /// Two rows and a PID are taken out of the tree.
@@ -236,16 +240,16 @@ fn take_out_some(limits: &Limits, limbo: &mut Limbo)
     take_out(limbo, &[3, 42], Some(2));
 }
 
-/// How many sweeps go as they say, where two rows and a PID were taken out first.
-fn swept_out(alloc: Global, cases: &[Case]) -> usize {
-    let Ok(limits) = Limits::new(1, 64, 256, 1) else {
-        return 0;
-    };
-    let Ok(mut limbo) = Limbo::new(alloc, &limits) else {
-        return 0;
-    };
-    take_out_some(&limits, &mut limbo);
-    gone(&limits, 0, &mut limbo, cases)
+/// Whether the sweeps go as they say, where two rows and a PID were taken out first.
+fn swept_out(alloc: Global, cases: &[Case]) -> bool {
+    let limits = Limits::new(1, 64, 256, 1).unwrap();
+    match Limbo::new(alloc, &limits) {
+        Ok(mut limbo) => {
+            take_out_some(&limits, &mut limbo);
+            all_go(&limits, 0, &mut limbo, cases)
+        }
+        Err(_) => false,
+    }
 }
 
 const TAKEN_OUT: &[Case] = &[(
@@ -257,6 +261,11 @@ const TAKEN_OUT: &[Case] = &[(
 )];
 
 #[test]
+fn goes_step_by_step(rt: HostRuntime) {
+    assert_eq!(rt; kept(rt.alloc()), 6);
+}
+
+#[test]
 fn frees_what_was_taken_out(rt: HostRuntime) {
-    assert!(rt; swept_out(rt.alloc(), TAKEN_OUT) == TAKEN_OUT.len());
+    assert!(rt; swept_out(rt.alloc(), TAKEN_OUT));
 }

@@ -6,4 +6,3 @@ pub mod SmallWriteRounds
 pub mod Turning
 pub mod WayTurns
 pub mod WriteSeeing
-pub mod TestedRounds

@@ -19,8 +19,6 @@ ghost use Rattle.rounds.specs.Descents.{asked_step};
 ghost use Rattle.rounds.specs.ReadRounds.{CanGoOn, CanSeeToRead, SeesToRead, ended_read};
 
 mod detour;
-#[cfg(test)]
-mod tests;
 
 use crate::way::{child_on_way, right_on_way};
 use crate::{Asked, Descent, Leg, Seen};
@@ -173,6 +171,17 @@ impl<A: Allocator> ReadRound<A> {
     {
         let seen = self.descent.take_row(row);
         self.see(seen)
+    }
+
+    /// Takes a page that is on the way, whoever read it, gives the page in hand for it, and tells how the round ends, once it does.
+    pub fn take_page(&mut self, page: &mut PageInHand<A>) -> Option<ReadEnded>
+        requires can { CanTreatRead self.old.round page.old }
+        ensures treats { TreatsRead self.old.round page.old self.new.round (option_map (ended_read self.new) result) }
+        ensures same { IsSame self.old.round self.new.round }
+        ensures given { page.new ≡ self.old.page }
+    {
+        self.descent.swap_page(page);
+        self.treat()
     }
 
     /// Goes on from what was seen, or ends.

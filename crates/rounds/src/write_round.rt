@@ -18,8 +18,6 @@ ghost use Rattle.rounds.specs.Descents.{asked_step};
 ghost use Rattle.rounds.specs.WriteRounds.{CanSeeToWrite, SeesToWrite, again_if, ended_write};
 
 mod due;
-#[cfg(test)]
-mod tests;
 
 use crate::course::{Aim, Course};
 use crate::way::{child_on_way, right_on_way};
@@ -187,6 +185,17 @@ impl<A: Allocator> WriteRound<A> {
     {
         let seen = self.descent.take_row(row);
         self.see(seen)
+    }
+
+    /// Takes a page that is on the way, whoever read it, gives the page in hand for it, and tells how the round ends, once it does.
+    pub fn take_page(&mut self, page: &mut PageInHand<A>) -> Option<WriteEnded>
+        requires can { CanTreatWrite self.old.round page.old }
+        ensures treats { TreatsWrite self.old.round page.old self.new.round (option_map (ended_write self.new) result) }
+        ensures same { IsSame self.old.round self.new.round }
+        ensures given { page.new ≡ self.old.page }
+    {
+        self.descent.swap_page(page);
+        self.treat()
     }
 
     /// Goes on from what was seen, or ends.
@@ -424,7 +433,7 @@ impl<A: Allocator> WriteRound<A> {
     }
 
     /// Whether the round goes to the left of a removed page.
-    fn is_left(&self) -> bool
+    pub fn is_left(&self) -> bool
         ensures { result ≡ goes_left self.now.round.goal }
     {
         self.course.removed().is_some()

@@ -5,8 +5,6 @@ mod layout;
 mod narrow;
 mod rows;
 mod spread;
-#[cfg(test)]
-mod tests;
 
 pub use layout::{FIRST_LONGEST, FIRST_ROW_WORDS};
 pub use rows::widen;

@@ -1,13 +1,13 @@
 //! Pages that grow record by record, as the plans say.
-ghost use Rattle.std.specs.Prelude.{◌≡◌, ◌≤◌, ◌∷◌, [], false, IfSome};
+ghost use Rattle.std.specs.Prelude.{◌≡◌, ◌∷◌, [], false};
 ghost use Rattle.deltas.specs.Spellable.{IsPid};
 ghost use Rattle.deltas.specs.declared.record.Record.TheVariants.{Base};
 ghost use Rattle.traces.specs.chain.Chains.{is_removed};
 ghost use Rattle.traces.specs.chain.Fitted.{IsPageChain};
 
-use crate::built::{grown, page};
-use crate::plans::{key, leaf, version};
-use base_page::Page;
+use crate::built::{grow, page};
+use crate::plans::{key, leaf, leaf_of};
+use base_page::{Items, Page};
 use bw_model::Key;
 use deltas::{Delete, Record};
 use row_search::KeyWords;
@@ -24,52 +24,56 @@ pub(crate) fn based<R: Abort + AllocGlobal>(rt: &R, pid: u16, base: Page) -> Pag
     page(rt, pid, 6, &[], base)
 }
 
+/// An empty leaf up to "y", where page 2 begins, as page 1.
+pub(crate) fn lower_leaf<R: Abort + AllocGlobal>(rt: &R) -> PageInHand {
+    let base = Page::new(0, Key::default(), Some(key(b"y")), Some(2), Items::new());
+    based(rt, 1, base)
+}
+
 /// The key that has a leaf's item at this place.
 pub(crate) fn at(place: u8) -> Key {
     key(&[b'x', place])
 }
 
-/// The page without the key; itself where it can't get the delta.
-pub(crate) fn without<R: Abort + AllocGlobal>(rt: &R, page: PageInHand, at: u8) -> PageInHand
-    requires alive { is_removed page.chain ≡ false }
-    ensures alive { is_removed result.chain ≡ false }
+/// The page loses the key, if it can get the delta.
+pub(crate) fn delete<R: Abort + AllocGlobal>(rt: &R, page: &mut PageInHand, gone: Key)
+    requires alive { is_removed page.old.chain ≡ false }
+    ensures alive { is_removed page.new.chain ≡ false }
 {
-    let gone = key(&[b'x', at]);
     let chain = page.chain();
     if chain.level() != 0 || !chain.covers(&KeyWords::of(&gone)) || chain.deltas() >= 12 {
-        return page;
+        return;
     }
     chain.keeps_rules();
-    grown(rt, &page, Record::Delete(Delete { next: 3, key: gone }))
+    grow(rt, page, Record::Delete(Delete { next: 3, key: gone }));
 }
 
-/// The page without this key and the three after it.
-pub(crate) fn thinned<R: Abort + AllocGlobal>(rt: &R, page: PageInHand, at: u8) -> PageInHand
-    requires alive { is_removed page.chain ≡ false }
-    requires few { at ≤ 200 }
-    ensures alive { is_removed result.chain ≡ false }
+/// The page loses the keys from this one on up to the other one.
+pub(crate) fn thin<R: Abort + AllocGlobal>(rt: &R, page: &mut PageInHand, from: u8, to: u8)
+    requires alive { is_removed page.old.chain ≡ false }
+    ensures alive { is_removed page.new.chain ≡ false }
 {
-    let page = without(rt, without(rt, page, at), at + 1);
-    without(rt, without(rt, page, at + 2), at + 3)
+    for place in from..to {
+        delete(rt, page, at(place));
+    }
 }
 
-/// A leaf of so many items from the low key on, split to this page; and its right page.
+/// The left part of a leaf of so many items from the low key on, which was split to this page.
 pub(crate) fn split<R: Abort + AllocGlobal>(
     rt: &R,
     pid: u16,
     low: Key,
     count: u8,
     right: u16,
-) -> (PageInHand, PageInHand)
+) -> PageInHand
     requires pid { IsPid pid }
     requires right { IsPid right }
-    ensures alive { is_removed result.0.chain ≡ false }
-    ensures right { is_removed result.1.chain ≡ false }
+    ensures alive { is_removed result.chain ≡ false }
 {
-    let whole = version(rt, pid, 0, leaf(low, count));
-    let plan = plan_split(&whole).expect(rt, "a split");
-    let left = grown(rt, &whole, Record::Split(plan.split(right)));
-    (left, based(rt, right, plan.upper))
+    let mut page = based(rt, pid, leaf(low, count));
+    let plan = plan_split(&page).expect(rt, "a split");
+    grow(rt, &mut page, Record::Split(plan.split(right)));
+    page
 }
 
 /// The root over a page and its right.
@@ -83,111 +87,108 @@ pub(crate) fn root_over<R: Abort + AllocGlobal>(
     based(rt, 5, plan_root(left, right).expect(rt, "a root"))
 }
 
-/// The parent with the term of a new page.
-pub(crate) fn with_term<R: Abort + AllocGlobal>(rt: &R, parent: PageInHand, place: u8) -> PageInHand
-    requires alive { is_removed parent.chain ≡ false }
-    ensures alive { is_removed result.chain ≡ false }
+/// The parent gets the term of a new page, where it may.
+fn with_child<R: Abort + AllocGlobal>(rt: &R, parent: &mut PageInHand, first: u8, place: u8)
+    requires alive { is_removed parent.old.chain ≡ false }
+    ensures alive { is_removed parent.new.chain ≡ false }
 {
-    with_child(
-        rt,
-        consolidated(rt, parent),
-        u16::from(place) + 10,
-        at(place),
-    )
+    let low = key(&[first, place]);
+    post(rt, parent, &leaf_of(rt, u16::from(place) + 10, low, 0));
 }
 
-/// The parent with the term of a page that begins at the key; itself where it can't get the delta.
-fn with_child<R: Abort + AllocGlobal>(rt: &R, parent: PageInHand, pid: u16, low: Key) -> PageInHand
-    requires pid { IsPid pid }
-    requires alive { is_removed parent.chain ≡ false }
-    ensures alive { is_removed result.chain ≡ false }
-{
-    match posted(rt, &parent, &version(rt, pid, 0, leaf(low, 0))) {
-        None => parent,
-        Some(grown) => grown,
-    }
-}
-
-/// The parent with the terms of pages from 40 on, in a delta each; they begin at the keys from "a" on that have these second bytes.
+/// The parent gets the terms of pages from 10 on, in a delta each; they begin at the keys that have these second bytes.
 pub(crate) fn with_terms<R: Abort + AllocGlobal>(
     rt: &R,
-    parent: PageInHand,
+    parent: &mut PageInHand,
+    first: u8,
     from: u8,
     to: u8,
-) -> PageInHand
-    requires alive { is_removed parent.chain ≡ false }
-    ensures alive { is_removed result.chain ≡ false }
+)
+    requires alive { is_removed parent.old.chain ≡ false }
+    ensures alive { is_removed parent.new.chain ≡ false }
 {
-    let mut page = parent;
     for place in from..to {
-        page = with_child(rt, page, u16::from(place) + 40, key(&[b'a', place]));
-    }
-    page
-}
-
-/// The parent where that page's term is held, if it may be.
-pub(crate) fn with_hold<R: Abort + AllocGlobal>(rt: &R, parent: PageInHand, place: u8) -> PageInHand
-    requires alive { is_removed parent.chain ≡ false }
-    ensures alive { is_removed result.chain ≡ false }
-{
-    let parent = consolidated(rt, parent);
-    let child = version(rt, u16::from(place) + 10, 0, leaf(at(place), 0));
-    match plan_hold(&parent, &child) {
-        None => parent,
-        Some(hold) => grown(rt, &parent, Record::Hold(hold)),
+        with_child(rt, parent, first, place);
     }
 }
 
-/// The page with what it has in a base alone.
-pub(crate) fn consolidated<R: Abort + AllocGlobal>(rt: &R, page: PageInHand) -> PageInHand
-    requires alive { is_removed page.chain ≡ false }
-    ensures alive { is_removed result.chain ≡ false }
+/// The same, each in a base but the last one.
+pub(crate) fn with_each<R: Abort + AllocGlobal>(
+    rt: &R,
+    parent: &mut PageInHand,
+    first: u8,
+    from: u8,
+    to: u8,
+)
+    requires alive { is_removed parent.old.chain ≡ false }
+    ensures alive { is_removed parent.new.chain ≡ false }
 {
-    based(rt, page.pid(), page.chain().consolidated())
+    for place in from..to {
+        consolidate(rt, parent);
+        with_child(rt, parent, first, place);
+    }
 }
 
-/// The parent with the page's term, where it may get one.
-pub(crate) fn posted<R: Abort + AllocGlobal>(
+/// The term of the page that begins at the key of this place is held, if it may be.
+pub(crate) fn with_hold<R: Abort + AllocGlobal>(rt: &R, parent: &mut PageInHand, place: u8)
+    requires alive { is_removed parent.old.chain ≡ false }
+    ensures alive { is_removed parent.new.chain ≡ false }
+{
+    consolidate(rt, parent);
+    hold(
+        rt,
+        parent,
+        &leaf_of(rt, u16::from(place) + 10, at(place), 0),
+    );
+}
+
+/// The page has what it has in a base alone.
+pub(crate) fn consolidate<R: Abort + AllocGlobal>(rt: &R, page: &mut PageInHand)
+    requires alive { is_removed page.old.chain ≡ false }
+    ensures alive { is_removed page.new.chain ≡ false }
+{
+    let base = page.chain().consolidated();
+    *page = based(rt, page.pid(), base);
+}
+
+/// The parent gets the page's term, where it may.
+pub(crate) fn post<R: Abort + AllocGlobal>(rt: &R, parent: &mut PageInHand, page: &PageInHand)
+    requires alive { is_removed parent.old.chain ≡ false }
+    ensures alive { is_removed parent.new.chain ≡ false }
+{
+    if let Some(term) = plan_term(parent, page) {
+        grow(rt, parent, Record::Term(term));
+    }
+}
+
+/// The parent holds the page's term, where it may.
+pub(crate) fn hold<R: Abort + AllocGlobal>(rt: &R, parent: &mut PageInHand, page: &PageInHand)
+    requires alive { is_removed parent.old.chain ≡ false }
+    ensures alive { is_removed parent.new.chain ≡ false }
+{
+    if let Some(hold) = plan_hold(parent, page) {
+        grow(rt, parent, Record::Hold(hold));
+    }
+}
+
+/// Whether the page is removed now, where its parent has its term held.
+pub(crate) fn remove<R: Abort + AllocGlobal>(
     rt: &R,
     parent: &PageInHand,
-    page: &PageInHand,
-) -> Option<PageInHand>
-    requires alive { is_removed parent.now.chain ≡ false }
-    ensures alive { IfSome result (λ parent. is_removed parent.chain ≡ false) }
-{
-    let term = plan_term(parent, page)?;
-    Some(grown(rt, parent, Record::Term(term)))
+    page: &mut PageInHand,
+) -> bool {
+    match plan_remove(parent, page) {
+        None => false,
+        Some(remove) => {
+            grow(rt, page, Record::Remove(remove));
+            true
+        }
+    }
 }
 
-/// The parent with the page's term held, where it may be.
-pub(crate) fn held<R: Abort + AllocGlobal>(
-    rt: &R,
-    parent: &PageInHand,
-    page: &PageInHand,
-) -> Option<PageInHand>
-    requires alive { is_removed parent.now.chain ≡ false }
-    ensures alive { IfSome result (λ parent. is_removed parent.chain ≡ false) }
-{
-    let hold = plan_hold(parent, page)?;
-    Some(grown(rt, parent, Record::Hold(hold)))
-}
-
-/// The page, removed, where its parent has its term held.
-pub(crate) fn removed<R: Abort + AllocGlobal>(
-    rt: &R,
-    parent: &PageInHand,
-    page: &PageInHand,
-) -> Option<PageInHand> {
-    let remove = plan_remove(parent, page)?;
-    Some(grown(rt, page, Record::Remove(remove)))
-}
-
-/// The left page with what the removed page has, where it may come there.
-pub(crate) fn joined<R: Abort + AllocGlobal>(
-    rt: &R,
-    left: &PageInHand,
-    removed: &PageInHand,
-) -> Option<PageInHand> {
-    let merge = plan_merge(left, removed)?;
-    Some(grown(rt, left, Record::Merge(merge)))
+/// The left page gets what the removed page has, where it may come there.
+pub(crate) fn join<R: Abort + AllocGlobal>(rt: &R, left: &mut PageInHand, removed: &PageInHand) {
+    if let Some(merge) = plan_merge(left, removed) {
+        grow(rt, left, Record::Merge(merge));
+    }
 }

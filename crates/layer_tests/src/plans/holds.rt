@@ -2,8 +2,8 @@
 ghost use Rattle.std.specs.Prelude.{◌≡◌, false};
 ghost use Rattle.traces.specs.chain.Chains.{is_removed};
 
-use crate::plans::grown::{at, with_hold, with_term};
-use crate::plans::{bare, leaf, version};
+use crate::plans::grown::{at, with_each, with_hold};
+use crate::plans::{bare, leaf_of};
 use smo::{PageInHand, plan_hold, plan_split};
 use std::process::Abort;
 
@@ -12,44 +12,46 @@ fn sixteen<R: Abort + AllocGlobal>(rt: &R, places: &[u8]) -> PageInHand
     ensures alive { is_removed result.chain ≡ false }
 {
     let mut page = bare(rt);
-    for place in 1..16 {
-        page = with_term(rt, page, place);
-    }
+    with_each(rt, &mut page, b'x', 1, 16);
     for place in places {
-        page = with_hold(rt, page, *place);
+        with_hold(rt, &mut page, *place);
     }
     page
 }
 
-/// Whether what the parent gets, over row 7, holds the term at the place; none where it gets nothing.
-fn holds<R: Abort + AllocGlobal>(rt: &R, parent: &PageInHand, place: u8) -> Option<bool>
-    requires alive { is_removed parent.now.chain ≡ false }
-{
+/// Whether what such a page gets, over row 7, holds the term at the place; none where it gets nothing.
+fn holds<R: Abort + AllocGlobal>(rt: &R, places: &[u8], place: u8) -> Option<bool> {
+    let parent = sixteen(rt, places);
     let child = u16::from(place) + 10;
-    let page = version(rt, child, 0, leaf(at(place), 0));
-    let hold = plan_hold(parent, &page)?;
-    let named = (hold.level, hold.next, hold.child) == (1, 7, child);
-    Some(named && hold.separator == at(place))
+    let page = leaf_of(rt, child, at(place), 0);
+    match plan_hold(&parent, &page) {
+        None => None,
+        Some(hold) => {
+            let named = (hold.level, hold.next, hold.child) == (1, 7, child);
+            Some(named & (hold.separator == at(place)))
+        }
+    }
 }
 
-#[test]
-fn holds_beside_no_held_term(rt: HostRuntime) {
-    let page = sixteen(&rt, &[3]);
-    let held = [
-        holds(&rt, &page, 1),
-        holds(&rt, &page, 2),
-        holds(&rt, &page, 3),
-        holds(&rt, &page, 4),
-        holds(&rt, &page, 5),
-    ];
-    assert_eq!(rt; held, [Some(true), None, None, None, Some(true)]);
-}
+/// Terms that are held, a place, and whether its term may be held; none where it may not.
+const HELD: &[(&[u8], u8, Option<bool>)] = &[
+    (&[3], 1, Some(true)),
+    (&[3], 2, None),
+    (&[3], 3, None),
+    (&[3], 4, None),
+    (&[3], 5, Some(true)),
+    (&[2, 6, 10], 14, Some(true)),
+    (&[2, 6, 10, 12], 14, None),
+];
 
-#[test]
-fn holds_four_terms(rt: HostRuntime) {
-    let fourth = holds(&rt, &sixteen(&rt, &[2, 6, 10]), 14);
-    let fifth = holds(&rt, &sixteen(&rt, &[2, 6, 10, 12]), 14);
-    assert_eq!(rt; [fourth, fifth], [Some(true), None]);
+/// Whether each of them may.
+fn are_held<R: Abort + AllocGlobal>(rt: &R) -> bool {
+    for (held, place, given) in HELD {
+        if holds(rt, held, *place) != *given {
+            return false;
+        }
+    }
+    true
 }
 
 /// Terms that are held, the place at which the page is split, and how many items go.
@@ -62,16 +64,24 @@ const SPLIT: &[(&[u8], u8, usize)] = &[
 ];
 
 /// Whether the page is split at the place, and so many items go.
-fn is_split(page: &PageInHand, place: u8, count: usize) -> bool {
-    match plan_split(page) {
+fn is_split(page: PageInHand, place: u8, count: usize) -> bool {
+    match plan_split(&page) {
         None => false,
-        Some(plan) => plan.upper.low() == &at(place) && plan.upper.items().len() == count,
+        Some(plan) => (plan.upper.low() == &at(place)) & (plan.upper.items().len() == count),
     }
 }
 
-#[test]
-fn splits_at_no_held_term(rt: HostRuntime) {
+/// Whether each of them is.
+fn are_split<R: Abort + AllocGlobal>(rt: &R) -> bool {
     for (held, place, count) in SPLIT {
-        assert!(rt; is_split(&sixteen(&rt, held), *place, *count));
+        if !is_split(sixteen(rt, held), *place, *count) {
+            return false;
+        }
     }
+    true
+}
+
+#[test]
+fn holds_and_splits_beside_no_held_term(rt: HostRuntime) {
+    assert!(rt; [are_held(&rt), are_split(&rt)] == [true; 2]);
 }

@@ -1,7 +1,10 @@
-//! The two parts of an index page that was split at "k09".
+//! Index pages of one term, and the two parts of one that was split at "k09".
 ghost use Rattle.std.specs.Prelude.{codes, ◌≡◌, ◌≤◌, ◌<◌, ◌∷◌, [], false, None, Some};
 ghost use Rattle.base_page.specs.declared.item.Content.TheVariants.{Child};
+ghost use Rattle.deltas.specs.Spellable.{IsPid};
+ghost use Rattle.deltas.specs.declared.record.Record.TheVariants.{Base};
 ghost use Rattle.traces.specs.chain.Chains.{is_removed};
+ghost use Rattle.traces.specs.chain.Fitted.{IsPageChain};
 
 use crate::plans::grown::based;
 use crate::plans::key;
@@ -17,7 +20,7 @@ pub(crate) fn term(page: u16) -> Content
 }
 
 /// The items of a page that has one.
-fn item(key: Key, content: Content) -> Items
+pub(crate) fn item(key: Key, content: Content) -> Items
     ensures { result ≡ record { key = key; content = content } ∷ [] }
 {
     let mut items = Items::new();
@@ -43,17 +46,21 @@ pub(crate) fn read<R: Abort + AllocGlobal>(rt: &R, level: u8) -> PageInHand
     based(rt, 1, lower(level))
 }
 
-/// An index page of the first level from "k09" on, where page 3 begins.
-fn upper() -> Page
-    ensures { result ≡ record { level = 1; low = codes "k09"; high = None; right = None; removed = false; items = record { key = codes "k09"; content = Child 3 false } ∷ [] } }
+/// An index page from a key on, that has this child there.
+pub(crate) fn index_from(level: u8, low: Key, child: u16) -> Page
+    requires index { 0 < level }
+    requires top { level ≤ 15 }
+    requires child { IsPid child }
+    ensures is { result ≡ record { level = level; low = low; high = None; right = None; removed = false; items = record { key = low; content = Child child false } ∷ [] } }
+    ensures stands { IsPageChain (Base result ∷ []) }
 {
-    let items = item(key(b"k09"), term(3));
-    Page::new(1, key(b"k09"), None, None, items)
+    let items = item(low.copied(), term(child));
+    Page::new(level, low, None, None, items)
 }
 
-/// That page, as it was read.
+/// An index page of the first level from "k09" on, where page 3 begins, as page 2.
 pub(crate) fn right<R: Abort + AllocGlobal>(rt: &R) -> PageInHand
     ensures alive { is_removed result.chain ≡ false }
 {
-    based(rt, 2, upper())
+    based(rt, 2, index_from(1, key(b"k09"), 3))
 }

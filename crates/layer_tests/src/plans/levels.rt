@@ -1,40 +1,54 @@
 //! Merges of a removed page into an index page.
-use crate::plans::grown::{
-    consolidated, held, removed, root_over, with_hold, with_term, with_terms,
-};
+use crate::plans::grown::{consolidate, hold, remove, root_over, with_each, with_hold, with_terms};
 use crate::plans::index_pages::{read, right};
-use crate::plans::{key, leaf, version};
+use crate::plans::{key, leaf_of};
 use smo::{PageInHand, plan_merge};
 use std::process::Abort;
 
 /// Whether the right page comes into the left one, once it is removed under a root over both; none where it isn't removed.
-fn merges<R: Abort + AllocGlobal>(rt: &R, left: &PageInHand, right: &PageInHand) -> Option<bool> {
-    let root = root_over(rt, left, right);
-    let root = held(rt, &root, right).expect(rt, "a hold");
-    let gone = removed(rt, &root, right)?;
-    Some(plan_merge(left, &gone).is_some())
+fn merges<R: Abort + AllocGlobal>(
+    rt: &R,
+    left: &PageInHand,
+    right: &mut PageInHand,
+) -> Option<bool> {
+    let mut root = root_over(rt, left, right);
+    hold(rt, &mut root, right);
+    if !remove(rt, &root, right) {
+        return None;
+    }
+    Some(plan_merge(left, right).is_some())
+}
+
+/// Whether an index page of one term comes into one of fifteen terms, and not into one of sixteen.
+fn merges_beside_fifteen<R: Abort + AllocGlobal>(rt: &R) -> bool {
+    let mut left = read(rt, 1);
+    with_each(rt, &mut left, b'a', 0, 14);
+    consolidate(rt, &mut left);
+    let given = merges(rt, &left, &mut right(rt)) == Some(true);
+    with_terms(rt, &mut left, b'a', 14, 15);
+    consolidate(rt, &mut left);
+    given & (merges(rt, &left, &mut right(rt)) == Some(false))
+}
+
+/// Whether an index page of two terms comes into its left one, and isn't even removed where one of them is held.
+fn merges_two<R: Abort + AllocGlobal>(rt: &R, left: &PageInHand, held: bool) -> Option<bool> {
+    let mut two = right(rt);
+    with_each(rt, &mut two, b'x', 1, 2);
+    if held {
+        with_hold(rt, &mut two, 1);
+    }
+    merges(rt, left, &mut two)
+}
+
+/// Whether such pages come into their left one where no term of them is held, and leaves don't.
+fn merges_by_level<R: Abort + AllocGlobal>(rt: &R) -> bool {
+    let left = read(rt, 1);
+    let leaf = merges(rt, &left, &mut leaf_of(rt, 2, key(b"k09"), 1)) == Some(false);
+    let holding = merges_two(rt, &left, true).is_none();
+    leaf & holding & (merges_two(rt, &left, false) == Some(true))
 }
 
 #[test]
-fn merges_beside_fifteen_items(rt: HostRuntime) {
-    let eight = consolidated(&rt, with_terms(&rt, read(&rt, 1), 0, 7));
-    let fifteen = consolidated(&rt, with_terms(&rt, eight, 7, 14));
-    let given = merges(&rt, &fifteen, &right(&rt));
-    let sixteen = consolidated(&rt, with_terms(&rt, fifteen, 14, 15));
-    assert_eq!(rt;
-        [given, merges(&rt, &sixteen, &right(&rt))],
-        [Some(true), Some(false)]
-    );
-}
-
-#[test]
-fn merges_a_page_of_its_level_that_holds_no_term(rt: HostRuntime) {
-    let left = read(&rt, 1);
-    let two = with_term(&rt, right(&rt), 1);
-    let given = merges(&rt, &left, &two);
-    let holding = with_hold(&rt, two, 1);
-    let other = version(&rt, 2, 0, leaf(key(b"k09"), 1));
-    let refused = [merges(&rt, &left, &holding), merges(&rt, &left, &other)];
-    assert_eq!(rt; given, Some(true));
-    assert_eq!(rt; refused, [None, Some(false)]);
+fn merges_a_page_of_its_level_that_holds_no_term_beside_fifteen_items(rt: HostRuntime) {
+    assert!(rt; [merges_beside_fifteen(&rt), merges_by_level(&rt)] == [true; 2]);
 }

@@ -1,41 +1,16 @@
-//! Merges of a removed page into its left one, and the end of its term.
+//! Merges of a removed page into its left one, the end of its term, and roots over it.
 ghost use Rattle.std.specs.Prelude.{◌≡◌, false};
-ghost use Rattle.traces.specs.chain.Chains.{is_removed};
 ghost use Rattle.deltas.specs.Spellable.{IsPid};
+ghost use Rattle.traces.specs.chain.Chains.{is_removed};
 
 use crate::plans::grown::{
-    at, held, joined, posted, removed, root_over, split, thinned, with_terms, without,
+    at, delete, hold, join, post, remove, root_over, split, thin, with_terms,
 };
-use crate::plans::{leaf, version};
+use crate::plans::roots::roots_first;
+use crate::plans::{leaf, leaf_of};
 use bw_model::Key;
 use smo::{PageInHand, plan_merge, plan_remove, plan_unterm};
 use std::process::Abort;
-
-/// A root that holds the term of its second leaf; the first leaf; the second one, which has four items; and that one removed.
-#[derive(Drop)]
-struct Family {
-    root: PageInHand,
-    left: PageInHand,
-    right: PageInHand,
-    gone: PageInHand,
-}
-
-fn related<R: Abort + AllocGlobal>(rt: &R) -> Family
-    ensures root { is_removed result.root.chain ≡ false }
-    ensures left { is_removed result.left.chain ≡ false }
-{
-    let (left, _) = split(rt, 1, Key::default(), 16, 2);
-    let (whole, _) = split(rt, 2, at(8), 24, 3);
-    let right = thinned(rt, whole, 12);
-    let root = held(rt, &root_over(rt, &left, &right), &right).expect(rt, "a hold");
-    let gone = removed(rt, &root, &right).expect(rt, "a removal");
-    Family {
-        root,
-        left,
-        right,
-        gone,
-    }
-}
 
 /// Whether the left page gets the removed one.
 fn merges(left: &PageInHand, removed: &PageInHand) -> bool {
@@ -54,16 +29,14 @@ fn brings(
         None => false,
         Some(merge) => {
             let place = (merge.level, merge.next, merge.right) == (0, 7, right);
-            let range = merge.low == at(8) && merge.high == high;
-            place && range && &merge.items == leaf(at(8), count).items()
+            let range = (merge.low == at(8)) & (merge.high == high);
+            place & range & (&merge.items == leaf(at(8), count).items())
         }
     }
 }
 
 /// Whether the parent loses the removed page's term.
-fn unterms(parent: &PageInHand, left: &PageInHand, removed: &PageInHand) -> bool
-    requires alive { is_removed parent.now.chain ≡ false }
-{
+fn unterms(parent: &PageInHand, left: &PageInHand, removed: &PageInHand) -> bool {
     plan_unterm(parent, left, removed).is_some()
 }
 
@@ -74,167 +47,200 @@ fn loses(
     removed: &PageInHand,
     place: u8,
     child: u16,
-) -> bool
-    requires alive { is_removed parent.now.chain ≡ false }
-{
+) -> bool {
     match plan_unterm(parent, left, removed) {
         None => false,
         Some(unterm) => {
             let named = (unterm.level, unterm.next, unterm.child) == (1, 7, child);
-            named && unterm.separator == at(place)
+            named & (unterm.separator == at(place))
         }
     }
 }
 
-#[test]
-fn merges_a_removed_page(rt: HostRuntime) {
-    let pages = related(&rt);
-    let brought = brings(&pages.left, &pages.gone, 12, Some(at(16)), Some(3));
-    let refused = [
-        merges(&pages.left, &pages.right),
-        merges(&pages.gone, &pages.gone),
-    ];
-    assert_eq!(rt; (brought, refused), (true, [false; 2]));
+/// The first of two leaves, as page 1, which ends at the eighth key.
+fn first<R: Abort + AllocGlobal>(rt: &R) -> PageInHand
+    ensures alive { is_removed result.chain ≡ false }
+{
+    split(rt, 1, Key::default(), 16, 2)
 }
 
-#[test]
-fn merges_a_removed_base(rt: HostRuntime) {
-    let pages = related(&rt);
-    let gone = removed(&rt, &pages.root, &version(&rt, 2, 0, leaf(at(8), 11)));
-    let brought = gone.map(|gone| brings(&pages.left, &gone, 11, None, None));
-    assert_eq!(rt; brought, Some(true));
+/// The second one, up to the sixteenth key, with four items.
+fn second<R: Abort + AllocGlobal>(rt: &R) -> PageInHand
+    ensures alive { is_removed result.chain ≡ false }
+{
+    let mut page = split(rt, 2, at(8), 24, 3);
+    thin(rt, &mut page, 12, 16);
+    page
 }
 
-/// Whether a page 4 that was split so, from so many items to this page, gets the removed one.
-fn merges_left_of<R: Abort + AllocGlobal>(
-    rt: &R,
-    removed: &PageInHand,
-    count: u8,
-    right: u16,
-) -> bool
+/// A root that holds the term of its last leaf; the leaf to the left of that one; the last one; and that one removed.
+struct Pages {
+    root: PageInHand,
+    left: PageInHand,
+    last: PageInHand,
+    gone: PageInHand,
+}
+
+impl Drop for Pages {
+    fn drop(self) {
+        let Pages {
+            root: _,
+            left: _,
+            last: _,
+            gone: _,
+        } = self;
+    }
+}
+
+/// Of two leaves.
+fn two<R: Abort + AllocGlobal>(rt: &R) -> Pages
+    ensures root { is_removed result.root.chain ≡ false }
+{
+    let (left, last) = (first(rt), second(rt));
+    let root = root_over(rt, &left, &last);
+    let gone = second(rt);
+    let mut pages = Pages {
+        root,
+        left,
+        last,
+        gone,
+    };
+    hold(rt, &mut pages.root, &pages.last);
+    remove(rt, &pages.root, &mut pages.gone);
+    pages
+}
+
+/// The third leaf, with four items.
+fn third<R: Abort + AllocGlobal>(rt: &R) -> PageInHand
+    ensures alive { is_removed result.chain ≡ false }
+{
+    let mut page = leaf_of(rt, 3, at(16), 24);
+    thin(rt, &mut page, 16, 20);
+    page
+}
+
+/// Of three leaves.
+fn three<R: Abort + AllocGlobal>(rt: &R) -> Pages
+    ensures root { is_removed result.root.chain ≡ false }
+{
+    let (left, last) = (split(rt, 2, at(8), 24, 3), third(rt));
+    let root = root_over(rt, &first(rt), &left);
+    let gone = third(rt);
+    let mut pages = Pages {
+        root,
+        left,
+        last,
+        gone,
+    };
+    post(rt, &mut pages.root, &pages.last);
+    hold(rt, &mut pages.root, &pages.last);
+    remove(rt, &pages.root, &mut pages.gone);
+    pages
+}
+
+/// Whether a page that is a base alone comes into the left one, once it is removed.
+fn merges_a_base<R: Abort + AllocGlobal>(rt: &R, pages: &Pages) -> bool {
+    let mut base = leaf_of(rt, 2, at(8), 11);
+    remove(rt, &pages.root, &mut base) & brings(&pages.left, &base, 11, None, None)
+}
+
+/// Whether a page 4 that was split from so many items to this page gets the removed one.
+fn merges_into<R: Abort + AllocGlobal>(rt: &R, gone: &PageInHand, count: u8, right: u16) -> bool
     requires right { IsPid right }
 {
-    let (left, _) = split(rt, 4, Key::default(), count, right);
-    merges(&left, removed)
+    merges(&split(rt, 4, Key::default(), count, right), gone)
 }
 
-#[test]
-fn merges_into_the_left_page_alone(rt: HostRuntime) {
-    let gone = related(&rt).gone;
-    let before = merges_left_of(&rt, &gone, 17, 2);
-    let before_another = merges_left_of(&rt, &gone, 16, 3);
-    let up_to_the_ninth = merges_left_of(&rt, &gone, 18, 2);
-    let endless = merges(&version(&rt, 4, 0, leaf(Key::default(), 8)), &gone);
-    assert_eq!(rt;
-        [before, before_another, up_to_the_ninth, endless],
-        [true, false, false, false]
-    );
+/// Whether the removed page comes into its left one alone.
+fn merges_there<R: Abort + AllocGlobal>(rt: &R, gone: &PageInHand) -> bool {
+    let before = merges_into(rt, gone, 17, 2) & !merges_into(rt, gone, 16, 3);
+    let endless = merges(&leaf_of(rt, 4, Key::default(), 8), gone);
+    before & !merges_into(rt, gone, 18, 2) & !endless
 }
 
-#[test]
-fn merges_under_eight_deltas(rt: HostRuntime) {
-    let pages = related(&rt);
-    let seven = without(&rt, without(&rt, thinned(&rt, pages.left, 0), 4), 5);
-    let given = merges(&seven, &pages.gone);
-    let refused = merges(&without(&rt, seven, 6), &pages.gone);
-    assert_eq!(rt; [given, refused], [true, false]);
+/// Whether the first leaf, under seven deltas, gets the removed one, and not under eight.
+fn merges_under_seven<R: Abort + AllocGlobal>(rt: &R, gone: &PageInHand) -> bool {
+    let mut left = first(rt);
+    thin(rt, &mut left, 0, 6);
+    let given = merges(&left, gone);
+    delete(rt, &mut left, at(6));
+    given & !merges(&left, gone)
 }
 
-#[test]
-fn ends_the_term_of_a_merged_page(rt: HostRuntime) {
-    let Family {
-        root,
-        left,
-        right,
-        gone,
-    } = related(&rt);
-    let whole = joined(&rt, &left, &gone).expect(&rt, "a merge");
-    let ended = [
-        loses(&root, &whole, &gone, 8, 2),
-        unterms(&root, &left, &gone),
-        unterms(&root, &whole, &right),
-        unterms(&root, &gone, &gone),
-    ];
-    assert_eq!(rt; ended, [true, false, false, false]);
+fn removes(root: &PageInHand, page: &PageInHand) -> bool {
+    plan_remove(root, page).is_some()
 }
 
-#[test]
-fn ends_no_term_that_is_not_held(rt: HostRuntime) {
-    let Family {
-        left,
-        right,
-        gone,
-        ..
-    } = related(&rt);
-    let whole = joined(&rt, &left, &gone).expect(&rt, "a merge");
-    let unheld = root_over(&rt, &left, &right);
-    assert!(rt; !unterms(&unheld, &whole, &gone));
+/// Whether the last page may be removed, and the first one may not, however few items it has.
+fn removes_last<R: Abort + AllocGlobal>(rt: &R, pages: &Pages) -> bool {
+    let mut thinned = first(rt);
+    thin(rt, &mut thinned, 0, 4);
+    let last = removes(&pages.root, &pages.last) & !removes(&pages.root, &thinned);
+    last & !removes(&pages.root, &leaf_of(rt, 1, Key::default(), 0))
 }
 
-#[test]
-fn ends_a_term_under_seven_deltas(rt: HostRuntime) {
-    let pages = related(&rt);
-    let whole = joined(&rt, &pages.left, &pages.gone).expect(&rt, "a merge");
-    let seven = with_terms(&rt, pages.root, 0, 6);
-    let given = loses(&seven, &whole, &pages.gone, 8, 2);
-    let refused = unterms(&with_terms(&rt, seven, 6, 7), &whole, &pages.gone);
-    assert_eq!(rt; [given, refused], [true, false]);
+/// Whether merges are given as they are to be.
+fn merges_second<R: Abort + AllocGlobal>(rt: &R, pages: &Pages) -> [bool; 6] {
+    [
+        brings(&pages.left, &pages.gone, 12, Some(at(16)), Some(3)),
+        !merges(&pages.left, &pages.last) & !merges(&pages.gone, &pages.gone),
+        merges_a_base(rt, pages),
+        merges_there(rt, &pages.gone),
+        merges_under_seven(rt, &pages.gone),
+        removes_last(rt, pages),
+    ]
 }
 
-#[test]
-fn ends_a_term_inside_its_left_page(rt: HostRuntime) {
-    let pages = related(&rt);
-    let endless = version(&rt, 1, 0, leaf(Key::default(), 3));
-    let beside = version(&rt, 4, 0, leaf(at(8), 12));
-    let ended = [
-        unterms(&pages.root, &endless, &pages.gone),
-        unterms(&pages.root, &beside, &pages.gone),
-    ];
-    assert_eq!(rt; ended, [true, false]);
-}
-
-/// A root that holds the term of its third leaf, the second leaf, and the third one, removed.
-fn last_of_three<R: Abort + AllocGlobal>(
-    rt: &R,
-    left: &PageInHand,
-) -> (PageInHand, PageInHand, PageInHand)
-    ensures root { is_removed result.0.chain ≡ false }
+/// Whether the root loses the term under seven deltas, and not under eight.
+fn loses_under_seven<R: Abort + AllocGlobal>(rt: &R, pages: &mut Pages) -> bool
+    requires root { is_removed pages.old.root.chain ≡ false }
 {
-    let (middle, last) = split(rt, 2, at(8), 24, 3);
-    let last = thinned(rt, last, 16);
-    let root = posted(rt, &root_over(rt, left, &middle), &last).expect(rt, "a term");
-    let root = held(rt, &root, &last).expect(rt, "a hold");
-    let gone = removed(rt, &root, &last).expect(rt, "a removal");
-    (root, middle, gone)
+    with_terms(rt, &mut pages.root, b'a', 0, 6);
+    let given = loses(&pages.root, &pages.left, &pages.gone, 8, 2);
+    with_terms(rt, &mut pages.root, b'a', 6, 7);
+    given & !unterms(&pages.root, &pages.left, &pages.gone)
+}
+
+/// Whether the root loses the term beside a leaf that has no end, and not beside one that begins where the last one does; and whether a
+/// root that doesn't hold the term keeps it.
+fn loses_beside<R: Abort + AllocGlobal>(rt: &R, pages: &Pages) -> bool {
+    let endless = unterms(&pages.root, &leaf_of(rt, 1, Key::default(), 3), &pages.gone);
+    let beside = unterms(&pages.root, &leaf_of(rt, 4, at(8), 12), &pages.gone);
+    let unheld = root_over(rt, &first(rt), &pages.last);
+    endless & !beside & !unterms(&unheld, &pages.left, &pages.gone)
+}
+
+/// Whether the term of the last page ends once that was merged, at the key of this place.
+fn ends<R: Abort + AllocGlobal>(rt: &R, pages: &mut Pages, place: u8, child: u16) -> [bool; 3]
+    ensures root { pages.new.root ≡ pages.old.root }
+{
+    let early = unterms(&pages.root, &pages.left, &pages.gone);
+    join(rt, &mut pages.left, &pages.gone);
+    let whole = unterms(&pages.root, &pages.left, &pages.last);
+    [
+        !early & !unterms(&pages.root, &pages.gone, &pages.gone),
+        !whole,
+        loses(&pages.root, &pages.left, &pages.gone, place, child),
+    ]
+}
+
+/// What is so of two leaves.
+fn of_two<R: Abort + AllocGlobal>(rt: &R) -> bool {
+    let mut pages = two(rt);
+    let merges = merges_second(rt, &pages) == [true; 6];
+    let roots = roots_first(rt, &pages.left, &pages.last, &pages.gone);
+    let ends = ends(rt, &mut pages, 8, 2) == [true; 3];
+    merges & roots & ends & loses_beside(rt, &pages) & loses_under_seven(rt, &mut pages)
+}
+
+/// What is so of three.
+fn of_three<R: Abort + AllocGlobal>(rt: &R) -> bool {
+    let mut pages = three(rt);
+    let beyond = unterms(&pages.root, &first(rt), &pages.gone);
+    !beyond & (ends(rt, &mut pages, 16, 3) == [true; 3])
 }
 
 #[test]
-fn ends_no_term_beyond_its_left_page(rt: HostRuntime) {
-    let (left, _) = split(&rt, 1, Key::default(), 16, 2);
-    let (root, middle, gone) = last_of_three(&rt, &left);
-    let whole = joined(&rt, &middle, &gone).expect(&rt, "a merge");
-    let ended = [
-        unterms(&root, &left, &gone),
-        unterms(&root, &middle, &gone),
-        loses(&root, &whole, &gone, 16, 3),
-    ];
-    assert_eq!(rt; ended, [false, false, true]);
-}
-
-#[test]
-fn removes_no_first_page(rt: HostRuntime) {
-    let Family {
-        root,
-        left,
-        right,
-        ..
-    } = related(&rt);
-    let thin = thinned(&rt, left, 0);
-    let bare = version(&rt, 1, 0, leaf(Key::default(), 0));
-    let given = [
-        plan_remove(&root, &right).is_some(),
-        plan_remove(&root, &thin).is_some(),
-        plan_remove(&root, &bare).is_some(),
-    ];
-    assert_eq!(rt; given, [true, false, false]);
+fn merges_a_removed_page_and_ends_its_term(rt: HostRuntime) {
+    assert!(rt; [of_two(&rt), of_three(&rt)] == [true; 2]);
 }

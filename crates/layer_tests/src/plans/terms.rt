@@ -1,55 +1,73 @@
 //! What an index page may get at the edges: beside few items, under few deltas, on its level and in its range.
-ghost use Rattle.std.specs.Prelude.{◌≡◌, ◌≤◌, length, false};
+ghost use Rattle.std.specs.Prelude.{◌≤◌, length};
 ghost use Rattle.bw_model.specs.Bytes.{longest};
-ghost use Rattle.traces.specs.chain.Chains.{is_removed};
 
-use crate::plans::grown::{consolidated, with_terms};
+use crate::plans::grown::{consolidate, with_each, with_terms};
 use crate::plans::index_pages::{read, right};
-use crate::plans::{bare, key, leaf, version};
+use crate::plans::{bare, key, leaf_of};
 use smo::{PageInHand, plan_hold, plan_term};
 use std::process::Abort;
 
 /// Whether the parent gets the term of a leaf that begins at the key.
 fn posts<R: Abort + AllocGlobal>(rt: &R, parent: &PageInHand, low: &[u8]) -> bool
-    requires low { length low.now ≤ longest }
-    requires alive { is_removed parent.now.chain ≡ false }
+    requires { length low.now ≤ longest }
 {
-    plan_term(parent, &version(rt, 2, 0, leaf(key(low), 0))).is_some()
+    plan_term(parent, &leaf_of(rt, 2, key(low), 0)).is_some()
 }
 
 /// Whether the first term that the page got beside its own one may be held.
-fn holds<R: Abort + AllocGlobal>(rt: &R, parent: &PageInHand) -> bool
-    requires alive { is_removed parent.now.chain ≡ false }
+fn holds<R: Abort + AllocGlobal>(rt: &R, parent: &PageInHand) -> bool {
+    plan_hold(parent, &leaf_of(rt, 10, key(&[b'a', 0]), 0)).is_some()
+}
+
+/// Whether an index page of fifteen items gets a term, and one of sixteen.
+fn posts_beside<R: Abort + AllocGlobal>(rt: &R) -> [bool; 2] {
+    let mut page = bare(rt);
+    with_each(rt, &mut page, b'a', 0, 14);
+    consolidate(rt, &mut page);
+    let given = posts(rt, &page, b"k");
+    with_terms(rt, &mut page, b'a', 14, 15);
+    consolidate(rt, &mut page);
+    [given, posts(rt, &page, b"k")]
+}
+
+/// Whether a page gets a term, and a hold, under seven deltas, and under eight.
+fn under_deltas<R: Abort + AllocGlobal>(rt: &R) -> [bool; 4] {
+    let mut page = bare(rt);
+    with_terms(rt, &mut page, b'a', 0, 7);
+    let posted = posts(rt, &page, b"k");
+    let held = holds(rt, &page);
+    with_terms(rt, &mut page, b'a', 7, 8);
+    [posted, held, posts(rt, &page, b"k"), holds(rt, &page)]
+}
+
+/// Whether the page gets the term of a leaf that begins at the first key, and not of one that begins at the other one.
+fn posts_inside<R: Abort + AllocGlobal>(
+    rt: &R,
+    page: PageInHand,
+    inside: &[u8],
+    outside: &[u8],
+) -> bool
+    requires inside { length inside.now ≤ longest }
+    requires outside { length outside.now ≤ longest }
 {
-    plan_hold(parent, &version(rt, 40, 0, leaf(key(&[b'a', 0]), 0))).is_some()
+    posts(rt, &page, inside) & !posts(rt, &page, outside)
+}
+
+/// Whether the two parts of an index page get terms inside their ranges alone.
+fn posts_in_range<R: Abort + AllocGlobal>(rt: &R) -> bool {
+    let lower = posts_inside(rt, read(rt, 1), b"k08", b"k09");
+    lower & posts_inside(rt, right(rt), b"k10", b"k08")
 }
 
 #[test]
-fn posts_beside_fifteen_items(rt: HostRuntime) {
-    let eight = consolidated(&rt, with_terms(&rt, bare(&rt), 0, 7));
-    let fifteen = consolidated(&rt, with_terms(&rt, eight, 7, 14));
-    let given = posts(&rt, &fifteen, b"k");
-    let sixteen = consolidated(&rt, with_terms(&rt, fifteen, 14, 15));
-    assert_eq!(rt; [given, posts(&rt, &sixteen, b"k")], [true, false]);
-}
-
-#[test]
-fn posts_and_holds_under_seven_deltas(rt: HostRuntime) {
-    let seven = with_terms(&rt, bare(&rt), 0, 7);
-    let given = [posts(&rt, &seven, b"k"), holds(&rt, &seven)];
-    let eight = with_terms(&rt, seven, 7, 8);
-    let refused = [posts(&rt, &eight, b"k"), holds(&rt, &eight)];
-    assert_eq!(rt; [given, refused], [[true, true], [false, false]]);
+fn posts_and_holds_beside_few_items_under_few_deltas(rt: HostRuntime) {
+    let beside = posts_beside(&rt) == [true, false];
+    assert!(rt; beside && under_deltas(&rt) == [true, true, false, false]);
 }
 
 #[test]
 fn posts_on_its_level_and_in_its_range(rt: HostRuntime) {
-    let (lower, upper, over) = (read(&rt, 1), right(&rt), read(&rt, 2));
-    let posted = [posts(&rt, &lower, b"k08"), posts(&rt, &upper, b"k10")];
-    let refused = [
-        posts(&rt, &lower, b"k09"),
-        posts(&rt, &upper, b"k08"),
-        posts(&rt, &over, b"k08"),
-    ];
-    assert_eq!(rt; (posted, refused), ([true; 2], [false; 3]));
+    let above = posts(&rt, &read(&rt, 2), b"k08");
+    assert!(rt; posts_in_range(&rt) && !above);
 }

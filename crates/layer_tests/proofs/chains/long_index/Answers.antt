@@ -2,21 +2,4 @@ use Rattle.traces.proofs.FittedExamples.{long_index_fits}
 use Rattle.layer_tests.proofs.chains.long_index.Goals as goal
 
 pub chain-requires : goal.chain-requires
-chain-requires g c = rw (
-  c.index.ensures,
-  c.hold.ensures,
-  c.item.ensures,
-  c.child.ensures,
-  c.index_split.ensures,
-  c.term.ensures,
-  c.unterm.ensures,
-  c.hold-2.ensures,
-  c.term-2.ensures,
-  c.key.ensures,
-  c.key-2.ensures,
-  c.key-3.ensures,
-  c.key-4.ensures,
-  c.key-5.ensures,
-  c.key-6.ensures,
-  c.key-7.ensures,
-) long_index_fits
+chain-requires g c = rw (c.index.ensures, c.hold.ensures, c.item.ensures, c.index_split.ensures, c.term.ensures, c.unterm.ensures, c.hold-2.ensures, c.term-2.ensures, c.term-3.ensures, c.ninth.ensures, c.ninth-2.ensures) long_index_fits

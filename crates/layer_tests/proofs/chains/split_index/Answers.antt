@@ -2,4 +2,4 @@ use Rattle.traces.proofs.FittedExamples.{split_index_fits}
 use Rattle.layer_tests.proofs.chains.split_index.Goals as goal
 
 pub chain-requires : goal.chain-requires
-chain-requires g c = rw (c.index.ensures, c.index_split.ensures, c.term.ensures, c.term-2.ensures, c.unterm.ensures, c.hold.ensures, c.key.ensures, c.key-2.ensures, c.key-3.ensures, c.key-4.ensures) split_index_fits
+chain-requires g c = rw (c.index.ensures, c.index_split.ensures, c.term.ensures, c.term-2.ensures, c.unterm.ensures, c.hold.ensures) split_index_fits

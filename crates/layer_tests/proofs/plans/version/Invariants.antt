@@ -1,8 +1,0 @@
-use Rattle.std.proofs.Common.{◌≡◌, length}
-use Rattle.std.specs.List.{AllByRecursion}
-use Rattle.deltas.specs.declared.record.Record.{Record}
-use Rattle.deltas.specs.declared.record.Record.TheVariants.{Delete}
-use Rattle.layer_tests.proofs.plans.version.Given as goal
-
-abbrev pub invariant-loop : goal.invariant-loop
-invariant-loop g l = AllByRecursion (λ (r : Record). r ≡ Delete (record { next = 3; key = l.page.low })) l.deletes.items × (length l.deletes.items ≡ l.counter)

@@ -1,5 +1,0 @@
-use Rattle.sweep.specs.Kept.{IsLimboOf}
-use Rattle.layer_tests.proofs.sweeps.gone.Given as goal
-
-abbrev pub invariant-loop-place : goal.invariant-loop-place
-invariant-loop-place l = IsLimboOf l.fn.limits l.limbo
