@@ -1,12 +1,11 @@
 //! What a trace says of each row and each PID: where it is at the end, and that each step found it where it was to be.
 
 use crate::by_hand::comes_to_rest;
-use crate::numbers::{Numbers, bit, has_bit, number};
+use crate::numbers::{MOST, Numbers, Place, bit, has_bit, number};
 use bw_model::{Answer, Key, Limits, Link, Reply, Step};
 use core_memory::Entries;
 use deltas::Record;
-use std::alloc::{AllocError, Global};
-use step_core::Core;
+use step_core::{Core, Trace};
 use traces::Entry;
 
 /// What is kept of the record in a row.
@@ -25,9 +24,6 @@ struct Reading {
     /// The row that it may read next, if any, and the number of the entry that told it.
     row: Option<u16>,
     told: u32,
-    /// How many words of free bits, from the first on, were read as 0 one after another: of rows, and of PIDs.
-    row_words: u64,
-    pid_words: u64,
     /// The page that it has made ready last.
     ready: u16,
 }
@@ -35,13 +31,13 @@ struct Reading {
 /// The memory that a trace has made, but for what pages hold.
 #[derive(Drop)]
 struct Accounts {
-    limits: Limits,
+    actors: u64,
     epoch: u64,
-    slots: Vec<u16>,
-    placed: Vec<Placed>,
+    slots: [u16; MOST as usize],
+    placed: [Placed; MOST as usize],
     rows: Numbers,
     pids: Numbers,
-    actors: Vec<Reading>,
+    readings: [Reading; 16],
     /// The number of the next entry.
     number: u32,
 }
@@ -57,89 +53,48 @@ const OUTSIDE: Reading = Reading {
     announced: 0,
     row: None,
     told: 0,
-    row_words: 0,
-    pid_words: 0,
     ready: 0,
 };
 
-/// How many words from the first on were read as 0 one after another, where so many were before, and one more was read.
-fn words_on(before: u64, word: u8, bits: u64) -> u64 {
-    let place = u64::from(word);
-    if bits == 0 && (place == 0 || place == before) {
-        place.saturating_add(1)
-    } else {
-        before
-    }
-}
-
 impl Accounts {
-    /// Of a tree that isn't open yet.
-    fn new(alloc: Global, limits: &Limits) -> Accounts {
+    /// Of a tree that opens.
+    fn new(limits: &Limits) -> Accounts {
+        let mut slots = [0; MOST as usize];
+        slots[0] = 1;
+        slots[1] = 1;
         Accounts {
-            limits: *limits,
+            actors: limits.actors,
             epoch: limits.epoch,
-            slots: Vec::new(alloc),
-            placed: Vec::new(alloc),
-            rows: Numbers::new(alloc),
-            pids: Numbers::new(alloc),
-            actors: Vec::new(alloc),
+            slots,
+            placed: [OPENING; MOST as usize],
+            rows: Numbers::new(limits.rows),
+            pids: Numbers::new(limits.pids),
+            readings: [OUTSIDE; 16],
             number: 0,
         }
     }
 
-    /// The tree opens.
-    fn open(&mut self) -> Result<(), AllocError> {
-        self.slots.resize(self.limits.pids as usize, 0)?;
-        for slot in self.slots.iter_mut().take(2) {
-            *slot = 1;
-        }
-        self.placed.resize(self.limits.rows as usize, OPENING)?;
-        self.actors.resize(self.limits.actors as usize, OUTSIDE)?;
-        self.rows.open(self.limits.rows)?;
-        self.pids.open(self.limits.pids)
-    }
-
     fn slot(&self, page: u16) -> u16 {
-        self.slots.get(usize::from(page)).copied().unwrap_or(0)
+        self.slots[usize::from(page % MOST)]
     }
 
     fn placed(&self, row: u16) -> Placed {
-        self.placed
-            .get(usize::from(row))
-            .copied()
-            .unwrap_or(OPENING)
+        self.placed[usize::from(row % MOST)]
     }
 
     fn reading(&self, actor: u8) -> Reading {
-        self.actors
-            .get(usize::from(actor))
-            .copied()
-            .unwrap_or(OUTSIDE)
-    }
-
-    fn set_reading(&mut self, actor: u8, reading: Reading) {
-        if let Some(place) = self.actors.get_mut(usize::from(actor)) {
-            *place = reading;
-        }
+        self.readings[usize::from(actor % 16)]
     }
 
     /// The bits of all other actors.
     fn others(&self, actor: u8) -> u32 {
-        let mut others = 0;
-        for other in 0..16u8 {
-            if u64::from(other) < self.limits.actors && other != actor {
-                others |= bit(other);
-            }
-        }
-        others
+        let all = (1u32 << (self.actors % 32)).wrapping_sub(1);
+        all & !bit(actor)
     }
 
     /// A row was taken or freed.
     fn touch(&mut self, row: u16) {
-        let since = self.number;
-        if let Some(placed) = self.placed.get_mut(usize::from(row)) {
-            placed.since = since;
-        }
+        self.placed[usize::from(row % MOST)].since = self.number;
     }
 
     /// Takes the chain from a row on out of the tree.
@@ -149,7 +104,7 @@ impl Accounts {
             let Some(row) = next else {
                 return true;
             };
-            if !self.rows.unlinks(actor, row) {
+            if !self.rows.moves(actor, row, Place::Linked, Place::Limbo) {
                 return false;
             }
             next = self.placed(row).next;
@@ -157,46 +112,47 @@ impl Accounts {
         next.is_none()
     }
 
-    /// A slot has gone to 0: the page was cleared, or was never linked.
+    /// A slot has gone to 0: the page was cleared; or it was never linked, and its row goes back to the actor, as no other has seen it.
     fn empties(&mut self, actor: u8, page: u16, head: u16) -> bool {
         if self.placed(head).link == Link::Remove {
-            self.pids.unlinks(actor, page) && self.unlink_chain(actor, head)
+            self.pids.moves(actor, page, Place::Linked, Place::Limbo)
+                && self.unlink_chain(actor, head)
         } else {
-            self.pids.is_spare(actor, page) && self.rows.goes_back(actor, head)
+            self.pids.is_spare(actor, page)
+                && self.rows.moves(actor, head, Place::Linked, Place::Spare)
         }
     }
 
     /// A record was linked over another, or in place of a chain.
     fn links(&mut self, actor: u8, head: u16, row: u16) -> bool {
-        if !self.rows.links(actor, row) {
+        if !self.rows.moves(actor, row, Place::Spare, Place::Linked) {
             return false;
         }
         let placed = self.placed(row);
         let ready = self.reading(actor).ready;
         match placed.link {
             Link::Base => self.unlink_chain(actor, head),
-            Link::Split => placed.next == Some(head) && self.pids.links(actor, ready),
+            Link::Split => {
+                placed.next == Some(head)
+                    && self.pids.moves(actor, ready, Place::Spare, Place::Linked)
+            }
             _ => placed.next == Some(head),
         }
     }
 
     /// An own page is filled before it is linked.
     fn fills(&mut self, actor: u8, page: u16, row: u16) -> bool {
-        let mut reading = self.reading(actor);
-        reading.ready = page;
-        self.set_reading(actor, reading);
-        self.pids.is_spare(actor, page) && self.rows.links(actor, row)
+        self.readings[usize::from(actor % 16)].ready = page;
+        self.pids.is_spare(actor, page) && self.rows.moves(actor, row, Place::Spare, Place::Linked)
     }
 
     fn exchanges(&mut self, actor: u8, page: u16, old: u16, new: u16) -> bool {
         if self.slot(page) != old {
             return false;
         }
-        if let Some(slot) = self.slots.get_mut(usize::from(page)) {
-            *slot = new;
-        }
+        self.slots[usize::from(page % MOST)] = new;
         if page == 0 {
-            self.pids.links(actor, new)
+            self.pids.moves(actor, new, Place::Spare, Place::Linked)
         } else if new == 0 {
             self.empties(actor, page, old)
         } else if old == 0 {
@@ -208,10 +164,9 @@ impl Accounts {
 
     /// A slot was read, or a record with this row under it: the actor may read that row.
     fn tell(&mut self, actor: u8, row: Option<u16>) {
-        let mut reading = self.reading(actor);
+        let reading = &mut self.readings[usize::from(actor % 16)];
         reading.row = row;
         reading.told = self.number;
-        self.set_reading(actor, reading);
     }
 
     /// A record was read: the actor was told of it, and nothing was done to the row since.
@@ -219,7 +174,7 @@ impl Accounts {
         let reading = self.reading(actor);
         let placed = self.placed(row);
         self.tell(actor, content.next());
-        let stands = self.rows.is_linked(row) || self.rows.is_in_limbo(row);
+        let stands = self.rows.is_at(row, Place::Linked) || self.rows.is_at(row, Place::Limbo);
         let is_told = reading.row == Some(row) && placed.since <= reading.told;
         stands && is_told && reading.announced > 0 && content.next() == placed.next
     }
@@ -228,20 +183,6 @@ impl Accounts {
         let head = self.slot(page);
         self.tell(actor, (page > 0 && head > 0).then_some(head));
         u64::from(head) == row && self.reading(actor).announced > 0
-    }
-
-    fn reads_row_word(&mut self, actor: u8, word: u8, bits: u64) -> bool {
-        let mut reading = self.reading(actor);
-        reading.row_words = words_on(reading.row_words, word, bits);
-        self.set_reading(actor, reading);
-        self.rows.has_word(word, bits)
-    }
-
-    fn reads_pid_word(&mut self, actor: u8, word: u8, bits: u64) -> bool {
-        let mut reading = self.reading(actor);
-        reading.pid_words = words_on(reading.pid_words, word, bits);
-        self.set_reading(actor, reading);
-        self.pids.has_word(word, bits)
     }
 
     fn reads_epoch(&mut self, actor: u8, epoch: u64) -> bool {
@@ -257,14 +198,11 @@ impl Accounts {
     }
 
     fn places(&mut self, actor: u8, row: u16, content: &Record) -> bool {
-        let since = self.number;
-        if let Some(placed) = self.placed.get_mut(usize::from(row)) {
-            *placed = Placed {
-                next: content.next(),
-                link: content.link(),
-                since,
-            };
-        }
+        self.placed[usize::from(row % MOST)] = Placed {
+            next: content.next(),
+            link: content.link(),
+            since: self.number,
+        };
         self.rows.is_spare(actor, row) && self.reading(actor).announced > 0
     }
 
@@ -277,18 +215,17 @@ impl Accounts {
 
     /// An actor announces an epoch, or that it is outside; it forgets what it was told.
     fn announces(&mut self, actor: u8, epoch: u64) -> bool {
-        let mut reading = self.reading(actor);
+        let reading = &mut self.readings[usize::from(actor % 16)];
         let changes = (reading.announced == 0) != (epoch == 0);
         reading.announced = epoch;
         reading.row = None;
-        self.set_reading(actor, reading);
         changes && epoch <= self.epoch
     }
 
     fn retires(&mut self, epoch: u64, went: bool) -> bool {
         let goes = epoch == self.epoch;
         if goes {
-            self.epoch = epoch.saturating_add(1);
+            self.epoch = epoch.wrapping_add(1);
         }
         goes == went && epoch < 1 << 62
     }
@@ -300,14 +237,12 @@ impl Accounts {
             }
         }
         let others = self.others(actor);
-        let outside = self.reading(actor).announced == 0;
-        outside && self.rows.frees(actor, word, bits, others)
+        self.rows.frees(actor, word, bits, others)
     }
 
     fn frees_pids(&mut self, actor: u8, word: u8, bits: u64) -> bool {
         let others = self.others(actor);
-        let outside = self.reading(actor).announced == 0;
-        outside && self.pids.frees(actor, word, bits, others)
+        self.pids.frees(actor, word, bits, others)
     }
 
     /// A read, and what was read; of a record more is asked.
@@ -316,8 +251,8 @@ impl Accounts {
             Step::Slot(page) => self.reads_slot(actor, *page, number),
             Step::Epoch => self.reads_epoch(actor, number),
             Step::Announce(other) => self.reads_announce(actor, *other, number),
-            Step::PidBits(word) => self.reads_pid_word(actor, *word, number),
-            Step::RowBits(word) => self.reads_row_word(actor, *word, number),
+            Step::PidBits(word) => self.pids.reads_word(actor, *word, number),
+            Step::RowBits(word) => self.rows.reads_word(actor, *word, number),
             _ => false,
         }
     }
@@ -339,14 +274,15 @@ impl Accounts {
         }
     }
 
-    /// A step that is done without an answer.
+    /// A step that is done without an answer; what it frees, it frees outside.
     fn does(&mut self, actor: u8, step: &Step<Record>) -> bool {
+        let outside = self.reading(actor).announced == 0;
         match step {
             Step::Place(row, content) => self.places(actor, *row, content),
             Step::Enter(epoch) => *epoch > 0 && self.announces(actor, *epoch),
             Step::Leave => self.announces(actor, 0),
-            Step::ReusePids(word, bits) => self.frees_pids(actor, *word, *bits),
-            Step::ReuseRows(word, bits) => self.frees_rows(actor, *word, *bits),
+            Step::ReusePids(word, bits) => outside && self.frees_pids(actor, *word, *bits),
+            Step::ReuseRows(word, bits) => outside && self.frees_rows(actor, *word, *bits),
             _ => false,
         }
     }
@@ -361,27 +297,20 @@ impl Accounts {
         }
     }
 
-    /// Whether an operation may say that there is no room: it has read all words of rows, or of PIDs, as 0.
-    fn may_be_full(&self, actor: u8) -> bool {
-        let reading = self.reading(actor);
-        let rows = reading.row_words.saturating_mul(64) >= self.limits.rows;
-        rows || reading.pid_words.saturating_mul(64) >= self.limits.pids
-    }
-
-    /// Whether an entry may follow on those before it.
+    /// Whether an entry may follow on those before it. An operation may say that there is no room once it has read all words of rows, or of
+    /// PIDs, as 0.
     fn follows(&mut self, entry: &Entry) -> bool {
-        self.number = self.number.saturating_add(1);
+        self.number = self.number.wrapping_add(1);
         match entry {
             Entry::Begin(actor, _) => {
-                let mut reading = self.reading(*actor);
-                reading.row_words = 0;
-                reading.pid_words = 0;
-                self.set_reading(*actor, reading);
+                self.rows.begins(*actor);
+                self.pids.begins(*actor);
                 true
             }
             Entry::Step(actor, step, answer, reply) => {
                 let full = *reply == Some(Reply::Full);
-                self.step(*actor, step, answer) && (!full || self.may_be_full(*actor))
+                let out = self.rows.are_out(*actor) || self.pids.are_out(*actor);
+                self.step(*actor, step, answer) && (!full || out)
             }
         }
     }
@@ -398,14 +327,14 @@ impl Accounts {
     }
 
     /// The rows of the chain of a page, if each is linked.
-    fn chain_length(&self, page: u16) -> Option<usize> {
+    fn chain_length(&self, page: u16) -> Option<u32> {
         let head = self.slot(page);
         let mut next = (head > 0).then_some(head);
-        for length in 0..14usize {
+        for length in 0..14u32 {
             let Some(row) = next else {
                 return Some(length);
             };
-            if !self.rows.is_linked(row) {
+            if !self.rows.is_at(row, Place::Linked) {
                 return None;
             }
             next = self.placed(row).next;
@@ -413,39 +342,43 @@ impl Accounts {
         None
     }
 
-    /// Whether exactly the linked rows stand on the chains of pages, and exactly the linked pages have chains.
-    fn is_whole(&self) -> bool {
-        let (mut rows, mut pages) = (0usize, 0usize);
-        for page in 1..4096u16 {
+    /// Whether exactly the linked rows stand on the chains of pages, exactly the linked pages have chains, and no row or PID is in limbo.
+    fn is_settled(&self) -> bool {
+        let (mut rows, mut pages) = (0u32, 0u32);
+        for page in 1..MOST {
             match self.chain_length(page) {
                 None => return false,
                 Some(length) => {
-                    rows = rows.saturating_add(length);
-                    pages = pages.saturating_add(usize::from(length > 0));
+                    rows = rows.wrapping_add(length);
+                    pages = pages.wrapping_add(u32::from(length > 0));
                 }
             }
         }
-        (rows, pages) == (self.rows.linked(), self.pids.linked())
-    }
-
-    /// Whether that is so, and no row or PID is in limbo.
-    fn is_settled(&self) -> bool {
-        self.is_whole() && self.rows.in_limbo() == 0 && self.pids.in_limbo() == 0
+        self.rows.linked_and_in_limbo() == (rows, 0)
+            && self.pids.linked_and_in_limbo() == (pages, 0)
     }
 }
 
 /// Whether each step of a trace found each row and PID where it was to be, and at the end those that are neither free nor spares are
 /// just those of the tree.
-pub(crate) fn is_sound(alloc: Global, limits: &Limits, entries: &Entries) -> bool {
-    let mut accounts = Accounts::new(alloc, limits);
-    accounts.open().is_ok() && accounts.follow_all(entries) && accounts.is_settled()
+fn is_sound(limits: &Limits, entries: &Entries) -> bool {
+    let mut accounts = Accounts::new(limits);
+    accounts.follow_all(entries) && accounts.is_settled()
 }
 
-/// Whether a core comes to rest, and its trace is sound then.
-pub(crate) fn is_settled(alloc: Global, core: Core, key: &Key) -> bool {
+/// The trace of a core that comes to rest, if it is sound then.
+pub(crate) fn settled(core: Core, key: &Key) -> Option<Trace> {
     let mut core = core;
     let limits = *core.limits();
     let rests = comes_to_rest(&mut core, key);
     let trace = core.into_trace();
-    rests && is_sound(alloc, &limits, &trace.entries)
+    if rests && is_sound(&limits, &trace.entries) {
+        return Some(trace);
+    }
+    None
+}
+
+/// Whether a core comes to rest, and its trace is sound then.
+pub(crate) fn is_settled(core: Core, key: &Key) -> bool {
+    settled(core, key).is_some()
 }

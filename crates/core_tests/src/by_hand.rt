@@ -16,22 +16,21 @@ pub(crate) fn begins(core: &mut Core, actor: u8, command: Command) -> bool {
 /// Whether so many steps each tell the link, or that there is none.
 pub(crate) fn steps(core: &mut Core, actor: u8, times: u32, link: Option<Link>) -> bool {
     for _ in 0..times {
-        if core.turn(Turn::Step(actor)) != Ok(Event::Stepped(link)) {
+        if core.step_on(actor) != Some(link) {
             return false;
         }
     }
     true
 }
 
-/// Begins an operation of actor 0, and takes so many steps. Answers whether an exchange with this link was among these; none where
-/// they are not taken, or the operation is done by then.
-pub(crate) fn begun(core: &mut Core, command: Command, times: u32, link: Link) -> Option<bool> {
-    core.turn(Turn::Begin(0, command)).ok()?;
+/// Takes so many steps. Answers whether an exchange with this link was among these; none where they are not taken, or the operation is
+/// done by then.
+pub(crate) fn stepped(core: &mut Core, actor: u8, times: u32, link: Link) -> Option<bool> {
     let mut linked = false;
     for _ in 0..times {
-        match core.turn(Turn::Step(0)) {
-            Ok(Event::Stepped(made)) => linked |= made == Some(link),
-            _ => return None,
+        match core.step_on(actor) {
+            Some(made) => linked |= made == Some(link),
+            None => return None,
         }
     }
     Some(linked)
@@ -40,68 +39,47 @@ pub(crate) fn begun(core: &mut Core, command: Command, times: u32, link: Link) -
 /// Whether an exchange of the actor with this link wins before its operation is done.
 pub(crate) fn until(core: &mut Core, actor: u8, link: Link) -> bool {
     for _ in 0..1000u32 {
-        match core.turn(Turn::Step(actor)) {
-            Ok(Event::Stepped(made)) => {
+        match core.step_on(actor) {
+            Some(made) => {
                 if made == Some(link) {
                     return true;
                 }
             }
-            _ => return false,
+            None => return false,
         }
     }
     false
 }
 
-/// Whether an actor takes so many steps, unless its operation is done before.
-pub(crate) fn takes(core: &mut Core, actor: u8, steps: u32, done: &mut Option<Reply>) -> bool {
-    for _ in 0..steps {
-        if done.is_some() {
-            return true;
-        }
-        match core.turn(Turn::Step(actor)) {
-            Ok(Event::Stepped(_)) => {}
-            Ok(Event::Done(reply)) => *done = Some(reply),
-            _ => return false,
-        }
+/// The reply of a step that ends its operation.
+pub(crate) fn end(core: &mut Core, actor: u8) -> Option<Reply> {
+    match core.turn(Turn::Step(actor)) {
+        Ok(Event::Done(reply)) => Some(reply),
+        _ => None,
     }
-    true
 }
 
-/// Whether a step tells the reply.
-pub(crate) fn ends(core: &mut Core, actor: u8, reply: Reply) -> bool {
-    core.turn(Turn::Step(actor)) == Ok(Event::Done(reply))
-}
-
-/// The reply of the operation that an actor has, after as many steps as it takes, and how many they were.
-pub(crate) fn finish(core: &mut Core, actor: u8) -> Option<(Reply, u32)> {
-    for steps in 1..=1000u32 {
-        match core.turn(Turn::Step(actor)) {
-            Ok(Event::Done(reply)) => return Some((reply, steps)),
-            Ok(_) => {}
-            Err(_) => return None,
+/// The reply of the operation that an actor has, after as many steps as it takes.
+pub(crate) fn finish(core: &mut Core, actor: u8) -> Option<Reply> {
+    for _ in 0..1000u32 {
+        if core.step_on(actor).is_none() {
+            return end(core, actor);
         }
     }
     None
 }
 
-/// Whether the operation that an actor has is done with this reply, after as many steps as it takes.
-pub(crate) fn finishes(core: &mut Core, actor: u8, wanted: Reply) -> bool {
-    match finish(core, actor) {
-        Some((reply, _)) => reply == wanted,
-        None => false,
-    }
-}
-
 /// The reply of an actor's command, after as many steps as it takes.
 pub(crate) fn reply(core: &mut Core, actor: u8, command: Command) -> Option<Reply> {
-    core.turn(Turn::Begin(actor, command)).ok()?;
-    let (reply, _) = finish(core, actor)?;
-    Some(reply)
+    if begins(core, actor, command) {
+        return finish(core, actor);
+    }
+    None
 }
 
 /// Whether an actor's command has this reply.
 pub(crate) fn replies(core: &mut Core, actor: u8, command: Command, wanted: Reply) -> bool {
-    begins(core, actor, command) && finishes(core, actor, wanted)
+    reply(core, actor, command) == Some(wanted)
 }
 
 /// Whether all operations are done, and then four deletes of a key by each actor, after which each has freed all that it took out.

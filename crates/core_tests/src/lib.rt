@@ -6,15 +6,11 @@ mod accounts;
 #[cfg(test)]
 mod by_hand;
 #[cfg(test)]
-mod example;
-#[cfg(test)]
 mod index_removals;
 #[cfg(test)]
 mod numbered;
 #[cfg(test)]
 mod numbers;
-#[cfg(test)]
-mod pages;
 #[cfg(test)]
 mod plain_map;
 #[cfg(test)]
@@ -34,12 +30,6 @@ mod schedules;
 #[cfg(test)]
 mod scripts;
 #[cfg(test)]
-mod seeded;
-#[cfg(test)]
-mod shrinking;
-#[cfg(test)]
-mod small_leaves;
-#[cfg(test)]
 mod stops;
 #[cfg(test)]
 mod swaps;
@@ -47,7 +37,5 @@ mod swaps;
 mod sweeps;
 #[cfg(test)]
 mod tides;
-#[cfg(test)]
-mod tidying;
 #[cfg(test)]
 mod walks;

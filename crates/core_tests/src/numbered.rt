@@ -1,6 +1,6 @@
 //! Keys and values by number.
 
-use bw_model::{Command, Key, Reply, Value};
+use bw_model::{Command, Key, Pairs, Reply, Value};
 
 /// Two bytes that stand for a number; those of the numbers below 1,024 are in their order.
 fn bytes(number: u32) -> [u8; 2] {
@@ -15,14 +15,29 @@ pub(crate) fn value(number: u32) -> Value {
     Value::from_slice(&bytes(number)).unwrap_or_default()
 }
 
+/// A key between that of a number and the next one.
+pub(crate) fn between(number: u32, last: u8) -> Key {
+    let [first, second] = bytes(number);
+    Key::from_slice(&[first, second, last]).unwrap_or_default()
+}
+
 /// An insert of a key with the value of its number.
 pub(crate) fn insert(number: u32) -> Command {
     Command::Insert(key(number), value(number))
 }
 
-/// What a lookup of that key is to say.
-pub(crate) fn found(number: u32) -> Reply {
-    Reply::Value(value(number))
+/// The cursor page of the keys from one number to another, and the next one.
+pub(crate) fn page(first: u32, last: u32, next: Option<u32>) -> Reply {
+    let mut items = Pairs::new();
+    for number in first..=last {
+        if items.as_slice().len() < 24 {
+            items.push(key(number), value(number));
+        }
+    }
+    Reply::Page {
+        items,
+        next: next.map(key),
+    }
 }
 
 /// The number of a key of these.
@@ -39,15 +54,4 @@ pub(crate) fn number_of(key: &Key) -> Option<u32> {
 /// Whether a pair is the key of a number and the value of one.
 pub(crate) fn is_pair(pair: Option<&(Key, Value)>, number: u32, of: u32) -> bool {
     pair == Some(&(key(number), value(of)))
-}
-
-/// Whether the pairs are those of the keys below a number, in order, each with the value of its number.
-pub(crate) fn are_first(pairs: &[(Key, Value)], count: u32) -> bool {
-    let mut left = pairs.iter();
-    for number in 0..count {
-        if !is_pair(left.next(), number, number) {
-            return false;
-        }
-    }
-    left.next().is_none()
 }

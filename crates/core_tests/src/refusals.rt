@@ -2,13 +2,11 @@
 //! there had been no refusal.
 
 use crate::by_hand::let_go;
-use crate::numbered;
-use crate::scripts::opened;
-use bw_model::{Command, Key, Limits, OpenError, Value};
+use crate::scripts::{Ask, opened};
+use bw_model::{Key, Limits, OpenError, Value};
 use refusing::Refusing;
-use std::alloc::{AllocError, Allocator, Global};
-use std::test::Fail;
-use step_core::{Core, Event, RunError, run};
+use std::alloc::{Allocator, Global};
+use step_core::{Core, RunError, run};
 use traces::Turn;
 
 /// An allocator that refuses one growth, and counts.
@@ -17,23 +15,19 @@ type Heap<'a> = &'a Refusing<Global>;
 /// More growths than a call wants.
 const MOST: u64 = 1_000;
 
-/// Before which of the turns below memory is wanted: where the trace has to grow, and for each record that is placed, at 8 and 20.
+/// An operation of actor 0, and how many steps it takes.
+type Operation = (Ask, u32);
+
+/// Before which turns an insert of an absent key and an upsert of the same key want memory: where the trace has to grow, and for each
+/// record that is placed, at 8 and 20.
 const WANTS: [u64; 5] = [0, 4, 8, 16, 20];
 
-fn insert(key: Key, value: Value) -> Turn {
-    Turn::Begin(0, Command::Insert(key, value))
-}
-
-fn upsert(key: Key, value: Value) -> Turn {
-    Turn::Begin(0, Command::Upsert(key, value))
-}
-
-/// An insert of an absent key, of ten steps, and an upsert of the same key, of eleven.
-fn updates(alloc: Global) -> Result<Vec<Turn>, AllocError> {
-    let mut turns = vec![in alloc; Turn::Step(0); 23]?;
-    turns[0] = insert(Key::default(), Value::default());
-    turns[11] = upsert(Key::default(), Value::default());
-    Ok(turns)
+/// The turn that begins an operation, or one of its steps.
+fn turn_of(ask: Option<Ask>) -> Turn {
+    match ask {
+        Some(ask) => Turn::Begin(0, ask.command()),
+        None => Turn::Step(0),
+    }
 }
 
 /// Why no core opens where a growth is refused.
@@ -43,23 +37,15 @@ fn open_error<'a>(heap: Heap<'a>, limits: Limits, growth: u64) -> Option<OpenErr
 }
 
 /// Whether each growth that is refused is told as want of memory, one at least, up to where there is none more.
-fn opens_at_last(alloc: Global, limits: Limits) -> bool {
-    let heap = Refusing::new(alloc);
+fn opens_at_last(heap: Heap<'_>, limits: Limits) -> bool {
     for growth in 0..MOST {
-        match open_error(&heap, limits, growth) {
+        match open_error(heap, limits, growth) {
             None => return growth > 0,
             Some(OpenError::Memory) => {}
             Some(_) => return false,
         }
     }
     false
-}
-
-#[test]
-fn open_wants_memory(rt: HostRuntime) -> Result<(), Fail> {
-    let limits = Limits::new(2, 64, 64, 1)?;
-    assert!(rt; opens_at_last(rt.alloc(), limits));
-    Ok(())
 }
 
 /// Why the turns are not taken where a growth is refused.
@@ -69,12 +55,11 @@ fn run_error<'a>(heap: Heap<'a>, limits: Limits, turns: &[Turn], growth: u64) ->
 }
 
 /// Whether memory is lacking before these turns, one after another, as one growth after another is refused, and at last before none.
-fn lacks(alloc: Global, limits: Limits, turns: &[Turn]) -> bool {
-    let heap = Refusing::new(alloc);
+fn lacks(heap: Heap<'_>, limits: Limits, turns: &[Turn]) -> bool {
     let mut lacks = WANTS.as_slice().iter();
     let mut last = None;
     for growth in 0..MOST {
-        let error = run_error(&heap, limits, turns, growth);
+        let error = run_error(heap, limits, turns, growth);
         if error != last && error != lacks.next().map(|turn| RunError::Memory(*turn)) {
             return false;
         }
@@ -83,19 +68,45 @@ fn lacks(alloc: Global, limits: Limits, turns: &[Turn]) -> bool {
     last.is_none()
 }
 
-/// Whether the updates do.
-fn updates_lack(alloc: Global, limits: Limits) -> bool {
-    match updates(alloc) {
-        Ok(turns) => lacks(alloc, limits, turns.as_slice()),
+/// Whether a core opens at last.
+fn opens(alloc: Global) -> bool {
+    match Limits::new(2, 64, 64, 1) {
+        Ok(limits) => opens_at_last(&Refusing::new(alloc), limits),
         Err(_) => false,
     }
 }
 
+/// Adds the turns of an operation; says whether there was memory.
+fn adds_turns(turns: &mut Vec<Turn>, (ask, steps): Operation) -> bool {
+    let mut ask = Some(ask);
+    for _ in 0..=steps {
+        if turns.push(turn_of(ask)).is_err() {
+            return false;
+        }
+        ask = None;
+    }
+    true
+}
+
+/// Whether memory is lacking so for these turns of one actor.
+fn lack(alloc: Global, turns: &[Turn]) -> bool {
+    match Limits::new(1, 64, 64, 1) {
+        Ok(limits) => lacks(&Refusing::new(alloc), limits, turns),
+        Err(_) => false,
+    }
+}
+
+/// Whether it is for the updates.
+fn updates_lack(alloc: Global) -> bool {
+    let mut turns = Vec::new(alloc);
+    adds_turns(&mut turns, (Ask::Insert(1), 10))
+        && adds_turns(&mut turns, (Ask::Upsert(1, 1), 11))
+        && lack(alloc, turns.as_slice())
+}
+
 #[test]
-fn run_wants_memory(rt: HostRuntime) -> Result<(), Fail> {
-    let limits = Limits::new(1, 64, 64, 1)?;
-    assert!(rt; updates_lack(rt.alloc(), limits));
-    Ok(())
+fn open_and_run_want_memory(rt: HostRuntime) {
+    assert!(rt; opens(rt.alloc()) && updates_lack(rt.alloc()));
 }
 
 /// Whether the twin lists these pairs.
@@ -121,39 +132,23 @@ fn are_alike(alloc: Global, core: &Core<Heap<'_>>, twin: &Core) -> bool {
         && list_alike(alloc, core, twin)
 }
 
-/// Takes a turn while a growth is refused; says how many growths came before the refused one and were not wanted.
-fn turn_without<'a>(
-    heap: Heap<'a>,
-    core: &mut Core<Heap<'a>>,
-    turn: &Turn,
-    growth: u64,
-) -> (Result<Event, RunError>, u64) {
-    heap.set(growth);
-    let event = core.turn(turn.clone().unwrap());
-    let left = heap.left();
-    heap.set(u64::MAX);
-    (event, left)
-}
-
-/// Whether the twin takes the turn so, too.
-fn takes_alike(event: &Result<Event, RunError>, twin: &mut Core, turn: &Turn) -> bool {
-    *event == twin.turn(turn.clone().unwrap())
-}
-
-/// Whether a turn is refused for want of memory while this growth is; if not, both take it alike. The core is like its twin then. None where
-/// anything else comes.
+/// Whether a turn is refused for want of memory while this growth is; if not, the twin takes it alike, and fewer growths were wanted.
+/// None where anything else comes.
 fn is_refused<'a>(
-    alloc: Global,
     heap: Heap<'a>,
     core: &mut Core<Heap<'a>>,
     twin: &mut Core,
-    turn: &Turn,
+    ask: Option<Ask>,
     growth: u64,
 ) -> Option<bool> {
-    let (event, left) = turn_without(heap, core, turn, growth);
-    let refused = matches!(event, Err(RunError::Memory(at)) if at == twin.turns());
-    let right = refused || (takes_alike(&event, twin, turn) && left == 0);
-    (right && are_alike(alloc, core, twin)).then_some(refused)
+    heap.set(growth);
+    let event = core.turn(turn_of(ask));
+    let left = heap.left();
+    heap.set(u64::MAX);
+    if event == Err(RunError::Memory(twin.turns())) {
+        return Some(true);
+    }
+    (event == twin.turn(turn_of(ask)) && left == 0).then_some(false)
 }
 
 /// How many growths a turn wants: each of them is refused in turn, for want of memory, and the core is like its twin still; then both take
@@ -163,155 +158,145 @@ fn growths<'a>(
     heap: Heap<'a>,
     core: &mut Core<Heap<'a>>,
     twin: &mut Core,
-    turn: &Turn,
+    ask: Option<Ask>,
 ) -> Option<u64> {
     for growth in 0..MOST {
-        if !is_refused(alloc, heap, core, twin, turn, growth)? {
+        let refused = is_refused(heap, core, twin, ask, growth)?;
+        if !are_alike(alloc, core, twin) {
+            return None;
+        }
+        if !refused {
             return Some(growth);
         }
     }
     None
 }
 
-/// Whether a turn wants memory exactly where it is said.
-fn wants_memory<'a>(
+/// Whether the turns of an operation each want memory exactly where it is said.
+fn want_memory<'a>(
     alloc: Global,
     heap: Heap<'a>,
     core: &mut Core<Heap<'a>>,
     twin: &mut Core,
-    turn: &Turn,
+    (ask, steps): Operation,
     wants: &[u64],
 ) -> bool {
-    let wants = wants.contains(&core.turns());
-    match growths(alloc, heap, core, twin, turn) {
-        Some(growths) => (growths > 0) == wants,
-        None => false,
+    let mut ask = Some(ask);
+    for _ in 0..=steps {
+        let wanted = wants.contains(&core.turns());
+        match growths(alloc, heap, core, twin, ask) {
+            Some(growths) if (growths > 0) == wanted => {}
+            _ => return false,
+        }
+        ask = None;
     }
+    true
 }
 
-/// Takes the turns, of each growth that is wanted refused in turn. Says how many were taken before one that doesn't want memory exactly
-/// where it is said.
-fn all_refused<'a>(
+/// Whether a core takes the turns of an operation.
+fn takes<A: Allocator + Copy>(core: &mut Core<A>, (ask, steps): Operation) -> bool {
+    let mut ask = Some(ask);
+    for _ in 0..=steps {
+        if core.turn(turn_of(ask)).is_err() {
+            return false;
+        }
+        ask = None;
+    }
+    true
+}
+
+/// Whether it takes the turns of inserts of the keys from 1 on, of which each has so many steps.
+fn inserts<A: Allocator + Copy>(core: &mut Core<A>, steps: &[u32]) -> bool {
+    let mut number = 1u32;
+    for steps in steps {
+        if !takes(core, (Ask::Insert(number), *steps)) {
+            return false;
+        }
+        number = number.wrapping_add(1);
+    }
+    true
+}
+
+/// Whether an operation, once the first inserts are taken, wants memory exactly where it is said.
+fn want_behind<'a>(
     alloc: Global,
     heap: Heap<'a>,
     core: &mut Core<Heap<'a>>,
     twin: &mut Core,
-    turns: &[Turn],
+    first: &[u32],
+    operation: Operation,
     wants: &[u64],
-) -> u64 {
-    for turn in turns {
-        if !wants_memory(alloc, heap, core, twin, turn, wants) {
-            return core.turns();
-        }
-    }
-    core.turns()
+) -> bool {
+    inserts(core, first)
+        && inserts(twin, first)
+        && want_memory(alloc, heap, core, twin, operation, wants)
 }
 
-/// Takes first turns while there is memory, and the turns behind them so.
-fn taken_by_twins(alloc: Global, first: &[Turn], turns: &[Turn], wants: &[u64]) -> Option<u64> {
-    let limits = Limits::new(1, 64, 64, 1).ok()?;
-    let heap = Refusing::new(alloc);
-    let mut twin = Core::open(alloc, limits).ok()?;
-    let taken = taken_beside(alloc, &heap, &mut twin, first, turns, wants);
-    let_go(twin);
-    taken
-}
-
-/// The same beside a twin.
-fn taken_beside<'a>(
+/// Whether it does on a new core, beside a twin.
+fn want_beside<'a>(
     alloc: Global,
     heap: Heap<'a>,
     twin: &mut Core,
-    first: &[Turn],
-    turns: &[Turn],
+    first: &[u32],
+    operation: Operation,
     wants: &[u64],
-) -> Option<u64> {
-    let mut core = Core::<Heap<'a>>::open(heap, *twin.limits()).ok()?;
-    let are_taken = are_taken(&mut core, first) && are_taken(twin, first);
-    let taken = all_refused(alloc, heap, &mut core, twin, turns, wants);
-    let_go(core);
-    are_taken.then_some(taken)
-}
-
-/// How many of the updates are taken so.
-fn updates_taken(alloc: Global) -> Option<u64> {
-    let turns = updates(alloc).ok()?;
-    taken_by_twins(alloc, &[], turns.as_slice(), &WANTS)
-}
-
-#[test]
-fn turn_wants_memory(rt: HostRuntime) {
-    assert!(rt; updates_taken(rt.alloc()) == Some(23));
-}
-
-/// A turn that begins an operation, and so many steps.
-fn begun(alloc: Global, begin: Turn, steps: u32) -> Result<Vec<Turn>, AllocError> {
-    let mut turns = Vec::new(alloc);
-    turns.push(begin)?;
-    for _ in 0..steps {
-        turns.push(Turn::Step(0))?;
+) -> bool {
+    match Core::<Heap<'a>>::open(heap, *twin.limits()) {
+        Ok(mut core) => {
+            let right = want_behind(alloc, heap, &mut core, twin, first, operation, wants);
+            let_go(core);
+            right
+        }
+        Err(_) => false,
     }
-    Ok(turns)
+}
+
+/// After how many turns an operation is done that wants memory exactly where it is said; 0 where anything else comes.
+fn taken(alloc: Global, first: &[u32], operation: Operation, wants: &[u64]) -> u64 {
+    match opened(alloc, 1, 64, 64, 1) {
+        Some(mut twin) => {
+            let heap = Refusing::new(alloc);
+            let right = want_beside(alloc, &heap, &mut twin, first, operation, wants);
+            let turns = twin.turns();
+            let_go(twin);
+            if right { turns } else { 0 }
+        }
+        None => 0,
+    }
 }
 
 /// Before which turns a cursor page behind one insert wants memory: where the trace has to grow, at 16, and for its pairs, at its
 /// last step.
 const PAGE_WANTS: [u64; 2] = [16, 18];
 
-/// How many turns of an insert and a cursor page are taken so.
-fn page_taken(alloc: Global) -> Option<u64> {
-    let first = begun(alloc, insert(Key::default(), Value::default()), 10).ok()?;
-    let turns = begun(alloc, Turn::Begin(0, Command::Page(Key::default())), 7).ok()?;
-    taken_by_twins(alloc, first.as_slice(), turns.as_slice(), &PAGE_WANTS)
-}
-
-#[test]
-fn page_wants_memory(rt: HostRuntime) {
-    assert!(rt; page_taken(rt.alloc()) == Some(19));
-}
-
-/// Sixteen inserts in the order of their keys, and their steps. The ninth consolidates the page, and the tenth first frees the rows of
-/// the old chain, by three steps: read epoch, retire, a word of rows.
-fn inserts(alloc: Global) -> Result<Vec<Turn>, AllocError> {
-    let mut turns = Vec::new(alloc);
-    for place in 0..16u32 {
-        turns.push(Turn::Begin(0, numbered::insert(place)))?;
-        let steps = match place {
-            8 => 25,
-            9 => 14,
-            _ => place % 8 + 10,
-        };
-        for _ in 0..steps {
-            turns.push(Turn::Step(0))?;
-        }
-    }
-    Ok(turns)
-}
+/// The steps of sixteen inserts in the order of their keys. The ninth consolidates the page, and the tenth first frees the rows of the old chain, by
+/// three steps: read epoch, retire, a word of rows.
+const INSERTS: [u32; 16] = [
+    10, 11, 12, 13, 14, 15, 16, 17, 25, 14, 12, 13, 14, 15, 16, 17,
+];
 
 /// Before which turns an insert behind these wants memory, that consolidates the page, splits it, and puts a root over it: where
 /// the trace has to grow, at 250 for the seventeenth command and its reply, and at 256, and for each of the five records that are placed.
 const SPLIT_WANTS: [u64; 7] = [250, 256, 266, 277, 279, 291, 306];
 
-/// How many turns of the inserts are taken so.
-fn split_taken(alloc: Global) -> Option<u64> {
-    let first = inserts(alloc).ok()?;
-    let turns = begun(alloc, Turn::Begin(0, numbered::insert(16)), 58).ok()?;
-    taken_by_twins(alloc, first.as_slice(), turns.as_slice(), &SPLIT_WANTS)
-}
-
 #[test]
-fn split_wants_memory(rt: HostRuntime) {
-    assert!(rt; split_taken(rt.alloc()) == Some(309));
+fn turns_want_memory(rt: HostRuntime) {
+    let alloc = rt.alloc();
+    let taken = [
+        taken(alloc, &[], (Ask::Insert(1), 10), &WANTS),
+        taken(alloc, &[10], (Ask::Upsert(1, 1), 11), &WANTS),
+        taken(alloc, &[10], (Ask::Page(1), 7), &PAGE_WANTS),
+        taken(alloc, &INSERTS, (Ask::Insert(17), 58), &SPLIT_WANTS),
+    ];
+    assert!(rt; taken == [11, 23, 19, 309]);
 }
 
-/// Whether the core takes the turns.
-fn are_taken<A: Allocator + Copy>(core: &mut Core<A>, turns: &[Turn]) -> bool {
-    for turn in turns {
-        if core.turn(turn.clone().unwrap()).is_err() {
-            return false;
-        }
+/// Whether the core lists these pairs, or lacks memory for it; none where anything else comes.
+fn is_listed(heap: Heap<'_>, core: &Core, pairs: &[(Key, Value)]) -> Option<bool> {
+    match core.listing::<Heap<'_>>(heap) {
+        Ok(listed) => (listed.as_slice() == pairs).then_some(true),
+        Err(error) => (error == RunError::Memory(core.turns())).then_some(false),
     }
-    true
 }
 
 /// Whether each growth of a listing that is refused is told as want of memory, one at least, up to where there is none more and the
@@ -328,14 +313,6 @@ fn lists_at_last(heap: Heap<'_>, core: &Core, pairs: &[(Key, Value)]) -> bool {
     false
 }
 
-/// Whether the core lists these pairs, or lacks memory for it; none where anything else comes.
-fn is_listed(heap: Heap<'_>, core: &Core, pairs: &[(Key, Value)]) -> Option<bool> {
-    match core.listing::<Heap<'_>>(heap) {
-        Ok(listed) => (listed.as_slice() == pairs).then_some(true),
-        Err(error) => (error == RunError::Memory(core.turns())).then_some(false),
-    }
-}
-
 /// Whether the listing of sixteen pairs is refused so.
 fn sixteen_lack(alloc: Global, core: &Core) -> bool {
     let heap = Refusing::new(alloc);
@@ -346,15 +323,18 @@ fn sixteen_lack(alloc: Global, core: &Core) -> bool {
 }
 
 /// The same on a new core, once the pairs are inserted.
-fn listing_lacks(alloc: Global) -> Option<bool> {
-    let turns = inserts(alloc).ok()?;
-    let mut core = opened(alloc, 1, 64, 1)?;
-    let lacks = are_taken(&mut core, turns.as_slice()) && sixteen_lack(alloc, &core);
-    let_go(core);
-    Some(lacks)
+fn listing_lacks(alloc: Global) -> bool {
+    match opened(alloc, 1, 64, 64, 1) {
+        Some(mut core) => {
+            let lacks = inserts(&mut core, &INSERTS) && sixteen_lack(alloc, &core);
+            let_go(core);
+            lacks
+        }
+        None => false,
+    }
 }
 
 #[test]
 fn listing_wants_memory(rt: HostRuntime) {
-    assert!(rt; listing_lacks(rt.alloc()) == Some(true));
+    assert!(rt; listing_lacks(rt.alloc()));
 }

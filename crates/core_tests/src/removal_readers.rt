@@ -1,23 +1,31 @@
-//! Lookups and cursor pages between each two stages of a removal.
+//! Lookups, cursor pages and swaps between each two stages of a removal, and through them.
 
-use crate::by_hand::{begins, finish, let_go, steps, until};
-use crate::scripts::{Ask, Line, Say, runs};
-use crate::small_leaves::with_small_leaf;
-use bw_model::{Link, Reply};
+use crate::by_hand::let_go;
+use crate::scripts::{Ask, Line, NONE, Say, opened, runs};
+use crate::stops::{Stop, stops_anywhere};
+use bw_model::Link;
 use std::alloc::Global;
 use step_core::Core;
 
-/// The stages of a removal, each by its link.
-const STAGES: [Link; 5] = [
-    Link::Hold,
-    Link::Remove,
-    Link::Merge,
-    Link::Unterm,
-    Link::Clear,
+/// The removal of a small leaf, as in `removal_stops`, by actor 0: what stands before it, and its stages.
+const STAGES: [Line; 8] = [
+    Line::Inserts(0, 1, 17),
+    Line::Deletes(0, 17, 13),
+    Line::Begins(0, Ask::Delete(12)),
+    Line::Until(0, Link::Hold),
+    Line::Until(0, Link::Remove),
+    Line::Until(0, Link::Merge),
+    Line::Until(0, Link::Unterm),
+    Line::Until(0, Link::Clear),
 ];
 
-/// What actor 1 finds in both leaves, where the first one has these pairs from k05 on.
-const fn found(fifth: Say) -> [Line; 8] {
+/// How many lines come before the first stage, and before the merge.
+const BEFORE_STAGES: usize = 2;
+
+const BEFORE_MERGE: usize = 5;
+
+/// What actor 1 finds in both leaves, where the first one has these pairs from k5 on.
+fn found(fifth: Say) -> [Line; 8] {
     [
         Line::Replies(1, Ask::Get(8), Say::Value(8)),
         Line::Replies(1, Ask::Get(9), Say::Value(9)),
@@ -30,10 +38,20 @@ const fn found(fifth: Say) -> [Line; 8] {
     ]
 }
 
-/// Whether actor 0 comes to each of these stages, and both leaves are read there.
-fn stands(alloc: Global, core: &mut Core, stages: &[Link], fifth: Say) -> bool {
-    for link in stages {
-        if !until(core, 0, *link) || !runs(alloc, core, &found(fifth)) {
+/// Whether actor 0 comes to the stage of a place, and both leaves are read there. Until the merge the first leaf ends before k9.
+fn stands(alloc: Global, core: &mut Core, place: usize, stage: Line) -> bool {
+    let fifth = if place < BEFORE_MERGE {
+        Say::Page(5, 8, Some(9))
+    } else {
+        Say::Page(5, 12, None)
+    };
+    runs(alloc, core, &[stage]) && (place < BEFORE_STAGES || runs(alloc, core, &found(fifth)))
+}
+
+/// Whether it does at each stage.
+fn stands_everywhere(alloc: Global, core: &mut Core) -> bool {
+    for (place, stage) in STAGES.iter().enumerate() {
+        if !stands(alloc, core, place, *stage) {
             return false;
         }
     }
@@ -47,23 +65,16 @@ const END: [Line; 3] = [
     Line::Ends(0, Say::Deleted(12)),
 ];
 
-/// Whether both leaves are read at each stage. Until the merge the first leaf ends before k09.
+/// Whether it does on a new core, and the removal ends.
 fn are_read(alloc: Global) -> bool {
-    let (apart, merged) = (Say::Page(5, 8, Some(9)), Say::Page(5, 12, None));
-    let Some(mut core) = at_stage(alloc, 0) else {
-        return false;
-    };
-    let right = runs(alloc, &mut core, &found(apart))
-        && stands(alloc, &mut core, &[Link::Hold, Link::Remove], apart)
-        && stands(
-            alloc,
-            &mut core,
-            &[Link::Merge, Link::Unterm, Link::Clear],
-            merged,
-        )
-        && runs(alloc, &mut core, &END);
-    let_go(core);
-    right
+    match opened(alloc, 2, 64, 256, 1) {
+        Some(mut core) => {
+            let right = stands_everywhere(alloc, &mut core) && runs(alloc, &mut core, &END);
+            let_go(core);
+            right
+        }
+        None => false,
+    }
 }
 
 #[test]
@@ -71,75 +82,55 @@ fn readers_between_the_stages(rt: HostRuntime) {
     assert!(rt; are_read(rt.alloc()));
 }
 
-/// Whether a delete of k12 by actor 0 begins, and comes to the stage of this number, if any.
-fn comes_to(core: &mut Core, stage: usize) -> bool {
-    let mut comes = begins(core, 0, Ask::Delete(12).command());
-    for link in STAGES.iter().take(stage) {
-        comes = comes && until(core, 0, *link);
-    }
-    comes
-}
-
-/// A tree in which it has come there.
-pub(crate) fn at_stage(alloc: Global, stage: usize) -> Option<Core> {
-    let mut core = with_small_leaf(alloc)?;
-    if comes_to(&mut core, stage) {
-        return Some(core);
-    }
-    let_go(core);
-    None
-}
-
-/// What a reader that has taken so many steps is answered, where the delete goes on to its end in the middle of the reader's way.
-fn answer(core: &mut Core, taken: u32, ask: Ask) -> Option<Reply> {
-    let stopped = begins(core, 1, ask.command()) && steps(core, 1, taken, None);
-    if !stopped || finish(core, 0).is_none() {
-        return None;
-    }
-    let (reply, _) = finish(core, 1)?;
-    Some(reply)
-}
-
-/// Whether the reply is one of these.
-fn is_one_of(reply: &Option<Reply>, wanted: [Say; 2]) -> bool {
-    match reply {
-        Some(reply) => *reply == wanted[0].reply() || *reply == wanted[1].reply(),
-        None => false,
-    }
-}
-
-/// Whether a reader that stops at this stage has one of these replies.
-fn is_answered(alloc: Global, stage: usize, taken: u32, ask: Ask, wanted: [Say; 2]) -> bool {
-    let Some(mut core) = at_stage(alloc, stage) else {
-        return false;
+/// Whether an operation of actor 1, by so many steps at least, has one of these replies wherever it stands while the delete goes on to its
+/// end, from behind so many of the lines; and k10 has this value then.
+fn goes_through(
+    alloc: Global,
+    place: usize,
+    (ask, wanted): (Ask, [Say; 2]),
+    least: u32,
+    tenth: u32,
+) -> bool {
+    let lines = [
+        Line::Finishes(0, Say::Deleted(12)),
+        Line::FinishesSo(1, wanted),
+        Line::Lists([(1, 11), NONE, NONE], tenth),
+    ];
+    let stop = Stop {
+        actor: 1,
+        ask,
+        link: Link::Put,
+        least,
+        most: 1000,
     };
-    let right = is_one_of(&answer(&mut core, taken, ask), wanted);
-    let_go(core);
-    right
+    let before = STAGES.as_slice().get(..place).unwrap_or(&[]);
+    stops_anywhere(alloc, before, stop, &lines, &lines)
 }
 
-/// Whether a lookup and a cursor page of k10 are answered wherever they stand while the delete goes on from one stage to its end.
-fn go_through(alloc: Global, first: usize, end: usize) -> bool {
-    let pages = [Say::Page(10, 12, None), Say::Page(10, 11, None)];
-    for stage in first..end {
-        for taken in 0..11u32 {
-            let found = [Say::Value(10), Say::Value(10)];
-            if !is_answered(alloc, stage, taken, Ask::Get(10), found)
-                || !is_answered(alloc, stage, taken, Ask::Page(10), pages)
-            {
-                return false;
-            }
+/// Whether it does from behind each of the stages.
+fn go_through(alloc: Global, asked: (Ask, [Say; 2]), least: u32, tenth: u32) -> bool {
+    for place in BEFORE_STAGES..STAGES.len() {
+        if !goes_through(alloc, place + 1, asked, least, tenth) {
+            return false;
         }
     }
     true
 }
 
+// A lookup and a cursor page of k10.
 #[test]
 fn readers_through_a_removal(rt: HostRuntime) {
-    assert!(rt; go_through(rt.alloc(), 0, 3));
+    let found = [Say::Value(10), Say::Value(10)];
+    let pages = [Say::Page(10, 12, None), Say::Page(10, 11, None)];
+    let right = [
+        go_through(rt.alloc(), (Ask::Get(10), found), 6, 10),
+        go_through(rt.alloc(), (Ask::Page(10), pages), 6, 10),
+    ];
+    assert!(rt; right == [true; 2]);
 }
 
 #[test]
-fn readers_after_a_merge(rt: HostRuntime) {
-    assert!(rt; go_through(rt.alloc(), 3, 6));
+fn swaps_through_a_removal(rt: HostRuntime) {
+    let swap = (Ask::Swap(10, 10, 30), [Say::Swapped, Say::Swapped]);
+    assert!(rt; go_through(rt.alloc(), swap, 10, 30));
 }

@@ -1,41 +1,28 @@
 //! A delete that removes a leaf, stopped after each of its steps, while another actor goes on at the leaf and beside it.
 
-use crate::by_hand::{begun, let_go};
-use crate::scripts::{Ask, Line, Say, is_told, runs};
-use crate::small_leaves::{ELEVEN, TWELVE, with_small_leaf};
+use crate::scripts::{Ask, Line, NONE, Say, is_told};
+use crate::stops::{Stop, stops_anywhere};
 use bw_model::Link;
 use std::alloc::Global;
 
-/// Whether the lines tell what they are to where actor 0 stops after so many steps of its delete of k12: these where the key is there
-/// still, and those where it is gone.
-fn go_on(alloc: Global, steps: u32, there: &[Line], gone: &[Line]) -> bool {
-    let Some(mut core) = with_small_leaf(alloc) else {
-        return false;
-    };
-    let right = match begun(&mut core, Ask::Delete(12).command(), steps, Link::Delete) {
-        Some(true) => runs(alloc, &mut core, gone),
-        Some(false) => runs(alloc, &mut core, there),
-        None => false,
-    };
-    let_go(core);
-    right
-}
+/// Page 1 has k1 to k8, and page 2 has k9 to k12: the next delete there removes it.
+const SMALL_LEAF: [Line; 2] = [Line::Inserts(0, 1, 17), Line::Deletes(0, 17, 13)];
 
-/// Actor 1 looks a key of the leaf up and changes its value; the delete goes on after that.
-const fn updates(left: &'static [u8]) -> [Line; 6] {
+/// Actor 1 looks a key of the leaf up and changes its value, where the keys up to the last one are listed; the delete goes on after that.
+fn updates(last: u32) -> [Line; 6] {
     [
-        Line::Lists(left, 10),
+        Line::ListsAll(1, last),
         Line::Replies(1, Ask::Get(10), Say::Value(10)),
         Line::Replies(1, Ask::Upsert(10, 50), Say::Replaced(10)),
-        Line::Lists(left, 50),
+        Line::Lists([(1, last), NONE, NONE], 50),
         Line::Finishes(0, Say::Deleted(12)),
-        Line::Lists(&ELEVEN, 50),
+        Line::Lists([(1, 11), NONE, NONE], 50),
     ]
 }
 
 /// Actor 1 deletes another key of the leaf, inserts one that goes there, and tidies both leaves; the delete goes on after that. A
 /// lookup of k12 has this reply meanwhile.
-const fn deletes(twelfth: Say) -> [Line; 9] {
+fn deletes(twelfth: Say) -> [Line; 9] {
     [
         Line::Replies(1, Ask::Delete(11), Say::Deleted(11)),
         Line::Replies(1, Ask::Get(12), twelfth),
@@ -44,7 +31,7 @@ const fn deletes(twelfth: Say) -> [Line; 9] {
         Line::Replies(1, Ask::Tidy(9), Say::Tidied),
         Line::Replies(1, Ask::Get(12), twelfth),
         Line::Finishes(0, Say::Deleted(12)),
-        Line::Lists(&[1, 2, 3, 4, 5, 6, 7, 8, 9, 10, 13], 10),
+        Line::Lists([(1, 10), (13, 13), NONE], 10),
         Line::Replies(1, Ask::Get(12), Say::None),
     ]
 }
@@ -56,23 +43,33 @@ const GROWS: [Line; 8] = [
     Line::Replies(1, Ask::Insert(14), Say::Inserted),
     Line::Replies(1, Ask::Insert(15), Say::Inserted),
     Line::Finishes(0, Say::Deleted(12)),
-    Line::Lists(&[1, 2, 3, 4, 5, 6, 7, 8, 9, 10, 11, 13, 14, 15], 10),
+    Line::Lists([(1, 11), (13, 15), NONE], 10),
     Line::Replies(0, Ask::Delete(15), Say::Deleted(15)),
     Line::Replies(1, Ask::Tidy(9), Say::Tidied),
-    Line::Lists(&[1, 2, 3, 4, 5, 6, 7, 8, 9, 10, 11, 13, 14], 10),
+    Line::Lists([(1, 11), (13, 14), NONE], 10),
 ];
 
-/// Whether nothing goes wrong after any of these numbers of steps.
-fn all_right(alloc: Global, first: u32, end: u32) -> bool {
-    for steps in first..end {
-        if !go_on(alloc, steps, &updates(&TWELVE), &updates(&ELEVEN))
-            || !go_on(alloc, steps, &deletes(Say::Value(12)), &deletes(Say::None))
-            || !go_on(alloc, steps, &GROWS, &GROWS)
-        {
-            return false;
-        }
-    }
-    true
+/// Whether the delete of k12, by 115 steps, stops anywhere, with what happens where it stops before k12 is gone, and after that.
+fn delete_stops(alloc: Global, early: &[Line], late: &[Line]) -> bool {
+    let stop = Stop {
+        actor: 0,
+        ask: Ask::Delete(12),
+        link: Link::Delete,
+        least: 115,
+        most: 115,
+    };
+    stops_anywhere(alloc, &SMALL_LEAF, stop, early, late)
+}
+
+#[test]
+fn a_removal_stops_anywhere(rt: HostRuntime) {
+    let alloc = rt.alloc();
+    let stops = [
+        delete_stops(alloc, &updates(12), &updates(11)),
+        delete_stops(alloc, &deletes(Say::Value(12)), &deletes(Say::None)),
+        delete_stops(alloc, &GROWS, &GROWS),
+    ];
+    assert!(rt; stops == [true; 3]);
 }
 
 // Two steps enter. Eleven read the leaf, four hold its term; twelve read it again, four remove it; thirteen find it removed. Seven
@@ -80,8 +77,8 @@ fn all_right(alloc: Global, first: u32, end: u32) -> bool {
 // left, nine the removed page, four take its term out, and one clears it. Nine read the leaf of the key, four delete it, and one
 // leaves.
 const REMOVAL: [Line; 15] = [
-    Line::Inserts(1, 17),
-    Line::Deletes(17, 13),
+    Line::Inserts(0, 1, 17),
+    Line::Deletes(0, 17, 13),
     Line::Begins(0, Ask::Delete(12)),
     Line::Steps(0, 16, None),
     Line::Steps(0, 1, Some(Link::Hold)),
@@ -99,40 +96,5 @@ const REMOVAL: [Line; 15] = [
 
 #[test]
 fn steps_of_a_removal(rt: HostRuntime) {
-    assert!(rt; is_told(rt.alloc(), 2, 256, &REMOVAL));
-}
-
-#[test]
-fn stops_before_the_hold(rt: HostRuntime) {
-    assert!(rt; all_right(rt.alloc(), 0, 17));
-}
-
-#[test]
-fn stops_before_the_removal(rt: HostRuntime) {
-    assert!(rt; all_right(rt.alloc(), 17, 33));
-}
-
-#[test]
-fn stops_before_the_left_page(rt: HostRuntime) {
-    assert!(rt; all_right(rt.alloc(), 33, 50));
-}
-
-#[test]
-fn stops_before_the_merge(rt: HostRuntime) {
-    assert!(rt; all_right(rt.alloc(), 50, 66));
-}
-
-#[test]
-fn stops_after_the_merge(rt: HostRuntime) {
-    assert!(rt; all_right(rt.alloc(), 66, 84));
-}
-
-#[test]
-fn stops_before_the_slot_is_cleared(rt: HostRuntime) {
-    assert!(rt; all_right(rt.alloc(), 84, 101));
-}
-
-#[test]
-fn stops_after_the_slot_is_cleared(rt: HostRuntime) {
-    assert!(rt; all_right(rt.alloc(), 101, 115));
+    assert!(rt; is_told(rt.alloc(), &REMOVAL));
 }

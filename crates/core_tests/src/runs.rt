@@ -1,69 +1,18 @@
-//! Runs by hand, with the counts of steps and the replies that are wanted of them.
+//! Runs of turns: what they answer, and how they are refused.
 
 use crate::by_hand::let_go;
-use crate::pages::{key, value};
-use crate::scripts::{Ask, Line, Say, is_told, opened};
-use bw_model::{Command, Limits, Link, Reply};
+use crate::numbered::{insert, key, value};
+use crate::scripts::opened;
+use bw_model::{Command, Limits, Reply};
 use core_memory::Entries;
 use std::alloc::{AllocError, Global};
 use step_core::{RunError, run};
 use traces::{Entry, Turn};
 
-const LOOKUP_AND_INSERT: [Line; 9] = [
-    Line::Begins(0, Ask::Get(1)),
-    Line::Steps(0, 5, None),
-    Line::Ends(0, Say::None),
-    Line::Begins(1, Ask::Insert(1)),
-    Line::Steps(1, 8, None),
-    Line::Steps(1, 1, Some(Link::Put)),
-    Line::Ends(1, Say::Inserted),
-    Line::Turns(18),
-    Line::Lists(&[1], 10),
-];
-
-#[test]
-fn takes_the_steps_of_a_lookup_and_an_insert(rt: HostRuntime) {
-    assert!(rt; is_told(rt.alloc(), 2, 256, &LOOKUP_AND_INSERT));
-}
-
-const LOST_EXCHANGE: [Line; 11] = [
-    Line::Begins(0, Ask::Insert(1)),
-    Line::Steps(0, 8, None),
-    Line::Begins(1, Ask::Insert(2)),
-    Line::Steps(1, 8, None),
-    Line::Steps(1, 1, Some(Link::Put)),
-    Line::Ends(1, Say::Inserted),
-    Line::Idle(1),
-    // The exchange loses; then a round of four reads, and the row that was kept is placed and exchanged.
-    Line::Steps(0, 6, None),
-    Line::Steps(0, 1, Some(Link::Put)),
-    Line::Ends(0, Say::Inserted),
-    Line::Idle(0),
-];
-
-#[test]
-fn a_lost_exchange_keeps_its_row(rt: HostRuntime) {
-    assert!(rt; is_told(rt.alloc(), 2, 64, &LOST_EXCHANGE));
-}
-
-const CONSOLIDATION: [Line; 6] = [
-    Line::Inserts(1, 8),
-    Line::Turns(116),
-    Line::Replies(0, Ask::Delete(1), Say::Deleted(1)),
-    Line::Turns(142),
-    Line::Replies(0, Ask::Get(1), Say::None),
-    Line::Lists(&[2, 3, 4, 5, 6, 7, 8], 10),
-];
-
-#[test]
-fn a_writer_consolidates(rt: HostRuntime) {
-    assert!(rt; is_told(rt.alloc(), 1, 64, &CONSOLIDATION));
-}
-
 /// Two inserts of one key, the first of which takes ten steps, and the second seven.
 fn inserts(alloc: Global) -> Result<Vec<Turn>, AllocError> {
     let mut turns = vec![in alloc; Turn::Step(0); 19]?;
-    turns[0] = Turn::Begin(0, Ask::Insert(2).command());
+    turns[0] = Turn::Begin(0, insert(2));
     turns[11] = Turn::Begin(0, Command::Insert(key(2), value(3)));
     Ok(turns)
 }
@@ -80,7 +29,7 @@ fn reply_of(entry: Option<Entry>) -> Option<Reply> {
 fn are_answered(entries: &Entries) -> bool {
     entries.len() == 19
         && reply_of(entries.entry(10)) == Some(Reply::Inserted)
-        && reply_of(entries.entry(18)) == Some(Say::Exists(2).reply())
+        && reply_of(entries.entry(18)) == Some(Reply::Exists(value(2)))
 }
 
 /// The limits of the runs below.
@@ -106,7 +55,7 @@ fn refusal(alloc: Global, actors: u64, turns: &[Turn]) -> Option<RunError> {
 
 /// A lookup that begins.
 fn begins() -> Turn {
-    Turn::Begin(0, Ask::Get(1).command())
+    Turn::Begin(0, Command::Get(key(1)))
 }
 
 /// How a turn of an actor that isn't there is refused, a second begin, and a step without an operation.
@@ -131,7 +80,7 @@ fn refuses_turns(rt: HostRuntime) {
 
 /// How a core of one actor refuses the turns, and how many it has taken before.
 fn stopped(alloc: Global, turns: &[Turn]) -> Option<(RunError, u64)> {
-    let mut core = opened(alloc, 1, 64, 1)?;
+    let mut core = opened(alloc, 1, 64, 64, 1)?;
     let refused = core.take_turns(turns).err();
     let taken = core.turns();
     let_go(core);

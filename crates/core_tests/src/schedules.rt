@@ -3,7 +3,8 @@
 use crate::accounts::is_settled;
 use crate::numbered::{key, value};
 use crate::plain_map::{ABSENT, PlainMap, VALUES};
-use bw_model::{Command, Key, Limits, Link, Pairs, Reply};
+use crate::scripts::opened;
+use bw_model::{Command, Key, Link, Pairs, Reply};
 use rand_core::SeedableRng;
 use rand_core::utils::NextWord;
 use rand_pcg::Pcg32;
@@ -22,7 +23,7 @@ fn draw(rng: &mut Pcg32, count: u32) -> u32 {
 }
 
 /// What a command does.
-#[derive(Clone, Copy, PartialEq, Eq, Drop)]
+#[derive(Clone, Copy, PartialEq, Eq)]
 enum Kind {
     Get,
     Insert,
@@ -33,22 +34,20 @@ enum Kind {
     Tidy,
 }
 
-/// Of the four commands on one value, each as often as the others.
-const FOUR: [Kind; 4] = [Kind::Get, Kind::Insert, Kind::Upsert, Kind::Delete];
+/// Which commands there are.
+#[derive(Clone, Copy)]
+enum Mix {
+    /// The four commands on one value, each as often as the others.
+    Four,
+    /// One delete, and two each of the three others.
+    FewDeletes,
+    /// All seven commands, each as often as the others.
+    Seven,
+    /// The same, where a swap expects the value that its key has when it is asked, if it has one.
+    Swaps,
+}
 
-/// One delete, and two each of the three others.
-const FEW_DELETES: [Kind; 7] = [
-    Kind::Get,
-    Kind::Insert,
-    Kind::Upsert,
-    Kind::Delete,
-    Kind::Get,
-    Kind::Insert,
-    Kind::Upsert,
-];
-
-/// All seven commands, each as often as the others.
-const SEVEN: [Kind; 7] = [
+const KINDS: [Kind; 7] = [
     Kind::Get,
     Kind::Insert,
     Kind::Upsert,
@@ -58,8 +57,23 @@ const SEVEN: [Kind; 7] = [
     Kind::Tidy,
 ];
 
+/// The places of one delete, and two each of the three others.
+const FEW_DELETES: [u32; 7] = [0, 1, 2, 3, 0, 1, 2];
+
+impl Mix {
+    /// One of the commands.
+    fn drawn(self, rng: &mut Pcg32) -> Kind {
+        let place = match self {
+            Mix::Four => draw(rng, 4),
+            Mix::FewDeletes => FEW_DELETES[draw(rng, 7) as usize % 7],
+            Mix::Seven | Mix::Swaps => draw(rng, 7),
+        };
+        KINDS[place as usize % 7]
+    }
+}
+
 /// What an actor was asked: the kind of the command, its key, its value and the one that it expects by their numbers.
-#[derive(Clone, Copy, Drop)]
+#[derive(Clone, Copy)]
 struct Asked {
     kind: Kind,
     key: u32,
@@ -90,7 +104,7 @@ impl Asked {
     /// A command that is drawn.
     fn drawn(rng: &mut Pcg32, schedule: &Schedule) -> Asked {
         Asked {
-            kind: drawn_kind(rng, schedule.kinds),
+            kind: schedule.mix.drawn(rng),
             key: draw(rng, schedule.keys),
             value: draw(rng, VALUES),
             expected: draw(rng, VALUES),
@@ -162,40 +176,56 @@ impl Asked {
     }
 }
 
+/// What was seen of a schedule: how many roots were put over others, and how many slots of merged pages were cleared; whether a reply was
+/// that there is no room, and whether a key was changed after one.
+#[derive(Clone, Copy)]
+struct Seen {
+    roots: u32,
+    cleared: u32,
+    full: bool,
+    changed_since: bool,
+}
+
 /// The plain map, by the numbers of keys and values; what each actor was asked last; and what was seen so far.
 #[derive(Drop)]
 struct Twin {
     map: PlainMap,
     asked: Vec<Asked>,
-    /// How many roots were put over others.
-    roots: u32,
-    /// Whether a reply was that there is no room, and whether a key was changed after one.
-    full: bool,
-    changed_since: bool,
+    seen: Seen,
 }
+
+const NOTHING: Seen = Seen {
+    roots: 0,
+    cleared: 0,
+    full: false,
+    changed_since: false,
+};
 
 impl Twin {
     fn new(alloc: Global) -> Result<Twin, AllocError> {
         Ok(Twin {
             map: PlainMap::new(alloc)?,
             asked: vec![in alloc; Asked::idle(); 16]?,
-            roots: 0,
-            full: false,
-            changed_since: false,
+            seen: NOTHING,
         })
     }
 
-    fn begin(&mut self, actor: usize, mut asked: Asked) {
-        asked.met = bit(self.map.value(asked.key));
+    /// An actor is asked.
+    fn begin(&mut self, actor: usize, mix: Mix, asked: &mut Asked) {
+        let had = self.map.value(asked.key);
+        if matches!(mix, Mix::Swaps) && had != ABSENT {
+            asked.expected = had;
+        }
+        asked.met = bit(had);
         asked.since = self.map.moment();
         if let Some(place) = self.asked.get_mut(actor) {
-            *place = asked;
+            *place = *asked;
         }
     }
 
     /// The actor's update takes effect.
     fn update(&mut self, actor: usize) -> Result<(), AllocError> {
-        self.changed_since = self.full;
+        self.seen.changed_since = self.seen.full;
         let Some(own) = self.asked.get_mut(actor) else {
             return Ok(());
         };
@@ -218,7 +248,8 @@ impl Twin {
     fn link(&mut self, actor: usize, link: Link) -> Result<(), AllocError> {
         match link {
             Link::Put | Link::Delete => self.update(actor)?,
-            Link::Root => self.roots = self.roots.saturating_add(1),
+            Link::Root => self.seen.roots = self.seen.roots.saturating_add(1),
+            Link::Clear => self.seen.cleared = self.seen.cleared.saturating_add(1),
             _ => {}
         }
         Ok(())
@@ -226,7 +257,7 @@ impl Twin {
 
     fn may_reply(&mut self, actor: usize, reply: &Reply) -> bool {
         if *reply == Reply::Full {
-            self.full = true;
+            self.seen.full = true;
         }
         let Some(asked) = self.asked.get(actor) else {
             return false;
@@ -255,28 +286,21 @@ impl Twin {
 }
 
 /// How many actors take how many turns, with commands of which kinds over how many keys.
-#[derive(Drop)]
-struct Schedule<'a> {
+#[derive(Clone, Copy)]
+struct Schedule {
     seed: u64,
     actors: u32,
     turns: u32,
-    kinds: &'a [Kind],
+    mix: Mix,
     keys: u32,
-}
-
-/// One of the kinds.
-fn drawn_kind(rng: &mut Pcg32, kinds: &[Kind]) -> Kind {
-    let count = u32::try_from(kinds.len()).unwrap_or(1);
-    let place = draw(rng, count) as usize;
-    kinds.get(place).copied().unwrap_or(Kind::Get)
 }
 
 /// Takes a turn of an actor that is drawn; says whether what it did may be, beside the map.
 fn turn(core: &mut Core, twin: &mut Twin, rng: &mut Pcg32, schedule: &Schedule) -> bool {
     let actor = (draw(rng, schedule.actors) % 16) as u8;
     if !core.is_busy(actor) {
-        let asked = Asked::drawn(rng, schedule);
-        twin.begin(usize::from(actor), asked);
+        let mut asked = Asked::drawn(rng, schedule);
+        twin.begin(usize::from(actor), schedule.mix, &mut asked);
         return core.turn(Turn::Begin(actor, asked.command())).is_ok();
     }
     match core.turn(Turn::Step(actor)) {
@@ -301,72 +325,89 @@ fn agrees(alloc: Global, core: &mut Core, twin: &mut Twin, schedule: &Schedule) 
     true
 }
 
-/// How many roots came, whether room was wanted, and whether a key was changed after that; none where anything was wrong, also with
-/// rows or PIDs. It is a schedule of these commands over so many keys, by its seed, how many actors take how many turns, and how many
-/// PIDs and rows there are.
-fn seen(
+/// What was seen of a schedule; none where anything was wrong, also with rows or PIDs. It has these commands over so many keys, by its
+/// seed, how many actors take how many turns, and how many PIDs and rows there are.
+fn watch(
     alloc: Global,
-    (kinds, keys): (&[Kind], u32),
+    (mix, keys): (Mix, u32),
     (seed, actors, turns): (u64, u32, u32),
     (pids, rows): (u64, u64),
-) -> Option<(u32, bool, bool)> {
+) -> Option<Seen> {
     let schedule = Schedule {
         seed,
         actors,
         turns,
-        kinds,
+        mix,
         keys,
     };
-    let limits = Limits::new(u64::from(actors), pids, rows, 1).ok()?;
     let mut twin = Twin::new(alloc).ok()?;
-    let mut core = Core::open(alloc, limits).ok()?;
+    let mut core = opened(alloc, u64::from(actors), pids, rows, 1)?;
     let agrees = agrees(alloc, &mut core, &mut twin, &schedule);
-    let settled = is_settled(alloc, core, &key(1023));
-    (agrees && settled).then_some((twin.roots, twin.full, twin.changed_since))
+    let settled = is_settled(core, &key(1023));
+    (agrees && settled).then_some(twin.seen)
+}
+
+/// How many roots came, whether room was wanted, and whether a key was changed after that.
+fn told(seen: Option<Seen>) -> Option<(u32, bool, bool)> {
+    seen.map(|seen| (seen.roots, seen.full, seen.changed_since))
 }
 
 // All rows but one leaf's are used again and again.
 #[test]
 fn few_keys(rt: HostRuntime) {
-    let four = seen(rt.alloc(), (&FOUR, 8), (7, 3, 20_000), (64, 64));
-    let seven = seen(rt.alloc(), (&SEVEN, 8), (12, 3, 20_000), (64, 64));
-    let wanted = Some((0, false, false));
-    assert!(rt; four == wanted && seven == wanted);
+    let four = watch(rt.alloc(), (Mix::Four, 8), (7, 3, 20_000), (64, 64));
+    let seven = watch(rt.alloc(), (Mix::Seven, 8), (12, 3, 20_000), (64, 64));
+    assert!(rt; [told(four), told(seven)] == [Some((0, false, false)); 2]);
 }
 
 #[test]
 fn keys_for_three_levels(rt: HostRuntime) {
-    let four = seen(rt.alloc(), (&FOUR, 676), (8, 3, 50_000), (256, 2048));
-    assert!(rt; four == Some((2, false, false)));
+    let four = watch(rt.alloc(), (Mix::Four, 676), (8, 3, 50_000), (256, 2048));
+    assert!(rt; told(four) == Some((2, false, false)));
 }
 
 #[test]
 fn seven_commands_on_three_levels(rt: HostRuntime) {
-    let seven = seen(rt.alloc(), (&SEVEN, 676), (13, 5, 40_000), (256, 2048));
-    assert!(rt; seven == Some((2, false, false)));
+    let seven = watch(rt.alloc(), (Mix::Seven, 676), (13, 5, 40_000), (256, 2048));
+    assert!(rt; told(seven) == Some((2, false, false)));
+}
+
+/// How many slots four seeds clear, each without a fault.
+fn cleared(alloc: Global, first: u64) -> Option<u32> {
+    let mut cleared = 0u32;
+    for more in 0..4u64 {
+        let seed = first.wrapping_add(more);
+        let seen = watch(alloc, (Mix::Swaps, 64), (seed, 4, 20_000), (256, 4096))?;
+        cleared = cleared.saturating_add(seen.cleared);
+    }
+    Some(cleared)
+}
+
+#[test]
+fn seeds_1_to_8(rt: HostRuntime) {
+    assert!(rt; cleared(rt.alloc(), 1) > Some(0) && cleared(rt.alloc(), 5) > Some(0));
 }
 
 #[test]
 fn many_actors(rt: HostRuntime) {
-    let four = seen(rt.alloc(), (&FOUR, 40), (9, 16, 30_000), (64, 512));
-    assert!(rt; four == Some((1, false, false)));
+    let four = watch(rt.alloc(), (Mix::Four, 40), (9, 16, 30_000), (64, 512));
+    assert!(rt; told(four) == Some((1, false, false)));
 }
 
 #[test]
 fn few_pids(rt: HostRuntime) {
-    let four = seen(
+    let four = watch(
         rt.alloc(),
-        (&FEW_DELETES, 1024),
+        (Mix::FewDeletes, 1024),
         (10, 4, 60_000),
         (64, 1024),
     );
-    assert!(rt; four == Some((2, true, true)));
+    assert!(rt; told(four) == Some((2, true, true)));
 }
 
 #[test]
 fn few_rows(rt: HostRuntime) {
-    let four = seen(rt.alloc(), (&FOUR, 100), (11, 6, 20_000), (64, 64));
-    let seven = seen(rt.alloc(), (&SEVEN, 300), (14, 6, 20_000), (64, 64));
-    let wanted = Some((1, true, true));
-    assert!(rt; four == wanted && seven == wanted);
+    let four = watch(rt.alloc(), (Mix::Four, 100), (11, 6, 20_000), (64, 64));
+    let seven = watch(rt.alloc(), (Mix::Seven, 300), (14, 6, 20_000), (64, 64));
+    assert!(rt; [told(four), told(seven)] == [Some((1, true, true)); 2]);
 }

@@ -1,24 +1,21 @@
-//! Scripts: lines of what actors do with the keys k01, k02 and on, and what each line is to tell.
+//! Scripts: lines of what actors do with keys by their numbers, and what each line is to tell.
 
-use crate::by_hand::{begins, ends, finishes, let_go, replies, steps, until};
-use crate::pages::{key, page, value};
-use crate::small_leaves::{deletes, inserts, lists};
-use bw_model::{Command, Key, Limits, Link, Reply};
+use crate::by_hand::{begins, end, finish, let_go, replies, steps, until};
+use crate::numbered::{between, insert, is_pair, key, page, value};
+use bw_model::{Command, Key, Limits, Link, Reply, Value};
 use std::alloc::Global;
 use step_core::Core;
 
 /// A command on a key, with its values, by their numbers.
 #[derive(Clone, Copy)]
 pub(crate) enum Ask {
-    Get(u8),
-    Insert(u8),
-    Upsert(u8, u8),
-    Delete(u8),
-    Swap(u8, u8, u8),
-    Page(u8),
-    /// The cursor page of the lowest key of all.
-    First,
-    Tidy(u8),
+    Get(u32),
+    Insert(u32),
+    Upsert(u32, u32),
+    Delete(u32),
+    Swap(u32, u32, u32),
+    Page(u32),
+    Tidy(u32),
 }
 
 impl Ask {
@@ -26,12 +23,11 @@ impl Ask {
     pub(crate) fn command(self) -> Command {
         match self {
             Ask::Get(number) => Command::Get(key(number)),
-            Ask::Insert(number) => Command::Insert(key(number), value(number)),
+            Ask::Insert(number) => insert(number),
             Ask::Upsert(number, new) => Command::Upsert(key(number), value(new)),
             Ask::Delete(number) => Command::Delete(key(number)),
             Ask::Swap(number, old, new) => Command::Swap(key(number), value(old), value(new)),
             Ask::Page(number) => Command::Page(key(number)),
-            Ask::First => Command::Page(Key::default()),
             Ask::Tidy(number) => Command::Tidy(key(number)),
         }
     }
@@ -40,18 +36,16 @@ impl Ask {
 /// A reply, with the number of its value.
 #[derive(Clone, Copy)]
 pub(crate) enum Say {
-    Value(u8),
+    Value(u32),
     None,
     Inserted,
-    Exists(u8),
-    Replaced(u8),
-    Deleted(u8),
+    Replaced(u32),
+    Deleted(u32),
     Swapped,
-    Differs(u8),
+    Differs(u32),
     /// The pairs from the first number to the second, and the next key.
-    Page(u8, u8, Option<u8>),
+    Page(u32, u32, Option<u32>),
     Tidied,
-    Full,
 }
 
 impl Say {
@@ -60,14 +54,12 @@ impl Say {
             Say::Value(number) => Reply::Value(value(number)),
             Say::None => Reply::None,
             Say::Inserted => Reply::Inserted,
-            Say::Exists(number) => Reply::Exists(value(number)),
             Say::Replaced(number) => Reply::Replaced(value(number)),
             Say::Deleted(number) => Reply::Deleted(value(number)),
             Say::Swapped => Reply::Swapped,
             Say::Differs(number) => Reply::Differs(value(number)),
             Say::Page(first, last, next) => page(first, last, next),
             Say::Tidied => Reply::Tidied,
-            Say::Full => Reply::Full,
         }
     }
 }
@@ -85,18 +77,107 @@ pub(crate) enum Line {
     Ends(u8, Say),
     /// It takes steps up to the one that tells the reply.
     Finishes(u8, Say),
+    /// It takes steps up to the one that tells one of these replies.
+    FinishesSo(u8, [Say; 2]),
     /// It begins an operation, and takes steps up to the one that tells the reply.
     Replies(u8, Ask, Say),
-    /// It has no operation.
-    Idle(u8),
-    /// Actor 0 inserts the keys from one number to another.
-    Inserts(u8, u8),
-    /// Actor 0 deletes the keys from one number down to another.
-    Deletes(u8, u8),
-    /// So many turns were taken by now.
-    Turns(u64),
-    /// Exactly these keys are listed, each with the value of its number, but k10 with that of another one.
-    Lists(&'static [u8], u8),
+    /// It inserts the keys from one number to another, each with the value of its number.
+    Inserts(u8, u32, u32),
+    /// It inserts ten keys between that of a number and the next one.
+    InsertsBehind(u8, u32),
+    /// It deletes the keys from one number down to another, each with the value of its number.
+    Deletes(u8, u32, u32),
+    /// Exactly the keys from one number to another are listed, each with the value of its number.
+    ListsAll(u32, u32),
+    /// Exactly the keys of these ranges are listed, each with the value of its number, but the tenth with that of another one.
+    Lists([(u32, u32); 3], u32),
+}
+
+/// A range without numbers.
+pub(crate) const NONE: (u32, u32) = (1, 0);
+
+/// Whether an actor inserts the keys from one number to another.
+pub(crate) fn inserts(core: &mut Core, actor: u8, first: u32, last: u32) -> bool {
+    for number in first..=last {
+        if !replies(core, actor, insert(number), Reply::Inserted) {
+            return false;
+        }
+    }
+    true
+}
+
+/// Whether an actor inserts ten keys behind that of a number.
+fn inserts_behind(core: &mut Core, actor: u8, number: u32) -> bool {
+    for last in b'a'..=b'j' {
+        let command = Command::Insert(between(number, last), value(number));
+        if !replies(core, actor, command, Reply::Inserted) {
+            return false;
+        }
+    }
+    true
+}
+
+/// Whether an actor deletes the keys from one number down to another.
+fn deletes(core: &mut Core, actor: u8, last: u32, first: u32) -> bool {
+    for number in (first..=last).rev() {
+        let reply = Reply::Deleted(value(number));
+        if !replies(core, actor, Command::Delete(key(number)), reply) {
+            return false;
+        }
+    }
+    true
+}
+
+/// Whether a range's keys are the next ones, each with the value of its number, but the tenth with this one; and how many they are.
+fn are_next(pairs: &[(Key, Value)], (first, last): (u32, u32), tenth: u32) -> Option<usize> {
+    let mut count = 0usize;
+    for number in first..=last {
+        let had = if number == 10 { tenth } else { number };
+        if !is_pair(pairs.get(count), number, had) {
+            return None;
+        }
+        count = count.wrapping_add(1);
+    }
+    Some(count)
+}
+
+/// Whether these are exactly the keys of the ranges.
+fn are_pairs(pairs: &[(Key, Value)], ranges: [(u32, u32); 3], tenth: u32) -> bool {
+    let mut left = pairs;
+    for range in ranges {
+        match are_next(left, range, tenth) {
+            Some(count) => left = left.get(count..).unwrap_or(&[]),
+            None => return false,
+        }
+    }
+    left.is_empty()
+}
+
+/// Whether the core lists exactly the keys of these ranges, each with the value of its number, but the tenth with this one.
+fn lists(alloc: Global, core: &Core, ranges: [(u32, u32); 3], tenth: u32) -> bool {
+    match core.listing(alloc) {
+        Ok(pairs) => are_pairs(pairs.as_slice(), ranges, tenth),
+        Err(_) => false,
+    }
+}
+
+/// Whether the core lists exactly the keys from one number to another, each with the value of its number.
+pub(crate) fn lists_all(alloc: Global, core: &Core, first: u32, last: u32) -> bool {
+    lists(alloc, core, [(first, last), NONE, NONE], 10)
+}
+
+/// Whether there is a reply, and it is this.
+fn is_said(reply: &Option<Reply>, wanted: Say) -> bool {
+    match reply {
+        Some(reply) => *reply == wanted.reply(),
+        None => false,
+    }
+}
+
+/// Whether there is a reply, and it is one of these.
+fn is_one_of(reply: Option<Reply>, wanted: [Say; 2]) -> bool {
+    let [one, other] = wanted;
+    is_said(&reply, one) || is_said(&reply, other)
 }
 
 /// Whether the line tells what it is to.
@@ -105,14 +186,15 @@ fn holds(alloc: Global, core: &mut Core, line: Line) -> bool {
         Line::Begins(actor, ask) => begins(core, actor, ask.command()),
         Line::Steps(actor, count, link) => steps(core, actor, count, link),
         Line::Until(actor, link) => until(core, actor, link),
-        Line::Ends(actor, say) => ends(core, actor, say.reply()),
-        Line::Finishes(actor, say) => finishes(core, actor, say.reply()),
+        Line::Ends(actor, say) => is_one_of(end(core, actor), [say; 2]),
+        Line::Finishes(actor, say) => is_one_of(finish(core, actor), [say; 2]),
+        Line::FinishesSo(actor, wanted) => is_one_of(finish(core, actor), wanted),
         Line::Replies(actor, ask, say) => replies(core, actor, ask.command(), say.reply()),
-        Line::Idle(actor) => !core.is_busy(actor),
-        Line::Inserts(first, last) => inserts(core, first, last),
-        Line::Deletes(first, last) => deletes(core, first, last),
-        Line::Turns(count) => core.turns() == count,
-        Line::Lists(numbers, tenth) => lists(alloc, core, numbers, tenth),
+        Line::Inserts(actor, first, last) => inserts(core, actor, first, last),
+        Line::InsertsBehind(actor, number) => inserts_behind(core, actor, number),
+        Line::Deletes(actor, last, first) => deletes(core, actor, last, first),
+        Line::ListsAll(first, last) => lists_all(alloc, core, first, last),
+        Line::Lists(ranges, tenth) => lists(alloc, core, ranges, tenth),
     }
 }
 
@@ -126,27 +208,21 @@ pub(crate) fn runs(alloc: Global, core: &mut Core, lines: &[Line]) -> bool {
     true
 }
 
-/// A core with so many actors and rows, once these lines have told what they are to.
-pub(crate) fn after(alloc: Global, actors: u64, rows: u64, lines: &[Line]) -> Option<Core> {
-    let mut core = opened(alloc, actors, rows, 1)?;
-    if runs(alloc, &mut core, lines) {
-        return Some(core);
+/// A core with so many actors, page identifiers and rows, at this epoch.
+pub(crate) fn opened(alloc: Global, actors: u64, pids: u64, rows: u64, epoch: u64) -> Option<Core> {
+    match Limits::new(actors, pids, rows, epoch) {
+        Ok(limits) => Core::open(alloc, limits).ok(),
+        Err(_) => None,
     }
-    let_go(core);
-    None
 }
 
-/// A core with so many actors and rows, and 64 page identifiers, at this epoch.
-pub(crate) fn opened(alloc: Global, actors: u64, rows: u64, epoch: u64) -> Option<Core> {
-    Core::open(alloc, Limits::new(actors, 64, rows, epoch).ok()?).ok()
-}
-
-/// Whether all lines tell what they are to on a new core with so many actors and rows.
-pub(crate) fn is_told(alloc: Global, actors: u64, rows: u64, lines: &[Line]) -> bool {
-    match after(alloc, actors, rows, lines) {
-        Some(core) => {
+/// Whether all lines tell what they are to on a new core of two actors, 64 page identifiers and 256 rows.
+pub(crate) fn is_told(alloc: Global, lines: &[Line]) -> bool {
+    match opened(alloc, 2, 64, 256, 1) {
+        Some(mut core) => {
+            let told = runs(alloc, &mut core, lines);
             let_go(core);
-            true
+            told
         }
         None => false,
     }

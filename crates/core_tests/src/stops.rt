@@ -1,119 +1,113 @@
-//! An insert that splits pages, stopped after each of its steps, while another actor goes on at both sides of the split.
+//! An operation that stops after each of its steps, while another actor goes on.
 
-use crate::by_hand::{begins, begun, finish, let_go, replies};
-use crate::numbered::{found, insert, is_pair, key};
-use crate::scripts::opened;
-use bw_model::{Command, Key, Link, Reply, Value};
+use crate::by_hand::{begins, let_go, stepped};
+use crate::scripts::{Ask, Line, Say, opened, runs};
+use bw_model::Link;
 use std::alloc::Global;
 use step_core::Core;
 
-/// Whether the keys of the first so many even numbers from 2 on are inserted in their order.
-fn grows(core: &mut Core, count: u32) -> bool {
-    for place in 1..=count {
-        if !replies(core, 0, insert(place.wrapping_mul(2)), Reply::Inserted) {
-            return false;
-        }
-    }
-    true
+/// An operation that stops.
+#[derive(Clone, Copy)]
+pub(crate) struct Stop {
+    pub(crate) actor: u8,
+    pub(crate) ask: Ask,
+    /// The exchange by which it takes effect.
+    pub(crate) link: Link,
+    /// How many steps it takes at least, and at most.
+    pub(crate) least: u32,
+    pub(crate) most: u32,
 }
 
-/// A core with these keys.
-fn grown(alloc: Global, count: u32) -> Option<Core> {
-    let mut core = opened(alloc, 2, 512, 1)?;
-    if grows(&mut core, count) {
-        return Some(core);
+/// Begins the operation, and takes so many steps. Answers whether it has taken effect by then; none where it is done.
+fn stopped(core: &mut Core, stop: Stop, steps: u32) -> Option<bool> {
+    if begins(core, stop.actor, stop.ask.command()) {
+        return stepped(core, stop.actor, steps, stop.link);
     }
-    let_go(core);
     None
 }
 
-/// Whether a number's key is listed: that of an even number below the last, of one of the two odd ones, and of the last if it was put.
-fn is_listed(number: u32, last: u32, put: bool) -> bool {
-    if number == last {
-        put
-    } else {
-        number % 2 == 0 || number == 1 || number == last.wrapping_sub(1)
+/// Whether the lines tell what they are to where the operation, behind the first lines, has stopped after so many steps: these where it
+/// has taken no effect, and those where it has. None once it is done by then.
+fn goes_on(
+    alloc: Global,
+    core: &mut Core,
+    before: &[Line],
+    (stop, steps): (Stop, u32),
+    early: &[Line],
+    late: &[Line],
+) -> Option<bool> {
+    if !runs(alloc, core, before) {
+        return Some(false);
+    }
+    match stopped(core, stop, steps) {
+        Some(true) => Some(runs(alloc, core, late)),
+        Some(false) => Some(runs(alloc, core, early)),
+        None => None,
     }
 }
 
-/// Whether the pairs are exactly those.
-fn are_listed(pairs: &[(Key, Value)], last: u32, put: bool) -> bool {
-    let mut place = 0usize;
-    for number in 1..=last {
-        if is_listed(number, last, put) {
-            if !is_pair(pairs.get(place), number, number) {
-                return false;
-            }
-            place = place.saturating_add(1);
+/// The same on a new core.
+fn goes_on_anew(
+    alloc: Global,
+    before: &[Line],
+    stop: (Stop, u32),
+    early: &[Line],
+    late: &[Line],
+) -> Option<bool> {
+    match opened(alloc, 2, 256, 4096, 1) {
+        Some(mut core) => {
+            let right = goes_on(alloc, &mut core, before, stop, early, late);
+            let_go(core);
+            right
+        }
+        None => Some(false),
+    }
+}
+
+/// Whether they do wherever it stops, and it takes as many steps as is said.
+pub(crate) fn stops_anywhere(
+    alloc: Global,
+    before: &[Line],
+    stop: Stop,
+    early: &[Line],
+    late: &[Line],
+) -> bool {
+    for steps in 0..=stop.most {
+        match goes_on_anew(alloc, before, (stop, steps), early, late) {
+            Some(true) => {}
+            Some(false) => return false,
+            None => return stop.least <= steps,
         }
     }
-    place == pairs.len()
+    false
 }
 
-/// Whether the listing has exactly those.
-fn lists(alloc: Global, core: &Core, last: u32, put: bool) -> bool {
-    match core.listing(alloc) {
-        Ok(pairs) => are_listed(pairs.as_slice(), last, put),
-        Err(_) => false,
-    }
-}
-
-/// Whether every reply and listing is right where actor 0 stops after so many steps, actor 1 then inserts and looks up keys of both
-/// sides, and actor 0 goes on after that.
-fn goes_on(core: &mut Core, alloc: Global, last: u32, steps: u32) -> bool {
-    let Some(put) = begun(core, insert(last), steps, Link::Put) else {
-        return false;
-    };
+/// What the other actor does on both sides of a split, and what is listed meanwhile; the insert goes on after that.
+fn beside(last: u32, listed: u32) -> [Line; 7] {
     let (low, high) = (last.wrapping_sub(2), last.wrapping_sub(1));
-    let told = [
-        replies(core, 1, insert(1), Reply::Inserted),
-        replies(core, 1, insert(high), Reply::Inserted),
-        replies(core, 1, Command::Get(key(2)), found(2)),
-        replies(core, 1, Command::Get(key(low)), found(low)),
-        lists(alloc, core, last, put),
-        finish(core, 0).is_some(),
-        lists(alloc, core, last, true),
-    ];
-    told == [true; 7]
+    [
+        Line::Replies(1, Ask::Insert(1), Say::Inserted),
+        Line::Replies(1, Ask::Insert(high), Say::Inserted),
+        Line::Replies(1, Ask::Get(2), Say::Value(2)),
+        Line::Replies(1, Ask::Get(low), Say::Value(low)),
+        Line::ListsAll(1, listed),
+        Line::Finishes(0, Say::Inserted),
+        Line::ListsAll(1, last),
+    ]
 }
 
-/// How many steps an insert takes.
-fn inserted(core: &mut Core, last: u32) -> Option<u32> {
-    if !begins(core, 0, insert(last)) {
-        return None;
-    }
-    let (reply, steps) = finish(core, 0)?;
-    (reply == Reply::Inserted).then_some(steps)
-}
-
-/// How many steps an insert behind the keys takes alone.
-fn steps_alone(alloc: Global, count: u32, last: u32) -> Option<u32> {
-    let mut core = grown(alloc, count)?;
-    let steps = inserted(&mut core, last);
-    let_go(core);
-    steps
-}
-
-/// Whether all goes right on a new core.
-fn goes_on_anew(alloc: Global, count: u32, last: u32, steps: u32) -> bool {
-    let Some(mut core) = grown(alloc, count) else {
-        return false;
+/// Whether the insert of the last of some keys, all but two of which are there, stops anywhere, and takes so many steps.
+fn split_stops(alloc: Global, last: u32, steps: u32) -> bool {
+    let stop = Stop {
+        actor: 0,
+        ask: Ask::Insert(last),
+        link: Link::Put,
+        least: steps,
+        most: steps,
     };
-    let right = goes_on(&mut core, alloc, last, steps);
-    let_go(core);
-    right
-}
-
-/// Whether it takes so many steps, and all goes right wherever it stops after a multiple of some of them.
-fn stops_anywhere(alloc: Global, count: u32, stride: u32, steps: u32) -> bool {
-    let last = count.wrapping_add(1).wrapping_mul(2);
-    for place in 0..steps {
-        let stop = place.saturating_mul(stride);
-        if stop < steps && !goes_on_anew(alloc, count, last, stop) {
-            return false;
-        }
-    }
-    steps_alone(alloc, count, last) == Some(steps)
+    let before = [Line::Inserts(0, 2, last.wrapping_sub(2))];
+    let early = beside(last, last.wrapping_sub(1));
+    stops_anywhere(alloc, &before, stop, &early, &beside(last, last))
 }
 
 // Two steps enter. Eleven read page 1, four consolidate it, three read it again, ten split it; six read it and the new page, and
@@ -121,12 +115,12 @@ fn stops_anywhere(alloc: Global, count: u32, stride: u32, steps: u32) -> bool {
 // which takes four, and one to leave.
 #[test]
 fn a_split_stops_anywhere(rt: HostRuntime) {
-    assert!(rt; stops_anywhere(rt.alloc(), 16, 1, 58));
+    assert!(rt; split_stops(rt.alloc(), 19, 58));
 }
 
 // The leaf is consolidated and split; its term is the sixteenth of the root, which is split too, with a new root over both. The
 // insert takes eight rows. All of them are in the first word of free bits, since the rows of old chains are used again.
 #[test]
 fn a_split_of_the_root_stops_anywhere(rt: HostRuntime) {
-    assert!(rt; stops_anywhere(rt.alloc(), 128, 9, 126));
+    assert!(rt; split_stops(rt.alloc(), 131, 126));
 }

@@ -1,61 +1,75 @@
 //! An upsert that begins with a sweep, stopped after each of its steps, while other actors go on.
 
 use crate::accounts::is_settled;
-use crate::by_hand::{begins, finish, finishes, let_go, replies, steps};
-use crate::pages::{key, value};
-use crate::reuse::{has_letters, is_round, rounds, served_by};
-use crate::scripts::opened;
+use crate::by_hand::{begins, finish, replies, steps};
+use crate::numbered::{key, value};
+use crate::reuse::{has_letters, is_round, rounds, served, serves};
+use crate::scripts::{Ask, Line, Say, opened, runs};
 use bw_model::{Command, Reply, Step};
 use std::alloc::Global;
 use step_core::Core;
 use traces::Entry;
 
-/// A core in which actor 0 has rows of three words and PIDs in limbo, some without a stamp: while it took them out of the tree,
-/// actor 1 was inside.
-fn with_limbo(alloc: Global) -> Option<Core> {
-    let mut core = opened(alloc, 3, 256, 1)?;
-    let told = [
-        begins(&mut core, 1, Command::Get(key(1))),
-        steps(&mut core, 1, 2, None),
-        served_by(&mut core, 0, 0, rounds(6)),
-        finish(&mut core, 1).is_some(),
-    ];
-    if told == [true; 4] {
-        return Some(core);
-    }
-    let_go(core);
-    None
-}
+const UPSERT: Ask = Ask::Upsert(9, 9);
 
-fn upsert() -> Command {
-    Command::Upsert(key(9), value(9))
+/// Whether actor 0 comes to have rows of three words and PIDs in limbo, some without a stamp: while it takes them out of the tree, actor 1
+/// is inside.
+fn has_limbo(core: &mut Core) -> bool {
+    let end = rounds(6);
+    begins(core, 1, Command::Get(key(1)))
+        && steps(core, 1, 2, None)
+        && served(core, [0; 2], 0, end) == Some(end)
+        && finish(core, 1).is_some()
 }
 
 /// Whether all is right where actor 0 stops after so many steps of an upsert, actor 2 begins to look a key up, actor 1 removes a page
 /// and makes one, and then all go on.
-fn goes(core: &mut Core, stop: u32) -> [bool; 11] {
-    [
-        begins(core, 0, upsert()),
-        steps(core, 0, stop, None),
-        begins(core, 2, Command::Get(key(11))),
-        steps(core, 2, 5, None),
-        served_by(core, 1, rounds(6), rounds(7)),
-        finishes(core, 0, Reply::Replaced(value(9))),
-        served_by(core, 1, rounds(7), rounds(8)),
-        finishes(core, 2, Reply::Value(value(11))),
-        served_by(core, 0, rounds(8), rounds(9)),
-        served_by(core, 2, rounds(9), rounds(10)),
-        replies(core, 1, Command::Get(key(11)), Reply::Value(value(11))),
-    ]
+fn goes(alloc: Global, core: &mut Core, stop: u32) -> bool {
+    let begin = [
+        Line::Begins(0, UPSERT),
+        Line::Steps(0, stop, None),
+        Line::Begins(2, Ask::Get(11)),
+        Line::Steps(2, 5, None),
+    ];
+    runs(alloc, core, &begin)
+        && serves(core, 1, 6, 7)
+        && runs(alloc, core, &[Line::Finishes(0, Say::Replaced(9))])
+        && serves(core, 1, 7, 8)
+        && runs(alloc, core, &[Line::Finishes(2, Say::Value(11))])
+        && serves(core, 0, 8, 9)
+        && serves(core, 2, 9, 10)
+        && runs(
+            alloc,
+            core,
+            &[Line::Replies(1, Ask::Get(11), Say::Value(11))],
+        )
+        && is_round(alloc, core)
 }
 
-/// The same on a core with limbo, whose pairs and rows are what they are to be then.
-fn goes_on(alloc: Global, stop: u32) -> Option<[bool; 3]> {
-    let mut core = with_limbo(alloc)?;
-    let goes = goes(&mut core, stop) == [true; 11];
-    let listed = is_round(alloc, &core);
-    let settled = is_settled(alloc, core, &key(20));
-    Some([goes, listed, settled])
+/// The same on a new core with limbo, whose rows are what they are to be then.
+fn goes_on(alloc: Global, stop: u32) -> bool {
+    match opened(alloc, 3, 64, 256, 1) {
+        Some(mut core) => {
+            let goes = has_limbo(&mut core) && goes(alloc, &mut core, stop);
+            is_settled(core, &key(20)) && goes
+        }
+        None => false,
+    }
+}
+
+/// Whether it goes on after each of the stops before each step of the sweep, before the entry, and after it.
+fn stops_anywhere(alloc: Global) -> bool {
+    for stop in 0..11u32 {
+        if !goes_on(alloc, stop) {
+            return false;
+        }
+    }
+    true
+}
+
+#[test]
+fn a_sweep_stops_anywhere(rt: HostRuntime) {
+    assert!(rt; stops_anywhere(rt.alloc()));
 }
 
 /// A letter for each step of a sweep, and for the entry.
@@ -72,24 +86,19 @@ fn letter(entry: &Entry) -> u8 {
 }
 
 /// Whether the upsert begins with a long sweep.
-fn is_swept(alloc: Global) -> Option<bool> {
-    let mut core = with_limbo(alloc)?;
+fn is_swept(alloc: Global) -> bool {
+    let Some(mut core) = opened(alloc, 3, 64, 256, 1) else {
+        return false;
+    };
+    let limbo = has_limbo(&mut core);
     let turns = core.turns();
-    let right = replies(&mut core, 0, upsert(), Reply::Replaced(value(9)));
+    let right = replies(&mut core, 0, UPSERT.command(), Reply::Replaced(value(9)));
     let trace = core.into_trace();
-    Some(right && has_letters(&trace.entries, turns, b"-etaarrrpei", letter))
+    limbo && right && has_letters(&trace.entries, turns, b"-etaarrrpei", letter)
 }
 
 // The epoch is read and retired, two announces are read, three words of rows and one of PIDs are freed; then the upsert enters.
 #[test]
 fn the_steps_of_a_long_sweep(rt: HostRuntime) {
-    assert!(rt; is_swept(rt.alloc()) == Some(true));
-}
-
-// These are the stops before each step of the sweep, before the entry, and after it.
-#[test]
-fn a_sweep_stops_anywhere(rt: HostRuntime) {
-    for stop in 0..11u32 {
-        assert!(rt; goes_on(rt.alloc(), stop) == Some([true; 3]));
-    }
+    assert!(rt; is_swept(rt.alloc()));
 }

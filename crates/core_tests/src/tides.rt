@@ -1,112 +1,157 @@
-//! A tree of 1,000 keys that grows and shrinks to nothing, ten times, by four actors whose turns are drawn.
+//! Trees that grow and shrink to nothing, again and again, by actors whose turns are drawn.
 
-use crate::index_removals::{is_empty, removes};
+use crate::by_hand::{let_go, replies, reply};
+use crate::index_removals::removes;
 use crate::numbered::{insert, key, value};
-use bw_model::{Command, Limits, Reply, Schedule};
+use crate::scripts::{lists_all, opened};
+use bw_model::{Command, Key, Pairs, Reply, Schedule};
 use std::alloc::Global;
 use step_core::{Core, Event};
 use traces::Turn;
 
-/// How many keys there are.
-const KEYS: u32 = 1000;
-
-/// What is done with each key.
+/// In which order keys come or go.
 #[derive(Clone, Copy)]
-enum Tide {
-    Rises,
-    Falls,
+enum Order {
+    Ascending,
+    Descending,
+    Scattered,
+}
+
+impl Order {
+    /// The number of a place, where there are so many keys.
+    fn number(self, place: u32, keys: u32) -> u32 {
+        match self {
+            Order::Ascending => place.wrapping_add(1),
+            Order::Descending => keys.wrapping_sub(place),
+            Order::Scattered => place.wrapping_mul(37) % keys.max(1) + 1,
+        }
+    }
+}
+
+/// What is done with each key, by how many actors, in which order.
+#[derive(Clone, Copy)]
+struct Tide {
+    rises: bool,
+    keys: u32,
+    actors: u8,
+    order: Order,
 }
 
 impl Tide {
-    fn command(self, number: u32) -> Command {
-        match self {
-            Tide::Rises => insert(number),
-            Tide::Falls => Command::Delete(key(number)),
+    fn command(&self, place: u32) -> Command {
+        let number = self.order.number(place, self.keys);
+        if self.rises {
+            insert(number)
+        } else {
+            Command::Delete(key(number))
         }
     }
 
-    fn reply(self, number: u32) -> Reply {
-        match self {
-            Tide::Rises => Reply::Inserted,
-            Tide::Falls => Reply::Deleted(value(number)),
+    fn reply(&self, place: u32) -> Reply {
+        if self.rises {
+            Reply::Inserted
+        } else {
+            Reply::Deleted(value(self.order.number(place, self.keys)))
         }
     }
 }
 
-/// Which key each actor is at, how many keys were begun with, and how many are done.
-#[derive(Drop)]
+/// Which place each actor is at, how many were begun with, and how many are done.
+#[derive(Clone, Copy)]
 struct Work {
-    tide: Tide,
     at: [u32; 4],
     begun: u32,
     done: u32,
 }
 
-/// Whether an actor that is idle begins with the next key, if there is one; keys come in another order than theirs.
-fn begins(core: &mut Core, work: &mut Work, actor: u8) -> bool {
-    if work.begun >= KEYS {
+/// Whether an actor that is idle begins with the next key, if there is one.
+fn begins(core: &mut Core, tide: &Tide, work: &mut Work, actor: u8) -> bool {
+    if work.begun >= tide.keys {
         return true;
     }
-    let number = work.begun.wrapping_mul(37) % KEYS;
-    work.begun = work.begun.wrapping_add(1);
-    work.at[usize::from(actor % 4)] = number;
-    core.turn(Turn::Begin(actor, work.tide.command(number))) == Ok(Event::Began)
+    let place = work.begun;
+    work.begun = place.wrapping_add(1);
+    work.at[usize::from(actor % 4)] = place;
+    core.turn(Turn::Begin(actor, tide.command(place))) == Ok(Event::Began)
 }
 
 /// Whether an actor takes a turn, and its reply is right where it has come to one.
-fn goes(core: &mut Core, work: &mut Work, actor: u8) -> bool {
+fn goes(core: &mut Core, tide: &Tide, work: &mut Work, actor: u8) -> bool {
     if !core.is_busy(actor) {
-        return begins(core, work, actor);
+        return begins(core, tide, work, actor);
     }
     match core.turn(Turn::Step(actor)) {
         Ok(Event::Stepped(_)) => true,
         Ok(Event::Done(reply)) => {
             work.done = work.done.wrapping_add(1);
-            reply == work.tide.reply(work.at[usize::from(actor % 4)])
+            reply == tide.reply(work.at[usize::from(actor % 4)])
         }
         _ => false,
     }
 }
 
+/// An order of turns that is drawn.
+fn drawn(seed: u64, actors: u8) -> Schedule {
+    match actors {
+        1 => Schedule::new(seed, 1),
+        2 => Schedule::new(seed, 2),
+        _ => Schedule::new(seed, 4),
+    }
+}
+
 /// Whether the tide goes over all keys.
-fn turns(core: &mut Core, tide: Tide, seed: u64) -> bool {
-    let mut schedule = Schedule::new(seed, 4);
+fn turns(core: &mut Core, tide: &Tide, seed: u64) -> bool {
+    let mut schedule = drawn(seed, tide.actors);
     let mut work = Work {
-        tide,
         at: [0; 4],
         begun: 0,
         done: 0,
     };
     for _ in 0..1_000_000u32 {
-        if work.done >= KEYS {
+        if work.done >= tide.keys {
             return true;
         }
         let actor = schedule.next();
-        if !goes(core, &mut work, actor) {
+        if !goes(core, tide, &mut work, actor) {
             return false;
         }
     }
     false
 }
 
-/// Whether the tree rises and falls, and has no keys then.
-fn rises_and_falls(alloc: Global, core: &mut Core, seed: u64) -> bool {
-    turns(core, Tide::Rises, seed) && turns(core, Tide::Falls, seed) && is_empty(alloc, core)
+/// Whether the tree rises and falls, and has all keys and none then.
+fn rises_and_falls(alloc: Global, core: &mut Core, rise: &Tide, fall: &Tide, seed: u64) -> bool {
+    turns(core, rise, seed)
+        && lists_all(alloc, core, 1, rise.keys)
+        && turns(core, fall, seed)
+        && lists_all(alloc, core, 1, 0)
 }
 
-/// Whether it does so ten times.
+/// A thousand keys come and go by four actors, in another order than theirs.
+const SCATTERED: Tide = Tide {
+    rises: true,
+    keys: 1000,
+    actors: 4,
+    order: Order::Scattered,
+};
+
+/// Whether they do so ten times.
 fn rises_ten_times(alloc: Global, core: &mut Core) -> bool {
+    let fall = Tide {
+        rises: false,
+        ..SCATTERED
+    };
     for seed in 0..10u64 {
-        if !rises_and_falls(alloc, core, seed) {
+        if !rises_and_falls(alloc, core, &SCATTERED, &fall, seed) {
             return false;
         }
     }
     true
 }
 
-/// Whether it does so on a tree of few PIDs and rows, and index pages are removed.
+/// Whether they do so on a tree of few PIDs and rows, and index pages are removed.
 fn lasts(alloc: Global) -> Option<bool> {
-    let mut core = Core::open(alloc, Limits::new(4, 320, 2048, 1).ok()?).ok()?;
+    let mut core = opened(alloc, 4, 320, 2048, 1)?;
     let rises = rises_ten_times(alloc, &mut core);
     let trace = core.into_trace();
     Some(rises && removes(&trace.entries).is_some())
@@ -115,4 +160,88 @@ fn lasts(alloc: Global) -> Option<bool> {
 #[test]
 fn a_tree_rises_and_falls(rt: HostRuntime) {
     assert!(rt; lasts(rt.alloc()) == Some(true));
+}
+
+/// Eighty keys come in their order: nine leaves, of eight keys each but the last.
+const EIGHTY: Tide = Tide {
+    rises: true,
+    keys: 80,
+    actors: 1,
+    order: Order::Ascending,
+};
+
+/// How many leaves there are, by their cursor pages.
+fn leaves(core: &mut Core) -> Option<u32> {
+    let mut from = Key::default();
+    for count in 1..=1000u32 {
+        let Some(Reply::Page { items: _, next }) = reply(core, 1, Command::Page(from)) else {
+            return None;
+        };
+        match next {
+            None => return Some(count),
+            Some(key) => from = key,
+        }
+    }
+    None
+}
+
+/// Whether every key's leaf is tidied, twice: the second time none is held back by a neighbour.
+fn is_tidied(core: &mut Core) -> bool {
+    for place in 0..160u32 {
+        let tidy = Command::Tidy(key(place % 80 + 1));
+        if !replies(core, 0, tidy, Reply::Tidied) {
+            return false;
+        }
+    }
+    true
+}
+
+/// Whether the eighty keys come, and go so, and the tree is one leaf then, once it is tidied where two actors have deleted.
+fn lives(alloc: Global, core: &mut Core, fall: &Tide, seed: u64) -> bool {
+    let empty = Reply::Page {
+        items: Pairs::new(),
+        next: None,
+    };
+    turns(core, &EIGHTY, seed)
+        && lists_all(alloc, core, 1, 80)
+        && leaves(core) == Some(9)
+        && turns(core, fall, seed)
+        && lists_all(alloc, core, 1, 0)
+        && (fall.actors == 1 || is_tidied(core))
+        && replies(core, 1, Command::Page(Key::default()), empty)
+}
+
+/// Whether they do so twice on a new core.
+fn lives_twice(alloc: Global, actors: u8, order: Order) -> bool {
+    let fall = Tide {
+        rises: false,
+        keys: 80,
+        actors,
+        order,
+    };
+    match opened(alloc, 2, 64, 4096, 1) {
+        Some(mut core) => {
+            let right = lives(alloc, &mut core, &fall, 1) && lives(alloc, &mut core, &fall, 2);
+            let_go(core);
+            right
+        }
+        None => false,
+    }
+}
+
+/// Whether they do in each order.
+fn all_live(alloc: Global, actors: u8) -> [bool; 3] {
+    [Order::Ascending, Order::Descending, Order::Scattered].map(|order| lives_twice(
+        alloc, actors, order,
+    ))
+}
+
+#[test]
+fn a_tree_shrinks_to_a_leaf(rt: HostRuntime) {
+    assert!(rt; all_live(rt.alloc(), 1) == [true; 3]);
+}
+
+#[test]
+fn two_actors_shrink_a_tree(rt: HostRuntime) {
+    assert!(rt; all_live(rt.alloc(), 2) == [true; 3]);
 }

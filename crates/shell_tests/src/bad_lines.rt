@@ -2,170 +2,164 @@
 
 use crate::runs::{joined, limits, whole};
 use bw_model::Limits;
+use failing_streams::Ran;
 use shell_lines::Language;
-use std::alloc::{AllocError, Global};
+use std::alloc::Global;
 
-/// Lines, and why they are refused.
-type Table<'a> = &'a [(&'a [u8], &'a [u8])];
+/// Lines of a weave with bytes that no word has, one behind another.
+const WEAVE_BYTES: &[u8] = b"\0\n\
+    \x7f\n\
+    \x80\n\
+    \r\n\
+    \x20\n\
+    list\0\n\
+    \0list\n\
+    list\r\n\
+    finish 0\r\n\
+    \xef\xbb\xbflist\n\
+    begin\t0 get a\n\
+    begin 0 get \0\n\
+    begin 0 get a\0\n\
+    begin 0 get \x1f\n\
+    begin 0 get \x7f\n\
+    begin 0 get \x80\n\
+    begin 0 get \xc3\xa9\n\
+    begin 0 insert \xc3\xa9 1\n\
+    begin 0 insert a \xff\n\
+    begin 0 insert a 1\r";
 
-/// Lines of a weave.
-const WEAVE: Table<'_> = &[
-    // bytes that no word has
-    (b"\0", b"11"),
-    (b"\x7f", b"11"),
-    (b"\x80", b"11"),
-    (b"\r", b"11"),
-    (b" ", b"11"),
-    (b"list\0", b"11"),
-    (b"\0list", b"11"),
-    (b"list\r", b"11"),
-    (b"finish 0\r", b"11"),
-    (b"\xef\xbb\xbflist", b"11"),
-    (b"begin\t0 get a", b"11"),
-    (b"begin 0 get \0", b"11"),
-    (b"begin 0 get a\0", b"11"),
-    (b"begin 0 get \x1f", b"11"),
-    (b"begin 0 get \x7f", b"11"),
-    (b"begin 0 get \x80", b"11"),
-    (b"begin 0 get \xc3\xa9", b"11"),
-    (b"begin 0 insert \xc3\xa9 1", b"11"),
-    (b"begin 0 insert a \xff", b"11"),
-    (b"begin 0 insert a 1\r", b"11"),
-    // tokens that are none, and that are too long
-    (b"begin 0 get ==", b"11"),
-    (b"begin 0 get =a", b"11"),
-    (b"begin 0 get =0x", b"11"),
-    (b"begin 0 swap a =1 2", b"11"),
-    (b"begin 0 swap a 1 =123", b"11"),
-    (
-        b"begin 0 get 12345678901234567890123456789012345678901234567890123456789012345",
-        b"1",
-    ),
-    (
-        b"begin 0 upsert a 12345678901234567890123456789012345678901234567890123456789012345",
-        b"1",
-    ),
-    (
-        b"begin 0 swap a 12345678901234567890123456789012345678901234567890123456789012345 1",
-        b"1",
-    ),
-    (
-        b"begin 0 swap a 1 12345678901234567890123456789012345678901234567890123456789012345",
-        b"1",
-    ),
-    (
-        b"begin 0 insert 12345678901234567890123456789012345678901234567890123456789012345 =6",
-        b"11",
-    ),
-    // numbers
-    (b"turn -0 1", b"11"),
-    (b"turn 0 -1", b"11"),
-    (b"turn 0 +1", b"11"),
-    (b"turn 0 1e3", b"11"),
-    (b"turn 0x0 1", b"11"),
-    (b"turn 0 18446744073709551616", b"11"),
-    (b"turn 0 18446744073709551617", b"11"),
-    (b"turn 0 99999999999999999999", b"11"),
-    (b"turn 0 00000000000000000000", b"11"),
-    (b"turn 0 00000000000000000001", b"6"),
-    (b"turn 00000000000000000000 1", b"6"),
-    (b"turn 4294967296 1", b"4"),
-    (b"turn 18446744073709551616 1", b"4"),
-    (b"turn 18446744073709551617 1", b"4"),
-    (b"finish 99999999999999999999", b"4"),
-    (b"until 99999999999999999999 put", b"4"),
-    (b"begin 99999999999999999999 get a", b"4"),
-    (b"begin 99999999999999999999 get =6", b"11"),
-    (b"mix +1 1", b"11"),
-    (b"mix 99999999999999999999 1", b"11"),
-    (b"mix 1 18446744073709551617", b"11"),
-    (b"mix 1 00000000000000000000", b"11"),
-    // words that are none, and too few or too many
-    (b"List", b"11"),
-    (b"list list", b"11"),
-    (b"begin", b"11"),
-    (b"begin 0", b"11"),
-    (b"begin 0 begin", b"11"),
-    (b"begin 0 list", b"11"),
-    (b"begin 0 get a ", b"11"),
-    (b"begin 0 swap a 1", b"11"),
-    (b"begin 0 swap a 1 2 3", b"11"),
-    (b"turn", b"11"),
-    (b"turn 0", b"11"),
-    (b"turn 0 1 1", b"11"),
-    (b"until 0 put ", b"11"),
-    (b"finish", b"11"),
-    (b"finish 0 0", b"11"),
-    (b"swap a 1 2", b"11"),
+/// Tokens that are none.
+const WEAVE_TOKENS: &[u8] = b"begin 0 get ==\n\
+    begin 0 get =a\n\
+    begin 0 get =0x\n\
+    begin 0 swap a =1 2\n\
+    begin 0 swap a 1 =123\n\
+    begin 0 insert 12345678901234567890123456789012345678901234567890123456789012345 =6";
+
+/// Tokens that are too long.
+const WEAVE_LONG: &[u8] =
+    b"begin 0 get 12345678901234567890123456789012345678901234567890123456789012345\n\
+    begin 0 upsert a 12345678901234567890123456789012345678901234567890123456789012345\n\
+    begin 0 swap a 12345678901234567890123456789012345678901234567890123456789012345 1\n\
+    begin 0 swap a 1 12345678901234567890123456789012345678901234567890123456789012345";
+
+/// Numbers that are none, or too large.
+const WEAVE_NUMBERS: &[u8] = b"turn -0 1\n\
+    turn 0 -1\n\
+    turn 0 +1\n\
+    turn 0 1e3\n\
+    turn 0x0 1\n\
+    turn 0 18446744073709551616\n\
+    turn 0 18446744073709551617\n\
+    turn 0 99999999999999999999\n\
+    turn 0 00000000000000000000\n\
+    begin 99999999999999999999 get =6\n\
+    mix +1 1\n\
+    mix 99999999999999999999 1\n\
+    mix 1 18446744073709551617\n\
+    mix 1 00000000000000000000";
+
+/// Actors without an operation, and actors that aren't there.
+const WEAVE_IDLE: &[u8] = b"turn 0 00000000000000000001\nturn 00000000000000000000 1";
+
+const WEAVE_ACTORS: &[u8] = b"turn 4294967296 1\n\
+    turn 18446744073709551616 1\n\
+    turn 18446744073709551617 1\n\
+    finish 99999999999999999999\n\
+    until 99999999999999999999 put\n\
+    begin 99999999999999999999 get a";
+
+/// Words that are none, and too few or too many.
+const WEAVE_WORDS: &[u8] = b"List\n\
+    list list\n\
+    begin\n\
+    begin 0\n\
+    begin 0 begin\n\
+    begin 0 list\n\
+    begin 0 get a \n\
+    begin 0 swap a 1\n\
+    begin 0 swap a 1 2 3\n\
+    turn\n\
+    turn 0\n\
+    turn 0 1 1\n\
+    until 0 put \n\
+    finish\n\
+    finish 0 0\n\
+    swap a 1 2";
+
+/// Lines of a script outside the grammar.
+const SCRIPT: &[u8] = b"\0\n\
+    \x7f\n\
+    \x80\n\
+    \r\n\
+    \x20\n\
+    list\r\n\
+    get \0\n\
+    get \x7f\n\
+    get \x80\n\
+    get \xc3\xa9\n\
+    insert a \xff\n\
+    insert a 1\r\n\
+    insert  a 1\n\
+    swap a 1\n\
+    swap a 1 2 3\n\
+    delete\n\
+    0 get a\n\
+    insert 12345678901234567890123456789012345678901234567890123456789012345 =6";
+
+/// Tokens of a script that are too long.
+const SCRIPT_LONG: &[u8] =
+    b"get 12345678901234567890123456789012345678901234567890123456789012345\n\
+    swap a 12345678901234567890123456789012345678901234567890123456789012345 1";
+
+/// Lines, and the end of their refusal.
+const TABLE: [(Language, &[u8], &[u8]); 9] = [
+    (Language::Weave, WEAVE_BYTES, b"11\n"),
+    (Language::Weave, WEAVE_TOKENS, b"11\n"),
+    (Language::Weave, WEAVE_LONG, b"1\n"),
+    (Language::Weave, WEAVE_NUMBERS, b"11\n"),
+    (Language::Weave, WEAVE_IDLE, b"6\n"),
+    (Language::Weave, WEAVE_ACTORS, b"4\n"),
+    (Language::Weave, WEAVE_WORDS, b"11\n"),
+    (Language::Script, SCRIPT, b"11\n"),
+    (Language::Script, SCRIPT_LONG, b"1\n"),
 ];
 
-/// Lines of a script.
-const SCRIPT: Table<'_> = &[
-    (b"\0", b"11"),
-    (b"\x7f", b"11"),
-    (b"\x80", b"11"),
-    (b"\r", b"11"),
-    (b" ", b"11"),
-    (b"list\r", b"11"),
-    (b"get \0", b"11"),
-    (b"get \x7f", b"11"),
-    (b"get \x80", b"11"),
-    (b"get \xc3\xa9", b"11"),
-    (b"insert a \xff", b"11"),
-    (b"insert a 1\r", b"11"),
-    (b"insert  a 1", b"11"),
-    (b"swap a 1", b"11"),
-    (b"swap a 1 2 3", b"11"),
-    (b"delete", b"11"),
-    (b"0 get a", b"11"),
-    (
-        b"get 12345678901234567890123456789012345678901234567890123456789012345",
-        b"1",
-    ),
-    (
-        b"swap a 12345678901234567890123456789012345678901234567890123456789012345 1",
-        b"1",
-    ),
-    (
-        b"insert 12345678901234567890123456789012345678901234567890123456789012345 =6",
-        b"11",
-    ),
-];
-
-/// Whether the first line is refused for this reason, where it is the last one too, and before another.
-fn is_refused(
-    alloc: Global,
-    limits: Limits,
-    language: Language,
-    line: &[u8],
-    code: &[u8],
-) -> Result<bool, AllocError> {
-    let output = joined(alloc, &[(b"refused line 1: ", 1), (code, 1), (b"\n", 1)])?;
-    let input = joined(alloc, &[(line, 1), (b"\nlist\n", 1)])?;
-    let alone = whole(alloc, language, limits, line);
-    let before = whole(alloc, language, limits, input.as_slice());
-    Ok(alone.is(output.as_slice(), 1) && before.is(output.as_slice(), 1))
+/// Whether a run was ended by a refusal of its first line with this end.
+fn is_refusal(ran: &Ran, code: &[u8]) -> bool {
+    ran.output.as_slice().strip_prefix(b"refused line 1: ") == Some(code) && ran.status == 1
 }
 
-/// The place of the first line of a table that isn't refused as it says, if any.
-fn first_passed(
+/// Whether the first line is refused so, where it is the last one too, and before another.
+fn is_refused(alloc: Global, limits: Limits, language: Language, line: &[u8], code: &[u8]) -> bool {
+    match joined(alloc, &[(line, 1), (b"\nlist\n", 1)]) {
+        Ok(input) => {
+            is_refusal(&whole(alloc, language, limits, line), code)
+                && is_refusal(&whole(alloc, language, limits, input.as_slice()), code)
+        }
+        Err(_) => false,
+    }
+}
+
+/// How many lines of a table are refused as it says, before one that isn't.
+fn refused(
     alloc: Global,
     limits: Limits,
-    language: Language,
-    table: Table<'_>,
-) -> Option<usize> {
-    for (place, (line, code)) in table.iter().enumerate() {
-        if is_refused(alloc, limits, language, line, code) != Ok(true) {
-            return Some(place);
+    (language, lines, code): (Language, &[u8], &[u8]),
+) -> usize {
+    let mut count = 0usize;
+    for line in lines.split(|byte| *byte == b'\n') {
+        if !is_refused(alloc, limits, language, line, code) {
+            return count;
         }
+        count = count.saturating_add(1);
     }
-    None
+    count
 }
 
 #[test]
 fn bad_lines(rt: HostRuntime) {
     let (alloc, limits) = (rt.alloc(), limits(&rt));
-    let woven = first_passed(alloc, limits, Language::Weave, WEAVE);
-    let scripted = first_passed(alloc, limits, Language::Script, SCRIPT);
-    assert_eq!(rt; [woven, scripted], [None; 2]);
+    let counts = TABLE.map(|row| refused(alloc, limits, row));
+    assert_eq!(rt; counts, [20, 6, 4, 14, 2, 6, 16, 18, 2]);
 }

@@ -4,9 +4,18 @@ use crate::numbered::{LIMITS, Part, Width, runs};
 use crate::runs::{Rows, agree};
 use shell_lines::Language;
 
+// The steps are those of a lookup: read epoch, enter, slot 0, slot 1, one record, leave.
 #[test]
 fn an_empty_page(rt: HostRuntime) {
-    let rows: Rows<'_> = &[(b"begin 0 page =\nfinish 0\n", b"0 page 0 end\n", 0)];
+    let rows: Rows<'_> = &[
+        (b"begin 0 page =\nturn 0 5\n", b"", 0),
+        (
+            b"begin 0 page =\nturn 0 5\nturn 0 1\n",
+            b"0 page 0 end\n",
+            0,
+        ),
+        (b"begin 0 page =\nfinish 0\n", b"0 page 0 end\n", 0),
+    ];
     agree(&rt, rt.alloc(), Language::Weave, rows);
     let rows: Rows<'_> = &[(b"page =\n", b"0 page 0 end\n", 0)];
     agree(&rt, rt.alloc(), Language::Script, rows);

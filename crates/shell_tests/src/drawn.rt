@@ -1,56 +1,46 @@
 //! Turns of actors that a seed draws.
 
-use crate::runs::{Rows, agree, limits, prints};
+use crate::runs::{Rows, agree};
 use shell_lines::Language;
-use std::alloc::{AllocError, Global};
-use std::process::Abort;
 
-// The first draws of seed 1 among two actors, worked out from the generator's published definition.
-const DRAWS: [u8; 24] = [
-    0, 0, 1, 0, 1, 0, 0, 0, 0, 0, 1, 0, 1, 0, 1, 0, 0, 1, 1, 1, 0, 1, 1, 1,
-];
-
-const BEGINS: &str = "begin 0 insert a 1\nbegin 1 insert b 2\n";
-
-const BOTH: &str = "0 inserted\n1 inserted\npairs 2\na 1\nb 2\n";
-
-/// The draws as turns. Actor 0 is done by its tenth turn, which is draw 14.
-fn turns(alloc: Global) -> Result<String, AllocError> {
-    let mut lines = String::from_str(alloc, BEGINS)?;
-    for (number, actor) in DRAWS.iter().enumerate() {
-        if *actor == 1 || number <= 13 {
-            writeln!(lines, "turn {actor} 1")?;
-        }
-    }
-    lines.push_str("list\n")?;
-    Ok(lines)
-}
-
-/// So many turns that are drawn.
-fn mixed(alloc: Global, count: u32) -> Result<String, AllocError> {
-    format!(in alloc; "{BEGINS}mix 1 {count}\nlist\n")
-}
-
-/// Runs the lines, which are to print this.
-fn print(rt: &impl Abort, alloc: Global, lines: Result<String, AllocError>, output: &str) {
-    let lines = lines.expect(rt, "memory");
-    prints(rt, alloc, limits(rt), lines.as_bytes(), output.as_bytes());
-}
-
-// Actor 0 is done by its tenth turn, which is draw 14. Actor 1 reads one record more, and is done by its eleventh, draw 24.
+// The first draws of seed 1 among two actors, worked out from the generator's published definition, are 0 0 1 0 1 0 0 0 0 0 1 0 1 0, by
+// which actor 0 is done by its tenth turn, and 1 0 0 1 1 1 0 1 1 1, in which actor 0 is passed over. Actor 1 reads one record more, and is
+// done by its eleventh turn, draw 24.
 #[test]
 fn draws_are_turns(rt: HostRuntime) {
-    let alloc = rt.alloc();
-    print(&rt, alloc, turns(alloc), BOTH);
-    for (count, output) in [
-        (13, "pairs 1\na 1\n"),
-        (14, "0 inserted\npairs 1\na 1\n"),
-        (23, "0 inserted\npairs 2\na 1\nb 2\n"),
-        (24, BOTH),
-        (100000, BOTH),
-    ] {
-        print(&rt, alloc, mixed(alloc, count), output);
-    }
+    let rows: Rows<'_> = &[
+        (
+            b"begin 0 insert a 1\nbegin 1 insert b 2\nturn 0 2\nturn 1 1\nturn 0 1\nturn 1 1\nturn 0 5\nturn 1 1\nturn 0 1\nturn 1 1\nturn 0 1\nturn 1 7\nlist\n",
+            b"0 inserted\n1 inserted\npairs 2\na 1\nb 2\n",
+            0,
+        ),
+        (
+            b"begin 0 insert a 1\nbegin 1 insert b 2\nmix 1 13\nlist\n",
+            b"pairs 1\na 1\n",
+            0,
+        ),
+        (
+            b"begin 0 insert a 1\nbegin 1 insert b 2\nmix 1 14\nlist\n",
+            b"0 inserted\npairs 1\na 1\n",
+            0,
+        ),
+        (
+            b"begin 0 insert a 1\nbegin 1 insert b 2\nmix 1 23\nlist\n",
+            b"0 inserted\npairs 2\na 1\nb 2\n",
+            0,
+        ),
+        (
+            b"begin 0 insert a 1\nbegin 1 insert b 2\nmix 1 24\nlist\n",
+            b"0 inserted\n1 inserted\npairs 2\na 1\nb 2\n",
+            0,
+        ),
+        (
+            b"begin 0 insert a 1\nbegin 1 insert b 2\nmix 1 100000\nlist\n",
+            b"0 inserted\n1 inserted\npairs 2\na 1\nb 2\n",
+            0,
+        ),
+    ];
+    agree(&rt, rt.alloc(), Language::Weave, rows);
 }
 
 // Two lines draw anew, each from its seed; actors without an operation are passed over.

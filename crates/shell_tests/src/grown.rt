@@ -8,7 +8,8 @@ const SPLIT: &[Part<'_>] = &[
         "begin 0 insert k17 v17\nuntil 0 split\nuntil 0 root\nfinish 0\n",
         "0 inserted\n",
     ),
-    Part::ListsFirst(17),
+    Part::Lists(17),
+    Part::Pairs(1, 17),
 ];
 
 #[test]
@@ -42,7 +43,8 @@ const LOST: &[Part<'_>] = &[
     Part::Adds("begin 0 insert k17 v17\nuntil 0 base\nturn 0 12\n", ""),
     Part::Adds("begin 1 insert k18 v18\nuntil 1 split\n", ""),
     Part::Adds("finish 1\nfinish 0\n", "1 inserted\n0 inserted\n"),
-    Part::ListsFirst(18),
+    Part::Lists(18),
+    Part::Pairs(1, 18),
 ];
 
 // The twelve turns end just before the exchange that would split; the other actor's split is first.
@@ -54,7 +56,8 @@ fn a_split_is_lost(rt: HostRuntime) {
 const DELETE: &[Part<'_>] = &[
     Part::Inserts(1, 16),
     Part::Adds("begin 0 delete k01\nuntil 0 split\n", ""),
-    Part::ListsFirst(16),
+    Part::Lists(16),
+    Part::Pairs(1, 16),
     Part::Adds("until 0 root\nbegin 1 get k01\nfinish 1\n", "1 value v01\n"),
     Part::Adds(
         "finish 0\nbegin 0 get k08\nfinish 0\n",
@@ -71,7 +74,7 @@ fn a_delete_splits(rt: HostRuntime) {
     runs(&rt, rt.alloc(), LIMITS, Width::Two, DELETE);
 }
 
-const INDEX: &[Part<'_>] = &[Part::Inserts(1, 200), Part::ListsFirst(200)];
+const INDEX: &[Part<'_>] = &[Part::Inserts(1, 200), Part::Lists(200), Part::Pairs(1, 200)];
 
 #[test]
 fn an_index_page_is_split(rt: HostRuntime) {
@@ -116,13 +119,18 @@ const FEW_PIDS: &[Part<'_>] = &[
     Part::Lists(448),
     Part::Adds("", "k001 x\n"),
     Part::Pairs(2, 448),
+    Part::Deletes(200, 2),
+    Part::Inserts(449, 600),
+    Part::Lists(401),
+    Part::Adds("", "k001 x\n"),
+    Part::Pairs(201, 600),
 ];
 
 // In ascending order each eighth insert from the seventeenth on splits a leaf, and the first brings a root. An index page of sixteen
 // terms is split: after the fifteenth split of a leaf, with a new root over it, and after each eighth one from there. So the 62 free
 // PIDs do for the fifty-fifth split of a leaf, at k449, whose term makes the last index page full. No PID is left to split that one,
-// as each writer that meets it has to.
+// as each writer that meets it has to. Once leaves at the other end are removed, the tree grows on.
 #[test]
 fn pids_run_out(rt: HostRuntime) {
-    runs(&rt, rt.alloc(), (2, 64, 4096, 1), Width::Three, FEW_PIDS);
+    runs(&rt, rt.alloc(), (2, 64, 1024, 1), Width::Three, FEW_PIDS);
 }

@@ -1,197 +1,103 @@
-//! A long script of three actors at one page, beside a plain ordered map.
+//! Three actors at one key, or beside one another at one page.
 
-ghost use Rattle.std.specs.Prelude.{◌<◌};
+use crate::numbered::{Part, Width, runs};
 
-use crate::runs::prints;
-use bw_model::Limits;
-use std::alloc::{AllocError, Global};
-use std::collections::BTreeMap;
-use std::test::Fail;
-
-// One of the first so many numbers, by a linear congruential generator.
-pub(crate) fn draw(seed: &mut u64, count: u64) -> u64
-    requires { 0 < count }
-    ensures { result < count }
-{
-    *seed = seed.wrapping_mul(6364136223846793005).wrapping_add(1);
-    (*seed >> 33) % count
-}
-
-#[derive(Clone, Copy)]
-enum Verb {
-    Get,
-    Insert,
-    Upsert,
-    Delete,
-}
-
-impl Verb {
-    fn word(self) -> &'static str {
-        match self {
-            Verb::Get => "get",
-            Verb::Insert => "insert",
-            Verb::Upsert => "upsert",
-            Verb::Delete => "delete",
-        }
-    }
-
-    // What it is answered, where its key has a value, and where it has none.
-    fn reply(self, had: bool) -> &'static str {
-        match (self, had) {
-            (Verb::Get, false) => "none",
-            (Verb::Get, true) => "value",
-            (Verb::Insert, false) => "inserted",
-            (Verb::Insert, true) => "exists",
-            (Verb::Upsert, false) => "set",
-            (Verb::Upsert, true) => "replaced",
-            (Verb::Delete, false) => "absent",
-            (Verb::Delete, true) => "deleted",
-        }
-    }
-}
-
-#[derive(Clone, Copy)]
-struct Operation {
-    verb: Verb,
-    key: u64,
-    value: u64,
-}
-
-// The lines so far, what they print, and the pairs that stand behind them.
-#[derive(Drop)]
-struct Script {
-    lines: String,
-    printed: String,
-    pairs: BTreeMap<u64, u64>,
-}
-
-impl Script {
-    fn new(alloc: Global) -> Script {
-        Script {
-            lines: String::new(alloc),
-            printed: String::new(alloc),
-            pairs: BTreeMap::new(alloc),
-        }
-    }
-
-    fn begin(&mut self, actor: u64, operation: Operation) -> Result<(), AllocError> {
-        let Operation { verb, key, value } = operation;
-        let word = verb.word();
-        match verb {
-            Verb::Get | Verb::Delete => writeln!(self.lines, "begin {actor} {word} k{key}"),
-            _ => writeln!(self.lines, "begin {actor} {word} k{key} v{value}"),
-        }
-    }
-
-    // Whether it changes the pairs.
-    fn changes(&self, operation: Operation) -> bool {
-        match operation.verb {
-            Verb::Get => false,
-            Verb::Insert => !self.pairs.contains_key(&operation.key),
-            Verb::Upsert => true,
-            Verb::Delete => self.pairs.contains_key(&operation.key),
-        }
-    }
-
-    fn finish(&mut self, actor: u64, operation: Operation) -> Result<(), Fail> {
-        writeln!(self.lines, "finish {actor}")?;
-        let old = self.pairs.get(&operation.key).copied();
-        let changes = self.changes(operation);
-        let word = operation.verb.reply(old.is_some());
-        match old {
-            Some(old) => writeln!(self.printed, "{actor} {word} v{old}")?,
-            None => writeln!(self.printed, "{actor} {word}")?,
-        }
-        if changes {
-            match operation.verb {
-                Verb::Delete => self.pairs.remove(&operation.key),
-                _ => self.pairs.insert(operation.key, operation.value)?,
-            };
-        }
-        Ok(())
-    }
-
-    fn list(&mut self) -> Result<(), AllocError> {
-        writeln!(self.lines, "list")?;
-        let count = self.pairs.len();
-        writeln!(self.printed, "pairs {count}")?;
-        for (key, value) in &self.pairs {
-            writeln!(self.printed, "k{key} v{value}")?;
-        }
-        Ok(())
-    }
-
-    // Begins an operation of each actor, with how many turns it may take at most before the first of them is finished. At one key
-    // it takes three: it has not looked at the page then, so they take effect in the order in which they are finished. At keys of
-    // their own their order doesn't matter: there it takes all turns but the last, of which there are six at least, and ten where
-    // the operation changes the page.
-    fn begin_round(
-        &mut self,
-        seed: &mut u64,
-        filling: bool,
-    ) -> Result<[(u64, Operation); 3], AllocError> {
-        let apart = draw(seed, 2);
-        let first = draw(seed, 8);
-        let keys = [first, (first + apart) % 8, (first + 2 * apart) % 8];
-        let mut operations = keys.map(|key| (3, draw_operation(seed, filling, key)));
-        for (actor, (turns, operation)) in operations.iter_mut().enumerate() {
-            self.begin(actor as u64, *operation)?;
-            if apart == 1 {
-                *turns = if self.changes(*operation) { 9 } else { 5 };
-            }
-        }
-        Ok(operations)
-    }
-
-    fn round(&mut self, seed: &mut u64, filling: bool) -> Result<(), Fail> {
-        let mut operations = self.begin_round(seed, filling)?;
-        for _ in 0..24u32 {
-            let actor = draw(seed, 3);
-            let turns = &mut operations[actor as usize].0;
-            if *turns > 0 {
-                *turns -= 1;
-                writeln!(self.lines, "turn {actor} 1")?;
-            }
-        }
-        let (first, step) = (draw(seed, 3), 1 + draw(seed, 2));
-        for i in 0..3u64 {
-            let actor = (first + step * i) % 3;
-            self.finish(actor, operations[actor as usize].1)?;
-        }
-        self.list()?;
-        Ok(())
-    }
-
-    fn rounds(&mut self) -> Result<(), Fail> {
-        let mut seed = 1;
-        for round in 0..48u32 {
-            self.round(&mut seed, round / 12 % 2 == 0)?;
-        }
-        Ok(())
-    }
-}
-
-// Filling makes more of the keys, else fewer.
-fn draw_operation(seed: &mut u64, filling: bool, key: u64) -> Operation {
-    let verb = match draw(seed, 4) {
-        0 => Verb::Get,
-        1 => Verb::Upsert,
-        _ if filling => Verb::Insert,
-        _ => Verb::Delete,
-    };
-    Operation {
-        verb,
-        key,
-        value: draw(seed, 1000),
-    }
-}
+// After three turns none has looked at the page, so the operations take effect in the order in which they are finished.
+const AT_ONE_KEY: &[Part<'_>] = &[
+    Part::Adds(
+        "begin 0 insert a 1\nbegin 1 upsert a 2\nbegin 2 get a\n",
+        "",
+    ),
+    Part::Adds("turn 0 3\nturn 1 3\nturn 2 3\n", ""),
+    Part::Adds(
+        "finish 2\nfinish 0\nfinish 1\nlist\n",
+        "2 none\n0 inserted\n1 replaced 1\npairs 1\na 2\n",
+    ),
+    Part::Adds("begin 0 delete a\nbegin 1 insert a 3\nbegin 2 get a\n", ""),
+    Part::Adds("turn 2 3\nturn 1 3\nturn 0 3\n", ""),
+    Part::Adds(
+        "finish 1\nfinish 0\nfinish 2\nlist\n",
+        "1 exists 2\n0 deleted 2\n2 none\npairs 0\n",
+    ),
+    Part::Adds(
+        "begin 0 delete a\nbegin 1 insert a 4\nbegin 2 upsert a 5\n",
+        "",
+    ),
+    Part::Adds("turn 1 2\nturn 0 3\nturn 2 3\nturn 1 1\n", ""),
+    Part::Adds(
+        "finish 0\nfinish 2\nfinish 1\nlist\n",
+        "0 absent\n2 set\n1 exists 5\npairs 1\na 5\n",
+    ),
+    Part::Adds("begin 0 get a\nbegin 1 delete a\nbegin 2 delete a\n", ""),
+    Part::Adds("turn 0 1\nturn 1 3\nturn 2 3\nturn 0 2\n", ""),
+    Part::Adds(
+        "finish 2\nfinish 1\nfinish 0\nlist\n",
+        "2 deleted 5\n1 absent\n0 none\npairs 0\n",
+    ),
+    Part::Adds(
+        "begin 0 upsert a 6\nbegin 1 upsert a 7\nbegin 2 get a\n",
+        "",
+    ),
+    Part::Adds("turn 0 3\nturn 2 3\nturn 1 3\n", ""),
+    Part::Adds(
+        "finish 1\nfinish 2\nfinish 0\nlist\n",
+        "1 set\n2 value 7\n0 replaced 7\npairs 1\na 6\n",
+    ),
+    Part::Adds("begin 0 get a\nbegin 1 insert a 8\nbegin 2 delete a\n", ""),
+    Part::Adds("turn 2 3\nturn 0 3\nturn 1 3\n", ""),
+    Part::Adds(
+        "finish 0\nfinish 1\nfinish 2\nlist\n",
+        "0 value 6\n1 exists 6\n2 deleted 6\npairs 0\n",
+    ),
+];
 
 #[test]
-fn operations_between_one_another(rt: HostRuntime) -> Result<(), Fail> {
-    let mut script = Script::new(rt.alloc());
-    script.rounds()?;
-    let limits = Limits::new(3, 64, 256, 1).expect(&rt, "limits");
-    let (lines, printed) = (script.lines.as_bytes(), script.printed.as_bytes());
-    prints(&rt, rt.alloc(), limits, lines, printed);
-    Ok(())
+fn operations_at_one_key(rt: HostRuntime) {
+    runs(&rt, rt.alloc(), (3, 64, 256, 1), Width::Two, AT_ONE_KEY);
+}
+
+// At keys of their own their order doesn't matter. Each takes all its turns but the last: six at least, and ten where it changes the page.
+// An exchange that is lost comes again.
+const APART: &[Part<'_>] = &[
+    Part::Adds(
+        "begin 0 insert a 1\nbegin 1 insert b 2\nbegin 2 get c\n",
+        "",
+    ),
+    Part::Adds("turn 0 9\nturn 1 9\nturn 2 5\n", ""),
+    Part::Adds(
+        "finish 2\nfinish 1\nfinish 0\nlist\n",
+        "2 none\n1 inserted\n0 inserted\npairs 2\na 1\nb 2\n",
+    ),
+    Part::Adds(
+        "begin 0 upsert b 3\nbegin 1 delete a\nbegin 2 insert c 4\n",
+        "",
+    ),
+    Part::Adds("turn 2 9\nturn 0 9\nturn 1 9\n", ""),
+    Part::Adds(
+        "finish 1\nfinish 2\nfinish 0\nlist\n",
+        "1 deleted 1\n2 inserted\n0 replaced 2\npairs 2\nb 3\nc 4\n",
+    ),
+    Part::Adds(
+        "begin 0 get b\nbegin 1 upsert c 5\nbegin 2 upsert a 6\n",
+        "",
+    ),
+    Part::Adds("turn 1 9\nturn 0 5\nturn 2 9\n", ""),
+    Part::Adds(
+        "finish 0\nfinish 2\nfinish 1\nlist\n",
+        "0 value 3\n2 set\n1 replaced 4\npairs 3\na 6\nb 3\nc 5\n",
+    ),
+    Part::Adds(
+        "begin 0 delete c\nbegin 1 insert b 7\nbegin 2 delete a\n",
+        "",
+    ),
+    Part::Adds("turn 2 9\nturn 1 5\nturn 0 9\n", ""),
+    Part::Adds(
+        "finish 0\nfinish 1\nfinish 2\nlist\n",
+        "0 deleted 5\n1 exists 3\n2 deleted 6\npairs 1\nb 3\n",
+    ),
+];
+
+#[test]
+fn operations_beside_one_another(rt: HostRuntime) {
+    runs(&rt, rt.alloc(), (3, 64, 256, 1), Width::Two, APART);
 }

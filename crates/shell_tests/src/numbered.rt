@@ -1,11 +1,12 @@
 //! Scripts over keys that are numbered from 1 on.
 
-use crate::runs::prints;
+use crate::runs::{prints, whole};
 use bw_model::Limits;
+use shell_lines::Language;
 use std::alloc::{AllocError, Global};
 use std::process::Abort;
 
-/// Lines of a script, and what they are to print.
+/// Lines of a script, and what they are to print. In both each # stands for a number.
 #[derive(Clone, Copy)]
 pub enum Part<'a> {
     /// These lines, which print this.
@@ -16,17 +17,13 @@ pub enum Part<'a> {
     Inserts(u32, u32),
     /// Deletes of keys that are there, from one number down to another, each without a stop.
     Deletes(u32, u32),
-    /// Such deletes, and inserts of the same keys, so many times.
-    Swings(u32, u32, u32),
-    /// A listing begins, with so many pairs.
+    /// A listing begins, with so many pairs: as many as a number of all digits.
     Lists(u32),
     /// The keys from one number to another are the next in a listing.
     Pairs(u32, u32),
-    /// A listing has exactly the first so many keys.
-    ListsFirst(u32),
 }
 
-/// How keys and values are written: k01 and v01, and so on, or k001 and v001.
+/// How numbers are written: k01 and v01, and so on, or k001 and v001.
 #[derive(Clone, Copy)]
 pub enum Width {
     Two,
@@ -34,12 +31,23 @@ pub enum Width {
 }
 
 impl Width {
-    /// Adds a number between two texts.
-    fn put(self, text: &mut String, before: &str, n: u32, behind: &str) -> Result<(), AllocError> {
+    /// Adds a number.
+    fn add(self, text: &mut String, number: u32) -> Result<(), AllocError> {
         match self {
-            Width::Two => write!(text, "{before}{n:02}{behind}"),
-            Width::Three => write!(text, "{before}{n:03}{behind}"),
+            Width::Two => write!(text, "{number:02}"),
+            Width::Three => write!(text, "{number:03}"),
         }
+    }
+
+    /// Adds a text, with a number in place of each #.
+    pub fn put(self, text: &mut String, form: &str, number: u32) -> Result<(), AllocError> {
+        for (place, piece) in form.split('#').enumerate() {
+            if place > 0 {
+                self.add(text, number)?;
+            }
+            text.push_str(piece)?;
+        }
+        Ok(())
     }
 }
 
@@ -52,70 +60,43 @@ struct Numbered {
 }
 
 impl Numbered {
-    fn insert(&mut self, first: u32, last: u32) -> Result<(), AllocError> {
-        for n in first..=last {
-            self.width
-                .put(&mut self.lines, "begin 0 insert k", n, " v")?;
-            self.width.put(&mut self.lines, "", n, "\nfinish 0\n")?;
-            self.printed.push_str("0 inserted\n")?;
+    /// Adds these for each number from the first to the last, or from the last down to the first.
+    fn add_each(
+        &mut self,
+        (first, last, down): (u32, u32, bool),
+        lines: &str,
+        printed: &str,
+    ) -> Result<(), AllocError> {
+        for number in first..=last {
+            let number = if down {
+                last.wrapping_sub(number).wrapping_add(first)
+            } else {
+                number
+            };
+            self.width.put(&mut self.lines, lines, number)?;
+            self.width.put(&mut self.printed, printed, number)?;
         }
         Ok(())
-    }
-
-    fn delete(&mut self, first: u32, last: u32) -> Result<(), AllocError> {
-        for n in (last..=first).rev() {
-            self.width
-                .put(&mut self.lines, "begin 0 delete k", n, "\nfinish 0\n")?;
-            self.width.put(&mut self.printed, "0 deleted v", n, "\n")?;
-        }
-        Ok(())
-    }
-
-    fn pairs(&mut self, first: u32, last: u32) -> Result<(), AllocError> {
-        for n in first..=last {
-            self.width.put(&mut self.printed, "k", n, " v")?;
-            self.width.put(&mut self.printed, "", n, "\n")?;
-        }
-        Ok(())
-    }
-
-    fn repeat(&mut self, times: u32, lines: &str, printed: &str) -> Result<(), AllocError> {
-        for _ in 0..times {
-            self.lines.push_str(lines)?;
-            self.printed.push_str(printed)?;
-        }
-        Ok(())
-    }
-
-    fn swing(&mut self, times: u32, first: u32, last: u32) -> Result<(), AllocError> {
-        for _ in 0..times {
-            self.delete(last, first)?;
-            self.insert(first, last)?;
-        }
-        Ok(())
-    }
-
-    fn list(&mut self, count: u32) -> Result<(), AllocError> {
-        self.lines.push_str("list\n")?;
-        writeln!(self.printed, "pairs {count}")
-    }
-
-    fn list_first(&mut self, count: u32) -> Result<(), AllocError> {
-        self.list(count)?;
-        self.pairs(1, count)
     }
 
     fn add(&mut self, part: &Part<'_>) -> Result<(), AllocError> {
-        match *part {
-            Part::Adds(lines, printed) => self.repeat(1, lines, printed),
-            Part::Repeats(times, lines, printed) => self.repeat(times, lines, printed),
-            Part::Inserts(first, last) => self.insert(first, last),
-            Part::Deletes(first, last) => self.delete(first, last),
-            Part::Swings(times, first, last) => self.swing(times, first, last),
-            Part::Lists(count) => self.list(count),
-            Part::Pairs(first, last) => self.pairs(first, last),
-            Part::ListsFirst(count) => self.list_first(count),
-        }
+        let (numbers, lines, printed) = match *part {
+            Part::Adds(lines, printed) => ((1, 1, false), lines, printed),
+            Part::Repeats(times, lines, printed) => ((1, times, false), lines, printed),
+            Part::Inserts(first, last) => (
+                (first, last, false),
+                "begin 0 insert k# v#\nfinish 0\n",
+                "0 inserted\n",
+            ),
+            Part::Deletes(last, first) => (
+                (first, last, true),
+                "begin 0 delete k#\nfinish 0\n",
+                "0 deleted v#\n",
+            ),
+            Part::Lists(count) => ((count, count, false), "list\n", "pairs #\n"),
+            Part::Pairs(first, last) => ((first, last, false), "", "k# v#\n"),
+        };
+        self.add_each(numbers, lines, printed)
     }
 
     fn add_all(&mut self, parts: &[Part<'_>]) -> Result<(), AllocError> {
@@ -143,8 +124,8 @@ pub fn runs(
     };
     let added = script.add_all(parts).is_ok();
     assert!(rt; added, "memory");
-    let (lines, printed) = (script.lines.as_bytes(), script.printed.as_bytes());
-    prints(rt, alloc, limits, lines, printed);
+    let ran = whole(alloc, Language::Weave, limits, script.lines.as_bytes());
+    prints(rt, ran, script.printed.as_bytes(), 0);
 }
 
 /// The limits of most scripts.

@@ -1,12 +1,12 @@
 //! Lines of drawn words and bytes: a line is refused for a reason of the grammar, or for none.
 
-use crate::interleaved::draw;
-use crate::runs::{add, joined, whole};
+ghost use Rattle.std.specs.Prelude.{◌<◌};
+
+use crate::runs::{add, limits, whole};
 use bw_model::Limits;
 use failing_streams::Ran;
 use shell_lines::Language;
-use std::alloc::{AllocError, Global};
-use std::test::Fail;
+use std::alloc::Global;
 
 /// How many lines are drawn for each program.
 const LINES: u64 = 5000;
@@ -77,6 +77,15 @@ const LINKS: [&str; 6] = ["put", "base", "split", "clear", "ready", "Put"];
 /// Codes of refusals.
 const CODES: [&[u8]; 5] = [b": 11\n", b": 1\n", b": 4\n", b": 5\n", b": 6\n"];
 
+/// One of the first so many numbers, by a linear congruential generator.
+fn draw(seed: &mut u64, count: u64) -> u64
+    requires { 0 < count }
+    ensures { result < count }
+{
+    *seed = seed.wrapping_mul(6364136223846793005).wrapping_add(1);
+    (*seed >> 33) % count
+}
+
 /// One of these.
 fn one_of<'a>(seed: &mut u64, words: &[&'a str]) -> &'a str {
     let place = draw(seed, words.len().max(1) as u64);
@@ -93,48 +102,36 @@ fn drawn<'a>(seed: &mut u64, word: &'a str) -> &'a str {
     }
 }
 
-/// Adds a line of a form that is drawn.
-fn add_words(line: &mut Vec<u8>, seed: &mut u64, forms: &[&str]) -> Result<(), AllocError> {
+/// Adds a line of a form that is drawn; says whether there was memory.
+fn adds_words(line: &mut Vec<u8>, seed: &mut u64, forms: &[&str]) -> bool {
     let form = one_of(seed, forms);
     for (place, word) in form.split(' ').enumerate() {
-        if place > 0 {
-            add(line, b" ", 1)?;
+        let space: &[u8] = if place > 0 { b" " } else { b"" };
+        let word = drawn(seed, word).as_bytes();
+        if add(line, space, 1).is_err() || add(line, word, 1).is_err() {
+            return false;
         }
-        add(line, drawn(seed, word).as_bytes(), 1)?;
     }
-    Ok(())
+    true
 }
 
-/// Adds up to so many bytes that are drawn.
-fn add_bytes(line: &mut Vec<u8>, seed: &mut u64, most: u64) -> Result<(), AllocError> {
+/// Adds up to so many bytes that are drawn; says whether there was memory.
+fn adds_bytes(line: &mut Vec<u8>, seed: &mut u64, most: u64) -> bool {
     for _ in 0..draw(seed, most.max(1)) {
-        line.push(draw(seed, 256) as u8)?;
+        if line.push(draw(seed, 256) as u8).is_err() {
+            return false;
+        }
     }
-    Ok(())
+    true
 }
 
 /// Adds a line: of words, or of words with a few bytes behind them, or of bytes.
-fn add_line(input: &mut Vec<u8>, seed: &mut u64, forms: &[&str]) -> Result<(), AllocError> {
+fn adds_line(input: &mut Vec<u8>, seed: &mut u64, forms: &[&str]) -> bool {
     match draw(seed, 8) {
-        0 => add_bytes(input, seed, 40),
-        1 | 2 | 3 => add_words(input, seed, forms),
-        _ => {
-            add_words(input, seed, forms)?;
-            add_bytes(input, seed, 3)
-        }
+        0 => adds_bytes(input, seed, 40),
+        1 | 2 | 3 => adds_words(input, seed, forms),
+        _ => adds_words(input, seed, forms) && adds_bytes(input, seed, 3),
     }
-}
-
-/// A first line, and a drawn one.
-fn drawn_input(
-    alloc: Global,
-    seed: &mut u64,
-    forms: &[&str],
-    first: &[u8],
-) -> Result<Vec<u8>, AllocError> {
-    let mut input = joined(alloc, &[(first, 1)])?;
-    add_line(&mut input, seed, forms)?;
-    Ok(input)
 }
 
 /// The last line of an output.
@@ -159,6 +156,22 @@ fn end(woven: &Ran) -> Option<usize> {
     (refused && woven.status == 1).then_some(place)
 }
 
+/// How a drawn line behind a first one ends.
+fn end_of_line(
+    alloc: Global,
+    seed: &mut u64,
+    language: Language,
+    limits: Limits,
+    (forms, first): (&[&str], &[u8]),
+) -> Option<usize> {
+    let mut input = Vec::new(alloc);
+    let added = add(&mut input, first, 1).is_ok() && adds_line(&mut input, seed, forms);
+    if added {
+        return end(&whole(alloc, language, limits, input.as_slice()));
+    }
+    None
+}
+
 /// How often drawn lines, each behind a first one, end so; none where one ends otherwise.
 fn ends(
     alloc: Global,
@@ -166,36 +179,31 @@ fn ends(
     language: Language,
     forms: &[&str],
     first: &[u8],
-) -> Result<Option<[u32; 6]>, AllocError> {
+) -> Option<[u32; 6]> {
     let mut seed = 1;
     let mut ends = [0u32; 6];
     for _ in 0..LINES {
-        let input = drawn_input(alloc, &mut seed, forms, first)?;
-        let Some(end) = end(&whole(alloc, language, limits, input.as_slice())) else {
-            return Ok(None);
-        };
+        let end = end_of_line(alloc, &mut seed, language, limits, (forms, first))?;
         if let Some(count) = ends.get_mut(end) {
             *count = count.saturating_add(1);
         }
     }
-    Ok(Some(ends))
+    Some(ends)
 }
 
 // In a weave each reason comes; a script has one actor, whose operations are done.
 #[test]
-fn random_lines(rt: HostRuntime) -> Result<(), Fail> {
-    let limits = Limits::new(2, 64, 64, 1)?;
-    let alloc = rt.alloc();
-    let first = b"begin 0 insert a 1\n";
-    let woven = ends(alloc, limits, Language::Weave, &WEAVE, first)?;
-    let scripted = ends(alloc, limits, Language::Script, &SCRIPT, b"insert a 1\n")?;
-    println!(rt; "codes 11, 1, 4, 5, 6, none: {woven:?} {scripted:?}")?;
-    let seen = [woven, scripted].map(|ends| ends.map(|counts| counts.map(|count| count > 0)));
-    assert!(rt;
-        seen == [
-            Some([true; 6]),
-            Some([true, true, false, false, false, true])
-        ]
+fn random_lines(rt: HostRuntime) {
+    let (alloc, limits) = (rt.alloc(), limits(&rt));
+    let woven = ends(
+        alloc,
+        limits,
+        Language::Weave,
+        &WEAVE,
+        b"begin 0 insert a 1\n",
     );
-    Ok(())
+    let scripted = ends(alloc, limits, Language::Script, &SCRIPT, b"insert a 1\n");
+    let seen = [woven, scripted].map(|ends| ends.map(|counts| counts.map(|count| count > 0)));
+    let wanted = [[true; 6], [true, true, false, false, false, true]];
+    assert!(rt; seen == wanted.map(Some));
 }

@@ -13,7 +13,8 @@ const REMOVED: &[Part<'_>] = &[
         "1 value v10\n",
     ),
     Part::Adds("finish 0\n", "0 deleted v12\n"),
-    Part::ListsFirst(11),
+    Part::Lists(11),
+    Part::Pairs(1, 11),
 ];
 
 #[test]

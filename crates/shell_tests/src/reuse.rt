@@ -18,7 +18,16 @@ const CONSOLIDATED: &[&[Part<'_>]] = &[
             "begin 0 insert k10 v10\nturn 0 14\nturn 0 1\n",
             "0 inserted\n",
         ),
-        Part::ListsFirst(10),
+        Part::Lists(10),
+        Part::Pairs(1, 10),
+    ],
+    &[
+        Part::Inserts(1, 8),
+        Part::Adds(
+            "begin 0 delete k01\nturn 0 24\nturn 0 1\nbegin 0 get k01\nfinish 0\nlist\n",
+            "0 deleted v01\n0 none\npairs 7\n",
+        ),
+        Part::Pairs(2, 8),
     ],
     &[
         Part::Inserts(1, 8),
@@ -30,29 +39,18 @@ const CONSOLIDATED: &[&[Part<'_>]] = &[
             "begin 0 insert k10 v10\nturn 0 14\nturn 0 1\n",
             "0 inserted\n",
         ),
-        Part::ListsFirst(10),
+        Part::Lists(10),
+        Part::Pairs(1, 10),
     ],
 ];
 
-// The ninth insert consolidates, in 25 turns. The tenth frees the rows of the old chain by four turns more than its own eleven: it
+// The ninth insert consolidates, in 25 turns, as a delete would. The tenth frees the rows of the old chain by four turns more than its own eleven: it
 // reads the epoch, retires it, reads what the other actor announces, and frees a word. A turn after the last would be refused.
 #[test]
 fn a_page_is_consolidated(rt: HostRuntime) {
     for parts in CONSOLIDATED {
         runs(&rt, rt.alloc(), LIMITS, Width::Two, parts);
     }
-}
-
-const SWINGS: &[Part<'_>] = &[
-    Part::Inserts(1, 17),
-    Part::Swings(100, 12, 17),
-    Part::ListsFirst(17),
-];
-
-// Each round gives a page back: more than there are identifiers, and far more rows than there are.
-#[test]
-fn pages_come_and_go(rt: HostRuntime) {
-    runs(&rt, rt.alloc(), LIMITS, Width::Two, SWINGS);
 }
 
 const KEPT: &[Part<'_>] = &[

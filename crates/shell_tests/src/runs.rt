@@ -53,9 +53,7 @@ pub type Rows<'a> = &'a [(&'a [u8], &'a [u8], u8)];
 pub fn agree(rt: &impl Abort, alloc: Global, language: Language, rows: Rows<'_>) {
     let limits = limits(rt);
     for (input, output, status) in rows {
-        let woven = whole(alloc, language, limits, input);
-        assert_eq!(rt; woven.output.as_slice(), *output);
-        assert_eq!(rt; woven.status, *status);
+        prints(rt, whole(alloc, language, limits, input), output, *status);
     }
 }
 
@@ -76,9 +74,7 @@ pub fn joined(alloc: Global, parts: &[(&[u8], u32)]) -> Result<Vec<u8>, AllocErr
     Ok(text)
 }
 
-// One run turn by turn, what it is to write, and that nothing is refused.
-pub fn prints(rt: &impl Abort, alloc: Global, limits: Limits, input: &[u8], output: &[u8]) {
-    let woven = whole(alloc, Language::Weave, limits, input);
-    assert_eq!(rt; woven.output.as_slice(), output);
-    assert_eq!(rt; woven.status, 0);
+// What a run is to have written, and its status.
+pub fn prints(rt: &impl Abort, ran: Ran, output: &[u8], status: u8) {
+    assert_eq!(rt; (ran.output.as_slice(), ran.status), (output, status));
 }

@@ -1,11 +1,11 @@
 //! Scripts: one command a line.
 
+use crate::numbered::Width;
 use crate::runs::{Rows, agree, limits, whole};
 use bw_model::Limits;
 use failing_streams::Ran;
 use shell_lines::Language;
 use std::alloc::{AllocError, Global};
-use std::test::Fail;
 
 #[test]
 fn commands(rt: HostRuntime) {
@@ -57,46 +57,58 @@ fn refused_commands(rt: HostRuntime) {
     agree(&rt, rt.alloc(), Language::Script, rows);
 }
 
-/// Adds a command.
-fn add_command(lines: &mut String, number: u32) -> Result<(), AllocError> {
-    let key = number.wrapping_mul(7) % 23;
-    match number % 6 {
-        0 | 1 => write!(lines, "insert k{key} v{number}"),
-        2 => write!(lines, "upsert k{key} ="),
-        3 => write!(lines, "page k{key}"),
-        4 => write!(lines, "delete k{key}"),
-        _ => write!(lines, "tidy k{key}"),
-    }
-}
+/// Commands of a script, each with a key's number in place of each #.
+const SCRIPT: [&str; 6] = [
+    "insert k# v#\n",
+    "insert k# x\n",
+    "upsert k# =\n",
+    "page k#\n",
+    "delete k#\n",
+    "tidy k#\n",
+];
 
-/// Adds commands, each between these words, and a listing.
-fn add_commands(lines: &mut String, before: &str, behind: &str) -> Result<(), AllocError> {
-    for number in 0..60u32 {
-        lines.push_str(before)?;
-        add_command(lines, number)?;
-        lines.push_str(behind)?;
-    }
-    lines.push_str("list\n")
-}
+/// The same as operations of actor 0, from the begin to the end.
+const WEAVE: [&str; 6] = [
+    "begin 0 insert k# v#\nfinish 0\n",
+    "begin 0 insert k# x\nfinish 0\n",
+    "begin 0 upsert k# =\nfinish 0\n",
+    "begin 0 page k#\nfinish 0\n",
+    "begin 0 delete k#\nfinish 0\n",
+    "begin 0 tidy k#\nfinish 0\n",
+];
 
-/// What these commands print.
-fn printed(
-    alloc: Global,
-    limits: Limits,
-    language: Language,
-    (before, behind): (&str, &str),
-) -> Result<Ran, AllocError> {
+/// Sixty of these over 23 keys, and a listing.
+fn sixty(alloc: Global, forms: &[&str]) -> Result<String, AllocError> {
     let mut lines = String::new(alloc);
-    add_commands(&mut lines, before, behind)?;
-    Ok(whole(alloc, language, limits, lines.as_bytes()))
+    for number in 0..60u32 {
+        let form = forms.get((number % 6) as usize).copied().unwrap_or("");
+        Width::Two.put(&mut lines, form, number * 7 % 23)?;
+    }
+    lines.push_str("list\n")?;
+    Ok(lines)
+}
+
+/// What they print.
+fn printed(alloc: Global, limits: Limits, language: Language, forms: &[&str]) -> Option<Ran> {
+    match sixty(alloc, forms) {
+        Ok(lines) => Some(whole(alloc, language, limits, lines.as_bytes())),
+        Err(_) => None,
+    }
+}
+
+/// Whether a script prints what its commands print as operations.
+fn are_alike(alloc: Global, limits: Limits) -> bool {
+    match printed(alloc, limits, Language::Weave, &WEAVE) {
+        Some(woven) => match printed(alloc, limits, Language::Script, &SCRIPT) {
+            Some(ran) => woven.status == 0 && ran.is(woven.output.as_slice(), 0),
+            None => false,
+        },
+        None => false,
+    }
 }
 
 // Each command is what an operation of actor 0 is, from its begin to its end.
 #[test]
-fn scripts_are_finished_operations(rt: HostRuntime) -> Result<(), Fail> {
-    let (alloc, limits) = (rt.alloc(), limits(&rt));
-    let one = printed(alloc, limits, Language::Script, ("", "\n"))?;
-    let other = printed(alloc, limits, Language::Weave, ("begin 0 ", "\nfinish 0\n"))?;
-    assert!(rt; one.is(other.output.as_slice(), 0) && other.status == 0);
-    Ok(())
+fn scripts_are_finished_operations(rt: HostRuntime) {
+    assert!(rt; are_alike(rt.alloc(), limits(&rt)));
 }

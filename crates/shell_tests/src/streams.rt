@@ -8,44 +8,47 @@ use std::alloc::{AllocError, Global};
 use std::io::ErrorKind;
 use std::test::Fail;
 
-// A line with so many zeros, which asks for a turn of an actor without an operation, by seven bytes more.
-fn turn_line(alloc: Global, zeros: u32) -> Result<Vec<u8>, AllocError> {
-    joined(alloc, &[(b"turn ", 1), (b"0", zeros), (b" 1", 1)])
-}
-
-// Whether this is what is printed for a first line, with a last LF and without, however many bytes come with each read.
-fn is_refused(
-    alloc: Global,
-    limits: Limits,
-    line: &[u8],
-    output: &[u8],
-) -> Result<bool, AllocError> {
-    let ended = joined(alloc, &[(line, 1), (b"\nlist\n", 1)])?;
+/// Whether this is what is printed for an input, however many bytes come with each read.
+fn is_refused(alloc: Global, limits: Limits, input: &[u8], output: &[u8]) -> bool {
     for size in [1, 7, 1000, 1023, 1024, 1025, 1026, 4096] {
-        for input in [line, ended.as_slice()] {
-            let input = Choppy::sound(input, size);
-            let woven = run(alloc, Language::Weave, limits, input, 4096, NEVER);
-            if !woven.is(output, 1) {
-                return Ok(false);
-            }
+        let input = Choppy::sound(input, size);
+        if !run(alloc, Language::Weave, limits, input, 4096, NEVER).is(output, 1) {
+            return false;
         }
     }
-    Ok(true)
+    true
 }
 
-// 1,024 bytes are a line, and 1,025 are not.
-#[test]
-fn long_lines(rt: HostRuntime) -> Result<(), Fail> {
-    for (zeros, output) in [
-        (1016, b"refused line 1: 6\n".as_slice()),
-        (1017, b"refused line 1: 6\n".as_slice()),
-        (1018, b"refused line 1: 11\n".as_slice()),
-        (5000, b"refused line 1: 11\n".as_slice()),
-    ] {
-        let line = turn_line(rt.alloc(), zeros)?;
-        assert!(rt; is_refused(rt.alloc(), limits(&rt), line.as_slice(), output)?);
+// A line with so many zeros, which asks for a turn of an actor without an operation, by seven bytes more, and what stands behind it.
+fn turn_line(alloc: Global, zeros: u32, behind: &[u8]) -> Result<Vec<u8>, AllocError> {
+    joined(
+        alloc,
+        &[(b"turn ", 1), (b"0", zeros), (b" 1", 1), (behind, 1)],
+    )
+}
+
+/// Whether this is printed for such a line.
+fn is_told(alloc: Global, limits: Limits, zeros: u32, behind: &[u8], output: &[u8]) -> bool {
+    match turn_line(alloc, zeros, behind) {
+        Ok(line) => is_refused(alloc, limits, line.as_slice(), output),
+        Err(_) => false,
     }
-    Ok(())
+}
+
+// 1,024 bytes are a line, and 1,025 are not, with a last LF and without.
+#[test]
+fn long_lines(rt: HostRuntime) {
+    let (alloc, limits) = (rt.alloc(), limits(&rt));
+    let (turn, malformed) = (b"refused line 1: 6\n", b"refused line 1: 11\n");
+    let told = [b"".as_slice(), b"\nlist\n"].map(|behind| {
+        [
+            is_told(alloc, limits, 1016, behind, turn),
+            is_told(alloc, limits, 1017, behind, turn),
+            is_told(alloc, limits, 1018, behind, malformed),
+            is_told(alloc, limits, 5000, behind, malformed),
+        ]
+    });
+    assert!(rt; told == [[true; 4]; 2]);
 }
 
 // About thirty lines, with empty ones, and without a last LF.
@@ -62,7 +65,7 @@ const COMMANDS: &[u8] =
 const REPLIES: &[u8] =
     b"0 inserted\n0 inserted\n0 value v01\n0 exists =\npairs 2\nk01 v01\nk02 =\n0 inserted\n0 inserted\n0 value v04\n0 none\n0 page 3 k02 = k03 v03 k04 v04 end\n0 tidied\n0 deleted v03\npairs 3\nk01 v01\nk02 =\nk04 v04\n";
 
-const RUNS: &[(Language, &[u8], &[u8])] = &[
+const RUNS: [(Language, &[u8], &[u8]); 2] = [
     (Language::Weave, INPUT, OUTPUT),
     (Language::Script, COMMANDS, REPLIES),
 ];
@@ -86,28 +89,27 @@ fn writes_fail(
     all.writes > 20 && all.is(output, 0)
 }
 
-#[test]
-fn failed_writes(rt: HostRuntime) {
-    let limits = limits(&rt);
-    for (language, input, output) in RUNS {
-        assert!(rt; writes_fail(rt.alloc(), limits, *language, input, output));
-    }
+// Whether a flush that fails leaves all of the output.
+fn flush_fails(
+    alloc: Global,
+    limits: Limits,
+    language: Language,
+    input: &[u8],
+    output: &[u8],
+) -> bool {
+    let mut out = Breaking::taking(alloc, 4096, NEVER);
+    out.flush_fails = true;
+    run_into(alloc, language, limits, Choppy::sound(input, 7), out).is(output, 1)
 }
 
 #[test]
-fn failed_flush(rt: HostRuntime) {
-    for (language, input, output) in RUNS {
-        let mut out = Breaking::taking(rt.alloc(), 4096, NEVER);
-        out.flush_fails = true;
-        let woven = run_into(
-            rt.alloc(),
-            *language,
-            limits(&rt),
-            Choppy::sound(input, 7),
-            out,
-        );
-        assert!(rt; woven.is(output, 1));
-    }
+fn failed_writes(rt: HostRuntime) {
+    let (alloc, limits) = (rt.alloc(), limits(&rt));
+    let fail = RUNS.map(|(language, input, output)| {
+        writes_fail(alloc, limits, language, input, output)
+            && flush_fails(alloc, limits, language, input, output)
+    });
+    assert!(rt; fail == [true; 2]);
 }
 
 // The whole lines among the first bytes of the input.
@@ -148,12 +150,12 @@ fn reads_fail(
 // An interrupted read isn't tried again.
 #[test]
 fn failed_reads(rt: HostRuntime) {
-    let limits = limits(&rt);
-    for run in RUNS {
-        for fault in [ErrorKind::Other, ErrorKind::Interrupted] {
-            assert!(rt; reads_fail(rt.alloc(), limits, *run, fault));
-        }
-    }
+    let (alloc, limits) = (rt.alloc(), limits(&rt));
+    let fail = RUNS.map(|run| {
+        reads_fail(alloc, limits, run, ErrorKind::Other)
+            && reads_fail(alloc, limits, run, ErrorKind::Interrupted)
+    });
+    assert!(rt; fail == [true; 2]);
 }
 
 // Whether this is printed, one byte a read and one a write.
@@ -167,23 +169,40 @@ fn is_printed(
     run(alloc, language, limits, Choppy::sound(input, 1), 1, NEVER).is(output, 0)
 }
 
-// With a last LF and without.
-#[test]
-fn one_byte_at_a_time(rt: HostRuntime) -> Result<(), Fail> {
-    let limits = limits(&rt);
-    for (language, input, output) in RUNS {
-        let ended = joined(rt.alloc(), &[(input, 1), (b"\n", 1)])?;
-        let printed = is_printed(rt.alloc(), limits, *language, input, output)
-            && is_printed(rt.alloc(), limits, *language, ended.as_slice(), output);
-        assert!(rt; printed);
+// Whether it is with a last LF, too.
+fn is_ended(
+    alloc: Global,
+    limits: Limits,
+    language: Language,
+    input: &[u8],
+    output: &[u8],
+) -> bool {
+    match joined(alloc, &[(input, 1), (b"\n", 1)]) {
+        Ok(ended) => is_printed(alloc, limits, language, ended.as_slice(), output),
+        Err(_) => false,
     }
-    Ok(())
 }
 
-// Whether this is printed, by six writes at most.
-fn is_written(alloc: Global, limits: Limits, input: Choppy<'_>, output: &[u8]) -> bool {
-    let woven = run(alloc, Language::Weave, limits, input, 4096, NEVER);
-    woven.is(output, 0) && woven.writes <= 6
+#[test]
+fn one_byte_at_a_time(rt: HostRuntime) {
+    let (alloc, limits) = (rt.alloc(), limits(&rt));
+    let printed = RUNS.map(|(language, input, output)| {
+        is_printed(alloc, limits, language, input, output)
+            && is_ended(alloc, limits, language, input, output)
+    });
+    assert!(rt; printed == [true; 2]);
+}
+
+// Whether this is printed, by six writes at most, however many bytes come with each read.
+fn is_written(alloc: Global, limits: Limits, input: &[u8], output: &[u8]) -> bool {
+    for size in [1, 4096] {
+        let input = Choppy::sound(input, size);
+        let woven = run(alloc, Language::Weave, limits, input, 4096, NEVER);
+        if !woven.is(output, 0) || woven.writes > 6 {
+            return false;
+        }
+    }
+    true
 }
 
 // Thousands of lines, read in one piece and byte by byte, and written in few pieces.
@@ -192,9 +211,6 @@ fn many_lines(rt: HostRuntime) -> Result<(), Fail> {
     let last: &[u8] = b"begin 0 get a\n\nfinish 0\n";
     let lines = joined(rt.alloc(), &[(INPUT, 1), (b"\n", 1), (last, 3000)])?;
     let output = joined(rt.alloc(), &[(OUTPUT, 1), (b"0 none\n", 3000)])?;
-    for size in [1, 4096] {
-        let input = Choppy::sound(lines.as_slice(), size);
-        assert!(rt; is_written(rt.alloc(), limits(&rt), input, output.as_slice()));
-    }
+    assert!(rt; is_written(rt.alloc(), limits(&rt), lines.as_slice(), output.as_slice()));
     Ok(())
 }

@@ -2,10 +2,9 @@
 
 use shell_options::{OptionsError, Program, Settings, options};
 use std::alloc::{AllocError, Global};
-use std::test::Fail;
 
 /// What the words come to.
-#[derive(Clone, Copy, Debug, PartialEq, Eq)]
+#[derive(Clone, Copy, PartialEq, Eq)]
 enum Said {
     /// A program with its numbers: actors, PIDs, rows, epoch.
     Numbers(Program, [u64; 4]),
@@ -39,62 +38,82 @@ fn words(alloc: Global, line: &str) -> Result<Vec<String>, AllocError> {
     Ok(words)
 }
 
-/// What the words of a line come to.
-fn answer_to(alloc: Global, line: &str) -> Result<Said, AllocError> {
-    let words = words(alloc, line)?;
-    Ok(match options(alloc, words.as_slice()) {
+/// What the words come to.
+fn answer_to(alloc: Global, words: &[String]) -> Said {
+    match options(alloc, words) {
         Ok(settings) => said_by(&settings),
         Err(OptionsError::Clap(error)) if error.use_stderr() => Said::Refused,
         Err(OptionsError::Clap(_)) => Said::Help,
         Err(OptionsError::Memory) => Said::Memory,
-    })
+    }
+}
+
+/// Whether the words of a line come to this.
+fn says(alloc: Global, line: &str, wanted: Said) -> bool {
+    match words(alloc, line) {
+        Ok(words) => answer_to(alloc, words.as_slice()) == wanted,
+        Err(_) => false,
+    }
 }
 
 /// Whether each of the lines comes to this.
-fn all_say(alloc: Global, lines: &[&str], wanted: Said) -> Result<bool, AllocError> {
+fn all_say(alloc: Global, lines: &[&str], wanted: Said) -> bool {
     for line in lines {
-        if answer_to(alloc, line)? != wanted {
-            return Ok(false);
+        if !says(alloc, line, wanted) {
+            return false;
         }
     }
-    Ok(true)
+    true
+}
+
+/// Lines, and the numbers of their programs.
+const NUMBERS: [(&str, Program, [u64; 4]); 11] = [
+    ("weave", Program::Weave, [2, 64, 256, 1]),
+    (
+        "weave --rows 64 --epoch=7 --actors 3 --pids 0128",
+        Program::Weave,
+        [3, 128, 64, 7],
+    ),
+    ("weave --actors +16", Program::Weave, [16, 64, 256, 1]),
+    (
+        "weave --actors 00000000000000000000001",
+        Program::Weave,
+        [1, 64, 256, 1],
+    ),
+    ("draw", Program::Draw, [2, 64, 256, 1]),
+    ("draw --actors 3 --rows 128", Program::Draw, [3, 64, 128, 1]),
+    ("script", Program::Script, [1, 64, 256, 1]),
+    (
+        "script --pids 4096 --rows=16384 --epoch 4611686018427387904",
+        Program::Script,
+        [1, 4096, 16384, 1 << 62],
+    ),
+    ("race", Program::Race, [2, 4096, 16384, 1]),
+    (
+        "race --rows 64 --epoch=7 --seats 16 --pids 0128",
+        Program::Race,
+        [16, 128, 64, 7],
+    ),
+    ("race --seats 1", Program::Race, [1, 4096, 16384, 1]),
+];
+
+/// Whether each line comes to its numbers.
+fn all_have_numbers(alloc: Global) -> bool {
+    for (line, program, numbers) in NUMBERS {
+        if !says(alloc, line, Said::Numbers(program, numbers)) {
+            return false;
+        }
+    }
+    true
 }
 
 #[test]
-fn numbers_of_options(rt: HostRuntime) -> Result<(), Fail> {
-    let table = [
-        ("weave", Said::Numbers(Program::Weave, [2, 64, 256, 1])),
-        (
-            "weave --rows 64 --epoch=7 --actors 3 --pids 0128",
-            Said::Numbers(Program::Weave, [3, 128, 64, 7]),
-        ),
-        (
-            "weave --actors +16",
-            Said::Numbers(Program::Weave, [16, 64, 256, 1]),
-        ),
-        (
-            "weave --actors 00000000000000000000001",
-            Said::Numbers(Program::Weave, [1, 64, 256, 1]),
-        ),
-        ("draw", Said::Numbers(Program::Draw, [2, 64, 256, 1])),
-        (
-            "draw --actors 3 --rows 128",
-            Said::Numbers(Program::Draw, [3, 64, 128, 1]),
-        ),
-        ("script", Said::Numbers(Program::Script, [1, 64, 256, 1])),
-        (
-            "script --pids 4096 --rows=16384 --epoch 4611686018427387904",
-            Said::Numbers(Program::Script, [1, 4096, 16384, 1 << 62]),
-        ),
-    ];
-    for (line, wanted) in table {
-        assert!(rt; answer_to(rt.alloc(), line)? == wanted, "{line}");
-    }
-    Ok(())
+fn numbers_of_options(rt: HostRuntime) {
+    assert!(rt; all_have_numbers(rt.alloc()));
 }
 
 /// Numbers that are none of 64 bits, words that are none, and options that stand twice.
-const REFUSED: [&str; 17] = [
+const REFUSED: [&str; 21] = [
     "weave --rows x",
     "weave --rows -1",
     "weave --rows 64.0",
@@ -112,10 +131,14 @@ const REFUSED: [&str; 17] = [
     "weave --actors 2 --actors 2",
     "weave --rows 64 --pids 64 --rows=64",
     "script --epoch 1 --epoch 1",
+    "race --actors 2",
+    "race --seats -1",
+    "weave --seats 2",
+    "race --seats 2 --seats 2",
 ];
 
 /// Numbers outside their ranges.
-const BAD_LIMITS: [&str; 14] = [
+const BAD_LIMITS: [&str; 19] = [
     "weave --actors 0",
     "weave --actors 17",
     "weave --actors 18446744073709551615",
@@ -130,19 +153,23 @@ const BAD_LIMITS: [&str; 14] = [
     "script --pids 4160",
     "weave --epoch 0",
     "script --epoch 4611686018427387905",
+    "race --seats 0",
+    "race --seats 17",
+    "race --pids 0",
+    "race --pids 63",
+    "race --pids 4160",
 ];
 
+/// Words that ask for help.
+const HELP: [&str; 4] = ["--help", "help", "weave -h", "help script"];
+
 #[test]
-fn refused_words(rt: HostRuntime) -> Result<(), Fail> {
+fn refused_words(rt: HostRuntime) {
     let alloc = rt.alloc();
-    assert!(rt; all_say(alloc, &REFUSED, Said::Refused)?);
-    assert!(rt; all_say(alloc, &BAD_LIMITS, Said::BadLimits)?);
-    assert!(rt;
-        all_say(
-            alloc,
-            &["--help", "help", "weave -h", "help script"],
-            Said::Help
-        )?
-    );
-    Ok(())
+    let right = [
+        all_say(alloc, &REFUSED, Said::Refused),
+        all_say(alloc, &BAD_LIMITS, Said::BadLimits),
+        all_say(alloc, &HELP, Said::Help),
+    ];
+    assert!(rt; right == [true; 3]);
 }
