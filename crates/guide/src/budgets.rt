@@ -41,11 +41,11 @@ impl Work for Finds {
 
 /// What a lookup in a new tree finds, and how many pieces of so many steps it took.
 fn found_in(alloc: Global, budget: u32) -> Option<(Reply, u32)> {
-    let finds = Finds {
+    let mut finds = Finds {
         budget,
         found: None,
     };
-    let (finds, _pairs) = done_alone(alloc, finds)?;
+    let _pairs = done_alone(alloc, &mut finds)?;
     finds.found
 }
 

@@ -5,7 +5,6 @@ use crate::two_seats::{TwoSeatWork, done_by_two};
 use bw_model::{Command, Key, Reply, Value};
 use bw_tree::{BwSeat, Tree};
 use std::sync::Wait;
-use std::test::Fail;
 use std::thread::Threads;
 use workers::{called, reply, resumed};
 
@@ -73,13 +72,11 @@ impl TwoSeatWork for Idle {
 }
 
 #[test]
-fn a_stopped_seat_goes_on(rt: HostRuntime) -> Result<(), Fail> {
+fn a_stopped_seat_goes_on(rt: HostRuntime) {
     assert!(rt; done_by_two(&rt, rt.alloc(), 64, &Stopped));
-    Ok(())
 }
 
 #[test]
-fn an_idle_seat_tidies(rt: HostRuntime) -> Result<(), Fail> {
+fn an_idle_seat_tidies(rt: HostRuntime) {
     assert!(rt; done_by_two(&rt, rt.alloc(), 64, &Idle));
-    Ok(())
 }

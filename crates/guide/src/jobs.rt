@@ -1,9 +1,12 @@
 //! Jobs of commands, which the workers of a tree share.
+ghost use Rattle.std.specs.Prelude.{IfSome};
+ghost use Rattle.bw_tree.specs.Trees.{AreSeatsOf};
+ghost use Rattle.workers.specs.Worked.{AreIdle};
 
 use bw_model::{Command, Key, Limits, Reply, Value};
+use bw_tree::{BwSeat, Tree};
 use std::alloc::{AllocError, Global};
 use std::sync::Wait;
-use std::test::Fail;
 use std::thread::Threads;
 use workers::{Job, JobResult, Ungated, are_ascending, opened, run_jobs};
 
@@ -14,37 +17,67 @@ fn job(alloc: Global, number: u32, key: &Key) -> Result<Job, AllocError> {
     Ok(Job { number, commands })
 }
 
-/// The results of jobs on a new tree, which two threads run, and its pairs at the end.
-fn done<R: Threads + Wait + Sync>(
+/// A job for each of three keys.
+fn jobs(alloc: Global) -> Result<Vec<Job>, AllocError> {
+    let mut jobs = Vec::new(alloc);
+    for (number, bytes) in [(0, b"Bern"), (1, b"Oslo"), (2, b"Rome")] {
+        let key = Key::from_slice(bytes).unwrap_or_default();
+        jobs.push(job(alloc, number, &key)?)?;
+    }
+    Ok(jobs)
+}
+
+/// The results of jobs, and the seats that ran them.
+fn ran<R: Threads + Wait + Sync>(
     rt: &R,
     alloc: Global,
+    tree: &Tree,
+    seats: Vec<BwSeat>,
     jobs: Vec<Job>,
-) -> Option<(Vec<JobResult>, Vec<(Key, Value)>)> {
-    let limits = Limits::new(2, 64, 256, 1).ok()?;
-    let (tree, seats) = opened(alloc, limits).ok()?;
+) -> Option<(Vec<JobResult>, Vec<BwSeat>)>
+    requires own { AreSeatsOf tree.now seats.items }
+    requires idle { AreIdle seats.items }
+    ensures own { IfSome result (λ ran. AreSeatsOf tree.now ran.1.items) }
+{
     // the jobs' numbers are to ascend, and some seat has to run them
     if !are_ascending(jobs.as_slice()) || seats.is_empty() {
         return None;
     }
-    let (results, seats) = run_jobs(rt, alloc, &tree, seats, jobs, &Ungated).ok()?;
-    let pairs = tree.close(alloc, seats).ok()?;
-    Some((results, pairs))
+    match run_jobs(rt, alloc, tree, seats, jobs, &Ungated) {
+        Ok(ran) => Some(ran),
+        Err(_) => None,
+    }
+}
+
+/// The results of the jobs on a new tree, which two threads run, and its pairs at the end.
+fn done<R: Threads + Wait + Sync>(
+    rt: &R,
+    alloc: Global,
+) -> Option<(Vec<JobResult>, Vec<(Key, Value)>)> {
+    let limits = Limits::new(2, 64, 256, 1).ok()?;
+    let jobs = jobs(alloc).ok()?;
+    let (tree, seats) = opened(alloc, limits).ok()?;
+    let (results, seats) = ran(rt, alloc, &tree, seats, jobs)?;
+    Some(results).zip(tree.close(alloc, seats).ok())
+}
+
+/// Whether each insert found nothing, and each lookup its key.
+fn are_right(results: &[JobResult]) -> bool {
+    let replies = [Reply::Inserted, Reply::Value(Value::default())];
+    for result in results {
+        if result.replies.as_slice() != replies.as_slice() {
+            return false;
+        }
+    }
+    true
 }
 
 #[test]
-fn two_threads_run_three_jobs(rt: HostRuntime) -> Result<(), Fail> {
-    let mut jobs = Vec::new(rt.alloc());
-    for (number, key) in [(0, b"Bern"), (1, b"Oslo"), (2, b"Rome")] {
-        jobs.push(job(rt.alloc(), number, &Key::from_slice(key)?)?)?;
-    }
-    let Some((results, pairs)) = done(&rt, rt.alloc(), jobs) else {
+fn two_threads_run_three_jobs(rt: HostRuntime) {
+    let Some((results, pairs)) = done(&rt, rt.alloc()) else {
         assert!(rt; false);
-        return Ok(());
+        return;
     };
-    let replies = [Reply::Inserted, Reply::Value(Value::default())];
-    for result in results.as_slice() {
-        assert!(rt; result.replies.as_slice() == replies.as_slice());
-    }
     assert_eq!(rt; (results.len(), pairs.len()), (3, 3));
-    Ok(())
+    assert!(rt; are_right(results.as_slice()));
 }

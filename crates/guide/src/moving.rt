@@ -1,12 +1,11 @@
 //! A full tree is closed, and its pairs are moved to a larger one.
 ghost use Rattle.bw_tree.specs.Trees.{AreSeatsOf, IsSeatOf};
 
+use crate::opening::lend;
 use bw_model::{Command, Key, Limits, Reply, Value};
 use bw_tree::{BwSeat, Tree};
 use std::alloc::Global;
-use std::test::Fail;
-use std::thread::Threads;
-use workers::{Work, opened, opened_from, reply, work_in_threads};
+use workers::{Work, opened, opened_from, reply};
 
 /// Inserts the keys of numbers in a row, until one finds no room.
 #[derive(Drop)]
@@ -26,45 +25,51 @@ impl Work for Fills {
     }
 }
 
-/// Fills a tree from a number on, and closes it: the number that found no room, and the pairs.
-fn filled<R: Threads + Sync>(
-    rt: &R,
+/// Fills a tree, from the next number on, and closes it: its pairs.
+fn filled(
     alloc: Global,
     tree: Tree,
     seats: Vec<BwSeat>,
-    next: u32,
-) -> Option<(u32, Vec<(Key, Value)>)>
+    fills: &mut Fills,
+) -> Option<Vec<(Key, Value)>>
     requires own { AreSeatsOf tree seats.items }
 {
     let mut seats = seats;
-    let works = vec![in alloc; Fills { next }].ok()?;
-    let works = work_in_threads(rt, &tree, &mut seats, works)?;
-    let pairs = tree.close(alloc, seats).ok()?;
-    Some((works.as_slice().first()?.next, pairs))
+    lend(&tree, &mut seats, fills);
+    tree.close(alloc, seats).ok()
 }
 
-/// How many pairs fill a small tree, and, once they are moved, a large one.
-fn filled_twice<R: Threads + Sync>(
-    rt: &R,
-    alloc: Global,
-    small: Limits,
-    large: Limits,
-) -> Option<(usize, usize)> {
+/// The pairs that fill a small tree.
+fn filled_anew(alloc: Global, fills: &mut Fills) -> Option<Vec<(Key, Value)>> {
+    let small = Limits::new(1, 64, 64, 1).ok()?;
     let (tree, seats) = opened(alloc, small).ok()?;
-    let (next, pairs) = filled(rt, alloc, tree, seats, 0)?;
-    let (tree, seats) = opened_from(alloc, large, pairs.as_slice()).ok()?;
-    let (_, more) = filled(rt, alloc, tree, seats, next)?;
+    filled(alloc, tree, seats, fills)
+}
+
+/// The pairs of a larger tree to which these are moved, and which is filled then.
+fn filled_on(
+    alloc: Global,
+    pairs: &[(Key, Value)],
+    fills: &mut Fills,
+) -> Option<Vec<(Key, Value)>> {
+    let larger = Limits::new(1, 64, 256, 1).ok()?;
+    let (tree, seats) = opened_from(alloc, larger, pairs).ok()?;
+    filled(alloc, tree, seats, fills)
+}
+
+/// How many pairs fill the small tree, and the larger one.
+fn filled_twice(alloc: Global) -> Option<(usize, usize)> {
+    let mut fills = Fills { next: 0 };
+    let pairs = filled_anew(alloc, &mut fills)?;
+    let more = filled_on(alloc, pairs.as_slice(), &mut fills)?;
     Some((pairs.len(), more.len()))
 }
 
 #[test]
-fn pairs_are_moved_to_a_larger_tree(rt: HostRuntime) -> Result<(), Fail> {
-    let small = Limits::new(1, 64, 64, 1)?;
-    let large = Limits::new(1, 64, 256, 1)?;
-    let Some((before, after)) = filled_twice(&rt, rt.alloc(), small, large) else {
+fn pairs_are_moved_to_a_larger_tree(rt: HostRuntime) {
+    let Some((before, after)) = filled_twice(rt.alloc()) else {
         assert!(rt; false);
-        return Ok(());
+        return;
     };
     assert!(rt; 0 < before && before < after);
-    Ok(())
 }

@@ -1,4 +1,4 @@
-//! A note goes along with a message, so that who gets the message finds what was done before it.
+//! Notes go along with messages, so that who gets a message finds what was done before it.
 ghost use Rattle.std.specs.Prelude.{◌≡◌, Some};
 ghost use Rattle.bw_tree.specs.Notes.{IsNoteOf};
 ghost use Rattle.bw_tree.specs.Trees.{AreSeatsOf, IsSeatOf, Tree as TreeSeen};
@@ -9,9 +9,11 @@ use crossbeam_channel::{Receiver, Sender, bounded};
 use std::alloc::Global;
 use std::marker::{Brand, PhantomData};
 use std::sync::Wait;
-use std::test::Fail;
 use std::thread::{Threads, join_mut};
 use workers::{give_seat, opened, reply, take_seat};
+
+/// How many messages are sent.
+const TIMES: u32 = 300;
 
 /// The tree that all messages of a channel are about.
 trait OfTree {
@@ -27,53 +29,67 @@ impl OfTree for Brand {
     ghost tree = { None };
 }
 
-/// A key that was inserted, and a note that was made after it.
+/// A number that the key has got as its value, and a note that was made after it.
 #[derive(Drop)]
 struct Told<T: OfTree> {
-    key: Key,
+    number: u32,
     note: Note,
     of: PhantomData<T>,
     ghost own: { (tree : TreeSeen) → T.tree ≡ Some tree → IsNoteOf tree note },
 }
 
-/// Inserts a key, and sends it with a note.
-fn tell<R: Wait, T: OfTree>(
-    rt: &R,
-    tree: &Tree,
-    seat: &mut BwSeat,
-    sender: &Sender<Told<T>>,
-    key: &Key,
-) -> bool
+/// Sets the key to each number in turn, and sends the number with a note.
+fn tell<R: Wait, T: OfTree>(rt: &R, tree: &Tree, seat: &mut BwSeat, sender: &Sender<Told<T>>)
     requires tree { T.tree ≡ Some tree.now }
     requires own { IsSeatOf tree.now seat.old }
     ensures own { IsSeatOf tree.now seat.new }
 {
-    let insert = Command::Insert(key.copied(), Value::default());
-    let inserted = reply(tree, seat, insert) == Some(Reply::Inserted);
-    let told = Told {
-        key: key.copied(),
-        note: tree.note(seat),
-        of: PhantomData,
-    };
-    sender.send(rt, told).is_ok() && inserted
+    for number in 1..=TIMES {
+        let value = Value::from_slice(&number.to_be_bytes()).unwrap_or_default();
+        let _ = reply(tree, seat, Command::Upsert(Key::default(), value));
+        let note = tree.note(seat);
+        let told = Told {
+            number,
+            note,
+            of: PhantomData,
+        };
+        let _ = sender.send(rt, told);
+    }
 }
 
-/// Waits for a message, heeds its note, and finds its key.
+/// Looks the key up: whether it has this number, or a later one.
+fn finds(tree: &Tree, seat: &mut BwSeat, number: u32) -> bool
+    requires own { IsSeatOf tree.now seat.old }
+    ensures own { IsSeatOf tree.now seat.new }
+{
+    match reply(tree, seat, Command::Get(Key::default())) {
+        Some(Reply::Value(value)) => value.as_slice() >= number.to_be_bytes().as_slice(),
+        _ => false,
+    }
+}
+
+/// Waits for each message, heeds its note, and looks the key up: how often it finds what was told.
 fn heed<R: Wait, T: OfTree>(
     rt: &R,
     tree: &Tree,
     seat: &mut BwSeat,
     receiver: &Receiver<Told<T>>,
-) -> bool
+) -> u32
     requires tree { T.tree ≡ Some tree.now }
     requires own { IsSeatOf tree.now seat.old }
     ensures own { IsSeatOf tree.now seat.new }
 {
-    let Ok(told) = receiver.recv(rt) else {
-        return false;
-    };
-    tree.heed(seat, told.note);
-    reply(tree, seat, Command::Get(told.key)) == Some(Reply::Value(Value::default()))
+    let mut found = 0u32;
+    for _ in 0..TIMES {
+        let Ok(told) = receiver.recv(rt) else {
+            return found;
+        };
+        tree.heed(seat, told.note);
+        if finds(tree, seat, told.number) {
+            found = found.saturating_add(1);
+        }
+    }
+    found
 }
 
 /// One seat tells, and another one heeds, each in a thread of its own.
@@ -83,7 +99,6 @@ fn tell_and_heed<R: Threads + Wait + Sync, T: OfTree + Send>(
     tree: &Tree,
     one: &mut BwSeat,
     other: &mut BwSeat,
-    key: &Key,
 ) -> bool
     requires tree { T.tree ≡ Some tree.now }
     requires one { IsSeatOf tree.now one.old }
@@ -91,15 +106,15 @@ fn tell_and_heed<R: Threads + Wait + Sync, T: OfTree + Send>(
     ensures one { IsSeatOf tree.now one.new }
     ensures other { IsSeatOf tree.now other.new }
 {
-    let Ok((sender, receiver)) = bounded::<Told<T>, Global>(alloc, 1) else {
+    let Ok((sender, receiver)) = bounded::<Told<T>, Global>(alloc, TIMES as usize) else {
         return false;
     };
-    let (told, heeded) = join_mut(
+    let (_, found) = join_mut(
         rt,
-        &mut || tell::<R, T>(rt, tree, one, &sender, key),
+        &mut || tell::<R, T>(rt, tree, one, &sender),
         &mut || heed::<R, T>(rt, tree, other, &receiver),
     );
-    told && heeded
+    found == TIMES
 }
 
 /// The same with two seats that were taken out of a list, which get them back.
@@ -110,53 +125,48 @@ fn heeded_with<R: Threads + Wait + Sync>(
     seats: &mut Vec<BwSeat>,
     one: BwSeat,
     other: BwSeat,
-    key: &Key,
 ) -> bool
     requires own { AreSeatsOf tree.now seats.old.items }
     requires one { IsSeatOf tree.now one }
     requires other { IsSeatOf tree.now other }
 {
     let (mut one, mut other) = (one, other);
-    let well = tell_and_heed::<R, Brand>(rt, alloc, tree, &mut one, &mut other, key);
-    match give_seat(tree, seats, one) {
-        Ok(()) => give_seat(tree, seats, other).is_ok() && well,
-        Err(_) => false,
-    }
+    let well = tell_and_heed::<R, Brand>(rt, alloc, tree, &mut one, &mut other);
+    let given = give_seat(tree, seats, one).is_ok();
+    give_seat(tree, seats, other).is_ok() && given && well
 }
 
-/// The same with the two seats of a list.
+/// The same with the last two seats of a list.
 fn heeded_by<R: Threads + Wait + Sync>(
     rt: &R,
     alloc: Global,
     tree: &Tree,
     seats: &mut Vec<BwSeat>,
-    key: &Key,
 ) -> bool
     requires own { AreSeatsOf tree.now seats.old.items }
 {
     let Some(other) = take_seat(tree, seats) else {
         return false;
     };
-    match take_seat(tree, seats) {
-        Some(one) => heeded_with(rt, alloc, tree, seats, one, other, key),
-        None => false,
-    }
+    let Some(one) = take_seat(tree, seats) else {
+        let _ = give_seat(tree, seats, other);
+        return false;
+    };
+    heeded_with(rt, alloc, tree, seats, one, other)
 }
 
 /// The same on a new tree.
-fn heeded_on_a_tree<R: Threads + Wait + Sync>(rt: &R, alloc: Global, key: &Key) -> bool {
-    let Ok(limits) = Limits::new(2, 64, 256, 1) else {
+fn heeded_on_a_tree<R: Threads + Wait + Sync>(rt: &R, alloc: Global) -> bool {
+    let Ok(limits) = Limits::new(2, 64, 1024, 1) else {
         return false;
     };
     let Ok((tree, mut seats)) = opened(alloc, limits) else {
         return false;
     };
-    heeded_by(rt, alloc, &tree, &mut seats, key)
+    heeded_by(rt, alloc, &tree, &mut seats)
 }
 
 #[test]
-fn a_note_goes_along(rt: HostRuntime) -> Result<(), Fail> {
-    let key = Key::from_slice(b"Bern")?;
-    assert!(rt; heeded_on_a_tree(&rt, rt.alloc(), &key));
-    Ok(())
+fn notes_go_along(rt: HostRuntime) {
+    assert!(rt; heeded_on_a_tree(&rt, rt.alloc()));
 }

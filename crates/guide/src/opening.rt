@@ -1,5 +1,5 @@
 //! A tree is opened, used with one seat, and closed.
-ghost use Rattle.bw_tree.specs.Trees.{IsSeatOf};
+ghost use Rattle.bw_tree.specs.Trees.{AreSeatsOf};
 
 use bw_model::{Command, Key, Limits, Reply, Value};
 use bw_tree::{BwSeat, Tree};
@@ -7,19 +7,25 @@ use std::alloc::Global;
 use std::test::Fail;
 use workers::{Work, give_seat, opened, reply, take_seat};
 
-/// Opens a tree, lets a work use its only seat, and closes the tree: the work, and the tree's pairs. None where there is no memory.
-pub(crate) fn done_alone<W: Work>(alloc: Global, work: W) -> Option<(W, Vec<(Key, Value)>)> {
+/// Lends a work the last seat of a list.
+pub(crate) fn lend<W: Work>(tree: &Tree, seats: &mut Vec<BwSeat>, work: &mut W)
+    requires own { AreSeatsOf tree.now seats.old.items }
+    ensures own { AreSeatsOf tree.now seats.new.items }
+{
+    if let Some(mut seat) = take_seat(tree, seats) {
+        work.work(tree, &mut seat);
+        // without memory the seat is lost, and then the tree isn't closed
+        let _ = give_seat(tree, seats, seat);
+    }
+}
+
+/// Opens a tree, lends a work its only seat, and closes the tree: its pairs. None where there is no memory.
+pub(crate) fn done_alone<W: Work>(alloc: Global, work: &mut W) -> Option<Vec<(Key, Value)>> {
     // one actor, 64 PIDs, 256 rows, and the opening epoch
     let limits = Limits::new(1, 64, 256, 1).ok()?;
     let (tree, mut seats) = opened(alloc, limits).ok()?;
-    let mut seat = take_seat(&tree, &mut seats)?;
-    let mut work = work;
-    work.work(&tree, &mut seat);
-    let Ok(()) = give_seat(&tree, &mut seats, seat) else {
-        return None;
-    };
-    let pairs = tree.close(alloc, seats).ok()?;
-    Some((work, pairs))
+    lend(&tree, &mut seats, work);
+    tree.close(alloc, seats).ok()
 }
 
 /// Gives a key a value, and looks it up.
@@ -41,17 +47,15 @@ impl Work for Sets {
 
 #[test]
 fn a_tree_is_opened_and_closed(rt: HostRuntime) -> Result<(), Fail> {
-    let (key, value) = (
-        Key::from_slice(b"Bern")?,
-        Value::from_slice(b"Switzerland")?,
-    );
-    let sets = Sets {
+    let key = Key::from_slice(b"Bern")?;
+    let value = Value::from_slice(b"Switzerland")?;
+    let mut sets = Sets {
         key: key.copied(),
         value: value.copied(),
         set: None,
         found: None,
     };
-    let Some((sets, pairs)) = done_alone(rt.alloc(), sets) else {
+    let Some(pairs) = done_alone(rt.alloc(), &mut sets) else {
         assert!(rt; false);
         return Ok(());
     };

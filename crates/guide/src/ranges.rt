@@ -52,12 +52,11 @@ fn listed(tree: &Tree, seat: &mut BwSeat, alloc: Global) -> Option<Vec<(Key, Val
     }
 }
 
-/// Inserts the keys below 100, then walks over a range of them both ways.
+/// Inserts the keys below 100, then walks over a range of them both ways: how many pairs a walk shows, and which ones.
 #[derive(Drop)]
 struct Walks {
     alloc: Global,
-    counted: Option<usize>,
-    listed: Option<Vec<(Key, Value)>>,
+    walked: Option<(usize, Vec<(Key, Value)>)>,
 }
 
 impl Work for Walks {
@@ -68,20 +67,19 @@ impl Work for Walks {
                 return;
             }
         }
-        self.counted = counted(tree, seat);
-        self.listed = listed(tree, seat, self.alloc);
+        let counted = counted(tree, seat);
+        self.walked = counted.zip(listed(tree, seat, self.alloc));
     }
 }
 
-/// How many pairs a walk over a new tree shows, and which ones.
+/// What walks over a new tree show.
 fn walked(alloc: Global) -> Option<(usize, Vec<(Key, Value)>)> {
-    let walks = Walks {
+    let mut walks = Walks {
         alloc,
-        counted: None,
-        listed: None,
+        walked: None,
     };
-    let (walks, _pairs) = done_alone(alloc, walks)?;
-    Some((walks.counted?, walks.listed?))
+    let _pairs = done_alone(alloc, &mut walks)?;
+    walks.walked
 }
 
 /// Whether the pairs are those of the keys from 20 on and below 50.

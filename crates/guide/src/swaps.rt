@@ -4,20 +4,27 @@ ghost use Rattle.bw_tree.specs.Trees.{IsSeatOf};
 use bw_model::{Command, Key, Limits, Reply, Value};
 use bw_tree::{BwSeat, Tree};
 use std::alloc::Global;
-use std::test::Fail;
 use std::thread::Threads;
 use workers::{Work, opened, reply, work_in_threads};
+
+/// How often each thread raises the counter.
+const TIMES: u32 = 1000;
 
 /// More tries than a swap needs.
 const MOST_TRIES: u32 = 1 << 20;
 
-/// The value after this one: a number of one byte.
-fn next(value: &Value) -> Value {
-    let number = match value.as_slice() {
-        [number] => *number,
+/// A number as a value.
+fn value(number: u32) -> Value {
+    Value::from_slice(&number.to_be_bytes()).unwrap_or_default()
+}
+
+/// The value after this one.
+fn next(known: &Value) -> Value {
+    let number = match known.as_slice() {
+        [first, second, third, last] => u32::from_be_bytes([*first, *second, *third, *last]),
         _ => 0,
     };
-    Value::from_slice(&[number.wrapping_add(1)]).unwrap_or_default()
+    value(number.wrapping_add(1))
 }
 
 /// Raises the counter by one: true once a swap has won.
@@ -42,19 +49,17 @@ fn raise(tree: &Tree, seat: &mut BwSeat, counter: &Key) -> bool
     false
 }
 
-/// Raises the counter so many times.
+/// Raises the counter, and counts how often.
 #[derive(Drop)]
 struct Raises {
-    times: u32,
     raised: u32,
 }
 
 impl Work for Raises {
     fn work(&mut self, tree: &Tree, seat: &mut BwSeat) {
-        let start = Value::from_slice(&[0]).unwrap_or_default();
         // the thread that comes first sets the counter
-        let _ = reply(tree, seat, Command::Insert(Key::default(), start));
-        for _ in 0..self.times {
+        let _ = reply(tree, seat, Command::Insert(Key::default(), value(0)));
+        for _ in 0..TIMES {
             if raise(tree, seat, &Key::default()) {
                 self.raised = self.raised.saturating_add(1);
             }
@@ -62,36 +67,23 @@ impl Work for Raises {
     }
 }
 
-/// Lets each work raise the counter of a new tree, all at once: the works, and the pairs at the end.
-fn raised<R: Threads + Sync>(
-    rt: &R,
-    alloc: Global,
-    works: Vec<Raises>,
-) -> Option<(Vec<Raises>, Vec<(Key, Value)>)> {
+/// Lets four threads raise the counter of a new tree, all at once: the works, and the pairs at the end.
+fn raised<R: Threads + Sync>(rt: &R, alloc: Global) -> Option<(Vec<Raises>, Vec<(Key, Value)>)> {
+    let work = || Raises { raised: 0 };
+    let works = vec![in alloc; work(), work(), work(), work()].ok()?;
     let limits = Limits::new(4, 64, 1024, 1).ok()?;
-    let Ok((tree, mut seats)) = opened(alloc, limits) else {
-        return None;
-    };
-    let works = work_in_threads(rt, &tree, &mut seats, works)?;
-    let pairs = tree.close(alloc, seats).ok()?;
-    Some((works, pairs))
+    let (tree, mut seats) = opened(alloc, limits).ok()?;
+    let works = work_in_threads(rt, &tree, &mut seats, works);
+    // where a seat didn't come back, the tree isn't closed
+    works.zip(tree.close(alloc, seats).ok())
 }
 
 #[test]
-fn four_threads_raise_a_counter(rt: HostRuntime) -> Result<(), Fail> {
-    let work = || Raises {
-        times: 50,
-        raised: 0,
-    };
-    let works = vec![in rt.alloc(); work(), work(), work(), work()]?;
-    let Some((works, pairs)) = raised(&rt, rt.alloc(), works) else {
+fn four_threads_raise_a_counter(rt: HostRuntime) {
+    let Some((works, pairs)) = raised(&rt, rt.alloc()) else {
         assert!(rt; false);
-        return Ok(());
+        return;
     };
-    for work in works.as_slice() {
-        assert_eq!(rt; work.raised, 50);
-    }
-    let last = Value::from_slice(&[200])?;
-    assert!(rt; pairs.as_slice() == [(Key::default(), last)].as_slice());
-    Ok(())
+    assert!(rt; works.iter().all(|work| work.raised == TIMES));
+    assert!(rt; pairs.as_slice() == [(Key::default(), value(4 * TIMES))].as_slice());
 }

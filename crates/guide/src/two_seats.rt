@@ -38,13 +38,11 @@ fn done_with<R: Threads + Wait + Sync, W: TwoSeatWork>(
 {
     let (mut one, mut other) = (one, other);
     let well = work.work(rt, tree, &mut one, &mut other);
-    match give_seat(tree, seats, one) {
-        Ok(()) => give_seat(tree, seats, other).is_ok() && well,
-        Err(_) => false,
-    }
+    let given = give_seat(tree, seats, one).is_ok();
+    give_seat(tree, seats, other).is_ok() && given && well
 }
 
-/// Does it with the two seats of a list.
+/// Does it with the last two seats of a list.
 fn done_by<R: Threads + Wait + Sync, W: TwoSeatWork>(
     rt: &R,
     tree: &Tree,
@@ -56,10 +54,11 @@ fn done_by<R: Threads + Wait + Sync, W: TwoSeatWork>(
     let Some(other) = take_seat(tree, seats) else {
         return false;
     };
-    match take_seat(tree, seats) {
-        Some(one) => done_with(rt, tree, seats, one, other, work),
-        None => false,
-    }
+    let Some(one) = take_seat(tree, seats) else {
+        let _ = give_seat(tree, seats, other);
+        return false;
+    };
+    done_with(rt, tree, seats, one, other, work)
 }
 
 /// Does it with the two seats of a new tree; false also where there is no memory.

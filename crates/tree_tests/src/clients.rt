@@ -14,7 +14,7 @@ const SHARED: u32 = 24;
 const FIRST_SHARED: u32 = 4 * OWN;
 
 /// What a client knows of its own keys: the number of each one's value, or 0 where it has none; and how many replies were wrong.
-#[derive(Clone, Copy, Debug, Drop)]
+#[derive(Drop)]
 pub(crate) struct Client {
     number: u32,
     pub(crate) rounds: u32,
@@ -51,6 +51,11 @@ impl Client {
         }
     }
 
+    /// The number of its first own key.
+    pub(crate) fn first(&self) -> u32 {
+        self.number % 4 * OWN
+    }
+
     /// The value of one of its own keys.
     pub(crate) fn value(&self, place: usize) -> u32 {
         match self.values.get(place) {
@@ -84,7 +89,7 @@ impl Client {
 }
 
 /// What a client asks in a round: a command by a number that was drawn, on an own key or on a shared one.
-#[derive(Clone, Copy, Drop)]
+#[derive(Clone, Copy)]
 pub(crate) struct Asked {
     drawn: u32,
     own: bool,
@@ -118,7 +123,7 @@ impl Client {
 
     pub(crate) fn command(&self, asked: Asked) -> Command {
         let number = if asked.own {
-            (self.number % 4 * OWN).wrapping_add(asked.place())
+            self.first().wrapping_add(asked.place())
         } else {
             FIRST_SHARED + (asked.drawn >> 12) % SHARED
         };

@@ -1,52 +1,59 @@
 //! Jobs that workers run on a tree's seats.
+ghost use Rattle.std.specs.Prelude.{IfSome};
+ghost use Rattle.bw_tree.specs.Trees.{AreSeatsOf};
+ghost use Rattle.workers.specs.Worked.{AreIdle};
 
-use crate::numbered::{are_first, insert, key, value};
-use bw_model::{Command, Key, Limits, Reply, Value};
+use crate::numbered::{are_first, insert};
+use bw_model::{Command, Limits, Reply};
 use bw_tree::{BwSeat, Tree};
 use std::alloc::{AllocError, Global};
 use std::sync::Wait;
 use std::sync::atomic::{AtomicBool, AtomicU64, Ordering};
-use std::test::Fail;
 use std::thread::{Threads, yield_now};
-use workers::{Gate, Job, JobResult, JobsRefusal, Ungated, are_ascending, opened, run_jobs};
+use workers::{Gate, Job, JobResult, are_ascending, opened, run_jobs};
 
-/// The results of jobs on a new tree, which are run again where memory or a thread was refused, and the tree's pairs at its end.
-fn done<R: Threads + Wait + Sync, G: Gate + Sync>(
+/// The results of jobs, and the seats that ran them.
+fn ran<R: Threads + Wait + Sync, G: Gate + Sync>(
     rt: &R,
     alloc: Global,
-    limits: Limits,
+    tree: &Tree,
+    seats: Vec<BwSeat>,
     jobs: Vec<Job>,
-    again: Vec<Job>,
     gate: &G,
-) -> Option<(Vec<JobResult>, Vec<(Key, Value)>)> {
-    let Ok((tree, seats)) = opened(alloc, limits) else {
-        return None;
-    };
-    if !are_ascending(jobs.as_slice()) || !are_ascending(again.as_slice()) || seats.is_empty() {
+) -> Option<(Vec<JobResult>, Vec<BwSeat>)>
+    requires own { AreSeatsOf tree.now seats.items }
+    requires idle { AreIdle seats.items }
+    ensures own { IfSome result (λ ran. AreSeatsOf tree.now ran.1.items) }
+{
+    if !are_ascending(jobs.as_slice()) || seats.is_empty() {
         return None;
     }
-    let (results, seats) = match run_jobs(rt, alloc, &tree, seats, jobs, gate) {
-        Ok(done) => done,
-        Err(error) => {
-            if error.refusal != JobsRefusal::NotRun || error.seats.is_empty() {
-                return None;
-            }
-            run_jobs(rt, alloc, &tree, error.seats, again, gate).ok()?
-        }
-    };
-    let pairs = tree.close(alloc, seats).ok()?;
-    Some((results, pairs))
+    match run_jobs(rt, alloc, tree, seats, jobs, gate) {
+        Ok(ran) => Some(ran),
+        Err(_) => None,
+    }
 }
 
-/// So many jobs, each of which inserts so many keys of its own.
+/// Inserts of so many keys from one on.
+fn commands(alloc: Global, first: u32, count: u32) -> Result<Vec<Command>, AllocError> {
+    let mut commands = Vec::new(alloc);
+    for place in 0..count {
+        commands.push(insert(first.wrapping_add(place)))?;
+    }
+    Ok(commands)
+}
+
+/// A job that inserts so many keys of its own.
+fn job(alloc: Global, number: u32, each: u32) -> Result<Job, AllocError> {
+    let commands = commands(alloc, number.wrapping_mul(each), each)?;
+    Ok(Job { number, commands })
+}
+
+/// So many such jobs.
 fn inserts(alloc: Global, count: u32, each: u32) -> Result<Vec<Job>, AllocError> {
     let mut jobs = Vec::new(alloc);
     for number in 0..count {
-        let mut commands = Vec::new(alloc);
-        for place in 0..each {
-            commands.push(insert(number.wrapping_mul(each).wrapping_add(place)))?;
-        }
-        jobs.push(Job { number, commands })?;
+        jobs.push(job(alloc, number, each)?)?;
     }
     Ok(jobs)
 }
@@ -68,24 +75,37 @@ fn are_inserted(results: &[JobResult], count: u32, each: u32, seats: usize) -> b
     number == count
 }
 
-/// Whether jobs that insert keys of their own leave a tree with all of them.
+/// Whether a closed tree has so many keys.
+fn lists(alloc: Global, tree: Tree, seats: Vec<BwSeat>, count: u32) -> bool
+    requires own { AreSeatsOf tree seats.items }
+{
+    match tree.close(alloc, seats).ok() {
+        Some(pairs) => are_first(pairs.as_slice(), count),
+        None => false,
+    }
+}
+
+/// How many seats there are, how many jobs, and how many keys each of these inserts.
+type Amounts = (u64, u32, u32);
+
+/// Whether jobs that insert keys of their own leave a tree of so many rows with all of them.
 fn are_run<R: Threads + Wait + Sync, G: Gate + Sync>(
     rt: &R,
     alloc: Global,
-    limits: Limits,
-    count: u32,
-    each: u32,
+    rows: u64,
+    (seats, count, each): Amounts,
     gate: &G,
-) -> Result<bool, AllocError> {
-    let jobs = inserts(alloc, count, each)?;
-    let again = inserts(alloc, count, each)?;
-    let Some((results, pairs)) = done(rt, alloc, limits, jobs, again, gate) else {
-        return Ok(false);
+) -> Option<bool> {
+    let limits = Limits::new(seats, rows / 4, rows, 1).ok()?;
+    let jobs = inserts(alloc, count, each).ok()?;
+    let Ok((tree, list)) = opened(alloc, limits) else {
+        return None;
     };
-    Ok(
-        are_inserted(results.as_slice(), count, each, limits.actors as usize)
-            && are_first(pairs.as_slice(), count.wrapping_mul(each)),
-    )
+    let Some((results, list)) = ran(rt, alloc, &tree, list, jobs, gate) else {
+        return None;
+    };
+    let listed = lists(alloc, tree, list, count.wrapping_mul(each));
+    Some(listed && are_inserted(results.as_slice(), count, each, seats as usize))
 }
 
 /// Counts the jobs that begin and end.
@@ -105,9 +125,21 @@ impl Gate for Counts {
     }
 }
 
-// As many seats as jobs, more, and fewer; no job at all, and jobs without commands. Each job begins once and ends once.
+/// Whether the jobs are run, and each begins once and ends once.
+fn are_counted<R: Threads + Wait + Sync>(rt: &R, alloc: Global, amounts: Amounts) -> bool {
+    let counts = Counts {
+        begun: AtomicU64::new(0),
+        ended: AtomicU64::new(0),
+    };
+    let ran = are_run(rt, alloc, 16384, amounts, &counts);
+    let begun = counts.begun.load(Ordering::SeqCst);
+    let ended = counts.ended.load(Ordering::SeqCst);
+    ran == Some(true) && (begun, ended) == (u64::from(amounts.1), u64::from(amounts.1))
+}
+
+// As many seats as jobs, more, and fewer; no job at all, and jobs without commands.
 #[test]
-fn seats_share_jobs(rt: HostRuntime) -> Result<(), Fail> {
+fn seats_share_jobs(rt: HostRuntime) {
     for (seats, count, each) in [
         (4, 4, 1000),
         (4, 1, 20),
@@ -116,16 +148,9 @@ fn seats_share_jobs(rt: HostRuntime) -> Result<(), Fail> {
         (2, 0, 1),
         (2, 3, 0),
     ] {
-        let limits = Limits::new(seats, 4096, 16384, 1)?;
-        let counts = Counts {
-            begun: AtomicU64::new(0),
-            ended: AtomicU64::new(0),
-        };
-        assert!(rt; are_run(&rt, rt.alloc(), limits, count, each, &counts)?);
-        assert_eq!(rt; counts.begun.load(Ordering::SeqCst), u64::from(count));
-        assert_eq!(rt; counts.ended.load(Ordering::SeqCst), u64::from(count));
+        let right = are_counted(&rt, rt.alloc(), (seats, count, each));
+        assert!(rt; right, "{seats} {count} {each}");
     }
-    Ok(())
 }
 
 /// Holds two jobs, 0 and 1, each until the other one began, and tells if that was too long.
@@ -170,52 +195,11 @@ impl Gate for Meets {
 
 // Workers that ran one job after another would wait in vain.
 #[test]
-fn jobs_run_at_once(rt: HostRuntime) -> Result<(), Fail> {
+fn jobs_run_at_once(rt: HostRuntime) {
     let gate = Meets {
         begun: [AtomicBool::new(false), AtomicBool::new(false)],
         late: AtomicBool::new(false),
     };
-    let limits = Limits::new(2, 64, 256, 1)?;
-    assert!(rt; are_run(&rt, rt.alloc(), limits, 2, 2, &gate)?);
-    assert!(rt; !gate.late.load(Ordering::SeqCst));
-    Ok(())
-}
-
-/// The jobs of a race: job 0 inserts a key and looks it up, job 1 inserts another key.
-fn race(alloc: Global) -> Result<Vec<Job>, AllocError> {
-    let first = Job {
-        number: 0,
-        commands: vec![in alloc; Command::Insert(key(1), value(1)), Command::Get(key(1))]?,
-    };
-    let second = Job {
-        number: 1,
-        commands: vec![in alloc; Command::Insert(key(2), value(2))]?,
-    };
-    Ok(vec![in alloc; first, second]?)
-}
-
-#[test]
-fn results_stand_in_order(rt: HostRuntime) -> Result<(), Fail> {
-    let limits = Limits::new(2, 4096, 16384, 1)?;
-    let ended = done(
-        &rt,
-        rt.alloc(),
-        limits,
-        race(rt.alloc())?,
-        race(rt.alloc())?,
-        &Ungated,
-    );
-    let Some((results, pairs)) = ended else {
-        assert!(rt; false);
-        return Ok(());
-    };
-    let [first, second] = results.as_slice() else {
-        assert!(rt; false);
-        return Ok(());
-    };
-    assert!(rt; (first.job, second.job) == (0, 1));
-    assert!(rt; first.replies.as_slice() == [Reply::Inserted, Reply::Value(value(1))].as_slice());
-    assert!(rt; second.replies.as_slice() == [Reply::Inserted].as_slice());
-    assert!(rt; pairs.as_slice() == [(key(1), value(1)), (key(2), value(2))].as_slice());
-    Ok(())
+    let ran = are_run(&rt, rt.alloc(), 256, (2, 2, 2), &gate);
+    assert!(rt; ran == Some(true) && !gate.late.load(Ordering::SeqCst));
 }

@@ -4,7 +4,7 @@
 #[cfg(test)]
 mod clients;
 #[cfg(test)]
-mod counter;
+mod closing;
 #[cfg(test)]
 mod example;
 #[cfg(test)]
@@ -14,15 +14,9 @@ mod last_epoch;
 #[cfg(test)]
 mod loading;
 #[cfg(test)]
-mod notes;
-#[cfg(test)]
 mod numbered;
 #[cfg(test)]
-mod opening;
-#[cfg(test)]
 mod refused_jobs;
-#[cfg(test)]
-mod refused_threads;
 #[cfg(test)]
 mod refused_trees;
 #[cfg(test)]

@@ -15,17 +15,6 @@ pub(crate) fn value(number: u32) -> Value {
     Value::from_slice(&bytes(number)).unwrap_or_default()
 }
 
-/// The number that a value of two bytes stands for.
-pub(crate) fn number_of(value: &Value) -> Option<u32> {
-    match value.as_slice() {
-        [high, low] => {
-            let sixties = u32::from(high.wrapping_sub(b'A'));
-            Some(sixties * 64 + u32::from(low.wrapping_sub(b'A')))
-        }
-        _ => None,
-    }
-}
-
 /// An insert of a key with the value of its number.
 pub(crate) fn insert(number: u32) -> Command {
     Command::Insert(key(number), value(number))

@@ -1,23 +1,20 @@
-//! Trees of which each growth of memory is refused in turn: as they are opened, with pairs or without, and as they are closed.
+//! Trees of which each growth of memory is refused in turn as they are opened, with pairs or without; and what is refused before memory is.
 
 use crate::loading::first_pairs;
-use crate::numbered::are_first;
-use crate::runs::Run;
-use crate::trees::runs;
+use crate::numbered::{key, value};
 use bw_model::{Key, Limits, OpenError, Value};
-use bw_tree::{CloseRefusal, LoadError, Tree};
+use bw_tree::{LoadError, Tree};
 use refusing::Refusing;
 use std::alloc::Global;
 use std::test::Fail;
-use workers::opened;
 
 /// An allocator that refuses one growth, and counts.
-type Heap<'a> = &'a Refusing<Global>;
+pub(crate) type Heap<'a> = &'a Refusing<Global>;
 
 /// More growths than a call wants.
-const MOST: u64 = 1000;
+pub(crate) const MOST: u64 = 1000;
 
-/// How many pairs the tree has that is closed.
+/// How many pairs a tree is opened with.
 const PAIRS: u32 = 40;
 
 /// Why no tree opens while a growth is refused, at the epoch of the limits or at another one.
@@ -65,11 +62,45 @@ fn each_growth_of_an_opening_is_refused(rt: HostRuntime) -> Result<(), Fail> {
     Ok(())
 }
 
+/// Why no tree opens at this epoch, while the first growth is refused, and while none is.
+fn epoch_errors(heap: Heap<'_>, limits: Limits, epoch: u64) -> [Option<OpenError>; 2] {
+    [
+        open_error(heap, limits, Some(epoch), 0),
+        open_error(heap, limits, Some(epoch), u64::MAX),
+    ]
+}
+
+// An epoch outside the range is refused before memory is.
+#[test]
+fn epochs_have_a_range(rt: HostRuntime) -> Result<(), Fail> {
+    let heap = Refusing::new(rt.alloc());
+    let limits = Limits::new(2, 64, 64, 1)?;
+    for (epoch, errors) in [
+        (0, [Some(OpenError::BadEpoch); 2]),
+        (1 << 62, [Some(OpenError::Memory), None]),
+        ((1 << 62) + 1, [Some(OpenError::BadEpoch); 2]),
+        (u64::MAX, [Some(OpenError::BadEpoch); 2]),
+    ] {
+        assert!(rt; epoch_errors(&heap, limits, epoch) == errors, "{epoch}");
+    }
+    Ok(())
+}
+
+/// Why no tree opens with pairs while a growth is refused.
+fn load_error<'a>(
+    heap: Heap<'a>,
+    limits: Limits,
+    pairs: &[(Key, Value)],
+    growth: u64,
+) -> Option<LoadError> {
+    heap.set(growth);
+    Tree::<Heap<'a>>::open_from(heap, limits, pairs).err()
+}
+
 /// How many growths an opening with pairs wants, where each of them that is refused is told as want of memory.
-fn loading_growths<'a>(heap: Heap<'a>, limits: Limits, pairs: &[(Key, Value)]) -> Option<u64> {
+fn loading_growths(heap: Heap<'_>, limits: Limits, pairs: &[(Key, Value)]) -> Option<u64> {
     for growth in 0..MOST {
-        heap.set(growth);
-        match Tree::<Heap<'a>>::open_from(heap, limits, pairs).err() {
+        match load_error(heap, limits, pairs, growth) {
             None => return (heap.left() == 0).then_some(growth),
             Some(LoadError::Memory) => {}
             Some(_) => return None,
@@ -90,43 +121,33 @@ fn each_growth_of_a_loading_is_refused(rt: HostRuntime) -> Result<(), Fail> {
     Ok(())
 }
 
-/// Whether a new tree is refused its closing for want of memory while a growth is refused; it is then closed once more. None where anything
-/// else comes, or a list of other pairs.
-fn was_refused<'a>(alloc: Global, heap: Heap<'a>, limits: Limits, growth: u64) -> Option<bool> {
-    let (tree, mut seats) = opened(alloc, limits).ok()?;
-    if !runs(&tree, &mut seats, Run::Inserts(PAIRS)) {
-        return None;
-    }
-    heap.set(growth);
-    match tree.close(heap, seats) {
-        Ok(listed) => (heap.left() == 0 && are_first(listed.as_slice(), PAIRS)).then_some(false),
-        Err(error) => {
-            heap.set(u64::MAX);
-            let refused = error.refusal == CloseRefusal::Memory;
-            match error.tree.close(heap, error.seats) {
-                Ok(listed) => (refused && are_first(listed.as_slice(), PAIRS)).then_some(true),
-                Err(_) => None,
-            }
-        }
-    }
+/// Why no tree opens with three pairs, of which the last two have these keys, while the first growth is refused, and while none is.
+fn order_errors(heap: Heap<'_>, limits: Limits, one: u32, other: u32) -> [Option<LoadError>; 2] {
+    let pairs = [
+        (key(1), value(1)),
+        (key(one), value(1)),
+        (key(other), value(2)),
+    ];
+    [
+        load_error(heap, limits, &pairs, 0),
+        load_error(heap, limits, &pairs, u64::MAX),
+    ]
 }
 
-/// How many growths a closing wants, where each of them that is refused is told as want of memory, and the next closing lists the pairs.
-fn closing_growths(alloc: Global, heap: Heap<'_>, limits: Limits) -> Option<u64> {
-    for growth in 0..MOST {
-        if !was_refused(alloc, heap, limits, growth)? {
-            return Some(growth);
-        }
-    }
-    None
-}
-
+// The order of the keys is looked for before memory is: two equal keys, and a key below the one before it.
 #[test]
-fn each_growth_of_a_closing_is_refused(rt: HostRuntime) -> Result<(), Fail> {
+fn keys_that_do_not_ascend_are_refused(rt: HostRuntime) -> Result<(), Fail> {
     let heap = Refusing::new(rt.alloc());
-    let limits = Limits::new(2, 64, 256, 1)?;
-    let count = closing_growths(rt.alloc(), &heap, limits);
-    println!(rt; "closing: {count:?} growths")?;
-    assert!(rt; count > Some(0));
+    let limits = Limits::new(2, 64, 64, 1)?;
+    for (one, other, errors) in [
+        (5, 5, [Some(LoadError::Order); 2]),
+        (5, 4, [Some(LoadError::Order); 2]),
+        (5, 6, [Some(LoadError::Memory), None]),
+    ] {
+        assert!(rt;
+            order_errors(&heap, limits, one, other) == errors,
+            "{other}"
+        );
+    }
     Ok(())
 }

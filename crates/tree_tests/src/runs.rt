@@ -1,7 +1,7 @@
 //! What two seats of one tree do, one after the other, and whether each reply is right.
 ghost use Rattle.bw_tree.specs.Trees.{IsSeatOf};
 
-use crate::numbered::{found, get, insert, pair};
+use crate::numbered::{are_first, are_from_k01, found, get, insert, pair};
 use crate::shrinking::comes_and_goes;
 use crate::stops::Stop;
 use bw_model::{Command, Key, Reply, Value};
@@ -9,7 +9,7 @@ use bw_tree::{BwSeat, Called, Tree};
 use workers::{called, reply, resumed};
 
 /// What is done.
-#[derive(Clone, Copy, Debug)]
+#[derive(Clone, Copy)]
 pub(crate) enum Run {
     /// Nothing.
     Nothing,
@@ -33,6 +33,21 @@ pub(crate) enum Run {
     Meets,
     /// An operation that is stopped after so many steps, while the other seat goes on.
     Stopped(Stop, u32),
+}
+
+impl Run {
+    /// Whether the pairs are those of a tree that was empty before.
+    pub(crate) fn leaves(self, pairs: &[(Key, Value)]) -> bool {
+        match self {
+            Run::Nothing | Run::Steps | Run::ComesAndGoes => pairs.is_empty(),
+            Run::Stays | Run::Goes | Run::Updates(_, _) => pairs == [(key(), value())].as_slice(),
+            Run::Alone(count) => are_from_k01(pairs, count),
+            Run::Inserts(count) => are_first(pairs, count),
+            Run::Mixed => are_first(pairs, 200),
+            Run::Meets => are_first(pairs, 20),
+            Run::Stopped(stop, _) => pairs.len() == stop.left(),
+        }
+    }
 }
 
 /// Does it with two seats, and answers whether all replies were right.

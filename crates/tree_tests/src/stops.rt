@@ -7,7 +7,7 @@ use bw_tree::{BwSeat, Called, Tree};
 use workers::{called, reply, resumed};
 
 /// The operation that is stopped.
-#[derive(Clone, Copy, Debug)]
+#[derive(Clone, Copy)]
 pub(crate) enum Stop {
     /// The insert of key 16 consolidates the leaf, splits it and puts a new root.
     Splits,
@@ -40,6 +40,15 @@ impl Stop {
             Stop::Splits => (16, 0),
             Stop::Frees => (9, 0),
             Stop::Removes => (17, 5),
+        }
+    }
+
+    /// How many keys there are at the end: eight more than it leaves.
+    pub(crate) fn left(self) -> usize {
+        match self {
+            Stop::Splits => 17 + 8,
+            Stop::Frees => 9 + 8,
+            Stop::Removes => 11 + 8,
         }
     }
 

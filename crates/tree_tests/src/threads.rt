@@ -1,23 +1,23 @@
 //! Threads over one tree, each with a seat of its own.
 
 use crate::clients::{Client, OWN};
+use crate::loading::are_moved;
 use crate::numbered::{are_first, found, get, insert, key, value};
 use bw_model::{Key, Limits, Reply, Value};
 use bw_tree::{BwSeat, Tree};
 use std::alloc::Global;
-use std::test::Fail;
 use std::thread::Threads;
 use workers::{Work, opened, reply, work_in_threads};
 
 /// Inserts 1,000 keys from a number on, each followed by a lookup of it, and counts the replies that are right.
 #[derive(Drop)]
-pub(crate) struct Inserts {
+struct Inserts {
     from: u32,
     right: u32,
 }
 
 impl Inserts {
-    pub(crate) fn new(from: u32) -> Inserts {
+    fn new(from: u32) -> Inserts {
         Inserts { from, right: 0 }
     }
 }
@@ -37,7 +37,7 @@ impl Work for Inserts {
 }
 
 /// The works once they are done on a new tree, all at once, and its pairs.
-pub(crate) fn done_at_once<R: Threads + Sync, W: Work>(
+fn done_at_once<R: Threads + Sync, W: Work>(
     rt: &R,
     alloc: Global,
     limits: Limits,
@@ -46,26 +46,23 @@ pub(crate) fn done_at_once<R: Threads + Sync, W: Work>(
     let Ok((tree, mut seats)) = opened(alloc, limits) else {
         return None;
     };
-    let done = work_in_threads(rt, &tree, &mut seats, works)?;
-    match tree.close(alloc, seats) {
-        Ok(pairs) => Some((done, pairs)),
-        Err(_) => None,
-    }
+    let done = work_in_threads(rt, &tree, &mut seats, works);
+    // a seat that didn't come back is missed
+    done.zip(tree.close(alloc, seats).ok())
+}
+
+/// Whether two threads insert 2,000 keys, and their pairs are moved into another tree of the same limits.
+fn two_insert<R: Threads + Sync>(rt: &R, alloc: Global) -> Option<bool> {
+    let limits = Limits::new(2, 4096, 16384, 1).ok()?;
+    let works = vec![in alloc; Inserts::new(0), Inserts::new(1000)].ok()?;
+    let (works, pairs) = done_at_once(rt, alloc, limits, works)?;
+    let right = works.iter().all(|work| work.right == 2000) && are_first(pairs.as_slice(), 2000);
+    Some(right && are_moved(alloc, limits, pairs.as_slice()))
 }
 
 #[test]
-fn two_threads_insert(rt: HostRuntime) -> Result<(), Fail> {
-    let limits = Limits::new(2, 4096, 16384, 1)?;
-    let works = vec![in rt.alloc(); Inserts::new(0), Inserts::new(1000)]?;
-    let Some((works, pairs)) = done_at_once(&rt, rt.alloc(), limits, works) else {
-        assert!(rt; false);
-        return Ok(());
-    };
-    for work in works.as_slice() {
-        assert_eq!(rt; work.right, 2000);
-    }
-    assert!(rt; are_first(pairs.as_slice(), 2000));
-    Ok(())
+fn two_threads_insert(rt: HostRuntime) {
+    assert!(rt; two_insert(&rt, rt.alloc()) == Some(true));
 }
 
 /// Whether the pairs have exactly what the client knows of its own keys.
@@ -85,19 +82,26 @@ fn knows(client: &Client, first: u32, pairs: &[(Key, Value)]) -> bool {
     true
 }
 
-// Four clients with few pages and rows, so that pages are split, removed and used again, and some writers find no room.
-#[test]
-fn four_threads_collide(rt: HostRuntime) -> Result<(), Fail> {
-    let limits = Limits::new(4, 64, 128, 1)?;
-    let client = |number| Client::new(number, 2000);
-    let works = vec![in rt.alloc(); client(0), client(1), client(2), client(3)]?;
-    let Some((clients, pairs)) = done_at_once(&rt, rt.alloc(), limits, works) else {
-        assert!(rt; false);
-        return Ok(());
-    };
-    for (number, client) in clients.iter().enumerate() {
-        assert_eq!(rt; client.wrong, 0);
-        assert!(rt; knows(client, (number % 4) as u32 * OWN, pairs.as_slice()));
+/// Whether each of the clients had only right replies, and knows the pairs of its keys.
+fn all_know(clients: &[Client], pairs: &[(Key, Value)]) -> bool {
+    for client in clients {
+        if client.wrong != 0 || !knows(client, client.first(), pairs) {
+            return false;
+        }
     }
-    Ok(())
+    true
+}
+
+/// Whether four clients do with few pages and rows, so that pages are split, removed and used again, and some writers find no room.
+fn four_collide<R: Threads + Sync>(rt: &R, alloc: Global) -> Option<bool> {
+    let limits = Limits::new(4, 64, 128, 1).ok()?;
+    let client = |number| Client::new(number, 2000);
+    let works = vec![in alloc; client(0), client(1), client(2), client(3)].ok()?;
+    let (clients, pairs) = done_at_once(rt, alloc, limits, works)?;
+    Some(all_know(clients.as_slice(), pairs.as_slice()))
+}
+
+#[test]
+fn four_threads_collide(rt: HostRuntime) {
+    assert!(rt; four_collide(&rt, rt.alloc()) == Some(true));
 }

@@ -3,6 +3,7 @@ ghost use Rattle.std.specs.Prelude.{IfSome};
 ghost use Rattle.bw_tree.specs.Trees.{AreSeatsOf, IsSeatOf};
 
 use crate::clients::Client;
+use crate::refused_trees::Heap;
 use bw_model::{Command, Limits, Reply};
 use bw_tree::{BwSeat, Called, Tree};
 use refusing::Refusing;
@@ -123,27 +124,47 @@ impl<'a, A: Allocator + Send + Sync> Job for Pair<'a, A> {
     }
 }
 
-/// A client for each thread, with the last two seats of a list.
+/// A client with the last two seats of a list.
 fn seated<'a, A: Allocator>(
-    alloc: Global,
     tree: &'a Tree<A>,
     seats: &mut Vec<BwSeat<A>, A>,
-) -> Option<Vec<Pair<'a, A>>>
+    number: u32,
+) -> Option<Pair<'a, A>>
     requires own { AreSeatsOf tree.now seats.old.items }
+    ensures left { AreSeatsOf tree.now seats.new.items }
 {
-    let mut pairs = Vec::new(alloc);
-    for number in 0..THREADS {
-        let one = take_seat(tree, seats)?;
-        let other = take_seat(tree, seats)?;
-        let pair = Pair {
+    let one = take_seat(tree, seats)?;
+    match take_seat(tree, seats) {
+        Some(other) => Some(Pair {
             tree,
             one,
             other,
             client: Client::new(number, ROUNDS),
-        };
-        pairs.push(pair).ok()?;
+        }),
+        None => {
+            drop(one);
+            None
+        }
     }
-    Some(pairs)
+}
+
+/// Adds a client for each thread to a list, each with two seats.
+fn seat_all<'a, A: Allocator>(
+    tree: &'a Tree<A>,
+    seats: &mut Vec<BwSeat<A>, A>,
+    pairs: &mut Vec<Pair<'a, A>>,
+) -> bool
+    requires own { AreSeatsOf tree.now seats.old.items }
+{
+    for number in 0..THREADS {
+        let Some(pair) = seated(tree, seats, number) else {
+            return false;
+        };
+        if pairs.push(pair).is_err() {
+            return false;
+        }
+    }
+    true
 }
 
 /// Does all jobs, each in a thread of its own.
@@ -160,19 +181,35 @@ fn wrong<A: Allocator>(pairs: &[Pair<'_, A>]) -> u32 {
     wrong
 }
 
-/// How many replies are wrong, and how often memory was wanted, where every call for it from the opening on is counted.
-fn wrong_and_wanted<R: Threads + Sync>(
+/// How many replies are wrong, and how often memory was wanted, where every call for it is counted once the clients have their seats.
+fn wrong_and_wanted<'a, R: Threads + Sync>(
     rt: &R,
     alloc: Global,
-    heap: &Refusing<Global>,
-    limits: Limits,
-) -> Option<(u32, u64)> {
-    let (tree, mut seats) = opened(heap, limits).ok()?;
-    let pairs = seated(alloc, &tree, &mut seats)?;
+    heap: Heap<'a>,
+    tree: &Tree<Heap<'a>>,
+    seats: &mut Vec<BwSeat<Heap<'a>>, Heap<'a>>,
+) -> Option<(u32, u64)>
+    requires own { AreSeatsOf tree.now seats.old.items }
+{
+    let mut pairs = Vec::new(alloc);
+    let all = seat_all(tree, seats, &mut pairs);
     heap.set(0);
     let done = done_at_once(rt, pairs)?;
     let wanted = heap.left().wrapping_neg();
-    Some((wrong(done.as_slice()), wanted))
+    all.then_some((wrong(done.as_slice()), wanted))
+}
+
+/// The same on a new tree.
+fn counted<R: Threads + Sync>(
+    rt: &R,
+    alloc: Global,
+    heap: Heap<'_>,
+    limits: Limits,
+) -> Option<(u32, u64)> {
+    let Ok((tree, mut seats)) = opened(heap, limits) else {
+        return None;
+    };
+    wrong_and_wanted(rt, alloc, heap, &tree, &mut seats)
 }
 
 // The first call for memory would be refused. There are few rows and PIDs, so that pages are split, removed and used again, and some
@@ -181,9 +218,6 @@ fn wrong_and_wanted<R: Threads + Sync>(
 fn no_call_wants_memory(rt: HostRuntime) -> Result<(), Fail> {
     let heap = Refusing::new(rt.alloc());
     let limits = Limits::new(8, 64, 128, 1)?;
-    assert_eq!(rt;
-        wrong_and_wanted(&rt, rt.alloc(), &heap, limits),
-        Some((0, 0))
-    );
+    assert!(rt; counted(&rt, rt.alloc(), &heap, limits) == Some((0, 0)));
     Ok(())
 }

@@ -1,5 +1,5 @@
 use Rattle.bw_tree.specs.Trees.{AreSeatsOf}
-use Rattle.tree_tests.proofs.last_epoch.do_all.Given as goal
+use Rattle.tree_tests.proofs.trees.runs_all.Given as goal
 
 abbrev pub invariant-loop-run : goal.invariant-loop-run
 invariant-loop-run l = AreSeatsOf l.tree l.seats.items

@@ -1,5 +1,5 @@
 use Rattle.bw_tree.specs.Trees.{AreSeatsOf}
-use Rattle.tree_tests.proofs.without_memory.seated.Given as goal
+use Rattle.tree_tests.proofs.without_memory.seat_all.Given as goal
 
 abbrev pub invariant-loop-number : goal.invariant-loop-number
 invariant-loop-number g l = record { left : AreSeatsOf l.tree l.seats.items }

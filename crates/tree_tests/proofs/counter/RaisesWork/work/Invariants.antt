@@ -1,5 +1,0 @@
-use Rattle.bw_tree.specs.Trees.{IsSeatOf}
-use Rattle.tree_tests.proofs.counter.RaisesWork.work.Given as goal
-
-abbrev pub invariant-loop : goal.invariant-loop
-invariant-loop l = record { own : IsSeatOf l.tree l.seat }
