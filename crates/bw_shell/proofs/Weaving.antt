@@ -6,10 +6,10 @@ use Rattle.bw_shell.specs.Turns.{Trace, IsOneMap, opening_trace}
 use Rattle.bw_model.specs.declared.limits.Limits.{Limits}
 use Rattle.std.proofs.lemmas.List.{append-nil}
 use Rattle.bw_shell.specs.declared.refusal.RefusedLine.{RefusedLine}
-use Rattle.streams.specs.Output.{Sink, Puts, Prints, Writes}
+use Rattle.byte_streams.specs.Output.{Sink, Puts, Prints, Writes}
 use Rattle.bw_shell.specs.Text.{last_line}
 use Rattle.bw_shell.specs.Weave.{IsTranscriptFrom, HasRun, IsWholeRun}
-use Rattle.streams.proofs.Showing.{shows_then, writes_whole}
+use Rattle.byte_streams.proofs.Showing.{shows_then, writes_whole}
 
 pub consumes_none : (a : Option (List ℕ)) → Consumes a a []
 consumes_none None = tt

@@ -9,7 +9,7 @@ use Rattle.bw_shell.specs.declared.refusal.Refusal.{Refusal}
 use Rattle.bw_shell.specs.declared.refusal.Refusal.TheVariants.{NotOpened}
 use Rattle.bw_shell.specs.declared.refusal.RefusedLine.{RefusedLine}
 use Rattle.bw_shell.specs.Text.{last_line, lone_refusal_text}
-use Rattle.streams.specs.Output.{Sink, Prints, Writes}
+use Rattle.byte_streams.specs.Output.{Sink, Prints, Writes}
 use Rattle.bw_shell.specs.Transcript.{Transcript, RequestTold, DrawTold, LineTold}
 use Rattle.bw_shell.specs.Turns.{Trace, IsOneMap, opening_trace}
 

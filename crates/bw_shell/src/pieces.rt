@@ -9,10 +9,10 @@ ghost use Rattle.bw_shell.specs.Weave.{Feeds};
 use crate::refusal::{Refusal, RefusedLine};
 use crate::run::run_line;
 use arrayvec::ArrayVec;
+use byte_streams::Output;
 use shell_lines::Language;
 use std::alloc::Global;
 use step_core::Core;
-use streams::Output;
 
 /// A run: the core, the number of the line in hand, and what has come of it.
 #[derive(Drop)]

@@ -9,10 +9,10 @@ use crate::refusal::{Refusal, RefusedLine};
 use crate::texts::{show_finished, show_listing, show_turned};
 use crate::turns::{begin, pairs_of, schedule_over, step, steps};
 use bw_model::{Command, Link};
+use byte_streams::Output;
 use shell_lines::{Language, LineError, Request, parse};
 use std::alloc::Global;
 use step_core::Core;
-use streams::Output;
 
 /// How many turns `until` and `finish` take at most.
 const MANY: u64 = 100_000;

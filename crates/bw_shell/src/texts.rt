@@ -5,15 +5,15 @@ ghost use Rattle.std.specs.List.{flat_map};
 ghost use Rattle.bw_model.specs.Bytes.{longest};
 ghost use Rattle.hex.specs.Hex.{encode_lower};
 ghost use Rattle.shell_lines.specs.Token.{printed};
-ghost use Rattle.streams.specs.Output.{Prints};
+ghost use Rattle.byte_streams.specs.Output.{Prints};
 ghost use Rattle.bw_shell.specs.Text.{item_text, next_text, reply_text, turned_text, finished_text, pair_text, listing_text, refused_text, last_line, lone_refusal_text};
 
 use crate::refusal::{Refusal, RefusedLine};
 use crate::turns::Progress;
 use bw_model::{Key, MAX_LENGTH, Reply, Value};
+use byte_streams::Output;
 use itoa::Buffer;
 use shell_lines::is_word;
-use streams::Output;
 
 /// A number in digits.
 pub fn show_number<O: Output>(out: &mut O, n: u64)

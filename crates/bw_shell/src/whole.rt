@@ -10,10 +10,10 @@ use crate::run::run_line;
 use crate::texts::{show_last_line, show_lone_refusal};
 use arrayvec::ArrayVec;
 use bw_model::Limits;
+use byte_streams::{Input, Output};
 use shell_lines::Language;
 use std::alloc::Global;
 use step_core::Core;
-use streams::{Input, Output};
 
 // Reads to the end of the input, or as far as it goes, and answers the line that was refused, if one was.
 fn run<I: Input, O: Output>(

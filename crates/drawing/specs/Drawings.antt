@@ -11,7 +11,7 @@ use Rattle.shell_lines.specs.declared.request.Language.TheVariants.{Weave}
 use Rattle.tree_picture.specs.Pids.{all_pids}
 use Rattle.bw_shell.specs.declared.refusal.Refusal.TheVariants.{Memory, NotOpened}
 use Rattle.bw_shell.specs.declared.refusal.RefusedLine.{RefusedLine}
-use Rattle.streams.specs.Output.{Writes}
+use Rattle.byte_streams.specs.Output.{Writes}
 use Rattle.bw_shell.specs.Text.{lone_refusal_text, refused_text}
 use Rattle.bw_shell.specs.Turns.{Trace, IsOneMap, opening_trace}
 use Rattle.bw_shell.specs.Weave.{IsTranscriptFrom}

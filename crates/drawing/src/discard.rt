@@ -1,7 +1,7 @@
 //! A writer for what nobody is to see.
 ghost use Rattle.std.specs.Prelude.{[], None, false};
 
-use streams::Output;
+use byte_streams::Output;
 
 /// A writer that drops what it is shown.
 #[derive(Drop)]

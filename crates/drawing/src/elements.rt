@@ -1,14 +1,14 @@
 //! Shapes as elements of a document.
 ghost use Rattle.std.specs.Prelude.{◌≡◌, ◌++◌, ◌∷◌, [], codes, decimal};
 ghost use Rattle.std.specs.List.{flat_map};
-ghost use Rattle.streams.specs.Output.{Prints};
+ghost use Rattle.byte_streams.specs.Output.{Prints};
 ghost use Rattle.shapes.specs.Colours.{colour_text};
 ghost use Rattle.shapes.specs.Document.{attribute_text, close_text, element_text, escaped, escaped_byte, open_text};
 ghost use Rattle.shapes.specs.Elements.{attribute, dashes, document_attributes, document_text, element_of, line_element, number, weight, rectangle_attributes, rectangle_element, text_element};
 
+use byte_streams::Output;
 use itoa::Buffer;
 use shapes::{Colour, Line, Rectangle, Shape, Text};
-use streams::Output;
 
 /// What stands for a byte.
 fn show_byte<O: Output>(out: &mut O, byte: &u8)

@@ -1,7 +1,7 @@
 //! A whole run that draws.
 ghost use Rattle.std.specs.Prelude.{◌≡◌, ◌^◌, ◌≤◌, ◌⊎◌, ◌↔◌, ℕ, List, [], true, false, IfOk};
 ghost use Rattle.std.specs.Io.KnownBytes.{Consumes};
-ghost use Rattle.streams.specs.Output.{Prints};
+ghost use Rattle.byte_streams.specs.Output.{Prints};
 ghost use Rattle.bw_shell.specs.Turns.{seen};
 ghost use Rattle.drawing.specs.Drawings.{IsDrawingOf, IsDrawn, IsDrawnBehind, IsShown, IsWholeDrawing};
 
@@ -9,11 +9,11 @@ use crate::discard::Discard;
 use crate::elements::show_document;
 use bw_model::Limits;
 use bw_shell::{Refusal, Woven, show_lone_refusal, show_refused, weave_core};
+use byte_streams::{Input, Output, outputs_add_up};
 use scene::Scene;
 use shapes::documents_are_well_formed;
 use std::alloc::{AllocError, Global};
 use step_core::Core;
-use streams::{Input, Output, outputs_add_up};
 use tree_picture::{Picture, picture};
 
 /// What stands in a core, as a picture; refused for want of memory alone.

@@ -1,9 +1,9 @@
 //! Lines for `draw`, and the picture that it writes.
 
 use bw_model::Limits;
+use byte_streams::{Reader, Writer};
 use drawing::draw;
 use std::alloc::{AllocError, Global};
-use streams::{Reader, Writer};
 
 /// What is written after these lines; none where the status isn't 0.
 pub(crate) fn drawn(alloc: Global, limits: Limits, lines: &[u8]) -> Option<Vec<u8>> {

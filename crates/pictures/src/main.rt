@@ -2,10 +2,10 @@
 #![tactic(auto)]
 
 use bw_model::Limits;
+use byte_streams::{Reader, Writer};
 use drawing::draw;
 use std::io;
 use std::process::ExitCode;
-use streams::{Reader, Writer};
 
 fn main(rt: HostRuntime) -> ExitCode {
     let alloc = rt.alloc();

@@ -2,6 +2,7 @@
 #![tactic(auto)]
 
 use bw_shell::{Refusal, script, weave};
+use byte_streams::{Reader, Writer};
 use drawing::draw;
 use race::race;
 use shell_options::{OptionsError, Program, Settings, options};
@@ -11,7 +12,6 @@ use std::process::ExitCode;
 use std::sync::Wait;
 use std::thread::Threads;
 use std::{env, io};
-use streams::{Reader, Writer};
 
 /// Runs the program that the words of the command line ask for, and answers the exit status. A race's threads are those of `threads`.
 pub fn run<R: Threads + Wait + Sync>(rt: &HostRuntime, threads: &R) -> ExitCode {

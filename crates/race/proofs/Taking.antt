@@ -3,7 +3,7 @@ use Rattle.std.proofs.Common.{◌≡◌, ℕ, List, [], ◌++◌, refl, sym, ap,
 use Rattle.std.proofs.lemmas.List.{append_assoc, append-nil}
 use Rattle.std.specs.Io.KnownBytes.{Consumes, Keeps}
 use Rattle.bw_model.specs.declared.limits.Limits.{Limits}
-use Rattle.streams.specs.Output.{Sink, Prints, Writes}
+use Rattle.byte_streams.specs.Output.{Sink, Prints, Writes}
 use Rattle.race.specs.Race.{IsRace, TellsJobs}
 
 pub consumes_none : (a : Option (List ℕ)) → Consumes a a []

@@ -6,7 +6,7 @@ use Rattle.bw_model.specs.declared.limits.Limits.{Limits}
 use Rattle.shell_lines.specs.declared.race_line.JobCommand.{JobCommand}
 use Rattle.bw_tree.specs.Seats.{Seat}
 use Rattle.bw_tree.specs.Trees.{Tree, AreFresh, AreClosed}
-use Rattle.streams.specs.Output.{Writes}
+use Rattle.byte_streams.specs.Output.{Writes}
 use Rattle.bw_shell.specs.Text.{listing_text, lone_refusal_text, refused_text}
 use Rattle.bw_shell.specs.declared.refusal.Refusal.{Refusal}
 use Rattle.bw_shell.specs.declared.refusal.Refusal.TheVariants as refusal

@@ -1,12 +1,12 @@
 //! Results are printed.
 
 ghost use Rattle.std.specs.List.{flat_map};
-ghost use Rattle.streams.specs.Output.{Prints};
+ghost use Rattle.byte_streams.specs.Output.{Prints};
 ghost use Rattle.race.specs.Results.{job_reply_text, result_text, results_text};
 
 use bw_model::Reply;
 use bw_shell::{show_number, show_reply};
-use streams::{Output, outputs_add_up};
+use byte_streams::{Output, outputs_add_up};
 use workers::JobResult;
 
 fn show_job_reply<O: Output>(out: &mut O, job: u32, reply: &Reply)

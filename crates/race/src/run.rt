@@ -1,7 +1,7 @@
 //! A whole race.
 
 ghost use Rattle.std.specs.Prelude.{◌≡◌, [], false, ℕ, List};
-ghost use Rattle.streams.specs.Output.{Prints};
+ghost use Rattle.byte_streams.specs.Output.{Prints};
 ghost use Rattle.bw_tree.specs.Trees.{AreSeatsOf};
 ghost use Rattle.workers.specs.Jobs.{AreAscending};
 ghost use Rattle.race.specs.Race.{Closes, IsRace, RunsBytes, RunsJobs, told_as};
@@ -13,10 +13,10 @@ use crate::taken::read_all;
 use bw_model::Limits;
 use bw_shell::{Refusal, show_listing, show_lone_refusal, show_refused, status};
 use bw_tree::{BwSeat, Tree};
+use byte_streams::{Input, Output, outputs_add_up};
 use std::alloc::Global;
 use std::sync::Wait;
 use std::thread::Threads;
-use streams::{Input, Output, outputs_add_up};
 use workers::{Job, JobResult, JobsRefusal, Ungated, run_jobs};
 
 /// Prints results, closes the tree and prints its pairs. Answers whether it could not be closed.

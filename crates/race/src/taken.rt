@@ -3,8 +3,8 @@
 ghost use Rattle.std.specs.Prelude.{◌≡◌, ℕ, List, false, IfOk, IfErr};
 ghost use Rattle.std.specs.Io.KnownBytes.{Consumes, IsAtEnd};
 
+use byte_streams::Input;
 use std::alloc::{AllocError, Global};
-use streams::Input;
 
 /// How many bytes one read takes at most.
 const PIECE: usize = 4096;

@@ -1,12 +1,12 @@
 //! Races over streams that give and take few bytes at a time, and fail.
 
 use bw_model::Limits;
+use byte_streams::{Reader, Writer};
 use failing_streams::{Breaking, Choppy, NEVER, Ran};
 use race::race;
 use std::alloc::Global;
 use std::sync::Wait;
 use std::thread::Threads;
-use streams::{Reader, Writer};
 
 pub fn run_into<R: Threads + Wait + Sync>(
     rt: &R,

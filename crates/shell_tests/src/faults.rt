@@ -2,11 +2,11 @@
 
 use bw_model::{BadLimits, OpenError, TooLong};
 use bw_shell::Refusal;
+use byte_streams::Failed;
 use shell_lines::LineError;
 use std::alloc::Global;
 use std::fmt::Display;
 use step_core::RunError;
-use streams::Failed;
 
 /// Whether a fault says this.
 fn says<T: Display>(alloc: Global, fault: &T, message: &str) -> bool {

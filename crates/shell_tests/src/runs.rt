@@ -2,11 +2,11 @@
 
 use bw_model::Limits;
 use bw_shell::{script, weave};
+use byte_streams::{Reader, Writer};
 use failing_streams::{Breaking, Choppy, NEVER, Ran};
 use shell_lines::Language;
 use std::alloc::{AllocError, Global};
 use std::process::Abort;
-use streams::{Reader, Writer};
 
 pub fn run_into(
     alloc: Global,

@@ -1,5 +1,5 @@
 use Rattle.std.proofs.Common.{◌<◌, [], ◌∷◌, ◌++◌, length, refl, sym, ap, ◌∙◌, arith, get_or}
-use Rattle.streams.proofs.Showing.{no_text, shows_then}
+use Rattle.byte_streams.proofs.Showing.{no_text, shows_then}
 use Rattle.bw_shell.proofs.Feeding.{no_bytes, one_line, one_byte, stop_line, stop_long, stop_at, more_at, match_true}
 use Rattle.std.proofs.lemmas.List.{append-nil}
 use Rattle.bw_shell.proofs.pieces.feed.Goals as goal

@@ -1,7 +1,7 @@
 use Rattle.std.proofs.Common.{◌≡◌, ℕ, ◌+◌, ◌≤◌, List, take, false}
 use Rattle.arrayvec.specs.ArrayVec.{array_vec_len}
 use Rattle.bw_shell.specs.Turns.{seen}
-use Rattle.streams.specs.Output.{Prints}
+use Rattle.byte_streams.specs.Output.{Prints}
 use Rattle.bw_shell.specs.Weave.{Weaves}
 use Rattle.bw_shell.proofs.pieces.feed.Given as goal
 

@@ -1,5 +1,5 @@
 use Rattle.std.proofs.Common.{[], inl, inr, refl}
-use Rattle.streams.proofs.Showing.{no_text}
+use Rattle.byte_streams.proofs.Showing.{no_text}
 use Rattle.bw_shell.proofs.Transcripts.{asked}
 use Rattle.bw_shell.proofs.run.run_asked.Goals as goal
 

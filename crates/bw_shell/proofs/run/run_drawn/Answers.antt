@@ -1,6 +1,6 @@
 use Rattle.std.proofs.Common.{[], inl, inr, refl, sym, ◌∙◌}
 use Rattle.bw_shell.specs.Text.{turned_text}
-use Rattle.streams.proofs.Showing.{no_text}
+use Rattle.byte_streams.proofs.Showing.{no_text}
 use Rattle.bw_shell.proofs.run.run_drawn.Goals as goal
 
 pub returns-then-not-is_busy : goal.returns-then-not-is_busy

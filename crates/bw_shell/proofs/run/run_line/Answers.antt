@@ -1,6 +1,6 @@
 use Rattle.std.proofs.Common.{◌<◌, [], length, sym, ◌∙◌, arith}
 use Rattle.std.proofs.lemmas.Bool.{eqb-true, eqb-false}
-use Rattle.streams.proofs.Showing.{no_text}
+use Rattle.byte_streams.proofs.Showing.{no_text}
 use Rattle.bw_shell.proofs.Transcripts.{skipped, refused, performed}
 use Rattle.bw_shell.proofs.run.run_line.Goals as goal
 

@@ -4,7 +4,7 @@ use Rattle.bw_model.specs.Schedules.{drawn, schedule_of}
 use Rattle.bw_shell.specs.Transcript.{RefusesDrawn}
 use Rattle.bw_shell.specs.Turns.{Trace}
 use Rattle.bw_shell.proofs.Draws.{all_left, fewer_left, none_drawn, one_drawn, take_more}
-use Rattle.streams.proofs.Showing.{no_text, shows_then}
+use Rattle.byte_streams.proofs.Showing.{no_text, shows_then}
 use Rattle.bw_shell.proofs.run.run_mix.Goals as goal
 
 pub loop-draw-init : goal.loop-draw-init

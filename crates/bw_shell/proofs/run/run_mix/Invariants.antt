@@ -1,6 +1,6 @@
 use Rattle.std.proofs.Common.{ℕ, List}
 use Rattle.bw_model.specs.Schedules.{drawn, schedule_of}
-use Rattle.streams.specs.Output.{Prints}
+use Rattle.byte_streams.specs.Output.{Prints}
 use Rattle.bw_shell.specs.Transcript.{TakeDrawn}
 use Rattle.bw_shell.specs.Turns.{seen}
 use Rattle.bw_shell.proofs.Draws.{IsLeft}

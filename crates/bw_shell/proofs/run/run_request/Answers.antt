@@ -1,5 +1,5 @@
 use Rattle.std.proofs.Common.{[]}
-use Rattle.streams.proofs.Showing.{no_text}
+use Rattle.byte_streams.proofs.Showing.{no_text}
 use Rattle.bw_shell.proofs.Transcripts.{begun_told}
 use Rattle.bw_shell.proofs.run.run_request.Goals as goal
 

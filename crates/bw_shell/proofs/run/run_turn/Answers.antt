@@ -1,6 +1,6 @@
 use Rattle.std.proofs.Common.{[], refl}
 use Rattle.bw_shell.specs.Text.{turned_text}
-use Rattle.streams.proofs.Showing.{no_text}
+use Rattle.byte_streams.proofs.Showing.{no_text}
 use Rattle.bw_shell.proofs.run.run_turn.Goals as goal
 
 pub returns-in-Ok : goal.returns-in-Ok

@@ -1,6 +1,6 @@
 use Rattle.std.proofs.Common.{[]}
 use Rattle.bw_shell.specs.Text.{finished_text}
-use Rattle.streams.proofs.Showing.{no_text}
+use Rattle.byte_streams.proofs.Showing.{no_text}
 use Rattle.bw_shell.proofs.Transcripts.{until_refused, until_told}
 use Rattle.bw_shell.proofs.run.run_until.Goals as goal
 

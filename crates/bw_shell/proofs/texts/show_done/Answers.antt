@@ -1,4 +1,4 @@
-use Rattle.streams.proofs.Showing.{shows_then}
+use Rattle.byte_streams.proofs.Showing.{shows_then}
 use Rattle.bw_shell.proofs.texts.show_done.Goals as goal
 
 pub returns : goal.returns

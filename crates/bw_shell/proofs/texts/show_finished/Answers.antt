@@ -1,4 +1,4 @@
-use Rattle.streams.proofs.Showing.{shows_then, no_text}
+use Rattle.byte_streams.proofs.Showing.{shows_then, no_text}
 use Rattle.bw_shell.proofs.texts.show_finished.Goals as goal
 
 pub returns-in-GoesOn : goal.returns-in-GoesOn

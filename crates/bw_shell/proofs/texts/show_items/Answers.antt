@@ -1,5 +1,5 @@
 use Rattle.bw_shell.specs.Text.{item_text}
-use Rattle.streams.proofs.Showing.{shows_then, flat_more}
+use Rattle.byte_streams.proofs.Showing.{shows_then, flat_more}
 use Rattle.bw_shell.proofs.texts.show_items.Goals as goal
 
 pub loop-item-preserved : goal.loop-item-preserved

@@ -1,6 +1,6 @@
 use Rattle.std.proofs.Common.{take}
 use Rattle.std.specs.List.{flat_map}
-use Rattle.streams.specs.Output.{Prints}
+use Rattle.byte_streams.specs.Output.{Prints}
 use Rattle.bw_shell.specs.Text.{pair_text}
 use Rattle.bw_shell.proofs.texts.show_pairs.Given as goal
 

@@ -1,4 +1,4 @@
-use Rattle.streams.proofs.Showing.{no_text}
+use Rattle.byte_streams.proofs.Showing.{no_text}
 use Rattle.bw_shell.proofs.texts.show_turned.Goals as goal
 
 pub returns-in-GoesOn : goal.returns-in-GoesOn

@@ -1,7 +1,7 @@
 use Rattle.std.proofs.Common.{◌<◌, [], ◌++◌, length, refl, sym, ap, ◌∙◌, arith, inl, inr}
 use Rattle.std.proofs.lemmas.Bool.{eqb-true, eqb-false}
 use Rattle.std.proofs.lemmas.List.{append-nil}
-use Rattle.streams.proofs.Showing.{no_text, shows_then}
+use Rattle.byte_streams.proofs.Showing.{no_text, shows_then}
 use Rattle.bw_shell.proofs.Feeding.{no_bytes, weaves_then, weaves_stops, end_whole, end_part, match_true_at, match_false_at}
 use Rattle.bw_shell.proofs.Weaving.{consumes_none, consumes_then, no_items}
 use Rattle.bw_shell.proofs.whole.run.Goals as goal

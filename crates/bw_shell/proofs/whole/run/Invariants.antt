@@ -2,7 +2,7 @@ use Rattle.std.proofs.Common.{◌≡◌, ℕ, ◌+◌, ◌*◌, ◌≤◌, List,
 use Rattle.std.specs.Io.KnownBytes.{Consumes}
 use Rattle.arrayvec.specs.ArrayVec.{array_vec_len}
 use Rattle.bw_shell.specs.Turns.{seen}
-use Rattle.streams.specs.Output.{Prints}
+use Rattle.byte_streams.specs.Output.{Prints}
 use Rattle.bw_shell.specs.Weave.{Weaves}
 use Rattle.bw_shell.proofs.whole.run.Given as goal
 

@@ -2,7 +2,7 @@ use Rattle.std.proofs.Common.{[], refl, inl, inr, true}
 use Rattle.bw_shell.specs.declared.refusal.Refusal.TheVariants.{NotOpened}
 use Rattle.bw_shell.specs.Text.{lone_refusal_text}
 use Rattle.bw_shell.specs.Turns.{opening_trace}
-use Rattle.streams.proofs.Showing.{shows_then, writes_whole}
+use Rattle.byte_streams.proofs.Showing.{shows_then, writes_whole}
 use Rattle.bw_shell.proofs.Weaving.{consumes_none, one_else, is_whole_run}
 use Rattle.bw_shell.proofs.whole.run_program.Goals as goal
 

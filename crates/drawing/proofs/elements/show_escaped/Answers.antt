@@ -1,4 +1,4 @@
-use Rattle.streams.proofs.Showing.{shows_then}
+use Rattle.byte_streams.proofs.Showing.{shows_then}
 use Rattle.shapes.specs.Document.{escaped_byte}
 use Rattle.drawing.proofs.Bytes.{flat_byte}
 use Rattle.drawing.proofs.elements.show_escaped.Goals as goal

@@ -1,4 +1,4 @@
-use Rattle.streams.proofs.Showing.{shows_then}
+use Rattle.byte_streams.proofs.Showing.{shows_then}
 use Rattle.drawing.proofs.elements.show_page_name.Goals as goal
 
 pub returns : goal.returns

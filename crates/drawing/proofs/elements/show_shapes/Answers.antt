@@ -1,4 +1,4 @@
-use Rattle.streams.proofs.Showing.{shows_then, no_text, flat_more}
+use Rattle.byte_streams.proofs.Showing.{shows_then, no_text, flat_more}
 use Rattle.shapes.specs.Document.{element_text}
 use Rattle.shapes.specs.Elements.{element_of}
 use Rattle.drawing.proofs.elements.show_shapes.Goals as goal

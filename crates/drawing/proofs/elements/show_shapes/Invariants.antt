@@ -1,6 +1,6 @@
 use Rattle.std.proofs.Common.{take}
 use Rattle.std.specs.List.{flat_map}
-use Rattle.streams.specs.Output.{Prints}
+use Rattle.byte_streams.specs.Output.{Prints}
 use Rattle.shapes.specs.Document.{element_text}
 use Rattle.shapes.specs.Elements.{element_of}
 use Rattle.drawing.proofs.elements.show_shapes.Given as goal

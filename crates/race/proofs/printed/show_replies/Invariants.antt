@@ -1,6 +1,6 @@
 use Rattle.std.proofs.Common.{take}
 use Rattle.std.specs.List.{flat_map}
-use Rattle.streams.specs.Output.{Prints}
+use Rattle.byte_streams.specs.Output.{Prints}
 use Rattle.race.specs.Results.{job_reply_text}
 use Rattle.race.proofs.printed.show_replies.Given as goal
 

@@ -1,5 +1,5 @@
 use Rattle.std.proofs.Common.{take}
-use Rattle.streams.specs.Output.{Prints}
+use Rattle.byte_streams.specs.Output.{Prints}
 use Rattle.race.specs.Results.{results_text}
 use Rattle.race.proofs.printed.show_results.Given as goal
 

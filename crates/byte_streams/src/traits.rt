@@ -3,7 +3,7 @@
 ghost use Rattle.std.specs.Prelude.{◌≡◌, ℕ, ◌+◌, ◌++◌, List, [], Bool, true, false, not, Option, OnOk, MatchResult};
 ghost use Rattle.std.specs.Io.{ReadsAtMost};
 ghost use Rattle.std.specs.Io.KnownBytes.{ReadConsumes};
-ghost use Rattle.streams.specs.Output.{Sink, Prints, Writes};
+ghost use Rattle.byte_streams.specs.Output.{Sink, Prints, Writes};
 
 use thiserror::Error;
 

@@ -1,6 +1,6 @@
 use Rattle.std.proofs.Common.{length}
-use Rattle.streams.proofs.Showing.{SoFar}
-use Rattle.streams.proofs.over_std.write_out.Given as goal
+use Rattle.byte_streams.proofs.Showing.{SoFar}
+use Rattle.byte_streams.proofs.over_std.write_out.Given as goal
 
 abbrev pub invariant-loop-rest : goal.invariant-loop-rest
 invariant-loop-rest g l = SoFar (g.W.Write.contents l.initial.inner) (g.W.Write.contents l.inner) l.bytes l.rest

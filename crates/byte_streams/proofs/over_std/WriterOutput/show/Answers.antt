@@ -1,6 +1,6 @@
 use Rattle.std.proofs.Common.{◌≡◌, ◌∙◌, sym, refl, ap, true, false}
-use Rattle.streams.proofs.Showing.{passed_on, err_holds}
-use Rattle.streams.proofs.over_std.WriterOutput.show.Goals as goal
+use Rattle.byte_streams.proofs.Showing.{passed_on, err_holds}
+use Rattle.byte_streams.proofs.over_std.WriterOutput.show.Goals as goal
 
 pub returns-then-not-write_out-2 : goal.returns-then-not-write_out-2
 returns-then-not-write_out-2 g c =

@@ -1,9 +1,9 @@
 use Rattle.std.proofs.Common.{[], ◌++◌, sym}
 use Rattle.std.proofs.lemmas.List.{append-nil}
-use Rattle.streams.specs.Output.{Prints}
-use Rattle.streams.proofs.Showing.{no_text, shows_then}
-use Rattle.streams.proofs.Showing.{writes_whole}
-use Rattle.streams.proofs.traits.outputs_add_up.Goals as goal
+use Rattle.byte_streams.specs.Output.{Prints}
+use Rattle.byte_streams.proofs.Showing.{no_text, shows_then}
+use Rattle.byte_streams.proofs.Showing.{writes_whole}
+use Rattle.byte_streams.proofs.traits.outputs_add_up.Goals as goal
 
 pub returns-clause-none : goal.returns-clause-none
 returns-clause-none c = no_text

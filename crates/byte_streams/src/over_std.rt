@@ -1,7 +1,7 @@
 //! The readers and writers of std, as inputs and outputs.
 
 ghost use Rattle.std.specs.Prelude.{◌≡◌, ◌^◌, ◌≤◌, [], false, length};
-ghost use Rattle.streams.specs.Output.{Writes};
+ghost use Rattle.byte_streams.specs.Output.{Writes};
 
 use crate::traits::{Failed, Input, Output};
 use arrayvec::ArrayVec;
