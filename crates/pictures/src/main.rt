@@ -15,9 +15,9 @@ fn main(rt: HostRuntime) -> ExitCode {
     let Ok(parts) = io::read_to_string(alloc, rt.reader()) else {
         return ExitCode::FAILURE;
     };
-    let mut output = Writer::new(io::writer(&rt));
     for part in parts.split("\n\n") {
         let mut input = Reader::new(part.as_bytes());
+        let mut output = Writer::new(io::writer(&rt));
         let status = draw(alloc, limits, &mut input, &mut output);
         if status != 0 {
             return ExitCode::from(status);
