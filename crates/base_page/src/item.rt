@@ -5,7 +5,7 @@ use bw_model::{Key, Value};
 use std::alloc::AllocError;
 
 /// What a page has at a key: a leaf a value, an index page a child (a term), which may be held.
-#[derive(Debug, PartialEq, Eq, Drop)]
+#[derive(PartialEq, Eq, Drop)]
 pub enum Content {
     /// The value of the key.
     Value(Value),
@@ -14,7 +14,7 @@ pub enum Content {
 }
 
 /// A key and what a page has there.
-#[derive(Debug, PartialEq, Eq, Drop)]
+#[derive(PartialEq, Eq, Drop)]
 pub struct Item {
     pub key: Key,
     pub content: Content,

@@ -16,7 +16,7 @@ use std::marker::Model;
 pub const MAX_ITEMS: usize = 24;
 
 /// At most 24 items, in strictly ascending order of their keys.
-#[derive(Debug, PartialEq, Eq, Drop)]
+#[derive(PartialEq, Eq, Drop)]
 pub struct Items {
     items: ArrayVec<Item, MAX_ITEMS>,
 }

@@ -11,7 +11,7 @@ use std::alloc::AllocError;
 use std::marker::Model;
 
 /// The items of the keys from `low` up to `high`, on a level; 0 is the level of leaves.
-#[derive(Debug, Drop)]
+#[derive(Drop)]
 pub struct Page {
     level: u8,
     low: Key,

@@ -3,7 +3,7 @@ ghost use Rattle.std.specs.Prelude.{◌≡◌};
 ghost use Rattle.bw_model.specs.Answers.{IsNumber, IsContent, IsWhether, TellsNumber, answer_of};
 
 /// One atomic step of one actor, over records of type `R`; the first six are reads.
-#[derive(Clone, Debug, Drop)]
+#[derive(Clone, Drop)]
 pub enum Step<R> {
     /// Reads a slot of the mapping table.
     Slot(u16),
@@ -38,7 +38,7 @@ pub enum Step<R> {
 }
 
 /// What a step answers.
-#[derive(Clone, Debug, Drop)]
+#[derive(Clone, Drop)]
 pub enum Answer<R> {
     /// No step has been taken yet.
     Start,
@@ -53,7 +53,7 @@ pub enum Answer<R> {
 }
 
 /// The answer to a step that reads no record. A record that was read is taken from where it lies.
-#[derive(Clone, Copy, Debug, PartialEq, Eq)]
+#[derive(Clone, Copy)]
 pub enum Told {
     /// No step has been taken yet.
     Start,
@@ -66,7 +66,7 @@ pub enum Told {
 }
 
 /// What an exchange that won has done.
-#[derive(Clone, Copy, Debug, PartialEq, Eq)]
+#[derive(Clone, Copy, PartialEq, Eq)]
 pub enum Link {
     /// A key was given a value.
     Put,

@@ -6,7 +6,7 @@ use crate::{Key, Value};
 use std::marker::Model;
 
 /// What an actor's command changed: a key has a new value, or none.
-#[derive(Debug, Drop)]
+#[derive(Drop)]
 pub struct Update {
     actor: u8,
     key: Key,

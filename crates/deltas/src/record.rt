@@ -8,7 +8,7 @@ use bw_model::{Key, Link, Value};
 use std::alloc::AllocError;
 
 /// A key of a leaf has a value. `next` is the row of the record under it, here and below.
-#[derive(Debug, Drop)]
+#[derive(Drop)]
 pub struct Put {
     pub next: u16,
     pub key: Key,
@@ -16,14 +16,14 @@ pub struct Put {
 }
 
 /// A key of a leaf is absent.
-#[derive(Debug, Drop)]
+#[derive(Drop)]
 pub struct Delete {
     pub next: u16,
     pub key: Key,
 }
 
 /// The items at or above a separator went to a new page to the right.
-#[derive(Debug, Drop)]
+#[derive(Drop)]
 pub struct Split {
     pub level: u8,
     pub next: u16,
@@ -32,7 +32,7 @@ pub struct Split {
 }
 
 /// An index page has a term: a separator and the child whose keys begin there.
-#[derive(Debug, Drop)]
+#[derive(Drop)]
 pub struct Term {
     pub level: u8,
     pub next: u16,
@@ -41,7 +41,7 @@ pub struct Term {
 }
 
 /// The term of a separator is held: its child is about to be removed.
-#[derive(Debug, Drop)]
+#[derive(Drop)]
 pub struct Hold {
     pub level: u8,
     pub next: u16,
@@ -50,14 +50,14 @@ pub struct Hold {
 }
 
 /// The page is removed.
-#[derive(Clone, Copy, Debug)]
+#[derive(Clone, Copy)]
 pub struct Remove {
     pub level: u8,
     pub next: u16,
 }
 
 /// The range, the right and the items of a removed page came to its left page.
-#[derive(Debug, Drop)]
+#[derive(Drop)]
 pub struct Merge {
     pub level: u8,
     pub next: u16,
@@ -68,7 +68,7 @@ pub struct Merge {
 }
 
 /// An index page has lost a term.
-#[derive(Debug, Drop)]
+#[derive(Drop)]
 pub struct Unterm {
     pub level: u8,
     pub next: u16,
@@ -77,7 +77,7 @@ pub struct Unterm {
 }
 
 /// One record of a chain: a base with the whole page, or a delta over the record under it.
-#[derive(Debug, Drop)]
+#[derive(Drop)]
 pub enum Record {
     Base(Page),
     Put(Put),

@@ -5,14 +5,14 @@ ghost use Rattle.epochs.specs.Limbo.{compared_with, is_passed, is_unstamped, res
 ghost use Rattle.epochs.specs.Reclamation.{may_be_freed};
 
 /// A number in a limbo list.
-#[derive(Clone, Copy, Debug, PartialEq, Eq)]
+#[derive(Clone, Copy)]
 pub struct Entry {
     pub number: u16,
     pub stage: Stage,
 }
 
 /// How far what was unlinked is on its way to be used again.
-#[derive(Clone, Copy, Debug, PartialEq, Eq)]
+#[derive(Clone, Copy)]
 pub enum Stage {
     /// It has no stamp.
     Unstamped,

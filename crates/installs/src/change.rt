@@ -23,7 +23,7 @@ use deltas::{Record, Remove};
 use std::marker::Model;
 
 /// How a change ended.
-#[derive(Clone, Copy, Debug, PartialEq, Eq)]
+#[derive(Clone, Copy, PartialEq, Eq)]
 pub enum End {
     /// What was planned is linked, and a page that was to be cleared is cleared.
     Won,
@@ -34,7 +34,7 @@ pub enum End {
 }
 
 /// Where a change stands: each state is named by the step that it has asked for.
-#[derive(Clone, Copy, Debug, PartialEq, Eq)]
+#[derive(Clone, Copy)]
 pub(crate) enum State {
     /// A PID or a row is taken.
     Taking(Taking),
@@ -54,7 +54,7 @@ pub(crate) enum State {
 
 /// A change that is under way. What it takes and places is among the spares of its actor until it is linked. A record that is to be
 /// placed, and that the plan hasn't as such, is made once, and lies here.
-#[derive(Debug, Drop)]
+#[derive(Drop)]
 pub struct Change {
     limits: Limits,
     plan: Plan,

@@ -7,7 +7,7 @@ use deltas::{Record, Unterm};
 use smo::SplitPlan;
 
 /// What is to be linked, and where.
-#[derive(Debug, Drop)]
+#[derive(Drop)]
 pub enum Plan {
     /// A record over the row `head` of the page `pid`.
     Install {

@@ -13,7 +13,7 @@ use std::marker::Model;
 pub const MAX_SPARES: usize = 2;
 
 /// A PID at most and the rows that an actor took and has not linked: its change uses the last rows.
-#[derive(Debug, Drop)]
+#[derive(Drop)]
 pub struct Spares {
     pid: Option<u16>,
     rows: ArrayVec<u16, MAX_SPARES>,

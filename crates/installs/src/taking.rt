@@ -10,21 +10,21 @@ use bw_model::{Limits, Step, Told};
 use deltas::Record;
 
 /// A kind of number.
-#[derive(Clone, Copy, Debug, PartialEq, Eq)]
+#[derive(Clone, Copy)]
 pub(crate) enum Kind {
     Pid,
     Row,
 }
 
 /// Where a taking stands: each state is named by the step that it has asked for.
-#[derive(Clone, Copy, Debug, PartialEq, Eq)]
+#[derive(Clone, Copy)]
 pub(crate) enum Taking {
     Bits { kind: Kind, word: u8 },
     Take { kind: Kind, number: u16 },
 }
 
 /// How a taking goes on.
-#[derive(Clone, Copy, Debug, PartialEq, Eq)]
+#[derive(Clone, Copy)]
 pub(crate) enum Found {
     /// Nothing was found yet.
     Not(Taking),

@@ -11,7 +11,7 @@ pub const MAX_ERRANDS: usize = 16;
 
 /// The separators of the splits that an operation has linked, and has not looked for since, the newest last: on the way to one
 /// its term is posted.
-#[derive(Debug, Drop)]
+#[derive(Drop)]
 pub(crate) struct Errands {
     keys: ArrayVec<Key, MAX_ERRANDS>,
 }

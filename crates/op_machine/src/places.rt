@@ -39,7 +39,7 @@ use std::alloc::{AllocError, Allocator, Global};
 use std::marker::Model;
 
 /// Where an operation stands, by the place of what is under way: a state without a place is named by the step that it has asked for.
-#[derive(Clone, Copy, Debug, PartialEq, Eq)]
+#[derive(Clone, Copy)]
 pub(crate) enum Stand {
     Begun,
     Epoch,

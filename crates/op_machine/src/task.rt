@@ -25,7 +25,7 @@ use std::marker::Model;
 use sweep::Sweep;
 
 /// What an operation was asked, by whom, and what it is still to visit.
-#[derive(Debug, Drop)]
+#[derive(Drop)]
 pub(crate) struct Task {
     limits: Limits,
     actor: u8,

@@ -5,7 +5,7 @@ use crate::unlinked::Unlinked;
 use bw_model::{Key, Reply};
 
 /// What comes once a change has won.
-#[derive(Debug, Drop)]
+#[derive(Drop)]
 pub(crate) enum Then {
     /// A new round.
     Round,

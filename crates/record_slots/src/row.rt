@@ -17,7 +17,7 @@ use thiserror::Error;
 pub struct BadRow;
 
 /// What a row has before its items, whatever its kind.
-#[derive(Debug, Drop)]
+#[derive(Drop)]
 pub struct Row {
     pub kind: u8,
     pub level: u8,
@@ -29,7 +29,7 @@ pub struct Row {
 }
 
 /// What stands in a row's first word.
-#[derive(Clone, Copy, Debug)]
+#[derive(Clone, Copy)]
 pub struct Header {
     pub kind: u8,
     pub level: u8,

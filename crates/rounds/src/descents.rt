@@ -18,7 +18,7 @@ use std::marker::Model;
 use std::mem;
 
 /// Where a descent stands: each state is named by what it reads, slot 0, a page's slot, or a row of a page.
-#[derive(Clone, Copy, Debug, PartialEq, Eq)]
+#[derive(Clone, Copy)]
 pub(crate) enum At {
     Root,
     Slot { pid: u16 },
@@ -26,7 +26,7 @@ pub(crate) enum At {
 }
 
 /// What an answer has shown.
-#[derive(Clone, Copy, Debug, PartialEq, Eq)]
+#[derive(Clone, Copy)]
 pub(crate) enum Seen {
     /// The descent reads on.
     On,

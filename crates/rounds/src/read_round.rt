@@ -30,7 +30,7 @@ use std::alloc::{AllocError, Allocator, Global};
 use std::marker::Model;
 
 /// How a reader's round ends. The pages that an end is about stand in the round.
-#[derive(Clone, Copy, Debug, PartialEq, Eq)]
+#[derive(Clone, Copy, PartialEq, Eq)]
 pub enum ReadEnded {
     /// A page that was named isn't there, or the round can't go round a removed index page: a new round begins.
     Again,
@@ -44,7 +44,7 @@ pub enum ReadEnded {
 }
 
 /// Where a reader's round goes first.
-#[derive(Clone, Copy, Debug, PartialEq, Eq)]
+#[derive(Clone, Copy)]
 pub(crate) enum Going {
     /// To the leaf of the key.
     Seek,

@@ -5,7 +5,7 @@ use deltas::{Merge, Term, Unterm};
 use smo::{SplitPlan, Upkeep};
 
 /// How a writer's round ends. The pages that an end is about stand in the round.
-#[derive(Debug, Drop)]
+#[derive(Drop)]
 pub enum WriteEnded {
     /// A page that was named isn't there: a new round begins.
     Again,

@@ -12,7 +12,7 @@ use std::cmp::Ordering;
 use std::marker::Model;
 
 /// A key as the words that spell it, and its length.
-#[derive(Debug, Drop)]
+#[derive(Drop)]
 pub struct KeyWords {
     words: [u64; TEXT_WORDS],
     count: u64,

@@ -15,7 +15,7 @@ use record_slots::{LEVEL_UNIT, PART_LIMIT, ROW_WORDS, from_words, to_words};
 use std::marker::Model;
 
 /// A record as the words of its row.
-#[derive(Debug, Drop)]
+#[derive(Drop)]
 pub struct Row {
     pub words: [u64; ROW_WORDS],
 }

@@ -3,7 +3,7 @@ ghost use Rattle.std.specs.Prelude.{◌≡◌};
 ghost use Rattle.shapes.specs.Colours.{colour_text};
 
 /// What a colour stands for.
-#[derive(Clone, Copy, Debug, PartialEq, Eq)]
+#[derive(Clone, Copy)]
 pub enum Colour {
     /// Text, and the edge of a page.
     Ink,

@@ -3,7 +3,7 @@
 use crate::{Colour, Words};
 
 /// A rectangle, from its corner that is leftmost and topmost.
-#[derive(Clone, Copy, Debug, PartialEq, Eq)]
+#[derive(Clone, Copy)]
 pub struct Rectangle {
     pub x: u32,
     pub y: u32,
@@ -14,7 +14,7 @@ pub struct Rectangle {
 }
 
 /// A straight line, from one place to another.
-#[derive(Clone, Copy, Debug, PartialEq, Eq)]
+#[derive(Clone, Copy)]
 pub struct Line {
     pub x1: u32,
     pub y1: u32,
@@ -25,7 +25,7 @@ pub struct Line {
 }
 
 /// Words in a row, from the place of their lower left corner.
-#[derive(Debug, Drop)]
+#[derive(Drop)]
 pub struct Text {
     pub x: u32,
     pub y: u32,
@@ -36,7 +36,7 @@ pub struct Text {
 }
 
 /// One shape of a picture.
-#[derive(Debug, Drop)]
+#[derive(Drop)]
 pub enum Shape {
     /// The box of a page, by its PID.
     Page(u16, Rectangle),

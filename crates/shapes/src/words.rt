@@ -9,7 +9,7 @@ use std::marker::Model;
 pub const MAX_WORDS: usize = 160;
 
 /// The bytes of a text. What has no room any more is left out.
-#[derive(Debug, Drop)]
+#[derive(Drop)]
 pub struct Words {
     bytes: ArrayVec<u8, MAX_WORDS>,
 }

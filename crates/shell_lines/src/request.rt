@@ -16,7 +16,7 @@ use crate::token::{LineError, key_of, value_of};
 use bw_model::{Command, Key, Link, Value};
 
 /// Which lines a program takes.
-#[derive(Clone, Copy, Debug, PartialEq, Eq)]
+#[derive(Clone, Copy)]
 pub enum Language {
     /// Commands, each of which is run to its end.
     Script,

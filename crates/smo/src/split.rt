@@ -11,7 +11,7 @@ use deltas::Split;
 use std::alloc::Allocator;
 
 /// A split that lacks only the PID of the new page: that page, and the row of the page that is split.
-#[derive(Debug, Drop)]
+#[derive(Drop)]
 pub struct SplitPlan {
     pub upper: Page,
     pub next: u16,

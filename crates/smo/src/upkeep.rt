@@ -9,7 +9,7 @@ use deltas::{Hold, Remove};
 use std::alloc::Allocator;
 
 /// What is done first at a small page, below its parent.
-#[derive(Debug, Drop)]
+#[derive(Drop)]
 pub enum Upkeep {
     /// The page is removed.
     Remove(Remove),

@@ -6,7 +6,7 @@ use std::alloc::{Allocator, Global};
 use thiserror::Error;
 
 /// What a turn did.
-#[derive(Clone, Debug, PartialEq, Eq, Drop)]
+#[derive(PartialEq, Eq, Drop)]
 pub enum Event {
     /// An operation began.
     Began,

@@ -9,7 +9,7 @@ use std::marker::Model;
 pub const MAX_OTHERS: usize = 15;
 
 /// The epochs that the first of all other actors announced, in ascending order of the actors.
-#[derive(Debug, Drop)]
+#[derive(Drop)]
 pub(crate) struct Announces {
     epochs: ArrayVec<u64, MAX_OTHERS>,
 }

@@ -21,7 +21,7 @@ use std::marker::Model;
 use std::mem;
 
 /// Where a sweep stands: each state is named by the step that it has asked for.
-#[derive(Debug, Drop)]
+#[derive(Drop)]
 pub(crate) enum State {
     Epoch,
     Retire { epoch: u64 },
@@ -31,7 +31,7 @@ pub(crate) enum State {
 }
 
 /// The sweep of an actor's limbo that is under way. It takes at most 337 steps.
-#[derive(Debug, Drop)]
+#[derive(Drop)]
 pub struct Sweep {
     limits: Limits,
     actor: u8,

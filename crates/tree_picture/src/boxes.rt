@@ -11,7 +11,7 @@ use shapes::{Colour, Rectangle, Text, Words};
 use std::alloc::AllocError;
 
 /// How a page stands to the level above it.
-#[derive(Clone, Copy, Debug, PartialEq, Eq)]
+#[derive(Clone, Copy)]
 pub(crate) enum Mark {
     /// The root, or a page with its term.
     Termed,
