@@ -3,9 +3,10 @@ ghost use Rattle.std.specs.Prelude.{◌≡◌, is_some, option_copied};
 ghost use Rattle.bw_model.specs.Replies.{command_key, is_writer, reply_of, update_of};
 
 use crate::{Key, Pairs, Update, Value};
+use std::alloc::AllocError;
 
 /// What an actor asks of the map.
-#[derive(Clone, Debug, PartialEq, Eq, Drop)]
+#[derive(Debug, PartialEq, Eq, Drop)]
 pub enum Command {
     /// The value of a key.
     Get(Key),
@@ -24,7 +25,7 @@ pub enum Command {
 }
 
 /// What an operation answers when it is done.
-#[derive(Clone, Debug, PartialEq, Eq, Drop)]
+#[derive(Debug, PartialEq, Eq, Drop)]
 pub enum Reply {
     /// The value of the key.
     Value(Value),
@@ -148,5 +149,68 @@ impl Command {
             }
             _ => None,
         }
+    }
+
+    /// The same command again, without memory.
+    pub fn copied(&self) -> Command
+        ensures { result ≡ self.now }
+    {
+        match self {
+            Command::Get(key) => Command::Get(key.copied()),
+            Command::Insert(key, value) => Command::Insert(key.copied(), value.copied()),
+            Command::Upsert(key, value) => Command::Upsert(key.copied(), value.copied()),
+            Command::Delete(key) => Command::Delete(key.copied()),
+            Command::Swap(key, expected, value) => {
+                Command::Swap(key.copied(), expected.copied(), value.copied())
+            }
+            Command::Page(key) => Command::Page(key.copied()),
+            Command::Tidy(key) => Command::Tidy(key.copied()),
+        }
+    }
+}
+
+impl Clone for Command {
+    ghost is_clone = { λ command other. other ≡ command };
+
+    ghost is_infallible = { λ _. Unit {0} };
+
+    fn clone(&self) -> Result<Self, AllocError> {
+        Ok(self.copied())
+    }
+}
+
+impl Reply {
+    /// The same reply again, without memory.
+    pub fn copied(&self) -> Reply
+        ensures { result ≡ self.now }
+    {
+        match self {
+            Reply::Value(value) => Reply::Value(value.copied()),
+            Reply::None => Reply::None,
+            Reply::Inserted => Reply::Inserted,
+            Reply::Exists(value) => Reply::Exists(value.copied()),
+            Reply::Set => Reply::Set,
+            Reply::Replaced(value) => Reply::Replaced(value.copied()),
+            Reply::Deleted(value) => Reply::Deleted(value.copied()),
+            Reply::Absent => Reply::Absent,
+            Reply::Swapped => Reply::Swapped,
+            Reply::Differs(value) => Reply::Differs(value.copied()),
+            Reply::Page { items, next } => Reply::Page {
+                items: items.copied(),
+                next: next.as_ref().map(Key::copied),
+            },
+            Reply::Tidied => Reply::Tidied,
+            Reply::Full => Reply::Full,
+        }
+    }
+}
+
+impl Clone for Reply {
+    ghost is_clone = { λ reply other. other ≡ reply };
+
+    ghost is_infallible = { λ _. Unit {0} };
+
+    fn clone(&self) -> Result<Self, AllocError> {
+        Ok(self.copied())
     }
 }

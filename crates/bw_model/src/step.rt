@@ -3,7 +3,7 @@ ghost use Rattle.std.specs.Prelude.{◌≡◌};
 ghost use Rattle.bw_model.specs.Answers.{IsNumber, IsContent, IsWhether, TellsNumber, answer_of};
 
 /// One atomic step of one actor, over records of type `R`; the first six are reads.
-#[derive(Clone, Drop)]
+#[derive(Drop)]
 pub enum Step<R> {
     /// Reads a slot of the mapping table.
     Slot(u16),
@@ -38,7 +38,7 @@ pub enum Step<R> {
 }
 
 /// What a step answers.
-#[derive(Clone, Drop)]
+#[derive(Drop)]
 pub enum Answer<R> {
     /// No step has been taken yet.
     Start,

@@ -99,7 +99,7 @@ impl<A: Allocator> Entries<A> {
         ensures room { self.old.room ≤ self.new.room }
     {
         let place = self.commands.len();
-        self.commands.push(command.clone().unwrap()).unwrap();
+        self.commands.push(command.copied()).unwrap();
         self.happened.push(Happening::Begin(actor, place)).unwrap();
     }
 
@@ -141,9 +141,7 @@ fn read<A: Allocator>(
     ensures { result ≡ entry_of commands.now replies.now happening.now }
 {
     match happening {
-        Happening::Begin(actor, place) => {
-            Entry::Begin(*actor, commands[*place].clone().unwrap())
-        }
+        Happening::Begin(actor, place) => Entry::Begin(*actor, commands[*place].copied()),
         Happening::Step(actor, step, answer) => {
             Entry::Step(*actor, step_of(step), answer_of(answer), None)
         }

@@ -29,7 +29,7 @@ ghost use Rattle.rounds.specs.WriteRounds as writes;
 ghost use Rattle.rounds.specs.WriteRounds.{again_if};
 
 use crate::task::Task;
-use crate::then::{Then, copied};
+use crate::then::Then;
 use bw_model::{Key, Limits, Reply, Step, Told};
 use deltas::{Record, Remove};
 use installs::{Change, End, Plan, Spares};
@@ -250,7 +250,7 @@ impl<A: Allocator> Places<A> {
         requires leaving { self.now.stand ≡ Stand.Leave }
         ensures { result ≡ self.now.reply }
     {
-        copied(&self.reply)
+        self.reply.copied()
     }
 
     /// The reader's round takes a number, and tells how it ends, once it does.

@@ -25,13 +25,7 @@ impl Then {
             Then::Round => Then::Round,
             Then::Limbo(unlinked) => Then::Limbo(unlinked.copied()),
             Then::Errand(key) => Then::Errand(key.copied()),
-            Then::Reply(reply) => Then::Reply(copied(reply)),
+            Then::Reply(reply) => Then::Reply(reply.copied()),
         }
     }
-}
-
-pub(crate) fn copied(reply: &Reply) -> Reply
-    ensures { result ≡ reply.now }
-{
-    reply.clone().unwrap()
 }

@@ -18,7 +18,7 @@ ghost use Rattle.smo.specs.Versions.{Version};
 
 use crate::places::Places;
 use crate::task::Task;
-use crate::then::{Then, copied};
+use crate::then::Then;
 use crate::unlinked::Unlinked;
 use base_page::Page;
 use bw_model::{Command, Reply};
@@ -287,7 +287,7 @@ impl Task {
     {
         match (end, places.then()) {
             (End::Won, Then::Reply(reply)) => {
-                let reply = copied(reply);
+                let reply = reply.copied();
                 places.leave(reply);
             }
             (End::Won, Then::Errand(separator)) => {

@@ -170,7 +170,7 @@ impl<A: Allocator + Copy> Core<A> {
         ensures err { IfErr result (λ error. StopsAt self.old turns.now error self.new) }
     {
         for turn in turns {
-            match self.turn(turn.clone().unwrap()) {
+            match self.turn(turn.copied()) {
                 Ok(_) => {}
                 Err(error) => return Err(error),
             }

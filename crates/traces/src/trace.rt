@@ -1,17 +1,30 @@
 //! Turns, and what each did.
+ghost use Rattle.std.specs.Prelude.{◌≡◌};
 
 use bw_model::{Answer, Command, Reply, Step};
 use deltas::Record;
 
 /// A turn of one actor: it begins an operation, or its operation takes one step.
-#[derive(Clone, Drop)]
+#[derive(Drop)]
 pub enum Turn {
     Begin(u8, Command),
     Step(u8),
 }
 
+impl Turn {
+    /// The same turn again, without memory.
+    pub fn copied(&self) -> Turn
+        ensures { result ≡ self.now }
+    {
+        match self {
+            Turn::Begin(actor, command) => Turn::Begin(*actor, command.copied()),
+            Turn::Step(actor) => Turn::Step(*actor),
+        }
+    }
+}
+
 /// What a turn did. An operation is done at the step that has its reply.
-#[derive(Clone, Drop)]
+#[derive(Drop)]
 pub enum Entry {
     Begin(u8, Command),
     Step(u8, Step<Record>, Answer<Record>, Option<Reply>),

@@ -18,7 +18,6 @@ use std::sync::{OnceLock, OnceToken, Wait};
 use std::thread::{Promise, PromisedHandle, Scope, Threads, scope, scope_env};
 
 /// What all workers share.
-#[derive(Drop)]
 pub(crate) struct Shared<'r, R, G, A: Allocator> {
     pub(crate) rt: &'r R,
     pub(crate) tree: &'r Tree<A>,
@@ -29,11 +28,42 @@ pub(crate) struct Shared<'r, R, G, A: Allocator> {
     pub(crate) may_run: OnceLock<bool>,
 }
 
+impl<R, G, A: Allocator> Drop for Shared<'_, R, G, A> {
+    fn drop(self) {
+        let Shared {
+            rt: _,
+            tree: _,
+            gate: _,
+            tasks: _,
+            limit: _,
+            may_run: _,
+        } = self;
+    }
+}
+
 /// A worker that is back, and what it was told.
-#[derive(Drop)]
 pub(crate) struct Back<'a, A: Allocator> {
     worker: Worker<A>,
     told: OnceToken<'a, bool>,
+}
+
+impl<A: Allocator> Drop for Back<'_, A> {
+    fn drop(self) {
+        let Back { worker: _, told: _ } = self;
+    }
+}
+
+impl<A: Allocator> Back<'_, A> {
+    /// The worker, which was told the same.
+    fn agreed(self, told: &OnceToken<'_, bool>) -> Worker<A>
+        requires same { self.told.of ≡ told.now.of }
+        ensures worker { result ≡ self.worker }
+        ensures value { self.told.value ≡ told.now.value }
+    {
+        let Back { worker, told: same } = self;
+        same.agrees(told);
+        worker
+    }
 }
 
 /// What comes back of a worker.
@@ -184,9 +214,7 @@ fn join<'a, R: Threads, A: Allocator>(
         Begun::Standing(handle) => handle.join(rt),
         Begun::Back(back) => back,
     };
-    let Back { worker, told: same } = back;
-    same.agrees(told);
-    worker
+    back.agreed(told)
 }
 
 /// The workers of all threads, once these have ended.

@@ -1,21 +1,38 @@
 //! The room that workers are given before their threads begin, and what is taken out of it afterwards.
-ghost use Rattle.std.specs.Prelude.{◌≡◌, ◌≤◌, ◌*◌, [], All, IfOk, flat_map, length, map, vec_len};
+ghost use Rattle.std.specs.Prelude.{◌≡◌, ◌≤◌, ◌*◌, [], All, IfErr, IfOk, flat_map, length, map, vec_len};
 ghost use Rattle.std.specs.Vec.{vec_capacity};
+ghost use Rattle.bw_tree.specs.Trees.{AreSeatsOf};
+ghost use Rattle.workers.specs.Worked.{AreIdle, HaveWorked};
 ghost use Rattle.workers.specs.Working.{HasRoom, IsRoom};
 
+use crate::begun::{Shared, in_threads};
+use crate::gate::Gate;
 use crate::job::JobResult;
 use crate::worker::Worker;
 use bw_tree::BwSeat;
 use std::alloc::{AllocError, Allocator};
+use std::sync::Wait;
+use std::thread::Threads;
 
 /// Room for workers, for the results of each, for the workers and the seats that come back, and for all results.
-#[derive(Drop)]
 pub(crate) struct Room<A: Allocator> {
     pub(crate) lists: Vec<Vec<JobResult<A>, A>, A>,
     pub(crate) workers: Vec<Worker<A>, A>,
     pub(crate) back: Vec<Worker<A>, A>,
     pub(crate) seats: Vec<BwSeat<A>, A>,
     pub(crate) results: Vec<JobResult<A>, A>,
+}
+
+impl<A: Allocator> Drop for Room<A> {
+    fn drop(self) {
+        let Room {
+            lists: _,
+            workers: _,
+            back: _,
+            seats: _,
+            results: _,
+        } = self;
+    }
 }
 
 impl<A: Allocator + Copy> Room<A> {
@@ -33,6 +50,35 @@ impl<A: Allocator + Copy> Room<A> {
             seats: Vec::with_capacity(alloc, count)?,
             results: Vec::with_capacity(alloc, all)?,
         })
+    }
+
+    /// The results of all workers, in no order, and the seats, once no more jobs come; the seats as they were where memory or a thread
+    /// can't be had.
+    pub(crate) fn worked<R: Threads + Wait + Sync, G: Gate + Sync>(
+        self,
+        alloc: A,
+        shared: &Shared<'_, R, G, A>,
+        seats: Vec<BwSeat<A>, A>,
+    ) -> Result<(Vec<JobResult<A>, A>, Vec<BwSeat<A>, A>), Vec<BwSeat<A>, A>>
+    where
+        A: Send + Sync,
+        requires own { AreSeatsOf shared.now.tree.now seats.items }
+        requires idle { AreIdle seats.items }
+        requires room { IsRoom (vec_len seats) shared.now.limit self }
+        ensures worked { IfOk result (λ done. HaveWorked done.0.items seats.items done.1.items) }
+        ensures left { IfErr result (λ left. left.items ≡ seats.items) }
+    {
+        let Room {
+            lists,
+            workers,
+            back,
+            seats: list,
+            results,
+        } = self;
+        let workers = seated(seats, lists, workers, shared.limit);
+        let (may_run, workers) = in_threads(alloc, shared, workers, back);
+        let done = parted(workers, list, results, shared.limit);
+        if may_run { Ok(done) } else { Err(done.1) }
     }
 }
 
@@ -97,7 +143,7 @@ pub(crate) fn parted<A: Allocator>(
     let mut seats = seats;
     let mut results = results;
     for worker in workers {
-        let Worker { seat, mut done } = worker;
+        let (seat, mut done) = worker.into_parts();
         seats.push_reserved(seat);
         let Ok(()) = results.append(&mut done) else {
             unreachable!()

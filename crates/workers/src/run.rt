@@ -4,13 +4,12 @@ ghost use Rattle.std.specs.List.Sorted.{IsNonDecreasingBy};
 ghost use Rattle.bw_tree.specs.Trees.{AreSeatsOf};
 ghost use Rattle.workers.specs.Jobs.{AreAscending, AreResultsOf};
 ghost use Rattle.workers.specs.Worked.{AreIdle, HaveStopped, HaveWorked};
-ghost use Rattle.workers.specs.Working.{IsRoom};
 
-use crate::begun::{Shared, in_threads};
+use crate::begun::Shared;
 use crate::check::are_results;
 use crate::gate::Gate;
 use crate::job::{Job, JobResult, JobsError, JobsRefusal};
-use crate::room::{Room, parted, seated};
+use crate::room::Room;
 use crate::task::tasks;
 use bw_tree::{BwSeat, Tree};
 use std::alloc::Allocator;
@@ -53,7 +52,7 @@ pub fn run_jobs<R: Threads + Wait + Sync, G: Gate + Sync, A: Allocator + Copy + 
         limit: jobs.len(),
         may_run: OnceLock::new(),
     };
-    let (results, seats) = match worked(alloc, &shared, seats, room) {
+    let (results, seats) = match room.worked(alloc, &shared, seats) {
         Ok(done) => done,
         Err(seats) => return Err(refused(JobsRefusal::NotRun, seats)),
     };
@@ -81,31 +80,4 @@ fn sorted<A: Allocator>(results: Vec<JobResult<A>, A>) -> Vec<JobResult<A>, A>
     let mut results = results;
     results.sort_unstable_by_key(|done| done.job);
     results
-}
-
-/// The results of all workers, in no order, and the seats, once no more jobs come; the seats as they were where memory or a thread can't be
-/// had.
-fn worked<R: Threads + Wait + Sync, G: Gate + Sync, A: Allocator + Copy + Send + Sync>(
-    alloc: A,
-    shared: &Shared<'_, R, G, A>,
-    seats: Vec<BwSeat<A>, A>,
-    room: Room<A>,
-) -> Result<(Vec<JobResult<A>, A>, Vec<BwSeat<A>, A>), Vec<BwSeat<A>, A>>
-    requires own { AreSeatsOf shared.now.tree.now seats.items }
-    requires idle { AreIdle seats.items }
-    requires room { IsRoom (vec_len seats) shared.now.limit room }
-    ensures worked { IfOk result (λ done. HaveWorked done.0.items seats.items done.1.items) }
-    ensures left { IfErr result (λ left. left.items ≡ seats.items) }
-{
-    let Room {
-        lists,
-        workers,
-        back,
-        seats: list,
-        results,
-    } = room;
-    let workers = seated(seats, lists, workers, shared.limit);
-    let (may_run, workers) = in_threads(alloc, shared, workers, back);
-    let done = parted(workers, list, results, shared.limit);
-    if may_run { Ok(done) } else { Err(done.1) }
 }

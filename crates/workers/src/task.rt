@@ -3,7 +3,6 @@ ghost use Rattle.std.specs.Prelude.{◌≡◌, ◌≤◌, [], vec_len};
 ghost use Rattle.std.specs.Vec.{vec_capacity};
 
 use crate::job::Job;
-use crate::worker::copied;
 use bw_model::{Command, Reply};
 use crossbeam_channel::{Receiver, bounded};
 use std::alloc::{AllocError, Allocator};
@@ -26,7 +25,7 @@ fn commands_of<A: Allocator>(
 ) -> Result<Vec<Command, A>, AllocError> {
     let mut copies = Vec::with_capacity(alloc, commands.len())?;
     for command in commands {
-        copies.push(copied(command))?;
+        copies.push(command.copied())?;
     }
     Ok(copies)
 }

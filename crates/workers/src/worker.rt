@@ -20,13 +20,27 @@ use std::sync::Wait;
 const STEPS: u32 = 1 << 16;
 
 /// A seat, and the results of the jobs that were run on it.
-#[derive(Drop)]
 pub(crate) struct Worker<A: Allocator> {
     pub(crate) seat: BwSeat<A>,
     pub(crate) done: Vec<JobResult<A>, A>,
 }
 
+impl<A: Allocator> Drop for Worker<A> {
+    fn drop(self) {
+        let Worker { seat: _, done: _ } = self;
+    }
+}
+
 impl<A: Allocator> Worker<A> {
+    /// Its seat, and the results.
+    pub(crate) fn into_parts(self) -> (BwSeat<A>, Vec<JobResult<A>, A>)
+        ensures seat { result.0 ≡ self.seat }
+        ensures done { result.1 ≡ self.done }
+    {
+        let Worker { seat, done } = self;
+        (seat, done)
+    }
+
     /// Runs jobs as they come, until no more will come, or there were as many as there are.
     pub(crate) fn work<R: Wait, G: Gate>(
         &mut self,
@@ -103,7 +117,7 @@ fn run_all<R: Wait, A: Allocator>(
     ensures goes { GoesOn seat.old (zip commands.now (map Some replies.new.items)) seat.new }
 {
     for command in commands {
-        replies.push_reserved(run(rt, tree, seat, copied(command)));
+        replies.push_reserved(run(rt, tree, seat, command.copied()));
     }
 }
 
@@ -127,21 +141,4 @@ fn run<R: Wait, A: Allocator>(
         }
     }
     unreachable!()
-}
-
-/// The same command once more.
-pub(crate) fn copied(command: &Command) -> Command
-    ensures { result ≡ command.now }
-{
-    match command {
-        Command::Get(key) => Command::Get(key.copied()),
-        Command::Insert(key, value) => Command::Insert(key.copied(), value.copied()),
-        Command::Upsert(key, value) => Command::Upsert(key.copied(), value.copied()),
-        Command::Delete(key) => Command::Delete(key.copied()),
-        Command::Swap(key, expected, value) => {
-            Command::Swap(key.copied(), expected.copied(), value.copied())
-        }
-        Command::Page(key) => Command::Page(key.copied()),
-        Command::Tidy(key) => Command::Tidy(key.copied()),
-    }
 }

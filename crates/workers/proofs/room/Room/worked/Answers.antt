@@ -9,7 +9,7 @@ use Rattle.workers.specs.Worked.{AreIdle}
 use Rattle.workers.specs.Working.{HasRoom}
 use Rattle.workers.proofs.Named.{done_by}
 use Rattle.workers.proofs.Parting.{all_few, all_same, all_seats, have_worked, seat_of, worked_as}
-use Rattle.workers.proofs.run.worked.Goals as goal
+use Rattle.workers.proofs.room.Room.worked.Goals as goal
 
 pub in_threads-may_run-requires-clause-own : goal.in_threads-may_run-requires-clause-own
 in_threads-may_run-requires-clause-own g c κs within =
@@ -43,7 +43,7 @@ parted-done-requires-clause-results_room g c =
     let seats = c.args.seats.ok.0 in
     let back = c.in_threads-may_run.ensures.count in
     let long = c.in_threads-may_run.result.1.ok.0 in
-    subst (λ n. n * c.args.shared.now.limit ≤ vec_capacity c.args.room.results) (omega (arith, many, same, seats, back, long)) c.requires.room.results_room
+    subst (λ n. n * c.args.shared.now.limit ≤ vec_capacity c.args.self.results) (omega (arith, many, same, seats, back, long)) c.requires.room.results_room
 
 pub parted-done-requires-clause-few : goal.parted-done-requires-clause-few
 parted-done-requires-clause-few g c =
