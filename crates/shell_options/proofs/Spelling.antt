@@ -4,7 +4,7 @@ use Rattle.std.specs.Prelude.{option_map}
 use Rattle.std.specs.Option.{option_map_or}
 use Rattle.std.specs.Str.Parse.{digits_value, without_leading_plus}
 use Rattle.std.specs.Box.{box_value}
-use Rattle.clap.specs.Words.{App, Row, Text, is_simple, is_simple_and_free, one_text, rows_of, subcommand_of, takes}
+use Rattle.clap.specs.Words.{App, Row, Text, is_simple, is_simple_and_free, one_text, rows_of, takes}
 use Rattle.clap.specs.Simple.{subcommand_rows}
 use Rattle.clap.specs.declared.parser.matches.ArgMatches.TheViews.{out-SubCommand}
 use Rattle.clap.specs.declared.error.kind.ErrorKind.{ErrorKind}
@@ -16,7 +16,7 @@ use Rattle.clap.specs.declared.parser.matches.SubCommand.{SubCommand}
 use Rattle.shell_options.specs.declared.words.OptionsError.{OptionsError}
 use Rattle.shell_options.specs.declared.words.Program.{Program}
 use Rattle.shell_options.specs.declared.words.Settings.{Settings}
-use Rattle.shell_options.specs.Words.{bwtree_app, name_of, rows_in, AreTaken, HasNumbers, IsSpelled, SpellsOr}
+use Rattle.shell_options.specs.Words.{bwtree_app, name_of, AreTaken, HasNumbers, IsTold, SpellsOr}
 
 abbrev pub Reads : ℕ → ℕ → Option Text → Type 0
 Reads default n o = MatchOption o (n ≡ default) (λ text. digits_value 10 (without_leading_plus text) ≡ n)
@@ -50,17 +50,14 @@ unfolding AreTaken
 outside app words kind is only other taken = other (only (subst (λ (a : App). takes a words ≡ true) (sym is) taken))
 
 -- the numbers behind a program's name are those of its options
-pub is_spelled : (words : List Text) (program : Program) (read : List Row) (r : Result Settings OptionsError)
-    → option_map (λ p. p.0) (subcommand_of bwtree_app words) ≡ Some (name_of program) → option_map (λ p. p.1) (subcommand_of bwtree_app words) ≡ Some read
-    → IfOk r (HasNumbers read) → IfOk r (λ (line : Settings). line.program ≡ program) → IfOk r (IsSpelled words)
-unfolding rows_in
-is_spelled words program read (Ok line) named behind numbers same =
-    let rows : rows_in words ≡ read = rows_of_some (subcommand_of bwtree_app words) read behind in
-    record {
-      program = named ∙ ap (λ (p : Program). Some (name_of p)) (sym same);
-      numbers = subst (λ (r : List Row). HasNumbers r line) (sym rows) numbers;
-    }
-is_spelled words program read (Err error) named behind numbers same = tt
+pub is_told : (told : Option (Text × List Row)) (program : Program) (read : List Row) (r : Result Settings OptionsError)
+    → option_map (λ p. p.0) told ≡ Some (name_of program) → option_map (λ p. p.1) told ≡ Some read
+    → IfOk r (HasNumbers read) → IfOk r (λ (line : Settings). line.program ≡ program) → IfOk r (IsTold told)
+is_told told program read (Ok line) named behind numbers same = record {
+  program = named ∙ ap (λ (p : Program). Some (name_of p)) (sym same);
+  numbers = subst (λ (r : List Row). HasNumbers r line) (sym (rows_of_some told read behind)) numbers;
+}
+is_told told program read (Err error) named behind numbers same = tt
 
 module _ {Z : Type 0} where
   pub name_is : (o : Option (Box SubCommand Z)) → option_map (λ p. p.0) (subcommand_rows o) ≡ option_map (λ b. (out-SubCommand (box_value b)).name.now) o

@@ -1,9 +1,12 @@
 -- what the words of a command line mean, by clap's own words
-use Rattle.std.specs.Prelude.{◌≡◌, ℕ, List, [], Some, true, MatchOption, codes, option_map}
+use Rattle.std.specs.Prelude.{◌≡◌, ℕ, List, [], Ok, Option, Result, Some, true, MatchOption, codes, option_map}
 use Rattle.std.specs.Option.{option_map_or}
 use Rattle.std.specs.Str.Parse.{digits_value, without_leading_plus}
-use Rattle.clap.specs.Words.{IsAmong, fault_of, kind_of, App, Row, Rule, Text, new_app, new_rule, one_of, subcommand_of, takes, with_rule, with_subcommand}
-use Rattle.clap.specs.Simple.{on_top}
+use Rattle.clap.specs.Words.{AddsSubcommand, IsAmong, fault_of, kind_of, App, Row, Rule, Text, new_app, new_rule, one_of, subcommand_of, takes, with_rule, with_subcommand}
+use Rattle.clap.specs.Simple.{on_top, subcommand_rows}
+use Rattle.clap.specs.declared.builder.command.Command.{Command}
+use Rattle.clap.specs.declared.parser.matches.ArgMatches.{ArgMatches}
+use Rattle.clap.specs.declared.parser.matches.ArgMatches.TheViews.{out-ArgMatches}
 use Rattle.clap.specs.declared.builder.value_parser.ValueParser.TheVariants as vp
 use Rattle.shell_options.specs.declared.words.Program.{Program}
 use Rattle.shell_options.specs.declared.words.Program.TheVariants.{Script, Weave, Draw, Race}
@@ -35,16 +38,12 @@ draw_app = actors_app (codes "draw")
 abbrev pub race_app : App
 race_app = limits_rules (with_rule (new_app (codes "race")) (number_rule (codes "seats")))
 
--- the programs over a core, and with them the one over a running tree
-abbrev pub core_app : App
-core_app = with_subcommand (with_subcommand (with_subcommand (on_top (λ s. record s { subcommand_required = true }) (new_app (codes "bwtree"))) script_app.top) weave_app.top) draw_app.top
-
+-- all programs
 abbrev pub bwtree_app : App
-bwtree_app = with_subcommand core_app race_app.top
-
--- what the words after the subcommand's name are, by option
-unfoldable pub rows_in : List Text → List Row
-rows_in words = option_map_or (λ p. p.1) (subcommand_of bwtree_app words) []
+bwtree_app =
+    with_subcommand
+    (with_subcommand (with_subcommand (with_subcommand (on_top (λ s. record s { subcommand_required = true }) (new_app (codes "bwtree"))) script_app.top) weave_app.top) draw_app.top)
+    race_app.top
 
 -- n is the number that the word of the option spells, or the default where there is no such word
 abbrev pub SpellsOr : List Row → Text → ℕ → ℕ → Type 0
@@ -85,10 +84,22 @@ name_of Weave = codes "weave"
 name_of Draw = codes "draw"
 name_of Race = codes "race"
 
+-- A program's name and the rows of its options name the program, and its numbers are those of the options.
+pub record IsTold (told : Option (Text × List Row)) (line : Settings) : Type 0 where
+  pub program : option_map (λ p. p.0) told ≡ Some (name_of line.program)
+  pub numbers : HasNumbers (option_map_or (λ p. p.1) told []) line
+
 -- The words name the program, and its numbers are those of the options behind the name.
-pub record IsSpelled (words : List Text) (line : Settings) : Type 0 where
-  pub program : option_map (λ p. p.0) (subcommand_of bwtree_app words) ≡ Some (name_of line.program)
-  pub numbers : HasNumbers (rows_in words) line
+abbrev pub IsSpelled : List Text → Settings → Type 0
+IsSpelled words line = IsTold (subcommand_of bwtree_app words) line
+
+-- the program's name and the rows of its options, as the matches have them
+abbrev pub told_by : ArgMatches → Option (Text × List Row)
+told_by matches = subcommand_rows (out-ArgMatches matches).subcommand
+
+-- `new` is `old` with the subcommand that was made
+abbrev pub HasOneMore : {E : Type 0} → Command → Result Command E → Command → Type 0
+HasOneMore old made new = (sub : Command) × (made ≡ Ok sub) × AddsSubcommand old sub new
 
 -- The words are in the grammar of the command line.
 unfoldable pub AreTaken : List Text → Type 0

@@ -5,7 +5,7 @@ ghost use Rattle.bw_model.specs.Limits.{AreLimits};
 ghost use Rattle.std.specs.String.{string_bytes};
 ghost use Rattle.clap.specs.Words.{app_of, found_of, rows_of, rule_of};
 ghost use Rattle.clap.specs.declared.builder.command.Command.TheViews.{out-Command as fields_of};
-ghost use Rattle.shell_options.specs.Words.{number_rule, limits_rules, actors_app, core_app, draw_app, script_app, weave_app, race_app, bwtree_app, SpellsOr, HasActors, HasNumbers, default_pids_of, default_rows_of, HasNoFault, IsSpelled, MayRefuse};
+ghost use Rattle.shell_options.specs.Words.{number_rule, limits_rules, actors_app, draw_app, script_app, weave_app, race_app, bwtree_app, SpellsOr, HasActors, HasNumbers, HasOneMore, default_pids_of, default_rows_of, told_by, HasNoFault, IsSpelled, IsTold, MayRefuse};
 
 use bw_model::{BadLimits, Limits};
 use clap::error::ErrorKind;
@@ -196,21 +196,25 @@ fn race_command<'a>(alloc: Global) -> Result<Command<'a>, AllocError>
     ))
 }
 
-fn core_command<'a>(alloc: Global) -> Result<Command<'a>, AllocError>
-    ensures { IfOk result (λ c. app_of c ≡ core_app) }
+// The command with a subcommand more, where that could be made.
+fn with<'a>(
+    command: Command<'a>,
+    made: Result<Command<'a>, AllocError>,
+) -> Result<Command<'a>, AllocError>
+    ensures { IfOk result (HasOneMore command.entry made.entry) }
 {
-    let command = Command::new(alloc, "bwtree").subcommand_required(true);
-    let command = command.subcommand(script_command(alloc)?)?;
-    let command = command.subcommand(weave_command(alloc)?)?;
-    let command = command.subcommand(draw_command(alloc)?)?;
-    Ok(command)
+    command.subcommand(made?)
 }
 
+// The words of all programs.
 fn plain_command<'a>(alloc: Global) -> Result<Command<'a>, AllocError>
     ensures { IfOk result (λ c. app_of c ≡ bwtree_app) }
 {
-    let command = core_command(alloc)?;
-    let command = command.subcommand(race_command(alloc)?)?;
+    let command = Command::new(alloc, "bwtree").subcommand_required(true);
+    let command = with(command, script_command(alloc))?;
+    let command = with(command, weave_command(alloc))?;
+    let command = with(command, draw_command(alloc))?;
+    let command = with(command, race_command(alloc))?;
     Ok(command)
 }
 
@@ -290,20 +294,11 @@ fn numbers(program: Program, matches: &ArgMatches<'_>) -> Result<Settings, Optio
     })
 }
 
-/// Reads the words of a command line, the program's name first.
-pub fn options(alloc: Global, words: &[String]) -> Result<Settings, OptionsError>
-    ensures spelled { IfOk result (IsSpelled (map string_bytes words.now)) }
-    ensures refused { IfErr result (MayRefuse (map string_bytes words.now)) }
-    ensures faultless { IfOk result (λ _. HasNoFault (map string_bytes words.now)) }
+// The program that the matches name, with its numbers.
+fn named_program(matches: &ArgMatches<'_>) -> Result<Settings, OptionsError>
+    ensures told { IfOk result (IsTold (told_by matches.now)) }
+    ensures refused { IfErr result (λ error. error ≡ OptionsError.Memory) }
 {
-    let Ok(command) = command(alloc) else {
-        return Err(OptionsError::Memory);
-    };
-    let matches = match command.try_get_matches_from(words) {
-        Ok(matches) => matches,
-        Err(error) if error.kind() == ErrorKind::OutOfMemory => return Err(OptionsError::Memory),
-        Err(error) => return Err(OptionsError::Clap(error)),
-    };
     if let Some(script) = matches.subcommand_matches("script") {
         return numbers(Program::Script, script);
     }
@@ -313,8 +308,24 @@ pub fn options(alloc: Global, words: &[String]) -> Result<Settings, OptionsError
     if let Some(draw) = matches.subcommand_matches("draw") {
         return numbers(Program::Draw, draw);
     }
-    let Some(race) = matches.subcommand_matches("race") else {
+    if let Some(race) = matches.subcommand_matches("race") {
+        return numbers(Program::Race, race);
+    }
+    Err(OptionsError::Memory)
+}
+
+/// Reads the words of a command line, the program's name first.
+pub fn options(alloc: Global, words: &[String]) -> Result<Settings, OptionsError>
+    ensures spelled { IfOk result (IsSpelled (map string_bytes words.now)) }
+    ensures refused { IfErr result (MayRefuse (map string_bytes words.now)) }
+    ensures faultless { IfOk result (λ _. HasNoFault (map string_bytes words.now)) }
+{
+    let Ok(command) = command(alloc) else {
         return Err(OptionsError::Memory);
     };
-    numbers(Program::Race, race)
+    match command.try_get_matches_from(words) {
+        Ok(matches) => named_program(&matches),
+        Err(error) if error.kind() == ErrorKind::OutOfMemory => Err(OptionsError::Memory),
+        Err(error) => Err(OptionsError::Clap(error)),
+    }
 }
