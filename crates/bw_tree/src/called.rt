@@ -7,7 +7,7 @@ use std::alloc::Allocator;
 use thiserror::Error;
 
 /// What became of a call.
-#[derive(Clone, Debug, Drop, PartialEq, Eq)]
+#[derive(Debug, Drop, PartialEq, Eq)]
 pub enum Called {
     /// The operation is done, with this reply.
     Done(Reply),

@@ -89,6 +89,36 @@ impl<A: Allocator> Table<A> {
         }
     }
 
+    /// The epoch.
+    pub fn epoch(&self) -> u64
+        ensures { result ≡ (memory_in self.now).epoch }
+    {
+        self.epoch
+    }
+
+    /// The epoch that an actor has announced, or 0 where it is outside.
+    pub fn announced(&self, actor: u8) -> u64
+        ensures { result ≡ (memory_in self.now).announced actor }
+    {
+        self.announced.get(usize::from(actor)).copied().unwrap_or(0)
+    }
+
+    /// Whether a PID is free.
+    pub fn is_free_pid(&self, pid: u16) -> bool
+        requires { pid < self.now.limits.pids }
+        ensures { result ≡ (memory_in self.now).free_pids pid }
+    {
+        is_set(&self.pid_bits, pid)
+    }
+
+    /// Whether a row is free.
+    pub fn is_free_row(&self, row: u16) -> bool
+        requires { row < self.now.limits.rows }
+        ensures { result ≡ (memory_in self.now).free_rows row }
+    {
+        is_set(&self.row_bits, row)
+    }
+
     /// What a step answers; refused only where a record that is read has as many owners as can be counted.
     pub fn answer(
         &self,

@@ -6,7 +6,7 @@ mod level;
 mod page;
 mod scene;
 
-pub use counts::{epoch_announced, free_pids, free_rows};
+pub use counts::{free_pids, free_rows};
 pub use level::Level;
 pub use page::ScenePage;
 pub use scene::Scene;

@@ -5,7 +5,7 @@ ghost use Rattle.scene.specs.Levels.{AreLevels};
 ghost use Rattle.scene.specs.Scenes.{IsSceneOf};
 ghost use Rattle.tree_law.specs.LevelPages.{HasAllLevels};
 
-use crate::counts::{epoch, free_pids, free_rows};
+use crate::counts::{free_pids, free_rows};
 use crate::level::{Level, level_from};
 use bw_model::Limits;
 use core_memory::Table;
@@ -50,7 +50,7 @@ impl<A: Allocator + Copy> Scene<A> {
             levels,
             free_pids: free_pids(table, limits.pids),
             free_rows: free_rows(table, limits.rows),
-            epoch: epoch(table),
+            epoch: table.epoch(),
         })
     }
 }

@@ -8,7 +8,7 @@ use crate::frame::{head, legend};
 use crate::levels::{all_links, bottom_of, rows};
 use crate::places::{LEFT, TOP, first_x, width_of};
 use crate::sheet::{Picture, Sheet};
-use scene::{Scene, epoch_announced};
+use scene::Scene;
 use shapes::{Colour, Rectangle};
 use std::alloc::{AllocError, Global};
 use step_core::Core;
@@ -51,7 +51,7 @@ fn all_actors(sheet: &mut Sheet, core: &Core, y: u32) -> u32
     let mut y = y.saturating_add(20);
     for number in 0..16u8 {
         if let Some(actor) = core.actor(number) {
-            let announced = epoch_announced(core.memory(), number);
+            let announced = core.memory().announced(number);
             actor_lines(sheet, number, actor, announced, y);
             y = y.saturating_add(56);
         }

@@ -1,5 +1,5 @@
 use Rattle.std.proofs.Common.{sym, ◌∙◌, arith}
-use Rattle.scene.proofs.Sides.{chain_at, is_more, page_last, page_more, pid_below}
+use Rattle.scene.proofs.Sides.{chain_at, is_more, no_front, page_last, page_more, pid_below}
 use Rattle.scene.proofs.level.level_from.Goals as goal
 
 pub page_at-requires-clause-there : goal.page_at-requires-clause-there
@@ -26,3 +26,6 @@ unreachable-requires g c =
     let (number, has) = c.requires.stands in
     let more = is_more _ _ number _ has _ _ _ (c.loop.invariant number has) in
     omega (arith, more, c.loop-test.false)
+
+pub loop-init : goal.loop-init
+loop-init g c = λ number has. rw c.new-pages.ensures.items (no_front _ _ _ number has)
