@@ -49,5 +49,8 @@ module _ (limits : Limits) (a : ℕ) (one other joined : Mine) (at : SitsAt limi
     pub others_are : right ≡ (map (refreshed (seen_of left)) other.0, [])
     others_are = others ∙ ap (λ (m : Mine). (other_parts m.0, [])) looked_is ∙ ap (λ run. (map (refreshed run) other.0, [])) (sym left_saw)
 
+    pub first_lawful : IsLawfulRun limits (seen_of left)
+    first_lawful = subst (IsLawfulRun limits) (sym left_saw) saw.legal
+
     pub first_seat : OwnLasts → (actor : Actor) → IsSeat limits a one actor → IsSeat limits a left actor
     first_seat own actor seat = seat_extends own limits a one left saw.run actor seat saw.legal all_extend.0 left_at left_saw

@@ -5,6 +5,7 @@ pub mod Going
 mod Resuming
 mod Joining
 mod Resting
+mod Owning
 mod Meeting
 mod Gathering
 mod Opened

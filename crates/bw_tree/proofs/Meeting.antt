@@ -79,6 +79,12 @@ module _ (limits : Limits) (a b : ℕ) (reach : Reach) (one other joined : Mine)
     pub left_starts : reach ≡ Noted → StartsWith (seen_of left) (seen_of other)
     left_starts is = subst (λ run. StartsWith run (seen_of other)) (sym left_saw) (subst (λ r. ExtendsFor r b (seen_of other) saw.run) is both_extend.1.0)
 
+    pub left_lawful : IsLawfulRun limits (seen_of left)
+    left_lawful = subst (IsLawfulRun limits) (sym left_saw) saw.legal
+
+    pub right_lawful : IsLawfulRun limits (seen_of right)
+    right_lawful = subst (IsLawfulRun limits) (sym right_saw) saw.legal
+
     pub left_seat : OwnLasts → (actor : Actor) → IsSeat limits a one actor → IsSeat limits a left actor
     left_seat own actor seat = seat_extends own limits a one left saw.run actor seat saw.legal both_extend.0 left_at left_saw
 

@@ -1,9 +1,9 @@
-use Rattle.std.proofs.Common.{[], sym, subst, ◌∙◌}
+use Rattle.std.proofs.Common.{[], refl, sym, ap, subst, ◌∙◌}
 use Rattle.atomic_table.specs.Table.{opening}
 use Rattle.bw_tree.specs.Runs.{IsLawfulRun}
 use Rattle.slot_rule.specs.Running.{Running}
-use Rattle.slot_rule.specs.Views.{dealt}
-use Rattle.bw_tree.proofs.Opened.{deals_first, fresh, is_tree}
+use Rattle.slot_rule.specs.Views.{Mine, dealt, other_parts}
+use Rattle.bw_tree.proofs.Opened.{deals_first, fresh, is_tree, seat_is}
 use Rattle.bw_tree.proofs.dealing.begun.Goals as goal
 
 pub of_words-requires : goal.of_words-requires
@@ -21,3 +21,14 @@ invariant_of-first g c =
 
 pub invariant_of-result : goal.invariant_of-result
 invariant_of-result g c = is_tree c.args.limits c.in_ok-table.table.shared.key c.in_ok-table.table.shared.table_id c.as_slice.result.now c.in_ok-table.ensures.0 c.in_ok-table.ensures.1 c.in_ok-table.ensures.5 (c.as_slice.ensures.value ∙ c.in_ok-words.ensures) (c.opening_keeps.ensures c.args.limits (c.empty_run_is_lawful.ensures c.args.limits))
+
+pub returns-clause-first : goal.returns-clause-first
+returns-clause-first g c =
+    seat_is (record { limits = c.args.limits; table = c.in_ok-table.table.shared.table_id }) [] 0 c.args.limits c.part-others.new.seat.table_id c.part-others.new.seat.me refl (c.part-others.ensures.same ∙ c.in_ok-table.ensures.2)
+    (deals_first c.args.limits c.in_ok-table.place.me c.part-others.new.seat.me c.in_ok-table.ensures.4 c.part-others.ensures.first)
+
+pub returns-clause-table : goal.returns-clause-table
+returns-clause-table g c = c.part-others.ensures.table ∙ c.in_ok-table.ensures.2
+
+pub returns-clause-others : goal.returns-clause-others
+returns-clause-others g c = c.part-others.ensures.others ∙ ap (λ (m : Mine). (other_parts m.0, [])) c.in_ok-table.ensures.4

@@ -28,6 +28,11 @@ loop-number-init g c =
           (first_seat_at c.args.tree.now c.args.first c.requires.own c.requires.first n below);
     }
 
+pub part-others-requires : goal.part-others-requires
+part-others-requires g c =
+    let same = c.loop-number.invariant.table ∙ sym (ap (λ (t : Tree). t.table) c.tree.view_is) in
+    record { table = record { same = same; wide = c.tree.invariant.wide; own = c.tree.invariant.own } }
+
 pub invariant_of-push : goal.invariant_of-push
 invariant_of-push g c =
     let (left, all, is, each) = c.loop-number.invariant.rest in

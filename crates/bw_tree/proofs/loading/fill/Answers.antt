@@ -1,10 +1,12 @@
 use Rattle.std.proofs.Common.{◌≡◌, List, ℕ, ap, ◌∙◌, subst}
 use Rattle.bw_model.specs.declared.command.Command.TheVariants.{Upsert}
 use Rattle.bw_model.specs.declared.limits.Limits.{Limits}
+use Rattle.bw_tree.specs.Calls.{calls_in}
 use Rattle.bw_tree.specs.Loaded.{upsert_of}
 use Rattle.bw_tree.specs.Runs.{IsOneHistory}
-use Rattle.bw_tree.specs.Seats.{Seat}
+use Rattle.bw_tree.specs.Seats.{Seat, unfinished_command}
 use Rattle.bw_tree.proofs.Filling.{idle_then, same_then, stops, upserted_then}
+use Rattle.bw_tree.proofs.Going.{same_self}
 use Rattle.bw_tree.proofs.Resting.{at_index}
 use Rattle.bw_tree.proofs.loading.fill.Goals as goal
 
@@ -27,3 +29,16 @@ loop-pair-preserved g c =
       upserted = upserted_then c.args.pairs.now c.loop-pair.pair-index c.pair-item.result c.loop-pair.seat c.call-called.new.seat (Upsert c.copied.result c.copied-in-loop-pair.result) _ c.call-called.result c.loop-pair-test.true c.pair-item.is asked
           c.loop-pair.invariant.upserted c.call-called.ensures.called c.in_default.ensures;
     }
+
+pub loop-pair-init : goal.loop-pair-init
+loop-pair-init g c = record {
+  same = same_self c.args.seat.now;
+  idle = ap unfinished_command c.requires.fresh;
+  upserted = ap calls_in c.requires.fresh;
+}
+
+pub call-called-requires-clause-own : goal.call-called-requires-clause-own
+call-called-requires-clause-own g c = record { table = c.loop-pair.invariant.same.table ∙ c.requires.own.table; limits = c.loop-pair.invariant.same.limits ∙ c.requires.own.limits }
+
+pub returns-in-Some-clause-same : goal.returns-in-Some-clause-same
+returns-in-Some-clause-same g c = same_then c.args.seat.now c.loop-pair.seat c.call-called.new.seat c.loop-pair.invariant.same c.call-called.ensures.same

@@ -7,7 +7,7 @@ use Rattle.slot_rule.specs.Steps.{Took}
 use Rattle.slot_rule.specs.Views.{seen_of}
 use Rattle.bw_tree.specs.Runs.{IsLawfulRun}
 use Rattle.bw_tree.specs.Told.{told_or_read}
-use Rattle.bw_tree.proofs.Advancing.{busy_of, advances_of, may_go, told_on, seated_on, advances_on, leave_told, leave_may, leave_seated, leave_advances}
+use Rattle.bw_tree.proofs.Advancing.{busy_of, advances_of, known_may, may_go, within, told_on, seated_on, advances_on, leave_told, leave_may, leave_seated, leave_advances}
 use Rattle.bw_tree.proofs.seat.BwSeat.advance.Goals as goal
 
 pub leave-requires-clause-told : goal.leave-requires-clause-told
@@ -28,6 +28,12 @@ pub returns-then-is_leaving-clause-advances : goal.returns-then-is_leaving-claus
 returns-then-is_leaving-clause-advances g c =
     advances_of _ _ _ _ c.self.view_is
     (leave_advances c.laws_of_runs.ensures _ _ _ _ c.self.invariant.seated (busy_of _ _ c.self.view_is c.requires.busy) c.if-is_leaving.ensures (Some c.leave.new.reply) c.leave.new.actor c.leave.ensures.goes (answer_of c.act.result) (seen_of c.act.new.seat.me) c.act.ensures.took c.self.inside.place.table_id c.act.new.seat.table_id)
+
+pub take-told-requires-clause-known : goal.take-told-requires-clause-known
+take-told-requires-clause-known g c = known_may c.laws_of_runs.ensures _ _ _ _ c.self.invariant.seated (busy_of _ _ c.self.view_is c.requires.busy) (lent c.wanted.result) c.wanted.ensures
+
+pub take-told-requires-clause-within : goal.take-told-requires-clause-within
+take-told-requires-clause-within g c = within c.laws_of_runs.ensures _ _ _ _ c.self.invariant.seated (busy_of _ _ c.self.view_is c.requires.busy) (lent c.wanted.result) c.wanted.ensures
 
 pub take-told-requires-clause-may : goal.take-told-requires-clause-may
 take-told-requires-clause-may g c = may_go c.laws_of_runs.ensures _ _ _ _ c.self.invariant.seated (busy_of _ _ c.self.view_is c.requires.busy) (lent c.wanted.result) c.wanted.ensures (λ is. c.if-is_leaving.ensures (c.wanted.ensures ∙ ap Some is))

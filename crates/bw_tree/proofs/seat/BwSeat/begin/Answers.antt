@@ -5,7 +5,10 @@ use Rattle.bw_model.specs.Lent.{lent}
 use Rattle.bw_model.specs.declared.command.Command.{Command}
 use Rattle.slot_rule.specs.Steps.{IsLawfulStep, Took}
 use Rattle.slot_rule.specs.Views.{seen_of}
+use Rattle.bw_tree.specs.Calls.{HasBegun}
 use Rattle.bw_tree.specs.Runs.{IsLawfulRun}
+use Rattle.bw_tree.specs.Seats.{IsSeated, Seat}
+use Rattle.bw_tree.proofs.Advancing.{seat_of}
 use Rattle.bw_tree.proofs.Begun.{idle_of, may_begin, first_stays, first_word, told_first, seated_first}
 use Rattle.bw_tree.proofs.seat.BwSeat.begin.Goals as goal
 
@@ -41,4 +44,22 @@ invariant_of-self g c =
       place = c.act-told.ensures.seat;
       seated = seated_first c.laws_of_runs.ensures _ _ _ _ _ _ c.self.invariant.there c.self.invariant.seated (idle_of _ _ c.self.view_is c.requires.idle) c.begin.ensures.shows c.begin.ensures.command c.begin.ensures.bounded (lent c.wanted.result) c.wanted.ensures
           (answer_of c.act-told.result) (seen_of c.act-told.new.seat.me) took None c.go_on.new.self c.go_on.ensures.goes c.go_on.ensures.command;
+    }
+
+pub returns-clause-begins : goal.returns-clause-begins
+returns-clause-begins g c =
+    let took : Took IsLawfulRun c.self.inside.limits c.self.inside.number (seen_of c.self.inside.place.me) (Some c.args.command) (lent c.wanted.result) (answer_of c.act-told.result) None (seen_of c.act-told.new.seat.me) =
+    subst (λ (o : Option Command). Took IsLawfulRun c.self.inside.limits c.self.inside.number (seen_of c.self.inside.place.me) o (lent c.wanted.result) (answer_of c.act-told.result) None (seen_of c.act-told.new.seat.me)) (c.command.ensures ∙ c.begin.ensures.command) c.act-told.ensures.took in
+    let seated : IsSeated c.self.inside.limits c.self.inside.number (seen_of c.act-told.new.seat.me) c.go_on.new.self =
+    seated_first c.laws_of_runs.ensures _ _ _ _ _ _ c.self.invariant.there c.self.invariant.seated (idle_of _ _ c.self.view_is c.requires.idle) c.begin.ensures.shows c.begin.ensures.command c.begin.ensures.bounded (lent c.wanted.result) c.wanted.ensures
+    (answer_of c.act-told.result) (seen_of c.act-told.new.seat.me) took None c.go_on.new.self c.go_on.ensures.goes c.go_on.ensures.command in
+    subst (λ (old : Seat). HasBegun old c.args.command (seat_of c.act-told.new.seat.table_id c.self.inside.limits c.self.inside.number (seen_of c.act-told.new.seat.me))) c.self.view_is
+    record {
+      run = took.run;
+      extends = took.extends;
+      step = lent c.wanted.result;
+      told = answer_of c.act-told.result;
+      answered = took.answered;
+      grown = took.grown;
+      command = sym seated.runs ∙ c.go_on.ensures.command ∙ c.begin.ensures.command;
     }

@@ -4,10 +4,11 @@ use Rattle.traces.specs.discipline.Disciplined.{Extends}
 use Rattle.slot_rule.specs.declared.view.Reach.TheVariants.{Idle, Noted}
 use Rattle.slot_rule.specs.Views.{SitsAt, seen_of}
 use Rattle.bw_tree.specs.Notes.{Note}
-use Rattle.bw_tree.specs.Runs.{StartsWith}
+use Rattle.bw_tree.specs.Runs.{IsLawfulRun, StartsWith}
 use Rattle.bw_tree.specs.Seats.{IsSeat, Seat}
 use Rattle.bw_tree.specs.Trees.{Tree}
-use Rattle.bw_tree.proofs.Meeting.{has_part, left_extends, left_seat, left_starts}
+use Rattle.bw_tree.proofs.Meeting.{has_part, left_extends, left_lawful, left_seat, left_starts}
+use Rattle.bw_tree.proofs.Owning.{is_of, still_of}
 use Rattle.bw_tree.proofs.tree.Tree.heed.Goals as goal
 
 pub look-requires-clause-some : goal.look-requires-clause-some
@@ -52,3 +53,29 @@ returns-clause-heeds g c =
       extends = subst (λ (s : Seat). Extends s.actor s.seen (seen_of c.part.new.seat.me)) c.seat.view_is ours;
       begins = subst (λ (n : Note). StartsWith (seen_of c.part.new.seat.me) n.seen) c.note.view_is begins;
     }
+
+pub join-requires-clause-table : goal.join-requires-clause-table
+join-requires-clause-table g c = is_of _ _ _ _ _ _ _ _ _ c.self.invariant c.self.view_is c.seat.view_is c.requires.own
+
+pub join-requires-clause-other : goal.join-requires-clause-other
+join-requires-clause-other g c = ap (λ (n : Note). n.table) c.note.view_is ∙ c.requires.note.table ∙ sym (ap (λ (t : Tree). t.table) c.self.view_is)
+
+pub join-requires-clause-home : goal.join-requires-clause-home
+join-requires-clause-home g c = ap (λ me. me.1) c.note.invariant.1
+
+pub look-requires-clause-table : goal.look-requires-clause-table
+look-requires-clause-table g c = still_of _ _ _ _ _ (is_of _ _ _ _ _ _ _ _ _ c.self.invariant c.self.view_is c.seat.view_is c.requires.own) c.join.ensures.same
+
+pub part-requires : goal.part-requires
+part-requires g c = record { table = still_of _ _ _ _ _ (is_of _ _ _ _ _ _ _ _ _ c.self.invariant c.self.view_is c.seat.view_is c.requires.own) (c.look.ensures.same ∙ c.join.ensures.same) }
+
+pub returns-clause-history : goal.returns-clause-history
+returns-clause-history g c =
+    let tree : c.args.self.now.limits ≡ c.self.inside.limits = sym (ap (λ (t : Tree). t.limits) c.self.view_is) in
+    let same : c.seat.inside.limits ≡ c.self.inside.limits = ap (λ (s : Seat). s.limits) c.seat.view_is ∙ c.requires.own.limits ∙ tree in
+    let same_note : c.note.inside.limits ≡ c.self.inside.limits = ap (λ (n : Note). n.limits) c.note.view_is ∙ c.requires.note.limits ∙ tree in
+    let at : SitsAt c.self.inside.limits c.seat.inside.number Idle c.seat.inside.place.me = subst (λ (l : Limits). SitsAt l c.seat.inside.number Idle c.seat.inside.place.me) same c.seat.invariant.place in
+    let at_note : SitsAt c.self.inside.limits c.note.invariant.0 Noted c.note.inside.place.me = subst (λ (l : Limits). SitsAt l c.note.invariant.0 Noted c.note.inside.place.me) same_note c.note.invariant.1 in
+    c.runs_are_one_history.ensures c.seat.inside.limits (seen_of c.part.new.seat.me) (subst (λ (l : Limits). IsLawfulRun l (seen_of c.part.new.seat.me)) (sym same)
+    (left_lawful c.self.inside.limits c.seat.inside.number c.note.invariant.0 Noted c.seat.inside.place.me c.note.inside.place.me c.join.new.seat.me at at_note c.join.ensures.both
+    c.look.new.seat.me c.part.new.seat.me c.part.result.me c.look.ensures.saw c.part.ensures.first c.part.ensures.others))

@@ -4,9 +4,11 @@ use Rattle.traces.specs.declared.trace.Entry.{Entry}
 use Rattle.traces.specs.discipline.Disciplined.{Extends}
 use Rattle.slot_rule.specs.declared.view.Reach.TheVariants.{Idle}
 use Rattle.slot_rule.specs.Views.{SitsAt, Mine, seen_of}
+use Rattle.bw_tree.specs.Runs.{IsLawfulRun}
 use Rattle.bw_tree.specs.Seats.{IsSeat, Seat}
 use Rattle.bw_tree.specs.Trees.{Tree}
-use Rattle.bw_tree.proofs.Meeting.{has_part, left_extends, left_seat, right_extends, right_seat, saw_one}
+use Rattle.bw_tree.proofs.Meeting.{has_part, left_extends, left_lawful, left_seat, right_extends, right_lawful, right_seat, saw_one}
+use Rattle.bw_tree.proofs.Owning.{is_of, still_of}
 use Rattle.bw_tree.proofs.tree.Tree.meet.Goals as goal
 
 pub look-requires-clause-some : goal.look-requires-clause-some
@@ -69,3 +71,44 @@ returns-clause-met g c =
       one = saw_one c.self.inside.limits c.one.inside.number c.other.inside.number Idle c.one.inside.place.me c.replace-others.result.me c.join.new.seat.me at at_other c.join.ensures.both
           c.look.new.seat.me c.part.new.seat.me c.part.result.me c.look.ensures.saw c.part.ensures.first c.part.ensures.others;
     }
+
+pub join-requires-clause-table : goal.join-requires-clause-table
+join-requires-clause-table g c = is_of _ _ _ _ _ _ _ _ _ c.self.invariant c.self.view_is c.one.view_is c.requires.own
+
+pub join-requires-clause-other : goal.join-requires-clause-other
+join-requires-clause-other g c =
+    let of = is_of _ _ _ _ _ _ _ _ _ c.self.invariant c.self.view_is c.other.view_is c.requires.own_other in
+    ap (λ place. place.table_id) c.replace-others.ensures.value ∙ of.same
+
+pub join-requires-clause-home : goal.join-requires-clause-home
+join-requires-clause-home g c = ap (λ place. place.me.1) c.replace-others.ensures.value ∙ ap (λ me. me.1) c.other.invariant.place
+
+pub look-requires-clause-table : goal.look-requires-clause-table
+look-requires-clause-table g c = still_of _ _ _ _ _ (is_of _ _ _ _ _ _ _ _ _ c.self.invariant c.self.view_is c.one.view_is c.requires.own) c.join.ensures.same
+
+pub part-requires : goal.part-requires
+part-requires g c = record { table = still_of _ _ _ _ _ (is_of _ _ _ _ _ _ _ _ _ c.self.invariant c.self.view_is c.one.view_is c.requires.own) (c.look.ensures.same ∙ c.join.ensures.same) }
+
+pub returns-clause-history : goal.returns-clause-history
+returns-clause-history g c =
+    let tree : c.args.self.now.limits ≡ c.self.inside.limits = sym (ap (λ (t : Tree). t.limits) c.self.view_is) in
+    let same : c.one.inside.limits ≡ c.self.inside.limits = ap (λ (s : Seat). s.limits) c.one.view_is ∙ c.requires.own.limits ∙ tree in
+    let same_other : c.other.inside.limits ≡ c.self.inside.limits = ap (λ (s : Seat). s.limits) c.other.view_is ∙ c.requires.own_other.limits ∙ tree in
+    let moved : c.other.inside.place.me ≡ c.replace-others.result.me = sym (ap (λ place. place.me) c.replace-others.ensures.value) in
+    let at : SitsAt c.self.inside.limits c.one.inside.number Idle c.one.inside.place.me = subst (λ (l : Limits). SitsAt l c.one.inside.number Idle c.one.inside.place.me) same c.one.invariant.place in
+    let at_other : SitsAt c.self.inside.limits c.other.inside.number Idle c.replace-others.result.me = subst (SitsAt c.self.inside.limits c.other.inside.number Idle) moved (subst (λ (l : Limits). SitsAt l c.other.inside.number Idle c.other.inside.place.me) same_other c.other.invariant.place) in
+    c.runs_are_one_history.ensures c.one.inside.limits (seen_of c.part.new.seat.me) (subst (λ (l : Limits). IsLawfulRun l (seen_of c.part.new.seat.me)) (sym same)
+    (left_lawful c.self.inside.limits c.one.inside.number c.other.inside.number Idle c.one.inside.place.me c.replace-others.result.me c.join.new.seat.me at at_other c.join.ensures.both
+    c.look.new.seat.me c.part.new.seat.me c.part.result.me c.look.ensures.saw c.part.ensures.first c.part.ensures.others))
+
+pub returns-clause-history_other : goal.returns-clause-history_other
+returns-clause-history_other g c =
+    let tree : c.args.self.now.limits ≡ c.self.inside.limits = sym (ap (λ (t : Tree). t.limits) c.self.view_is) in
+    let same : c.one.inside.limits ≡ c.self.inside.limits = ap (λ (s : Seat). s.limits) c.one.view_is ∙ c.requires.own.limits ∙ tree in
+    let same_other : c.other.inside.limits ≡ c.self.inside.limits = ap (λ (s : Seat). s.limits) c.other.view_is ∙ c.requires.own_other.limits ∙ tree in
+    let moved : c.other.inside.place.me ≡ c.replace-others.result.me = sym (ap (λ place. place.me) c.replace-others.ensures.value) in
+    let at : SitsAt c.self.inside.limits c.one.inside.number Idle c.one.inside.place.me = subst (λ (l : Limits). SitsAt l c.one.inside.number Idle c.one.inside.place.me) same c.one.invariant.place in
+    let at_other : SitsAt c.self.inside.limits c.other.inside.number Idle c.replace-others.result.me = subst (SitsAt c.self.inside.limits c.other.inside.number Idle) moved (subst (λ (l : Limits). SitsAt l c.other.inside.number Idle c.other.inside.place.me) same_other c.other.invariant.place) in
+    c.runs_are_one_history.ensures c.other.inside.limits (seen_of c.part.result.me) (subst (λ (l : Limits). IsLawfulRun l (seen_of c.part.result.me)) (sym same_other)
+    (right_lawful c.self.inside.limits c.one.inside.number c.other.inside.number Idle c.one.inside.place.me c.replace-others.result.me c.join.new.seat.me at at_other c.join.ensures.both
+    c.look.new.seat.me c.part.new.seat.me c.part.result.me c.look.ensures.saw c.part.ensures.first c.part.ensures.others))

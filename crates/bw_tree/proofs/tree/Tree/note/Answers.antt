@@ -2,6 +2,8 @@ use Rattle.std.proofs.Common.{◌≡◌, [], List, sym, ap, subst, ◌∙◌}
 use Rattle.traces.specs.declared.trace.Entry.{Entry}
 use Rattle.slot_rule.specs.declared.view.Reach.TheVariants.{Noted}
 use Rattle.slot_rule.specs.Views.{Mine, alone, noted, seen_of}
+use Rattle.bw_tree.specs.Notes.{note_of}
+use Rattle.bw_tree.proofs.Owning.{is_of}
 use Rattle.bw_tree.proofs.tree.Tree.note.Goals as goal
 
 pub invariant_of-result : goal.invariant_of-result
@@ -11,3 +13,15 @@ invariant_of-result g c =
       c.seat.inside.number,
       subst (λ (run : List Entry). c.note.result.me ≡ (alone c.seat.inside.limits c.seat.inside.number run Noted, [])) (sym (ap seen_of is)) is,
     )
+
+pub note-requires : goal.note-requires
+note-requires g c = record { table = is_of _ _ _ _ _ _ _ _ _ c.self.invariant c.self.view_is c.seat.view_is c.requires }
+
+pub returns-clause-stays : goal.returns-clause-stays
+returns-clause-stays g c = rw (c.note.ensures.same, c.note.ensures.stays) c.seat.view_is
+
+pub returns-clause-noted : goal.returns-clause-noted
+returns-clause-noted g c =
+    let me : Mine = c.seat.inside.place.me in
+    let is : c.note.result.me ≡ (alone c.seat.inside.limits c.seat.inside.number (seen_of me) Noted, []) = c.note.ensures.noted ∙ ap (λ (m : Mine). (noted m.0, [])) c.seat.invariant.place in
+    rw (c.note.ensures.table, ap seen_of is) (ap note_of c.seat.view_is)
