@@ -1,6 +1,6 @@
 -- What a turn makes of a core.
 use Rattle.std.proofs.Common.{◌≡◌, ◌≢◌, ◌<◌, inl, inr, ℕ, List, [], ◌∷◌, ◌++◌, length, Some, None, Option, Bool, true, false, set, get_or, ltb, refl, sym, ap, subst, ◌∙◌, append_assoc}
-use Rattle.std.specs.Prelude.{slice_get, is_some, if◌then◌else◌}
+use Rattle.std.specs.Prelude.{slice_get, is_some, nat_lt, if◌then◌else◌}
 use Rattle.std.specs.Option.{option_map}
 use Rattle.std.proofs.lemmas.List.{append-nil}
 use Rattle.std.proofs.lemmas.Option.{same_Some, slice_get-map}
@@ -107,6 +107,16 @@ module _ (limits : Limits) where
       let lt : i < length actors = rw core.count goes.0 in
       let found : slice_get actors i ≡ Some old = get_is actors i old lt (subst (λ k. old ≡ get_or actors k old) same at) in
       (rw same lt, core.each_shows i old found, core.each_running i old found ∙ goes.1, goes.0)
+
+  -- there are as many actors as the limits say
+  pub core_there : (table : Table) (actors : List Actor) (entries : List Entry) (i : ℕ) → IsCore limits table actors entries → (demand : Demand) (v : Core) → record { limits = limits; entries = entries; demand = demand } ≡ v
+      → nat_lt i (length actors) ≡ nat_lt i v.limits.actors
+  core_there table actors entries i core demand v is = ap (nat_lt i) (core.count ∙ ap (λ (u : Core). u.limits.actors) is)
+
+  -- an actor that there is not has no operation
+  pub core_missing : (table : Table) (actors : List Actor) (entries : List Entry) (i : ℕ) → IsCore limits table actors entries → (demand : Demand) (v : Core) → record { limits = limits; entries = entries; demand = demand } ≡ v
+      → false ≡ nat_lt i (length actors) → None ≡ busy_of v i
+  core_missing table actors entries i core demand v is none = rw (← core_there table actors entries i core demand v is, ← none) refl
 
   -- whether an actor that there is has an operation
   pub core_busy : (table : Table) (actors : List Actor) (entries : List Entry) (i : ℕ) (at : Actor) → IsCore limits table actors entries → (demand : Demand) (v : Core) → record { limits = limits; entries = entries; demand = demand } ≡ v

@@ -1,9 +1,17 @@
-use Rattle.std.proofs.Common.{◌≡◌, ◌<◌, length, sym}
+use Rattle.std.proofs.Common.{◌≡◌, ◌<◌, ◌∙◌, length, sym}
 use Rattle.std.proofs.lemmas.Bool.{ltb-true}
 use Rattle.std.specs.Prelude.{slice_get, Some}
-use Rattle.step_core.proofs.Cored.{core_seen}
+use Rattle.step_core.proofs.Cored.{core_seen, core_there}
 use Rattle.step_core.proofs.Replaced.{get_is}
 use Rattle.step_core.proofs.machine.Core.actor.Goals as goal
+
+pub returns-in-None-clause-there : goal.returns-in-None-clause-there
+returns-in-None-clause-there g c =
+    (rw (c.deref.ensures.value, c.from.ensures) at c.in-None.ensures.lookup.0) ∙ core_there _ _ _ _ c.args.number c.self.invariant _ _ c.self.view_is
+
+pub returns-in-Some-clause-there : goal.returns-in-Some-clause-there
+returns-in-Some-clause-there g c =
+    (rw (c.deref.ensures.value, c.from.ensures) at c.in-Some.ensures.lookup.0) ∙ core_there _ _ _ _ c.args.number c.self.invariant _ _ c.self.view_is
 
 pub returns-in-Some-clause-keeps : goal.returns-in-Some-clause-keeps
 returns-in-Some-clause-keeps g c =

@@ -1,7 +1,13 @@
-use Rattle.std.proofs.Common.{◌≡◌, length, arith, inl, inr, ◌∙◌}
+use Rattle.std.proofs.Common.{◌≡◌, length, None, Some, arith, inl, inr, ◌∙◌}
 use Rattle.step_core.proofs.Cored.{core_opens}
 use Rattle.step_core.proofs.Replaced.{push_cases}
 use Rattle.step_core.proofs.machine.Core.with_memory.Goals as goal
+
+pub loop-init : goal.loop-init
+loop-init g c = (
+  c.in_ok-actors.ensures.len,
+  λ a at e. let none : None ≡ Some at = rw c.in_ok-actors.ensures.items at e in cc,
+)
 
 pub loop-preserved : goal.loop-preserved
 loop-preserved g c = (
