@@ -28,6 +28,7 @@ use Rattle.installs.specs.Spares.{Spares}
 use Rattle.sweep.specs.Kept.{AreKept}
 use Rattle.sweep.specs.Sweeps.{Sweep}
 use Rattle.op_machine.specs.machine.Actors.{ActsOn, IsActorWith, IsGoing, IsRunning, at_work, command_at, wanted_by}
+use Rattle.op_machine.proofs.Leaving.{leaves_at}
 use Rattle.op_machine.proofs.ActorSpending.{spends_last, spent_last}
 
 -- an actor without an operation, and one with an operation
@@ -182,6 +183,9 @@ module _ (limits : Limits) (actor : ℕ) (k : Knowledge) (r : Recalled) (on : Bo
 
   pub stays_here : wanted_by (running_at on op had) ≢ Some step.Leave → is_leaving op.state ≡ false
   stays_here stays = subst (λ (o : Op). is_leaving o.state ≡ false) found.1 (stays_at limits actor k r had had going.running going.running.op a going.shows going.fits (λ e. stays (ap wanted_by going.is ∙ ap Some e)))
+
+  pub leaves_here : wanted_by (running_at on op had) ≡ Some step.Leave → is_leaving op.state ≡ true
+  leaves_here leaves = leaves_at had.spares op.sweep op.state (found.2 ∙ sym (ap wanted_by going.is) ∙ leaves)
 
   module _ (new : Op) (has : Hand) (takes : Takes op had a new has) where
     pub shown_then : IsOpShown new has

@@ -1,10 +1,9 @@
 -- What commands write.
-use Rattle.std.proofs.Common.{◌≡◌, ◌<◌, ◌≤◌, ℕ, Bool, true, false, List, length, Option, Some, None, is_some, refl, ap, ◌∙◌, subst, arith}
+use Rattle.std.proofs.Common.{◌≡◌, ◌<◌, ◌≤◌, ℕ, Bool, true, false, List, length, Option, Some, None, is_some, refl, ap, ◌∙◌, arith}
 use Rattle.std.specs.Prelude.{IsTrue, if◌then◌else◌}
 use Rattle.std.specs.Str.{bytes_eq}
 use Rattle.bw_model.specs.Bytes.{is_in_range}
 use Rattle.deltas.specs.declared.record.Record.{Record}
-use Rattle.std.specs.Option.{ForSome}
 use Rattle.std.proofs.lemmas.Option.{same_Some}
 use Rattle.bw_model.specs.declared.command.Command.{Command}
 use Rattle.bw_model.specs.declared.command.Command.TheVariants.{Get, Insert, Upsert, Delete, Swap, Page as PageFrom, Tidy}
@@ -15,7 +14,7 @@ use Rattle.base_page.specs.declared.item.Content.TheVariants.{Value, Child}
 use Rattle.base_page.specs.Pages.{Page, value_in}
 use Rattle.deltas.specs.Fits.{FitsDelete, FitsPut}
 use Rattle.deltas.specs.Records.{next_row}
-use Rattle.deltas.specs.Spellable.{IsRow}
+use Rattle.deltas.specs.Spellable.{IsRow, IsSpellable}
 use Rattle.deltas.specs.declared.record.Delete.{Delete as DeleteOf}
 use Rattle.deltas.specs.declared.record.Record.TheVariants as kind
 use Rattle.deltas.specs.declared.record.Put.{Put}
@@ -97,6 +96,25 @@ value_same (Some (Child page held)) = refl
 
 abbrev pub Changes : Command → Type 0
 Changes c = (old : Option (List ℕ)) × (is_some (update_of 0 c old) ≡ true)
+
+-- it comes over that row, and can be spelled there
+pub over_next : (c : Command) (x : ℕ) → next_row (update_over c x) ≡ Some x
+over_next (Get key) x = refl
+over_next (PageFrom key) x = refl
+over_next (Tidy key) x = refl
+over_next (Insert key value) x = refl
+over_next (Upsert key value) x = refl
+over_next (Delete key) x = refl
+over_next (Swap key expected value) x = refl
+
+pub over_spells : (c : Command) (x : ℕ) → IsRow x → IsSpellable (update_over c x)
+over_spells (Get key) x row = (omega arith, row)
+over_spells (PageFrom key) x row = (omega arith, row)
+over_spells (Tidy key) x row = (omega arith, row)
+over_spells (Insert key value) x row = row
+over_spells (Upsert key value) x row = row
+over_spells (Delete key) x row = row
+over_spells (Swap key expected value) x row = row
 
 pub over_kept : (c : Command) (x : ℕ) (pid : Option ℕ) → KeepsSparePage (update_over c x) pid
 over_kept (Get key) x pid = tt

@@ -1,5 +1,5 @@
 -- The leave is wanted in one state alone.
-use Rattle.std.proofs.Common.{◌≡◌, ◌≢◌, ℕ, Option, Some, None, true, false, refl}
+use Rattle.std.proofs.Common.{◌≡◌, ◌≢◌, ℕ, Bool, Option, Some, None, true, false, refl}
 use Rattle.std.proofs.lemmas.Option.{same_Some}
 use Rattle.bw_model.specs.declared.step.Answer.{Answer}
 use Rattle.bw_model.specs.declared.step.Step.{Step as StepOf}
@@ -78,6 +78,13 @@ elsewhere spares None (Read round) on e = in_round round.state (same_Some (desce
 elsewhere spares None (Write round) on e = in_round round.state (same_Some (descent.wanted_at round.state) step.Leave e)
 elsewhere spares None (Change now then) on e = in_change now.plan spares now.state (same_Some (change.wanted_at now.plan spares now.state) step.Leave e)
 elsewhere spares None (Leave reply) on e = cc
+
+pub leaves_at : (spares : Spares) (swept : Option Sweep) (state : State) → asked_by swept (wanted_at spares state) ≡ Some step.Leave → is_leaving state ≡ true
+leaves_at spares swept state e = by_test (is_leaving state) refl
+  where
+    by_test : (b : Bool) → is_leaving state ≡ b → is_leaving state ≡ true
+    by_test true is = is
+    by_test false is = absurd (elsewhere spares swept state is e)
 
 -- one that is at its leave wants it
 at_leave : (task : Task) (spares : Spares) (limbo : Limbo) (k : Knowledge) (swept : Option Sweep) (state : State) → HoldsLimbo task state limbo k swept → is_leaving state ≡ true → asked_by swept (wanted_at spares state) ≡ Some step.Leave

@@ -1,14 +1,19 @@
 -- What the ends of a writer's rounds give the changes that follow.
-use Rattle.std.proofs.Common.{◌≡◌, ◌<◌, inl, inr, ℕ, List, [], ◌∷◌, ◌-◌, length, Option, Some, None, false, refl, sym, ap, subst, ◌∙◌, arith}
+use Rattle.std.proofs.Common.{◌≡◌, ◌<◌, ◌≤◌, ◌+◌, inl, inr, ℕ, List, [], ◌∷◌, ◌-◌, length, take, Option, Some, None, false, refl, sym, ap, subst, ◌∙◌, arith}
+use Rattle.std.proofs.lemmas.List.{length-take}
 use Rattle.std.specs.Option.{ForSome}
 use Rattle.std.specs.Prelude.{slice_get}
 use Rattle.bw_model.specs.declared.command.Command.{Command}
 use Rattle.bw_model.specs.declared.command.Command.TheVariants.{Get, Insert, Upsert, Delete, Swap, Page as PageFrom, Tidy}
 use Rattle.bw_model.specs.declared.limits.Limits.{Limits}
+use Rattle.base_page.specs.Pages.{Page}
 use Rattle.deltas.specs.Memory.{Memory}
 use Rattle.deltas.specs.Records.{next_row}
+use Rattle.deltas.specs.Spellable.{IsSpellablePage}
 use Rattle.deltas.specs.declared.record.Record.{Record}
+use Rattle.deltas.specs.declared.record.Record.TheVariants as kind
 use Rattle.traces.specs.chain.Chains.{IsChainFrom, IsChainOf}
+use Rattle.traces.specs.chain.Fitted.{IsFitted}
 use Rattle.traces.specs.discipline.Knowledge.{Knowledge}
 use Rattle.traces.specs.discipline.Recalled.{Recalled}
 use Rattle.descent.specs.Versions.{IsAlive}
@@ -16,13 +21,22 @@ use Rattle.descent.specs.WriteEnds as end
 use Rattle.installs.specs.Changes as change
 use Rattle.installs.specs.Spares.{Spares}
 use Rattle.smo.specs.Versions.{Version}
+use Rattle.op_machine.specs.machine.Bounded.{few_changes, one_round, with_errands}
 use Rattle.op_machine.specs.machine.Errands.{due_of}
-use Rattle.op_machine.specs.machine.Outcomes.{FacesWritten}
+use Rattle.op_machine.specs.machine.Outcomes.{FacesWritten, IsAtLeafBelow}
 use Rattle.op_machine.specs.machine.Tasks.{Seeks, Task}
 
 -- a page in hand is a place for a record
 pub place_of : (limits : Limits) (k : Knowledge) (r : Recalled) (page : Version) (content : Record) → IsAlive limits k r page → ForSome (next_row content) (λ next. next < limits.rows) → change.IsTargetOver limits page.pid page.head content
 place_of limits k r page content alive next = record { page = page.is_pid.0; pid_below = alive.in_hand.page; linked = alive.recalled.0; head_below = alive.in_hand.row; next_below = next }
+
+-- what links over a page in hand, which it names as the row that is under it, is planned for a place
+pub over_page : (limits : Limits) (k : Knowledge) (r : Recalled) (page : Version) (content : Record) → IsAlive limits k r page → next_row content ≡ Some page.head → change.IsTargetOver limits page.pid page.head content
+over_page limits k r page content alive e = place_of limits k r page content alive (λ next is. let same : next ≡ page.head = cc in rw same alive.in_hand.row)
+
+-- a base that fits by itself can be spelled
+pub spells_base : (page : Page) → IsFitted (kind.Base page ∷ []) → IsSpellablePage page
+spells_base page h = let is = h.1 in let same : page ≡ h.0 = cc in rw same h.2
 
 -- a base alone is never due
 pub due_some : (errands : List (List ℕ)) (command : Command) → 0 < due_of errands command
@@ -43,6 +57,26 @@ module _ (task : Task) (spares : Spares) (k : Knowledge) (r : Recalled) where
     | inr leaf ↦ let longer = leaf.1 in omega (arith, longer, some)
   ]
 
+  -- a round that ends at the leaf that it looked for is at that leaf
+  pub at_sought_leaf : (parent : Option Version) (leaf : Version) → FacesWritten task spares k r (end.Leaf parent leaf) → IsAtLeafBelow task spares k r parent leaf
+  at_sought_leaf parent leaf h =
+      let ends = h.ends in
+      let limits = h.round_of.limits in
+      record {
+        at = record {
+          seeks = h.seeks;
+          writer = h.writer;
+          page = rw limits at ends.page;
+          level = ends.level;
+          covered = rw (h.round_of.key h.sought) at ends.covered;
+          short = ends.short;
+          early = rw (h.round_of.due h.sought) at ends.early;
+          few = ends.few;
+        };
+        above = rw limits at ends.above;
+        termed = ends.termed;
+      }
+
 -- what is known at the leaf of an errand is known for the next round, and at that of the command's key
 pub without_errand : (task now : Task) (spares : Spares) (k : Knowledge) → now.limits ≡ task.limits → now.command ≡ task.command → Seeks task spares k → Seeks now spares k
 without_errand task now spares k limits command s = record {
@@ -59,6 +93,14 @@ last_some key (next ∷ errands) e = last_some next errands e
 pub none_left : (errands : List (List ℕ)) → slice_get errands (length errands - 1) ≡ None → errands ≡ []
 none_left [] e = refl
 none_left (key ∷ errands) e = absurd (last_some key errands (subst (λ n. slice_get (key ∷ errands) n ≡ None) (let n = length errands in omega arith) e))
+
+-- a round for one errand fewer takes no more steps than a change
+pub errand_less : (errands : List (List ℕ)) (key : List ℕ) (left : ℕ) → Some key ≡ slice_get errands (length errands - 1) → left ≤ one_round → with_errands (take (length errands - 1) errands) left ≤ with_errands errands (few_changes + 1)
+errand_less [] key left e few = cc
+errand_less (first ∷ errands) key left e few = let less = length-take (length (first ∷ errands) - 1) (first ∷ errands) in omega (arith, less)
+
+pub errands_same : (errands : List (List ℕ)) (left most : ℕ) → left ≤ most → with_errands errands left ≤ with_errands errands most
+errands_same errands left most few = omega arith
 
 -- the rows that an actor has read, with one slot
 abbrev pub as_memory : ℕ → (ℕ → Option Record) → Memory

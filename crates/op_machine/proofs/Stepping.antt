@@ -5,9 +5,10 @@ use Rattle.bw_model.specs.declared.step.Step.TheVariants.{Exchange}
 use Rattle.base_page.specs.Pages.{Page}
 use Rattle.deltas.specs.declared.record.Record.{Record}
 use Rattle.deltas.specs.declared.record.Record.TheVariants as kind
-use Rattle.traces.specs.discipline.Discipline.{HasRead, MayFree}
+use Rattle.traces.specs.discipline.Discipline.{HasRead, May, MayFree}
 use Rattle.traces.specs.discipline.Knowledge.{Knowledge, Written}
 use Rattle.traces.specs.discipline.Useful.{IsUseful}
+use Rattle.descent.specs.Visits.{ReadsWithin}
 use Rattle.installs.specs.Changes as change
 use Rattle.installs.specs.Spares.{Spares, last_row, pid_of}
 use Rattle.installs.specs.Taking.{wanted_number}
@@ -18,7 +19,12 @@ use Rattle.installs.specs.declared.plan.Plan.TheVariants.{Install, Split, Root, 
 use Rattle.installs.specs.declared.taking.Kind.TheVariants.{Pid, Row}
 use Rattle.installs.specs.declared.taking.Taking as taken
 use Rattle.installs.specs.declared.taking.Taking.TheVariants.{Bits, Take}
+use Rattle.rounds.specs.Descents.{asked_step}
+use Rattle.rounds.specs.declared.asked.Asked.{Asked}
+use Rattle.rounds.specs.declared.asked.Asked.TheVariants.{Slot as SlotOf, Row as RowOf}
 use Rattle.op_machine.specs.machine.Brings.{IsUsefulOver, IsUsefulPlan}
+use Rattle.op_machine.specs.machine.Shows.{MayStep}
+use Rattle.op_machine.specs.machine.Tasks.{Task}
 
 -- a change frees nothing
 pub freely : (limits : Limits) (actor : ℕ) (k : Knowledge) (plan : Plan) (spares : Spares) (state : State) → MayFree limits actor k (change.wanted_at plan spares state)
@@ -74,3 +80,8 @@ usefully k (Root left root) spares Link useful shows = tt
 usefully k (Unlink pid head unterm removal) spares Link useful shows = exchanges k pid head (last_row spares) (λ basis page is. let e = sym shows.1 ∙ is in cc)
 usefully k plan spares Undo useful shows = empties k (pid_of spares) (change.base_row plan spares)
 usefully k plan spares Clear useful shows = empties k (change.cleared_page plan) (change.cleared_row plan)
+
+-- a read frees nothing
+pub steps_reading : (task : Task) (k : Knowledge) (asked : Asked) → ReadsWithin task.limits (asked_step asked) → May task.actor k (asked_step asked) → MayStep task k (asked_step asked)
+steps_reading task k (SlotOf pid) within may = record { within = within; may = may; frees = tt; useful = tt }
+steps_reading task k (RowOf row) within may = record { within = within; may = may; frees = tt; useful = tt }

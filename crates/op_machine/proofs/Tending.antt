@@ -1,6 +1,8 @@
 -- What is due at a small page may be linked.
-use Rattle.std.proofs.Common.{◌≡◌, ℕ, suc, List, [], ◌∷◌, Option, Some, None, true, false, refl, sym, ◌∙◌}
+use Rattle.std.proofs.Common.{◌≡◌, ℕ, suc, List, [], ◌∷◌, Option, Some, None, true, false, refl, ap, sym, ◌∙◌}
+use Rattle.std.specs.Prelude.{IfSome}
 use Rattle.bw_model.specs.declared.command.Command.{Command}
+use Rattle.bw_model.specs.declared.limits.Limits.{Limits}
 use Rattle.bw_model.specs.Replies.{is_writer}
 use Rattle.deltas.specs.declared.record.Hold.{Hold}
 use Rattle.deltas.specs.declared.record.Record.TheVariants as kind
@@ -12,7 +14,7 @@ use Rattle.traces.specs.discipline.Recalled.{Recalled}
 use Rattle.descent.specs.Versions.{IsAlive}
 use Rattle.descent.specs.WriteEnds as end
 use Rattle.descent.specs.WriteRounds.{IsUpper}
-use Rattle.installs.specs.Changes.{MayInstall}
+use Rattle.installs.specs.Changes.{IsSpellablePlan, IsTarget, MayInstall}
 use Rattle.installs.specs.Spares.{Spares}
 use Rattle.installs.specs.declared.plan.Plan.{Plan}
 use Rattle.smo.specs.Holds.{IsHoldPlan}
@@ -28,6 +30,7 @@ use Rattle.op_machine.specs.machine.Shows.{MayBegin}
 use Rattle.op_machine.specs.machine.Tasks.{Seeks, Task}
 use Rattle.op_machine.specs.machine.Upkeep.{IsUpkeepFor, plan_of, tidies}
 use Rattle.op_machine.specs.declared.then.Then.TheVariants.{Round}
+use Rattle.op_machine.proofs.Plans.{over_page}
 
 -- a round that tends small pages is one of a deletion or a tidying
 tends_only : (errands : List (List ℕ)) (command : Command) → tends_of errands command ≡ true → tidies command ≡ true
@@ -69,3 +72,12 @@ module _ (task : Task) (spares : Spares) (k : Knowledge) (r : Recalled)
       let ends = h.ends in
       let tidy : tidies task.command ≡ true = tends_only task.errands task.command (sym (h.round_of.tends ends.seeks) ∙ ends.tends) in
       begins parent page upkeep h.seeks h.writer tidy (rw h.round_of.limits at ends.page) (rw h.round_of.limits at ends.above) ends.due.due
+
+-- it names no number that has no place, and a row can spell it
+pub plans_there : (limits : Limits) (k : Knowledge) (r : Recalled) (parent page : Version) (upkeep : Upkeep) → IsAlive limits k r page → IsAlive limits k r parent → IsUpkeepDue parent page upkeep → IsTarget limits (plan_of parent page upkeep) × IsSpellablePlan (plan_of parent page upkeep)
+plans_there limits k r parent page (RemovePage remove) alive above due = (over_page limits k r page (kind.Remove remove) alive (ap (λ (x : Remove). Some x.next) due.is), due.fits.0.spellable)
+plans_there limits k r parent page (HoldTerm hold) alive above due = (over_page limits k r parent (kind.Hold hold) above (ap (λ (x : Hold). Some x.next) due.1.is), due.1.fits.0.spellable)
+
+pub plans_for : (limits : Limits) (k : Knowledge) (r : Recalled) (command : Command) (parent : Option Version) (leaf : Version) (plan : Plan) → IsUpkeepFor command parent leaf plan → IsAlive limits k r leaf → IfSome parent (IsUpper limits k r leaf) → IsTarget limits plan × IsSpellablePlan plan
+plans_for limits k r command None leaf plan h alive above = absurd h
+plans_for limits k r command (Some parent) leaf plan h alive above = rw h.1.is (plans_there limits k r parent leaf h.1.upkeep alive above.page h.1.due.due)

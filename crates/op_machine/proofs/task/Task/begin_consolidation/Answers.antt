@@ -4,8 +4,25 @@ use Rattle.traces.specs.chain.Chains.{chain_rows, low_in}
 use Rattle.traces.specs.chain.Fitted.{Makes}
 use Rattle.traces.specs.discipline.Discipline.{base_from}
 use Rattle.rounds.specs.WriteRounds.{PlacedWrite}
-use Rattle.op_machine.proofs.Plans.{long_chain, one_chain}
+use Rattle.op_machine.proofs.Plans.{long_chain, one_chain, place_of, spells_base}
 use Rattle.op_machine.proofs.task.Task.begin_consolidation.Goals as goal
+
+pub consolidated-base-requires : goal.consolidated-base-requires
+consolidated-base-requires g c =
+    let (k, r, h) = c.requires.faced in
+    rw (c.chain.ensures, c.page-page.ensures, c.writer.ensures) h.ends.page.alive
+
+pub begin_change-requires : goal.begin_change-requires
+begin_change-requires g c =
+    let (k, r, h) = c.requires.faced in
+    let page = c.args.places.now.writer.page in
+    let is : c.page-page.result.now ≡ page = c.page-page.ensures ∙ ap (λ (w : PlacedWrite). w.page) c.writer.ensures in
+    let base = c.consolidated-base in
+    rw (c.pid.ensures, c.head.ensures, is) (record {
+      target = place_of c.args.self.now.limits k r page (Base base.result) (rw h.round_of.limits at h.ends.page) (λ next is. cc);
+      spells = spells_base base.result base.ensures.stands.fitted;
+      room = h.seeks.spare.room;
+    })
 
 pub returns-clause-stands : goal.returns-clause-stands
 returns-clause-stands g c k r h =
@@ -29,3 +46,12 @@ returns-clause-stands g c k r h =
       split = tt;
       recalled = alive.recalled;
     }))
+
+pub returns-clause-few : goal.returns-clause-few
+returns-clause-few g c = c.begin_change.ensures.few
+
+pub returns-clause-asks : goal.returns-clause-asks
+returns-clause-asks g c = c.begin_change.ensures.asks
+
+pub returns-clause-have : goal.returns-clause-have
+returns-clause-have g c = record { reader = rw c.begin_change.ensures.reader c.requires.have.reader; writer = rw c.begin_change.ensures.writer c.requires.have.writer }

@@ -1,10 +1,33 @@
 use Rattle.std.proofs.Common.{◌≡◌, Some, ap, sym, ◌∙◌}
+use Rattle.deltas.specs.declared.record.Record.TheVariants.{Unterm as UntermOf}
 use Rattle.deltas.specs.declared.record.Unterm.{Unterm}
 use Rattle.traces.specs.chain.Chains.{chain_rows}
 use Rattle.rounds.specs.WriteRounds.{PlacedWrite}
 use Rattle.smo.specs.Versions.{Version}
+use Rattle.op_machine.proofs.Plans.{over_page}
 use Rattle.op_machine.proofs.Unlinking.{keeps_spare}
 use Rattle.op_machine.proofs.task.Task.begin_unlink.Goals as goal
+
+pub begin_change-requires : goal.begin_change-requires
+begin_change-requires g c =
+    let (k, r, h) = c.requires.faced in
+    let ends = h.ends in
+    let writer = c.args.places.now.writer in
+    let removed = writer.page in
+    let parent_is : c.parent-parent.result.now ≡ writer.parent = c.parent-parent.ensures ∙ ap (λ (w : PlacedWrite). w.parent) c.writer.ensures in
+    let removed_is : c.page-removed.result.now ≡ removed = c.page-removed.ensures ∙ ap (λ (w : PlacedWrite). w.page) c.writer-2.ensures in
+    let gone = rw h.round_of.limits at ends.gone in
+    let child : c.args.unterm.child ≡ removed.pid = ap (λ (u : Unterm). u.child) ends.plan.is in
+    rw (c.pid.ensures, c.head.ensures, c.head-2.ensures, parent_is, removed_is) (record {
+      target = (
+        over_page c.args.self.now.limits k r writer.parent (UntermOf c.args.unterm) (rw h.round_of.limits at ends.page) (ap (λ (u : Unterm). Some u.next) ends.plan.is),
+        (rw child removed.is_pid.0, rw child gone.in_hand.page),
+        removed.is_row.0,
+        gone.in_hand.row,
+      );
+      spells = ends.plan.fits.0.spellable;
+      room = h.seeks.spare.room;
+    })
 
 pub returns-clause-stands : goal.returns-clause-stands
 returns-clause-stands g c k r h =
@@ -25,3 +48,12 @@ returns-clause-stands g c k r h =
       split = tt;
       recalled = ends.page.recalled;
     }))
+
+pub returns-clause-few : goal.returns-clause-few
+returns-clause-few g c = c.begin_change.ensures.few
+
+pub returns-clause-asks : goal.returns-clause-asks
+returns-clause-asks g c = c.begin_change.ensures.asks
+
+pub returns-clause-have : goal.returns-clause-have
+returns-clause-have g c = record { reader = rw c.begin_change.ensures.reader c.requires.have.reader; writer = rw c.begin_change.ensures.writer c.requires.have.writer }

@@ -1,4 +1,4 @@
-use Rattle.std.proofs.Common.{◌≡◌, ◌<◌, ◌∙◌, Some, true, false, length, refl, sym, ap, is_some}
+use Rattle.std.proofs.Common.{◌≡◌, ◌<◌, ◌∙◌, Some, true, false, length, refl, sym, ap, is_some, arith}
 use Rattle.bw_model.specs.Replies.{command_key, reply_of, update_of}
 use Rattle.traces.specs.chain.Chains.{content_in}
 use Rattle.traces.specs.discipline.Discipline.{found}
@@ -6,10 +6,26 @@ use Rattle.rounds.specs.WriteRounds.{PlacedWrite}
 use Rattle.smo.specs.Versions.{Version}
 use Rattle.smo.proofs.Places.{of_made}
 use Rattle.op_machine.specs.machine.Brings.{update_over}
-use Rattle.op_machine.proofs.Commands.{change_is, over_fits, over_kept, over_links, over_useful, update_due, value_same}
+use Rattle.op_machine.proofs.Commands.{change_is, over_fits, over_kept, over_links, over_next, over_spells, over_useful, update_due, value_same}
 use Rattle.op_machine.proofs.Executing.{answers_there, within}
+use Rattle.op_machine.proofs.Plans.{over_page}
 use Rattle.op_machine.proofs.Tidying.{may_call}
 use Rattle.op_machine.proofs.task.Task.execute_at_leaf.Goals as goal
+
+pub update_over-requires : goal.update_over-requires
+update_over-requires g c = (c.find-old.result, rw (← c.as_ref-2.ensures.value, ← c.command-3.ensures, ← c.changes.ensures) c.if-not-changes.false)
+
+pub begin_change-requires : goal.begin_change-requires
+begin_change-requires g c =
+    let (k, r, h) = c.requires.faced in
+    let task = c.args.self.now in
+    let leaf = c.args.places.now.writer.page in
+    let leaf_is : c.page-leaf.result.now ≡ leaf = c.page-leaf.ensures ∙ ap (λ (w : PlacedWrite). w.page) c.writer.ensures in
+    rw (c.update_over.ensures, c.pid.ensures, c.head.ensures, c.head-2.ensures, leaf_is) (record {
+      target = over_page task.limits k r leaf (update_over task.command leaf.head) h.page (over_next task.command leaf.head);
+      spells = over_spells task.command leaf.head leaf.is_row;
+      room = h.seeks.spare.room;
+    })
 
 pub returns-clause-stands : goal.returns-clause-stands
 returns-clause-stands g c parent k r below idle =
@@ -87,3 +103,30 @@ returns-in_default-clause-stands g c parent k r below idle =
       record { inside = h.seeks.inside; spare = h.seeks.spare; going = h.seeks.asked.going },
       may_call task c.args.spares.now k r parent leaf c.find-old.result below idle c.requires.last (rw (← c.as_ref.ensures.value, ← c.command-2.ensures) (sym c.reply.ensures ∙ c.in_default.is)),
     )
+
+pub returns-clause-few : goal.returns-clause-few
+returns-clause-few g c = c.begin_change.ensures.few
+
+pub returns-clause-asks : goal.returns-clause-asks
+returns-clause-asks g c = c.begin_change.ensures.asks
+
+pub returns-clause-have : goal.returns-clause-have
+returns-clause-have g c = record { reader = rw c.begin_change.ensures.reader c.requires.have.reader; writer = rw c.begin_change.ensures.writer c.requires.have.writer }
+
+pub returns-then-not-changes-clause-few : goal.returns-then-not-changes-clause-few
+returns-then-not-changes-clause-few g c r = rw c.leave-then-not-changes.ensures (omega arith)
+
+pub returns-then-not-changes-clause-asks : goal.returns-then-not-changes-clause-asks
+returns-then-not-changes-clause-asks g c = rw c.leave-then-not-changes.ensures refl
+
+pub returns-then-not-changes-clause-have : goal.returns-then-not-changes-clause-have
+returns-then-not-changes-clause-have g c = rw c.leave-then-not-changes.ensures (record { reader = c.requires.have.reader; writer = c.requires.have.writer })
+
+pub returns-in_default-clause-few : goal.returns-in_default-clause-few
+returns-in_default-clause-few g c r = rw c.leave.ensures (omega arith)
+
+pub returns-in_default-clause-asks : goal.returns-in_default-clause-asks
+returns-in_default-clause-asks g c = rw c.leave.ensures refl
+
+pub returns-in_default-clause-have : goal.returns-in_default-clause-have
+returns-in_default-clause-have g c = rw c.leave.ensures (record { reader = c.requires.have.reader; writer = c.requires.have.writer })
