@@ -1,5 +1,5 @@
 -- What a writer's round finds at a page: how long and how wide it is, and where the round goes.
-use Rattle.std.proofs.Common.{◌≡◌, ◌≤◌, inl, ℕ, List, length, None, Some, refl, arith}
+use Rattle.std.proofs.Common.{◌≡◌, ◌<◌, ◌≤◌, inl, ℕ, List, length, None, Some, refl, arith}
 use Rattle.std.proofs.Math.Nat.{lt_of_not-le}
 use Rattle.base_page.specs.declared.item.Item.{Item}
 use Rattle.deltas.specs.declared.record.Record.{Record}
@@ -8,7 +8,7 @@ use Rattle.traces.specs.chain.Fitted.{IsFitted}
 use Rattle.smo.specs.Sizes.{HasFewDeltas, HasManyItems}
 use Rattle.smo.proofs.Places.{made}
 use Rattle.descent.specs.Courses.{WriteGoal, Seek, Left, Merge, Unterm, removed_of}
-use Rattle.descent.specs.WriteRounds.{IsLong, SeeksLeaf}
+use Rattle.descent.specs.WriteRounds.{IsLong, SeeksLeaf, ends_at}
 
 -- a page that isn't long has few deltas
 pub few_deltas : (due : ℕ) (chain : List Record) → ¬ IsLong due chain → HasFewDeltas chain
@@ -35,3 +35,10 @@ seek_by Seek seeks e = refl
 seek_by (Left pid) seeks e = cc
 seek_by (Merge left) seeks e = absurd seeks
 seek_by (Unterm parent left) seeks e = absurd seeks
+
+-- a page below the level where a round ends is below that of a removed page
+pub below_left : (goal : WriteGoal) (floor level : ℕ) → SeeksLeaf goal → level < ends_at goal floor → (pid : ℕ) × (goal ≡ Left pid) × (level < floor)
+below_left Seek floor level seeks less = absurd (omega arith)
+below_left (Left pid) floor level seeks less = (pid, refl, less)
+below_left (Merge left) floor level seeks less = absurd seeks
+below_left (Unterm parent left) floor level seeks less = absurd seeks

@@ -1,0 +1,22 @@
+use Rattle.std.proofs.Common.{inl, refl}
+use Rattle.rounds.proofs.write_round.WriteRound.decide.Goals as goal
+
+pub settle-requires : goal.settle-requires
+settle-requires g c = record { can = c.requires.can; here = record { seeks = c.requires.seeks; alive = c.requires.alive; finished = c.requires.finished; stays = c.in-None.ensures } }
+
+pub returns-in-None-clause-treats : goal.returns-in-None-clause-treats
+returns-in-None-clause-treats g c = c.settle.ensures.treats
+
+pub returns-in-None-clause-same : goal.returns-in-None-clause-same
+returns-in-None-clause-same g c = c.settle.ensures.same
+
+pub returns-in-Some-clause-treats : goal.returns-in-Some-clause-treats
+returns-in-Some-clause-treats g c =
+    inl (record {
+      seeks = c.requires.seeks;
+      alive = c.requires.alive;
+      finished = c.requires.finished;
+      right = c.in-Some.right;
+      leads = c.in-Some.ensures;
+      goes = rw (← c.self.view_is, c.go_to.ensures, c.keep_left.ensures.kept, c.keep_left.ensures.way) refl;
+    })
