@@ -1,5 +1,5 @@
 -- What a writer's round finds at a page: how long and how wide it is, and where the round goes.
-use Rattle.std.proofs.Common.{◌≡◌, ◌<◌, ◌≤◌, inl, ℕ, List, length, None, Some, refl, arith}
+use Rattle.std.proofs.Common.{◌≡◌, ◌<◌, ◌≤◌, inl, ℕ, Bool, true, false, List, length, None, Some, refl, arith}
 use Rattle.std.proofs.Math.Nat.{lt_of_not-le}
 use Rattle.base_page.specs.declared.item.Item.{Item}
 use Rattle.deltas.specs.declared.record.Record.{Record}
@@ -9,6 +9,10 @@ use Rattle.smo.specs.Sizes.{HasFewDeltas, HasManyItems}
 use Rattle.smo.proofs.Places.{made}
 use Rattle.descent.specs.Courses.{WriteGoal, Seek, Left, Merge, Unterm, removed_of}
 use Rattle.descent.specs.WriteRounds.{IsLong, SeeksLeaf, ends_at}
+
+-- what a test would have said isn't so
+pub denied : (b : Bool) (P : Type 0) → (P → b ≡ true) → b ≡ false → P → ⊥
+denied b P tells off h = let on = tells h in cc
 
 -- a page that isn't long has few deltas
 pub few_deltas : (due : ℕ) (chain : List Record) → ¬ IsLong due chain → HasFewDeltas chain
@@ -42,3 +46,6 @@ below_left Seek floor level seeks less = absurd (omega arith)
 below_left (Left pid) floor level seeks less = (pid, refl, less)
 below_left (Merge left) floor level seeks less = absurd seeks
 below_left (Unterm parent left) floor level seeks less = absurd seeks
+
+pub isnt_sought : (goal : WriteGoal) (pid : ℕ) → goal ≡ Left pid → goal ≡ Seek → ⊥
+isnt_sought goal pid left sought = cc

@@ -1,7 +1,7 @@
 use Rattle.std.proofs.Common.{◌<◌, arith}
 use Rattle.rounds.specs.Descents.{placed_state}
 use Rattle.rounds.specs.declared.descents.At.TheVariants.{Slot}
-use Rattle.rounds.proofs.Placed.{is_empty, starts}
+use Rattle.rounds.proofs.Placed.{is_empty, root_within, starts}
 use Rattle.rounds.proofs.descents.Descent.told.Goals as goal
 
 pub returns-in-Slot-clause-responds : goal.returns-in-Slot-clause-responds
@@ -14,3 +14,8 @@ returns-in-Slot-2-clause-responds g c =
     let limits = c.self.inside.limits in
     let some : 0 < c.args.number = let not = c.if-number-eq0.false in omega (arith, not) in
     rw (c.begin.ensures, ← c.self.view_is, c.in-Slot-2.is) (starts limits c.in-Slot-2.pid c.self.inside.part c.args.number some)
+
+pub go_to-requires : goal.go_to-requires
+go_to-requires g c =
+    let there = root_within c.self.inside.limits c.args.number (rw (← c.self.view_is, c.in-Root.is) at c.requires.told) in
+    record { some = there.0; below = rw (← c.self.view_is) there.1 }

@@ -3,6 +3,7 @@ use Rattle.deltas.specs.declared.record.Record.{Record}
 use Rattle.traces.specs.chain.Chains.{right_in}
 use Rattle.smo.specs.Versions.{Version}
 use Rattle.descent.specs.Ways.{LeadsRight, StaysLeft, reaches}
+use Rattle.rounds.proofs.Turning.{denied}
 use Rattle.rounds.proofs.read_round.ReadRound.pass.Goals as goal
 
 pub returns-in-Some-clause-treats : goal.returns-in-Some-clause-treats
@@ -20,14 +21,14 @@ returns-in-Some-clause-treats g c =
 
 pub returns-in-None-right_on_way-clause-treats : goal.returns-in-None-right_on_way-clause-treats
 returns-in-None-right_on_way-clause-treats g c =
-    let merged : right_in c.args.self.now.page.chain ≢ Some c.args.self.now.aside.pid = λ e. let beside = c.is_beside.ensures.1 e in let not = c.if-is_beside.false in cc in
+    let merged : right_in c.args.self.now.page.chain ≢ Some c.args.self.now.aside.pid = denied c.is_beside.result (right_in c.args.self.now.page.chain ≡ Some c.args.self.now.aside.pid) c.is_beside.ensures.1 c.if-is_beside.false in
     let is : c.chain-2.result.now ≡ c.self.inside.descent.page.chain = c.chain-2.ensures ∙ ap (λ (v : Version). v.chain) c.page.ensures in
     let stays : StaysLeft (reaches c.self.inside.key) c.self.inside.descent.page.chain = subst (λ (chain : List Record). StaysLeft (reaches c.self.inside.key) chain) is c.in-None-right_on_way.ensures in
     inr (record { is = refl; removed = c.args.self.now.aside; left = record { plain = c.requires.can.plain; goal = refl; alive = c.requires.can.alive; ends = c.requires.ends }; merged = merged; stays = rw (← c.self.view_is) stays })
 
 pub returns-in-Some-right_on_way-clause-treats : goal.returns-in-Some-right_on_way-clause-treats
 returns-in-Some-right_on_way-clause-treats g c =
-    let merged : right_in c.args.self.now.page.chain ≢ Some c.args.self.now.aside.pid = λ e. let beside = c.is_beside.ensures.1 e in let not = c.if-is_beside.false in cc in
+    let merged : right_in c.args.self.now.page.chain ≢ Some c.args.self.now.aside.pid = denied c.is_beside.result (right_in c.args.self.now.page.chain ≡ Some c.args.self.now.aside.pid) c.is_beside.ensures.1 c.if-is_beside.false in
     let right = c.in-Some-right_on_way.right in
     let is : c.chain-2.result.now ≡ c.self.inside.descent.page.chain = c.chain-2.ensures ∙ ap (λ (v : Version). v.chain) c.page.ensures in
     let leads : LeadsRight (reaches c.self.inside.key) c.self.inside.descent.page.chain right = subst (λ (chain : List Record). LeadsRight (reaches c.self.inside.key) chain right) is c.in-Some-right_on_way.ensures in

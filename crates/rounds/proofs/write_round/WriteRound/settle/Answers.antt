@@ -1,5 +1,7 @@
 use Rattle.std.proofs.Common.{refl}
-use Rattle.rounds.proofs.Turning.{few_deltas}
+use Rattle.descent.specs.WriteRounds.{IsLong}
+use Rattle.smo.specs.Sizes.{HasManyItems}
+use Rattle.rounds.proofs.Turning.{denied, few_deltas}
 use Rattle.rounds.proofs.write_round.WriteRound.settle.Goals as goal
 
 pub returns-then-is_long-clause-treats : goal.returns-then-is_long-clause-treats
@@ -8,21 +10,24 @@ returns-then-is_long-clause-treats g c = record { is = refl; here = c.requires.h
 pub due_split-requires : goal.due_split-requires
 due_split-requires g c =
     let old = c.args.self.now in
-    record { alive = c.requires.here.alive; short = few_deltas old.round.due old.page.chain (λ long. let yes = c.is_long.ensures.1 long in let no = c.if-is_long.false in cc); wide = c.is_wide.ensures.0 c.if-is_wide.true }
+    record { alive = c.requires.here.alive; short = few_deltas old.round.due old.page.chain (denied c.is_long.result (IsLong old.round.due old.page.chain) c.is_long.ensures.1 c.if-is_long.false); wide = c.is_wide.ensures.0 c.if-is_wide.true }
 
 pub returns-then-is_wide-clause-treats : goal.returns-then-is_wide-clause-treats
 returns-then-is_wide-clause-treats g c =
-    record { is = refl; here = c.requires.here; short = λ long. let yes = c.is_long.ensures.1 long in let no = c.if-is_long.false in cc; plan_due = c.due_split.ensures }
+    let old = c.args.self.now in
+    record { is = refl; here = c.requires.here; short = denied c.is_long.result (IsLong old.round.due old.page.chain) c.is_long.ensures.1 c.if-is_long.false; plan_due = c.due_split.ensures }
 
 pub go_on-requires : goal.go_on-requires
-go_on-requires g c = record {
-  can = c.requires.can;
-  here = c.requires.here;
-  fine = record {
-    short = λ long. let yes = c.is_long.ensures.1 long in let no = c.if-is_long.false in cc;
-    narrow = λ can. let yes = c.is_wide.ensures.1 can.wide in let no = c.if-is_wide.false in cc;
-  };
-}
+go_on-requires g c =
+    let old = c.args.self.now in
+    record {
+      can = c.requires.can;
+      here = c.requires.here;
+      fine = record {
+        short = denied c.is_long.result (IsLong old.round.due old.page.chain) c.is_long.ensures.1 c.if-is_long.false;
+        narrow = λ can. denied c.is_wide.result (HasManyItems old.page.chain) c.is_wide.ensures.1 c.if-is_wide.false can.wide;
+      };
+    }
 
 pub returns-clause-treats : goal.returns-clause-treats
 returns-clause-treats g c = c.go_on.ensures.treats
