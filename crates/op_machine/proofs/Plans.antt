@@ -20,10 +20,13 @@ use Rattle.descent.specs.Versions.{IsAlive}
 use Rattle.descent.specs.WriteEnds as end
 use Rattle.installs.specs.Changes as change
 use Rattle.installs.specs.Spares.{Spares}
+use Rattle.rounds.specs.WriteRounds.{PlacedWrite}
 use Rattle.smo.specs.Versions.{Version}
 use Rattle.op_machine.specs.machine.Bounded.{few_changes, one_round, with_errands}
 use Rattle.op_machine.specs.machine.Errands.{due_of}
 use Rattle.op_machine.specs.machine.Outcomes.{FacesWritten, IsAtLeafBelow}
+use Rattle.op_machine.specs.machine.Places.{left_round_of}
+use Rattle.op_machine.specs.machine.Shows.{IsRoundOf}
 use Rattle.op_machine.specs.machine.Tasks.{Seeks, Task}
 
 -- a page in hand is a place for a record
@@ -101,6 +104,13 @@ errand_less (first ∷ errands) key left e few = let less = length-take (length 
 
 pub errands_same : (errands : List (List ℕ)) (left most : ℕ) → left ≤ most → with_errands errands left ≤ with_errands errands most
 errands_same errands left most few = omega arith
+
+pub one_more : (left most : ℕ) → left ≤ most → left + 1 ≤ most + 1
+one_more left most few = omega arith
+
+-- a round to the left of a removed page is one of the operation
+pub left_is_of : (task : Task) (writer : PlacedWrite) → writer.round.limits ≡ task.limits → IsRoundOf task (left_round_of writer)
+left_is_of task writer have = record { limits = have; some = omega arith; key = λ is. cc; due = λ is. cc; tends = λ is. cc }
 
 -- the rows that an actor has read, with one slot
 abbrev pub as_memory : ℕ → (ℕ → Option Record) → Memory

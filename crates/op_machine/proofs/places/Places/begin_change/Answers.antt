@@ -1,5 +1,7 @@
 use Rattle.std.proofs.Common.{◌∙◌}
+use Rattle.op_machine.specs.machine.Bounded.{one_round}
 use Rattle.op_machine.proofs.Changing.{begins_apart}
+use Rattle.op_machine.proofs.Plans.{one_more}
 use Rattle.op_machine.proofs.places.Places.begin_change.Goals as goal
 
 pub returns-clause-stands : goal.returns-clause-stands
@@ -18,3 +20,9 @@ returns-clause-stands g c k r b =
       shows = begun.shows c.args.task.now.actor k b.may b.keeps b.seeks.spare.rest;
       recalls = begun.recalls r b.recalled (begins_apart k c.args.plan c.args.spares.now b.seeks.unread b.split);
     }
+
+pub new-self-inside-requires : goal.new-self-inside-requires
+new-self-inside-requires g c = record { target = rw c.limits.ensures c.requires.target; spells = c.requires.spells; room = rw c.limits.ensures c.requires.room }
+
+pub returns-clause-few : goal.returns-clause-few
+returns-clause-few g c r = one_more _ _ (c.new-self-inside.ensures.few one_round)

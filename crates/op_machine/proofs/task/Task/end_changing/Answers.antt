@@ -1,4 +1,5 @@
-use Rattle.std.proofs.Common.{inr, refl}
+use Rattle.std.proofs.Common.{inr, refl, arith}
+use Rattle.op_machine.proofs.Plans.{errands_same}
 use Rattle.op_machine.proofs.task.Task.end_changing.Goals as goal
 
 pub returns-in-Full-default-clause-stands : goal.returns-in-Full-default-clause-stands
@@ -9,3 +10,27 @@ returns-in-Full-default-clause-stands g c spares k r h =
       record { inside = full.0.inside; spare = full.0.spare; going = full.0.asked.going },
       record { command = task.command; going = full.0.asked.going; justified = inr (inr (inr (record { is = refl; writes = full.1; unlinked = full.0.asked.unlinked; lacks = full.2 }))) },
     )
+
+pub returns-in-Full-default-clause-few : goal.returns-in-Full-default-clause-few
+returns-in-Full-default-clause-few g c spares r = rw (c.leave-in-Full-default.ensures, c.in-Full-default.is-0) (errands_same c.args.self.now.errands _ _ (omega arith))
+
+pub returns-in-Full-default-clause-asks : goal.returns-in-Full-default-clause-asks
+returns-in-Full-default-clause-asks g c spares = rw c.leave-in-Full-default.ensures refl
+
+pub returns-in-Full-default-clause-have : goal.returns-in-Full-default-clause-have
+returns-in-Full-default-clause-have g c = rw c.leave-in-Full-default.ensures (record { reader = c.requires.have.reader; writer = c.requires.have.writer })
+
+pub returns-in-Won-Reply-clause-asks : goal.returns-in-Won-Reply-clause-asks
+returns-in-Won-Reply-clause-asks g c spares = rw c.leave.ensures refl
+
+pub returns-in-Won-Reply-clause-have : goal.returns-in-Won-Reply-clause-have
+returns-in-Won-Reply-clause-have g c = rw c.leave.ensures (record { reader = c.requires.have.reader; writer = c.requires.have.writer })
+
+pub begin_round-requires : goal.begin_round-requires
+begin_round-requires g c = record { have = rw c.add_errand.ensures c.requires.have }
+
+pub returns-in-Won-Errand-clause-asks : goal.returns-in-Won-Errand-clause-asks
+returns-in-Won-Errand-clause-asks g c = c.begin_round.ensures.asks
+
+pub returns-in-Won-Errand-clause-have : goal.returns-in-Won-Errand-clause-have
+returns-in-Won-Errand-clause-have g c = c.begin_round.ensures.have

@@ -1,3 +1,4 @@
+use Rattle.std.proofs.Common.{refl, arith}
 use Rattle.op_machine.proofs.task.Task.end_reading.Goals as goal
 
 pub returns-in-Leaf-clause-stands : goal.returns-in-Leaf-clause-stands
@@ -28,3 +29,42 @@ returns-in-Beside-clause-stands g c spares k r faced =
       covered = rw h.key at ends.covered;
       standing = c.leaves_stand.ensures.beside h.round.limits k r h.round.key reader.page removed ends;
     })))
+
+pub begin_round-requires : goal.begin_round-requires
+begin_round-requires g c = record { have = c.requires.have }
+
+pub returns-in-Again-clause-stands : goal.returns-in-Again-clause-stands
+returns-in-Again-clause-stands g c spares k r faced = c.begin_round.ensures.stands spares k r faced.seeks
+
+pub returns-in-Again-clause-few : goal.returns-in-Again-clause-few
+returns-in-Again-clause-few g c = rw c.in-Again.is c.begin_round.ensures.few
+
+pub returns-in-Again-clause-asks : goal.returns-in-Again-clause-asks
+returns-in-Again-clause-asks g c = c.begin_round.ensures.asks
+
+pub returns-in-Again-clause-have : goal.returns-in-Again-clause-have
+returns-in-Again-clause-have g c = c.begin_round.ensures.have
+
+pub returns-in-Removed-clause-asks : goal.returns-in-Removed-clause-asks
+returns-in-Removed-clause-asks g c spares = rw c.read_left.ensures.stand refl
+
+pub returns-in-Removed-clause-have : goal.returns-in-Removed-clause-have
+returns-in-Removed-clause-have g c = record { reader = rw c.read_left.ensures.round c.requires.have.reader; writer = rw c.read_left.ensures.writer c.requires.have.writer }
+
+pub returns-in-Leaf-clause-few : goal.returns-in-Leaf-clause-few
+returns-in-Leaf-clause-few g c spares r = rw (c.leave.ensures, c.in-Leaf.is) (omega arith)
+
+pub returns-in-Leaf-clause-asks : goal.returns-in-Leaf-clause-asks
+returns-in-Leaf-clause-asks g c spares = rw c.leave.ensures refl
+
+pub returns-in-Leaf-clause-have : goal.returns-in-Leaf-clause-have
+returns-in-Leaf-clause-have g c = rw c.leave.ensures (record { reader = c.requires.have.reader; writer = c.requires.have.writer })
+
+pub returns-in-Beside-clause-few : goal.returns-in-Beside-clause-few
+returns-in-Beside-clause-few g c spares r = rw (c.leave-in-Beside.ensures, c.in-Beside.is) (omega arith)
+
+pub returns-in-Beside-clause-asks : goal.returns-in-Beside-clause-asks
+returns-in-Beside-clause-asks g c spares = rw c.leave-in-Beside.ensures refl
+
+pub returns-in-Beside-clause-have : goal.returns-in-Beside-clause-have
+returns-in-Beside-clause-have g c = rw c.leave-in-Beside.ensures (record { reader = c.requires.have.reader; writer = c.requires.have.writer })

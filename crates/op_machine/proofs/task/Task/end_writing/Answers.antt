@@ -1,5 +1,5 @@
-use Rattle.std.proofs.Common.{refl, arith}
-use Rattle.op_machine.proofs.Plans.{at_sought_leaf, errands_same}
+use Rattle.std.proofs.Common.{refl}
+use Rattle.op_machine.proofs.Plans.{at_sought_leaf, errands_same, left_is_of}
 use Rattle.op_machine.proofs.task.Task.end_writing.Goals as goal
 
 pub returns-in-Again-clause-stands : goal.returns-in-Again-clause-stands
@@ -12,7 +12,7 @@ returns-in-Removed-clause-stands g c k r faced =
     rw c.write_left.ensures (record {
       seeks = h.seeks;
       writer = h.writer;
-      round_of = record { limits = have; some = omega arith; key = λ is. cc; due = λ is. cc; tends = λ is. cc };
+      round_of = left_is_of c.args.self.now c.args.places.now.writer have;
       shows = (h.seeks.inside, refl, refl, record { removed = c.args.places.now.writer.page; gone = rw have (rw h.round_of.limits at h.ends); is = refl; low = refl; level = refl; unread = tt });
     })
 
