@@ -1,10 +1,10 @@
 //! Inputs, and what is printed for them.
 
-use crate::runs::whole;
+use crate::runs::prints;
+use crate::texts::add;
 use bw_model::Limits;
 use std::alloc::Global;
 use std::sync::Wait;
-use std::test::Fail;
 use std::thread::Threads;
 
 // Each input, and its output.
@@ -45,7 +45,7 @@ fn are_printed<R: Threads + Wait + Sync>(rt: &R, alloc: Global, seats: u64) -> b
         return false;
     };
     for (input, output) in ROWS {
-        if !whole(rt, alloc, limits, input).is(output, 0) {
+        if !prints(rt, alloc, limits, input, (output, 0)) {
             return false;
         }
     }
@@ -55,61 +55,65 @@ fn are_printed<R: Threads + Wait + Sync>(rt: &R, alloc: Global, seats: u64) -> b
 // As many seats as jobs, fewer and more.
 #[test]
 fn rows_with_seats(rt: HostRuntime) {
-    assert!(rt; are_printed(&rt, rt.alloc(), 2));
-    assert!(rt; are_printed(&rt, rt.alloc(), 1));
-    assert!(rt; are_printed(&rt, rt.alloc(), 16));
+    for seats in [2, 1, 16] {
+        assert!(rt; are_printed(&rt, rt.alloc(), seats));
+    }
 }
 
-// Lines that are refused, and why.
+const MALFORMED: &[u8] = b"refused line 3: 11\n";
+
+const TOO_LONG: &[u8] = b"refused line 3: 1\n";
+
+// Lines that are refused, and what is printed for them.
 const REFUSED: &[(&[u8], &[u8])] = &[
-    (b"4096 get a", b"11"),
-    (b"4294967296 get a", b"11"),
-    (b"18446744073709551616 get a", b"11"),
-    (b"99999999999999999999 get a", b"11"),
-    (b"-1 get a", b"11"),
-    (b"+1 get a", b"11"),
-    (b"a get a", b"11"),
-    (b" get a", b"11"),
-    (b" 0 get a", b"11"),
-    (b"0  get a", b"11"),
-    (b"0 get a ", b"11"),
-    (b"0 get a\r", b"11"),
-    (b"0", b"11"),
-    (b"0 get", b"11"),
-    (b"0 get a b", b"11"),
-    (b"0 insert a", b"11"),
-    (b"0 insert a 1 2", b"11"),
-    (b"0 list", b"11"),
-    (b"list", b"11"),
-    (b"get a", b"11"),
-    (b"begin 0 get a", b"11"),
-    (b"finish 0", b"11"),
-    (b"0 Get a", b"11"),
-    (b"0 get =6", b"11"),
-    (b"0 get =6g", b"11"),
-    (b"0 swap a 1", b"11"),
-    (b"0 swap a 1 2 3", b"11"),
-    (b"0 get a\0", b"11"),
-    (b"0 get \x7f", b"11"),
-    (b"0 get \x80", b"11"),
-    (b"0 get \xc3\xa9", b"11"),
-    (b"0 insert a \xff", b"11"),
-    (b"\0", b"11"),
+    (b"4096 get a", MALFORMED),
+    (b"4294967296 get a", MALFORMED),
+    (b"18446744073709551616 get a", MALFORMED),
+    (b"99999999999999999999 get a", MALFORMED),
+    (b"-1 get a", MALFORMED),
+    (b"+1 get a", MALFORMED),
+    (b"a get a", MALFORMED),
+    (b" get a", MALFORMED),
+    (b" 0 get a", MALFORMED),
+    (b"0  get a", MALFORMED),
+    (b"0 get a ", MALFORMED),
+    (b"0 get a\r", MALFORMED),
+    (b"0", MALFORMED),
+    (b"0 get", MALFORMED),
+    (b"0 get a b", MALFORMED),
+    (b"0 insert a", MALFORMED),
+    (b"0 insert a 1 2", MALFORMED),
+    (b"0 list", MALFORMED),
+    (b"list", MALFORMED),
+    (b"get a", MALFORMED),
+    (b"begin 0 get a", MALFORMED),
+    (b"finish 0", MALFORMED),
+    (b"0 Get a", MALFORMED),
+    (b"0 get =6", MALFORMED),
+    (b"0 get =6g", MALFORMED),
+    (b"0 swap a 1", MALFORMED),
+    (b"0 swap a 1 2 3", MALFORMED),
+    (b"0 get a\0", MALFORMED),
+    (b"0 get \x7f", MALFORMED),
+    (b"0 get \x80", MALFORMED),
+    (b"0 get \xc3\xa9", MALFORMED),
+    (b"0 insert a \xff", MALFORMED),
+    (b"\0", MALFORMED),
     (
         b"0 get 12345678901234567890123456789012345678901234567890123456789012345",
-        b"1",
+        TOO_LONG,
     ),
     (
         b"0 insert a 12345678901234567890123456789012345678901234567890123456789012345",
-        b"1",
+        TOO_LONG,
     ),
     (
         b"4096 get 12345678901234567890123456789012345678901234567890123456789012345",
-        b"11",
+        MALFORMED,
     ),
     (
         b"0 insert 12345678901234567890123456789012345678901234567890123456789012345 =6",
-        b"11",
+        MALFORMED,
     ),
 ];
 
@@ -119,36 +123,35 @@ fn is_refused<R: Threads + Wait + Sync>(
     alloc: Global,
     limits: Limits,
     line: &[u8],
-    code: &[u8],
-) -> Result<bool, Fail> {
+    told: &[u8],
+) -> bool {
     let mut input = Vec::new(alloc);
-    input.extend_from_slice(b"0 insert a 1\n\n")?;
-    input.extend_from_slice(line)?;
-    let mut output = Vec::new(alloc);
-    output.extend_from_slice(b"refused line 3: ")?;
-    output.extend_from_slice(code)?;
-    output.extend_from_slice(b"\n")?;
-    let last = whole(rt, alloc, limits, input.as_slice()).is(output.as_slice(), 1);
-    input.extend_from_slice(
-        b"\n0 get 12345678901234567890123456789012345678901234567890123456789012345\nlist\n",
-    )?;
-    Ok(last && whole(rt, alloc, limits, input.as_slice()).is(output.as_slice(), 1))
+    add(&mut input, &[b"0 insert a 1\n\n", line])
+        && prints(rt, alloc, limits, input.as_slice(), (told, 1))
+        && add(
+            &mut input,
+            &[b"\n0 get 12345678901234567890123456789012345678901234567890123456789012345\nlist\n"],
+        )
+        && prints(rt, alloc, limits, input.as_slice(), (told, 1))
+}
+
+// Whether all of those are, and of a lookup of 1,024 bytes and one of 1,025 the second one is no line.
+fn are_refused<R: Threads + Wait + Sync>(rt: &R, alloc: Global) -> bool {
+    let Ok(limits) = Limits::new(2, 64, 256, 1) else {
+        return false;
+    };
+    for (line, told) in REFUSED {
+        if !is_refused(rt, alloc, limits, line, told) {
+            return false;
+        }
+    }
+    let mut long = [b'k'; 1025];
+    long[..6].copy_from_slice(b"0 get ");
+    is_refused(rt, alloc, limits, &long[..1024], TOO_LONG)
+        && is_refused(rt, alloc, limits, &long, MALFORMED)
 }
 
 #[test]
-fn refused_lines(rt: HostRuntime) -> Result<(), Fail> {
-    let limits = Limits::new(2, 64, 256, 1)?;
-    for (line, code) in REFUSED {
-        assert!(rt; is_refused(&rt, rt.alloc(), limits, line, code)?);
-    }
-    // 1,024 bytes are a line, and 1,025 are not
-    let mut long = Vec::new(rt.alloc());
-    long.extend_from_slice(b"0 get ")?;
-    for _ in 6..1024 {
-        long.push(b'k')?;
-    }
-    assert!(rt; is_refused(&rt, rt.alloc(), limits, long.as_slice(), b"1")?);
-    long.push(b'k')?;
-    assert!(rt; is_refused(&rt, rt.alloc(), limits, long.as_slice(), b"11")?);
-    Ok(())
+fn refused_lines(rt: HostRuntime) {
+    assert!(rt; are_refused(&rt, rt.alloc()));
 }

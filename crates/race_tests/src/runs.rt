@@ -21,8 +21,14 @@ pub fn run_into<R: Threads + Wait + Sync>(
     Ran::into(status, writer.inner)
 }
 
-// A race in which nothing fails.
-pub fn whole<R: Threads + Wait + Sync>(rt: &R, alloc: Global, limits: Limits, input: &[u8]) -> Ran {
+/// Whether a race in which nothing fails prints just this, and ends with the status.
+pub fn prints<R: Threads + Wait + Sync>(
+    rt: &R,
+    alloc: Global,
+    limits: Limits,
+    input: &[u8],
+    (output, status): (&[u8], u8),
+) -> bool {
     let input = Choppy::sound(input, 4096);
     run_into(
         rt,
@@ -31,4 +37,5 @@ pub fn whole<R: Threads + Wait + Sync>(rt: &R, alloc: Global, limits: Limits, in
         input,
         Breaking::taking(alloc, 4096, NEVER),
     )
+    .is(output, status)
 }

@@ -2,7 +2,6 @@
 
 use shell_options::{Program, Settings, options};
 use std::alloc::{AllocError, Global};
-use std::test::Fail;
 
 // What the words say, if they aren't refused.
 fn said(alloc: Global, texts: &[&str]) -> Result<Option<Settings>, AllocError> {
@@ -13,48 +12,67 @@ fn said(alloc: Global, texts: &[&str]) -> Result<Option<Settings>, AllocError> {
     Ok(options(alloc, words.as_slice()).ok())
 }
 
-fn race_of(seats: u64, pids: u64, rows: u64, epoch: u64) -> Option<Settings> {
-    Some(Settings {
+// A race with so many seats, PIDs and rows, and its opening epoch.
+fn race_of((actors, pids, rows, epoch): (u64, u64, u64, u64)) -> Settings {
+    Settings {
         program: Program::Race,
-        actors: seats,
+        actors,
         pids,
         rows,
         epoch,
-    })
+    }
 }
 
-// Whether an option's numbers are read, and then found outside its range.
-fn are_outside(alloc: Global, option: &str, numbers: &[&str]) -> Result<bool, AllocError> {
-    for number in numbers {
-        match said(alloc, &["bwtree", "race", option, number])? {
-            Some(settings) if settings.limits().is_err() => {}
-            _ => return Ok(false),
-        }
+// Words, and the numbers that they say, where they aren't refused.
+const ROWS: &[(&[&str], Option<(u64, u64, u64, u64)>)] = &[
+    (&["bwtree", "race"], Some((2, 4096, 16384, 1))),
+    (
+        &[
+            "bwtree",
+            "race",
+            "--rows",
+            "64",
+            "--epoch=7",
+            "--seats",
+            "16",
+            "--pids",
+            "0128",
+        ],
+        Some((16, 128, 64, 7)),
+    ),
+    (&["bwtree", "race", "--actors", "2"], None),
+    (&["bwtree", "race", "--seats", "-1"], None),
+    (&["bwtree", "weave", "--seats", "2"], None),
+    (&["bwtree", "race", "--seats", "2", "--seats", "2"], None),
+];
+
+#[test]
+fn words_of_races(rt: HostRuntime) {
+    for (words, numbers) in ROWS {
+        assert!(rt; said(rt.alloc(), words) == Ok(numbers.map(race_of)));
     }
-    Ok(true)
+}
+
+// Options with numbers that are read, and then found outside their ranges.
+const OUTSIDE: &[(&str, &str)] = &[
+    ("--seats", "0"),
+    ("--seats", "17"),
+    ("--pids", "0"),
+    ("--pids", "63"),
+    ("--pids", "4160"),
+];
+
+// Whether an option's number is.
+fn is_outside(alloc: Global, option: &str, number: &str) -> bool {
+    match said(alloc, &["bwtree", "race", option, number]) {
+        Ok(Some(settings)) => settings.limits().is_err(),
+        _ => false,
+    }
 }
 
 #[test]
-fn words_of_races(rt: HostRuntime) -> Result<(), Fail> {
-    let alloc = rt.alloc();
-    assert!(rt; said(alloc, &["bwtree", "race"])? == race_of(2, 4096, 16384, 1));
-    let texts = [
-        "bwtree",
-        "race",
-        "--rows",
-        "64",
-        "--epoch=7",
-        "--seats",
-        "16",
-        "--pids",
-        "0128",
-    ];
-    assert!(rt; said(alloc, &texts)? == race_of(16, 128, 64, 7));
-    assert!(rt; said(alloc, &["bwtree", "race", "--actors", "2"])? == None);
-    assert!(rt; said(alloc, &["bwtree", "race", "--seats", "-1"])? == None);
-    assert!(rt; said(alloc, &["bwtree", "weave", "--seats", "2"])? == None);
-    assert!(rt; said(alloc, &["bwtree", "race", "--seats", "2", "--seats", "2"])? == None);
-    assert!(rt; are_outside(alloc, "--seats", &["0", "17"])?);
-    assert!(rt; are_outside(alloc, "--pids", &["0", "63", "4160"])?);
-    Ok(())
+fn numbers_outside_their_ranges(rt: HostRuntime) {
+    for (option, number) in OUTSIDE {
+        assert!(rt; is_outside(rt.alloc(), option, number));
+    }
 }
