@@ -11,7 +11,7 @@ use Rattle.smo.specs.Versions.{Version}
 use Rattle.descent.specs.Versions.{NamesPages}
 use Rattle.descent.specs.WriteResponses.{TreatsWrite}
 use Rattle.descent.specs.WriteRounds.{IsSame, WriteRound}
-use Rattle.layer_tests.specs.Rounds.{IsLed}
+use Rattle.layer_tests.specs.Rounds.{IsWriteRoundTo}
 
 within : (limits : Limits) (pid : ℕ) → limits.pids ≡ 4096 → IsPid pid → (0 < pid) × (pid < limits.pids)
 within limits pid all is = (is.0, (let below = is.1 in omega (arith, all, below)))
@@ -23,7 +23,7 @@ names_pages limits chain all fit = record {
 }
 
 -- the round that goes on from a page is led as before
-pub led_on : (old new : WriteRound) (version : Version) (key : List ℕ) → IsLed old key → IsSame old new → TreatsWrite old version new None → IsLed new key
+pub led_on : (old new : WriteRound) (version : Version) (key : List ℕ) → IsWriteRoundTo old key → IsSame old new → TreatsWrite old version new None → IsWriteRoundTo new key
 led_on old new version key led same treats = by_way treats
   where
     pids : new.limits.pids ≡ 4096
@@ -32,7 +32,7 @@ led_on old new version key led same treats = by_way treats
     is_key : new.key ≡ key
     is_key = same.key ∙ led.key_is
 
-    by_way : TreatsWrite old version new None → IsLed new key
+    by_way : TreatsWrite old version new None → IsWriteRoundTo new key
     by_way (inl aside) = record { limits = pids; key_is = is_key; above = rw aside.goes led.above; meets = rw aside.goes led.meets }
     by_way (inr (inl below)) = record { limits = pids; key_is = is_key; above = rw below.goes below.here.alive; meets = rw below.goes led.meets }
     by_way (inr (inr (inl merge))) = record { limits = pids; key_is = is_key; above = rw merge.goes tt; meets = rw merge.goes tt }

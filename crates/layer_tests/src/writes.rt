@@ -2,7 +2,7 @@
 ghost use Rattle.std.specs.Prelude.{◌≡◌, ◌<◌};
 ghost use Rattle.traces.specs.chain.Chains.{low_in};
 ghost use Rattle.descent.specs.WriteRounds.{write_way};
-ghost use Rattle.layer_tests.specs.Rounds.{IsLed};
+ghost use Rattle.layer_tests.specs.Rounds.{IsWriteRoundTo};
 
 use crate::plans::grown::{at, based, hold, lower_leaf, post, remove, split, with_each, with_hold};
 use crate::plans::index_pages::{index_from, right};
@@ -72,8 +72,8 @@ fn is_reached(round: &WriteRound, key: &Key, page: &PageInHand) -> bool
 
 /// What the round does with the page. A round that ends begins anew.
 fn meet(round: &mut WriteRound, key: &Key, page: &mut PageInHand) -> Turn
-    requires { IsLed round.old.round key.now }
-    ensures { IsLed round.new.round key.now }
+    requires { IsWriteRoundTo round.old.round key.now }
+    ensures { IsWriteRoundTo round.new.round key.now }
 {
     keeps_rules(page);
     if !is_reached(round, key, page) {
@@ -92,7 +92,7 @@ fn meet(round: &mut WriteRound, key: &Key, page: &mut PageInHand) -> Turn
 /// A round to the leaf of the key, where so many deltas are due, and small index pages are removed or aren't.
 fn seek<R: Abort + AllocGlobal>(rt: &R, key: &Key, due: usize, tends: bool) -> WriteRound
     requires due { 0 < due }
-    ensures { IsLed result.round key.now }
+    ensures { IsWriteRoundTo result.round key.now }
 {
     let mut round = WriteRound::new(rt.alloc(), &limits()).expect(rt, "memory for a round");
     round.restart(key, due, tends);
@@ -103,7 +103,7 @@ fn seek<R: Abort + AllocGlobal>(rt: &R, key: &Key, due: usize, tends: bool) -> W
 fn seek_left<R: Abort + AllocGlobal>(rt: &R, key: &Key, removed: u16) -> WriteRound
     requires some { 0 < removed }
     requires below { removed < 4096 }
-    ensures { IsLed result.round key.now }
+    ensures { IsWriteRoundTo result.round key.now }
 {
     let mut round = seek(rt, key, 8, true);
     round.restart_left(key, removed, 0);
@@ -137,7 +137,7 @@ fn consolidates_at_eight_deltas_and_splits_at_sixteen_items(rt: HostRuntime) {
 
 /// What the round does at a page that was split, and then at the new page.
 fn at_halves<R: Abort + AllocGlobal>(rt: &R, round: &mut WriteRound, key: &Key) -> [Turn; 2]
-    requires { IsLed round.old.round key.now }
+    requires { IsWriteRoundTo round.old.round key.now }
 {
     let mut left = split(rt, 1, Key::default(), 16, 2);
     let mut right = leaf_of(rt, 2, at(8), 16);
@@ -170,7 +170,7 @@ fn finishes_a_split_without_a_parent_and_below_one(rt: HostRuntime) {
 
 /// What the round does at an index page, and then at a leaf that has no right.
 fn down_to_a_leaf<R: Abort + AllocGlobal>(rt: &R, round: &mut WriteRound, key: &Key) -> [Turn; 2]
-    requires { IsLed round.old.round key.now }
+    requires { IsWriteRoundTo round.old.round key.now }
 {
     let mut parent = bare(rt);
     let mut page = leaf_of(rt, 1, Key::default(), 3);

@@ -16,7 +16,7 @@ use Rattle.clap.specs.declared.parser.matches.SubCommand.{SubCommand}
 use Rattle.shell_options.specs.declared.words.OptionsError.{OptionsError}
 use Rattle.shell_options.specs.declared.words.Program.{Program}
 use Rattle.shell_options.specs.declared.words.Settings.{Settings}
-use Rattle.shell_options.specs.Words.{bwtree_app, name_of, AreTaken, HasNumbers, IsTold, SpellsOr}
+use Rattle.shell_options.specs.Words.{bwtree_app, name_of, AreTaken, HasNumbers, IsNamedBy, SpellsOr}
 
 abbrev pub Reads : ℕ → ℕ → Option Text → Type 0
 Reads default n o = MatchOption o (n ≡ default) (λ text. digits_value 10 (without_leading_plus text) ≡ n)
@@ -52,7 +52,7 @@ outside app words kind is only other taken = other (only (subst (λ (a : App). t
 -- the numbers behind a program's name are those of its options
 pub is_told : (told : Option (Text × List Row)) (program : Program) (read : List Row) (r : Result Settings OptionsError)
     → option_map (λ p. p.0) told ≡ Some (name_of program) → option_map (λ p. p.1) told ≡ Some read
-    → IfOk r (HasNumbers read) → IfOk r (λ (line : Settings). line.program ≡ program) → IfOk r (IsTold told)
+    → IfOk r (HasNumbers read) → IfOk r (λ (line : Settings). line.program ≡ program) → IfOk r (IsNamedBy told)
 is_told told program read (Ok line) named behind numbers same = record {
   program = named ∙ ap (λ (p : Program). Some (name_of p)) (sym same);
   numbers = subst (λ (r : List Row). HasNumbers r line) (sym (rows_of_some told read behind)) numbers;

@@ -85,13 +85,13 @@ name_of Draw = codes "draw"
 name_of Race = codes "race"
 
 -- A program's name and the rows of its options name the program, and its numbers are those of the options.
-pub record IsTold (told : Option (Text × List Row)) (line : Settings) : Type 0 where
+pub record IsNamedBy (told : Option (Text × List Row)) (line : Settings) : Type 0 where
   pub program : option_map (λ p. p.0) told ≡ Some (name_of line.program)
   pub numbers : HasNumbers (option_map_or (λ p. p.1) told []) line
 
 -- The words name the program, and its numbers are those of the options behind the name.
 abbrev pub IsSpelled : List Text → Settings → Type 0
-IsSpelled words line = IsTold (subcommand_of bwtree_app words) line
+IsSpelled words line = IsNamedBy (subcommand_of bwtree_app words) line
 
 -- the program's name and the rows of its options, as the matches have them
 abbrev pub told_by : ArgMatches → Option (Text × List Row)

@@ -5,7 +5,7 @@ ghost use Rattle.bw_model.specs.Limits.{AreLimits};
 ghost use Rattle.std.specs.String.{string_bytes};
 ghost use Rattle.clap.specs.Words.{app_of, found_of, rows_of, rule_of};
 ghost use Rattle.clap.specs.declared.builder.command.Command.TheViews.{out-Command as fields_of};
-ghost use Rattle.shell_options.specs.Words.{number_rule, limits_rules, actors_app, draw_app, script_app, weave_app, race_app, bwtree_app, SpellsOr, HasActors, HasNumbers, HasOneMore, default_pids_of, default_rows_of, told_by, HasNoFault, IsSpelled, IsTold, MayRefuse};
+ghost use Rattle.shell_options.specs.Words.{number_rule, limits_rules, actors_app, draw_app, script_app, weave_app, race_app, bwtree_app, SpellsOr, HasActors, HasNumbers, HasOneMore, default_pids_of, default_rows_of, told_by, HasNoFault, IsSpelled, IsNamedBy, MayRefuse};
 
 use bw_model::{BadLimits, Limits};
 use clap::error::ErrorKind;
@@ -296,7 +296,7 @@ fn numbers(program: Program, matches: &ArgMatches<'_>) -> Result<Settings, Optio
 
 // The program that the matches name, with its numbers.
 fn named_program(matches: &ArgMatches<'_>) -> Result<Settings, OptionsError>
-    ensures told { IfOk result (IsTold (told_by matches.now)) }
+    ensures told { IfOk result (IsNamedBy (told_by matches.now)) }
     ensures refused { IfErr result (λ error. error ≡ OptionsError.Memory) }
 {
     if let Some(script) = matches.subcommand_matches("script") {

@@ -53,12 +53,12 @@ impl<A: Allocator> Drop for Back<'_, A> {
     }
 }
 
-impl<A: Allocator> Back<'_, A> {
+impl<'a, A: Allocator> Back<'a, A> {
     /// The worker, which was told the same.
-    fn agreed(self, told: &OnceToken<'_, bool>) -> Worker<A>
+    fn agreed(self, told: &OnceToken<'a, bool>) -> Worker<A>
         requires same { self.told.of ≡ told.now.of }
-        ensures worker { result ≡ self.worker }
-        ensures value { self.told.value ≡ told.now.value }
+        ensures worker { result ≡ self.entry.worker }
+        ensures value { self.entry.told.value ≡ told.now.value }
     {
         let Back { worker, told: same } = self;
         same.agrees(told);

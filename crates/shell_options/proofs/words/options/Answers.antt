@@ -3,7 +3,7 @@ use Rattle.std.specs.String.{string_bytes}
 use Rattle.clap.specs.declared.error.Error.{Error}
 use Rattle.clap.specs.Words.{HasKind, IsAmong, Kinds, App, Row, Text, app_of, kind_of, fault_of, is_simple, is_simple_and_free, subcommand_of}
 use Rattle.clap.specs.declared.error.kind.ErrorKind.TheVariants.{OutOfMemory}
-use Rattle.shell_options.specs.Words.{bwtree_app, HasNoFault, IsTold}
+use Rattle.shell_options.specs.Words.{bwtree_app, HasNoFault, IsNamedBy}
 use Rattle.shell_options.proofs.Spelling.{is_simple-bwtree_app, is_simple_and_free-bwtree_app, outside}
 use Rattle.shell_options.proofs.words.options.Goals as goal
 
@@ -12,7 +12,7 @@ returns-in-Ok-try_get_matches_from-clause-spelled c =
     let words : List Text = map (λ s. string_bytes s) c.args.words.now in
     let app : app_of c.in-Ok.command ≡ bwtree_app = c.in-Ok.ensures in
     let has = (c.in-Ok-try_get_matches_from.ensures.matches (ap is_simple app ∙ is_simple-bwtree_app)).1 in
-    subst (λ (told : Option (Text × List Row)). IfOk c.named_program.result (IsTold told)) (has ∙ ap (λ (a : App). subcommand_of a words) app) c.named_program.ensures.told
+    subst (λ (told : Option (Text × List Row)). IfOk c.named_program.result (IsNamedBy told)) (has ∙ ap (λ (a : App). subcommand_of a words) app) c.named_program.ensures.told
 
 if_ok : {A E : Type 0} (r : Result A E) (P : Type 0) → P → IfOk r (λ _. P)
 if_ok (Ok x) P h = h
