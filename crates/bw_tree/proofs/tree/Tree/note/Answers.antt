@@ -15,7 +15,7 @@ invariant_of-result g c =
     )
 
 pub note-requires : goal.note-requires
-note-requires g c = record { table = is_of _ _ _ _ _ _ _ _ _ c.self.invariant c.self.view_is c.seat.view_is c.requires }
+note-requires g c = record { table = is_of _ _ _ _ _ _ _ _ _ c.self.invariant c.self.view_is c.seat.view_is c.requires.own }
 
 pub returns-clause-stays : goal.returns-clause-stays
 returns-clause-stays g c = rw (c.note.ensures.same, c.note.ensures.stays) c.seat.view_is
