@@ -28,3 +28,9 @@ listed-requires-clause-room g c = rw (← c.self.view_is) (let room = c.in-Ok.en
 
 pub returns-clause-missing : goal.returns-clause-missing
 returns-clause-missing g c = rw (← c.self.view_is) (λ few. absurd (not_less _ _ (let all = c.if-len-self.false in omega (arith, all, c.len.ensures)) few))
+
+pub returns-then-len-self-clause-busy : goal.returns-then-len-self-clause-busy
+returns-then-len-self-clause-busy g c = rw (← c.self.view_is) (λ all busy. absurd (not_less _ _ all (let few = c.if-len-self.true in omega (arith, few, c.len.ensures))))
+
+pub returns-then-len-self-clause-memory : goal.returns-then-len-self-clause-memory
+returns-then-len-self-clause-memory g c = rw (← c.self.view_is) (λ all idle. absurd (not_less _ _ all (let few = c.if-len-self.true in omega (arith, few, c.len.ensures))))
