@@ -1,4 +1,4 @@
-use Rattle.std.proofs.Common.{ap, arith, refl}
+use Rattle.std.proofs.Common.{ap, arith, refl, sym, subst}
 use Rattle.traces.specs.discipline.Knowledge.{knows}
 use Rattle.traces.specs.discipline.Recalled.{recalls}
 use Rattle.traces.specs.declared.trace.Entry.TheVariants.{Begin}
@@ -6,6 +6,7 @@ use Rattle.step_core.proofs.Cored.{begin_goes, core_begins, core_begun, core_oth
 use Rattle.step_core.specs.declared.event.RunError.TheVariants.{Memory}
 use Rattle.step_core.proofs.Reserving.{granted, refused}
 use Rattle.step_core.proofs.machine.Core.begin.Goals as goal
+use Rattle.step_core.specs.Cores.{IsCore}
 
 pub invariant_of-self-2 : goal.invariant_of-self-2
 invariant_of-self-2 g c =
@@ -54,3 +55,6 @@ index_mut-place-requires g c =
 
 pub push_begin-requires : goal.push_begin-requires
 push_begin-requires g c = granted c.reserve.result _ c.is_err.result c.is_err.ensures.value c.if-is_err.false c.reserve.ensures.ok
+
+pub invariant_of-self : goal.invariant_of-self
+invariant_of-self g c = subst (IsCore c.self.inside.limits c.self.inside.memory c.self.inside.actors.items) (sym c.reserve.ensures.items) c.self.invariant

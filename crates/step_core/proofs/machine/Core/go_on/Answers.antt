@@ -10,6 +10,7 @@ use Rattle.step_core.proofs.Linked.{event_is, told_to}
 use Rattle.step_core.proofs.Replaced.{get_same}
 use Rattle.step_core.proofs.Reserving.{granted, refused}
 use Rattle.step_core.proofs.machine.Core.go_on.Goals as goal
+use Rattle.step_core.specs.Cores.{IsCore}
 use Rattle.step_core.specs.declared.event.Event.TheVariants.{Stepped}
 use Rattle.step_core.specs.declared.event.RunError.TheVariants.{Memory}
 
@@ -92,3 +93,11 @@ go_on-stepped-requires-clause-wanted g c =
     let there = (rw (← c.self.view_is) at (step_goes c.args.self.now c.args.actor c.requires.goes)).0 in
     let same = get_same c.self.inside.actors.items c.from.result c.from-2.result c.index-place.result.now c.index_mut-place.result.now (c.from.ensures ∙ sym c.from-2.ensures) (omega (arith, there, c.from.ensures, c.self.invariant.count)) c.index-place.ensures c.index_mut-place.ensures.value in
     subst (λ (at : Actor). wanted_by at.running ≡ Some c.in-Ok.ready.step) same c.in-Ok.ensures.wanted
+
+pub invariant_of-self : goal.invariant_of-self
+invariant_of-self g c = subst (IsCore c.self.inside.limits c.self.inside.memory c.self.inside.actors.items) (sym c.reserve.ensures.items) c.self.invariant
+
+pub index_mut-place-requires : goal.index_mut-place-requires
+index_mut-place-requires g c =
+    let there = (rw (← c.self.view_is) at (step_goes c.args.self.now c.args.actor c.requires.goes)).0 in
+    omega (arith, c.from-2.ensures, there, c.self.invariant.count, c.self.inside.actors.ok.0)

@@ -14,6 +14,7 @@ use Rattle.step_core.proofs.Lawful.{heads}
 use Rattle.step_core.proofs.Linked.{event_is, told_to}
 use Rattle.step_core.proofs.Reserving.{granted, refused}
 use Rattle.step_core.proofs.machine.Core.leave.Goals as goal
+use Rattle.step_core.specs.Cores.{IsCore}
 use Rattle.step_core.specs.declared.event.Event.TheVariants.{Done as Finished}
 use Rattle.step_core.specs.declared.event.RunError.TheVariants.{Memory}
 
@@ -87,3 +88,11 @@ room-requires g c = record { leaves = core_leaving _ _ _ _ _ _ c.index-place.res
 pub leave-reply-requires-clause-leaves : goal.leave-reply-requires-clause-leaves
 leave-reply-requires-clause-leaves g c =
     core_leaving _ _ _ _ _ _ c.index_mut-place.result.now _ c.self.invariant _ c.self.view_is c.requires.goes c.from-2.ensures c.index_mut-place.ensures.value c.requires.leaves
+
+pub invariant_of-self : goal.invariant_of-self
+invariant_of-self g c = subst (IsCore c.self.inside.limits c.self.inside.memory c.self.inside.actors.items) (sym c.reserve.ensures.items) c.self.invariant
+
+pub index_mut-place-requires : goal.index_mut-place-requires
+index_mut-place-requires g c =
+    let there = (rw (← c.self.view_is) at (step_goes c.args.self.now c.args.actor c.requires.goes)).0 in
+    omega (arith, c.from-2.ensures, there, c.self.invariant.count, c.self.inside.actors.ok.0)
