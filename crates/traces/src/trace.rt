@@ -3,6 +3,7 @@ ghost use Rattle.std.specs.Prelude.{◌≡◌};
 
 use bw_model::{Answer, Command, Reply, Step};
 use deltas::Record;
+use std::alloc::AllocError;
 
 /// A turn of one actor: it begins an operation, or its operation takes one step.
 #[derive(Drop)]
@@ -20,6 +21,16 @@ impl Turn {
             Turn::Begin(actor, command) => Turn::Begin(*actor, command.copied()),
             Turn::Step(actor) => Turn::Step(*actor),
         }
+    }
+}
+
+impl Clone for Turn {
+    ghost is_clone = { λ turn other. other ≡ turn };
+
+    ghost is_infallible = { λ _. Unit {0} };
+
+    fn clone(&self) -> Result<Self, AllocError> {
+        Ok(self.copied())
     }
 }
 
