@@ -1,15 +1,13 @@
 -- What a writer's round finds at a page: how long and how wide it is, and where the round goes.
-use Rattle.std.proofs.Common.{◌≡◌, ◌<◌, ◌≤◌, inl, ℕ, Bool, true, false, List, length, Option, None, Some, refl, arith}
+use Rattle.std.proofs.Common.{◌≡◌, ◌<◌, ◌≤◌, inl, ℕ, Bool, true, false, List, length, None, Some, refl, arith}
 use Rattle.std.proofs.Math.Nat.{lt_of_not-le}
 use Rattle.base_page.specs.declared.item.Item.{Item}
 use Rattle.deltas.specs.declared.record.Record.{Record}
 use Rattle.traces.specs.chain.Chains.{IsItemsOf}
 use Rattle.traces.specs.chain.Fitted.{IsFitted}
 use Rattle.smo.specs.Sizes.{HasFewDeltas, HasManyItems}
-use Rattle.smo.specs.Versions.{Version}
 use Rattle.smo.proofs.Places.{made}
 use Rattle.descent.specs.Courses.{WriteGoal, Seek, Left, Merge, Unterm, removed_of}
-use Rattle.descent.specs.WriteResponses.{IsSplitFinished}
 use Rattle.descent.specs.WriteRounds.{IsLong, SeeksLeaf, ends_at}
 
 -- what a test would have said isn't so
@@ -48,9 +46,3 @@ below_left Seek floor level seeks less = absurd (omega arith)
 below_left (Left pid) floor level seeks less = (pid, refl, less)
 below_left (Merge left) floor level seeks less = absurd seeks
 below_left (Unterm parent left) floor level seeks less = absurd seeks
-
--- without a left page there is no split to finish
-pub unsplit : (parent left : Option Version) (version : Version) → left ≡ None → IsSplitFinished parent left version
-unsplit None None version e = tt
-unsplit (Some parent) None version e = tt
-unsplit parent (Some left) version e = cc

@@ -1,10 +1,6 @@
-use Rattle.std.proofs.Common.{rules, ◌≡◌, Some, true}
-use Rattle.std.specs.Prelude.{MatchOption}
-use Rattle.base_page.specs.Places.{HasNoChild, IsGreatestChild}
-use Rattle.traces.specs.chain.Chains.{content_in, low_in}
-use Rattle.smo.specs.Versions.{Version}
+use Rattle.std.proofs.Common.{rules, ◌≡◌, Some}
+use Rattle.traces.specs.chain.Chains.{low_in}
 use Rattle.descent.specs.ReadLegs.{Down}
-use Rattle.descent.specs.ReadRounds.{left_of}
 use Rattle.rounds.proofs.LegTurns.{leads_left}
 use Rattle.rounds.proofs.read_round.ReadRound.left_of_page.Goals as goal
 

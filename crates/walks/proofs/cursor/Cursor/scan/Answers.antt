@@ -31,3 +31,29 @@ returns-in-Spent-clause-stopped g c =
 
 pub returns-clause-stopped : goal.returns-clause-stopped
 returns-clause-stopped g c = let count = c.loop.invariant.walked.1 in inr (c.loop.invariant.walked.0, omega (arith, count, c.loop.auto.counter-end, c.loop-test.false))
+
+pub returns-in-Spent-clause-same : goal.returns-in-Spent-clause-same
+returns-in-Spent-clause-same g c = same_on c.args.seat.now c.loop.seat c.add_page.new.seat c.loop.invariant.same c.in_ok-add_page.ensures.same
+
+pub returns-in-Spent-clause-ready : goal.returns-in-Spent-clause-ready
+returns-in-Spent-clause-ready g c = c.in_ok-add_page.ensures.ready
+
+pub returns-in-End-clause-same : goal.returns-in-End-clause-same
+returns-in-End-clause-same g c = same_on c.args.seat.now c.loop.seat c.add_page.new.seat c.loop.invariant.same c.in_ok-add_page.ensures.same
+
+pub returns-in-End-clause-ready : goal.returns-in-End-clause-ready
+returns-in-End-clause-ready g c = c.in_ok-add_page.ensures.ready
+
+pub returns-in-End-clause-walked : goal.returns-in-End-clause-walked
+returns-in-End-clause-walked g c =
+    let h = c.in_ok-add_page.ensures in
+    walked_more c.args.self.now c.loop.self c.add_page.new.self c.args.seat.now c.loop.seat c.add_page.new.seat c.args.budget c.in_ok-add_page.field-0 c.args.list.now.items c.loop.list.items c.add_page.new.list.items h.same h.next h.list c.loop.invariant.walked.0
+
+pub returns-clause-same : goal.returns-clause-same
+returns-clause-same g c = c.loop.invariant.same
+
+pub returns-clause-ready : goal.returns-clause-ready
+returns-clause-ready g c = c.loop.invariant.ready
+
+pub returns-clause-walked : goal.returns-clause-walked
+returns-clause-walked g c = c.loop.invariant.walked.0
