@@ -11,7 +11,7 @@ use Rattle.workers.specs.declared.job.JobResult.{JobResult}
 use Rattle.workers.specs.declared.worker.Worker.{Worker}
 use Rattle.workers.specs.declared.job.Job.{Job}
 use Rattle.workers.specs.declared.job.JobsRefusal.{JobsRefusal}
-use Rattle.workers.specs.declared.job.JobsRefusal.TheVariants.{Results}
+use Rattle.workers.specs.declared.job.JobsRefusal.TheVariants.{NotRun, Results}
 use Rattle.workers.specs.Jobs.{AreResultsOf}
 use Rattle.workers.specs.Worked.{AreIdle, AreNamed, HasWorked, HaveStopped, HaveWorked}
 use Rattle.workers.specs.Begun.{ComesBack, HaveComeBack}
@@ -139,6 +139,10 @@ pub stopped : {A : Type 0} (jobs : List Job) (refusal : JobsRefusal) (results : 
     → HaveStopped A jobs refusal olds backs
 stopped {A = A} jobs refusal results olds news backs is same worked order other =
     subst (λ z. HaveStopped A jobs z olds backs) (sym is) (results, subst (HaveWorked results olds) (sym same) worked, order, other)
+
+-- where no job was run the seats are as they were
+pub not_run : (A : Type 0) (jobs : List Job) (refusal : JobsRefusal) (olds backs : List Seat) → refusal ≡ NotRun → backs ≡ olds → HaveStopped A jobs refusal olds backs
+not_run A jobs refusal olds backs is same = subst (λ z. HaveStopped A jobs z olds backs) (sym is) same
 
 -- what is so where a test is false
 pub where_false : (P Q : Type 0) (test : Bool) → test ≡ false → MatchBool test P Q → Q

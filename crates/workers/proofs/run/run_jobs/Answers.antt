@@ -2,7 +2,7 @@ use Rattle.std.proofs.Common.{◌∙◌, subst, sym}
 use Rattle.workers.specs.Jobs.{AreResultsOf}
 use Rattle.bw_tree.specs.Trees.{AreSeatsOf}
 use Rattle.workers.specs.Worked.{AreIdle}
-use Rattle.workers.proofs.Parting.{idle_after, own_after, stopped, where_false, worked_reordered}
+use Rattle.workers.proofs.Parting.{idle_after, not_run, own_after, stopped, where_false, worked_reordered}
 use Rattle.workers.proofs.run.run_jobs.Goals as goal
 
 pub returns-then-are_results-clause-worked : goal.returns-then-are_results-clause-worked
@@ -36,3 +36,14 @@ pub returns-in-Err-clause-left : goal.returns-in-Err-clause-left
 returns-in-Err-clause-left g c =
     let same = c.refused-in-Err.ensures.seats ∙ c.in-Err.ensures.left in
     (subst (AreSeatsOf c.args.tree.now) (sym same) c.requires.own, subst AreIdle (sym same) c.requires.idle)
+
+pub returns-in_default-clause-refused : goal.returns-in_default-clause-refused
+returns-in_default-clause-refused g c = not_run _ c.args.jobs.items c.refused.result.refusal c.args.seats.items c.refused.result.seats.items c.refused.ensures.refusal c.refused.ensures.seats
+
+pub returns-in_default-tasks-clause-refused : goal.returns-in_default-tasks-clause-refused
+returns-in_default-tasks-clause-refused g c =
+    not_run _ c.args.jobs.items c.refused-in_default-tasks.result.refusal c.args.seats.items c.refused-in_default-tasks.result.seats.items c.refused-in_default-tasks.ensures.refusal c.refused-in_default-tasks.ensures.seats
+
+pub returns-in-Err-clause-refused : goal.returns-in-Err-clause-refused
+returns-in-Err-clause-refused g c =
+    not_run _ c.args.jobs.items c.refused-in-Err.result.refusal c.args.seats.items c.refused-in-Err.result.seats.items c.refused-in-Err.ensures.refusal (c.refused-in-Err.ensures.seats ∙ c.in-Err.ensures.left)
