@@ -1,5 +1,5 @@
 //! Chains and pages that are put together row by row.
-ghost use Rattle.std.specs.Prelude.{◌≡◌, ◌≤◌, ◌∷◌, [], ◌++◌, length};
+ghost use Rattle.std.specs.Prelude.{◌≡◌, ◌≤◌, ◌+◌, ◌∷◌, [], ◌++◌, length};
 ghost use Rattle.deltas.specs.Spellable.{IsPid, IsRow};
 ghost use Rattle.deltas.specs.declared.record.Record.TheVariants.{Base};
 ghost use Rattle.traces.specs.chain.Fitted.{FitsOver, IsPageChain};
@@ -65,6 +65,17 @@ fn copy(row: &mut HeldRow, other: &HeldRow)
     row.write(&other.row().record());
 }
 
+/// The part gets these rows too.
+fn copy_all(part: &mut ChainPart, row: &mut HeldRow, rows: &[HeldRow])
+    requires { length part.old + length rows.now ≤ 13 }
+    ensures { part.new ≡ part.old ++ rows.now }
+{
+    for under in rows {
+        copy(row, under);
+        part.push(row);
+    }
+}
+
 /// The page gets one delta more, in row 7.
 pub(crate) fn grow<R: Abort + AllocGlobal>(rt: &R, page: &mut PageInHand, newest: Record)
     requires over { FitsOver page.old.chain newest × (length page.old.chain ≤ 12) }
@@ -76,9 +87,6 @@ pub(crate) fn grow<R: Abort + AllocGlobal>(rt: &R, page: &mut PageInHand, newest
     let mut row = HeldRow::new(rt.alloc()).expect(rt, "memory for a row");
     row.write(&newest);
     part.push(&mut row);
-    for under in page.chain().as_slice() {
-        copy(&mut row, under);
-        part.push(&mut row);
-    }
+    copy_all(&mut part, &mut row, page.chain().as_slice());
     page.take(page.pid(), 7, &mut part);
 }

@@ -219,11 +219,6 @@ fn is_leaf(chain: Chain) -> bool {
     counted & decides(&chain) & ends_nowhere(&chain) & shows_pairs(&chain)
 }
 
-#[test]
-fn decides_the_keys_of_a_removed_leaf(rt: HostRuntime) {
-    assert!(rt; is_leaf(leaf_chain(&rt)));
-}
-
 /// Whether the chain has these children at and below keys, and so many items.
 fn leads(chain: Chain, wanted: [Option<u16>; 6], count: usize) -> bool {
     let children = [
@@ -237,17 +232,6 @@ fn leads(chain: Chain, wanted: [Option<u16>; 6], count: usize) -> bool {
     (children == wanted) & (counted(&chain) == [count, count])
 }
 
-#[test]
-fn finds_the_children_of_index_pages(rt: HostRuntime) {
-    let (one, three, five) = (Some(1), Some(3), Some(5));
-    let leads = [
-        leads(index_chain(&rt), [one, three, three, three, one, None], 2),
-        leads(split_index(&rt), [one, one, one, one, one, None], 1),
-        leads(long_index(&rt), [one, five, five, five, one, None], 2),
-    ];
-    assert!(rt; leads == [true; 3]);
-}
-
 /// Whether an index page has no pairs, and the page that it makes has two items, and page 3 at "k09".
 fn is_consolidated(chain: Chain) -> bool
     requires { is_removed chain ≡ false }
@@ -258,6 +242,14 @@ fn is_consolidated(chain: Chain) -> bool
 }
 
 #[test]
-fn consolidates_an_index_page(rt: HostRuntime) {
-    assert!(rt; is_consolidated(index_chain(&rt)));
+fn a_leaf_decides_its_keys_and_index_pages_their_children(rt: HostRuntime) {
+    let (one, three, five) = (Some(1), Some(3), Some(5));
+    let found = [
+        is_leaf(leaf_chain(&rt)),
+        leads(index_chain(&rt), [one, three, three, three, one, None], 2),
+        leads(split_index(&rt), [one, one, one, one, one, None], 1),
+        leads(long_index(&rt), [one, five, five, five, one, None], 2),
+        is_consolidated(index_chain(&rt)),
+    ];
+    assert!(rt; found == [true; 5]);
 }

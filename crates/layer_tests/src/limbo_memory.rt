@@ -8,21 +8,18 @@ use std::alloc::Global;
 /// An allocator that refuses one growth, and counts.
 type Heap<'a> = &'a Refusing<Global>;
 
-/// Whether an item comes into limbo.
-fn comes(limbo: &mut Limbo<Heap<'_>>, item: Item) -> bool {
-    let accepts = limbo.accepts(item);
-    if accepts {
-        limbo.unlinked(item);
-    }
-    accepts
-}
-
 /// Whether all rows and PIDs below 64 come into limbo.
 fn fills(limbo: &mut Limbo<Heap<'_>>) -> bool {
     for number in 1..64u16 {
-        if !comes(limbo, Item::Row(number)) || !comes(limbo, Item::Pid(number)) {
+        let (row, pid) = (Item::Row(number), Item::Pid(number));
+        if !limbo.accepts(row) {
             return false;
         }
+        limbo.unlinked(row);
+        if !limbo.accepts(pid) {
+            return false;
+        }
+        limbo.unlinked(pid);
     }
     true
 }

@@ -21,7 +21,7 @@ use crate::plans::grown::{at, based, delete};
 use crate::plans::index_pages::index_from;
 use base_page::{Content, Items, Page};
 use bw_model::{Key, Value};
-use smo::{PageInHand, plan_hold, plan_remove, plan_split, plan_term};
+use smo::{PageInHand, plan_hold, plan_split, plan_term};
 use std::process::Abort;
 
 pub(crate) fn key(text: &[u8]) -> Key
@@ -74,36 +74,31 @@ pub(crate) fn leaf_under<R: Abort + AllocGlobal>(
     page
 }
 
-/// Items and deltas of a leaf, and whether it is split at its eighth item; none where it isn't split.
-const SPLIT: [(u8, u8, Option<bool>); 5] = [
+/// Items and deltas of a leaf, and whether it is split at its eighth item, and how many items go; none where it isn't split.
+const SPLIT: &[(u8, u8, Option<(bool, usize)>)] = &[
     (15, 0, None),
-    (16, 0, Some(true)),
-    (17, 0, Some(true)),
-    (16, 7, Some(true)),
+    (16, 0, Some((true, 8))),
+    (17, 0, Some((true, 9))),
+    (16, 7, Some((true, 8))),
     (16, 8, None),
 ];
 
-fn splits<R: Abort + AllocGlobal>(rt: &R, items: u8, deltas: u8) -> Option<bool> {
-    let page = leaf_under(rt, 2, key(b"k"), items, deltas);
-    match plan_split(&page) {
+/// Whether the page is split at the place, and how many items go; none where it isn't split.
+pub(crate) fn split_at(page: &PageInHand, place: u8) -> Option<(bool, usize)> {
+    match plan_split(page) {
         None => None,
-        Some(plan) => Some(plan.upper.low() == &at(8)),
+        Some(plan) => Some((plan.upper.low() == &at(place), plan.upper.items().len())),
     }
 }
 
 /// Whether each of them is.
 fn are_split<R: Abort + AllocGlobal>(rt: &R) -> bool {
     for (items, deltas, split) in SPLIT {
-        if splits(rt, items, deltas) != split {
+        if split_at(&leaf_under(rt, 2, key(b"k"), *items, *deltas), 8) != *split {
             return false;
         }
     }
     true
-}
-
-#[test]
-fn splits_a_page_of_sixteen(rt: HostRuntime) {
-    assert!(rt; are_split(&rt));
 }
 
 /// An index page that has page 1 at the empty key.
@@ -134,19 +129,19 @@ fn held<R: Abort + AllocGlobal>(rt: &R) -> PageInHand
     built::page(rt, 5, 8, &[hold(5, 2), term(4, 2)], index())
 }
 
-/// The level, the row and the child of the term that the parent gets of the page.
-fn posts(parent: &PageInHand, page: &PageInHand) -> Option<(u8, u16, u16)> {
+/// Whether the parent gets a term of the page that has this level, row and child; or none.
+fn posts(parent: &PageInHand, page: &PageInHand, wanted: Option<(u8, u16, u16)>) -> bool {
     match plan_term(parent, page) {
-        None => None,
-        Some(term) => Some((term.level, term.next, term.child)),
+        None => wanted.is_none(),
+        Some(term) => wanted == Some((term.level, term.next, term.child)),
     }
 }
 
 /// Whether an index page gets the term of page 2, over row 8, and not again.
 fn posts_once<R: Abort + AllocGlobal>(rt: &R) -> bool {
     let page = leaf_of(rt, 2, key(b"k09"), 3);
-    let given = posts(&bare(rt), &page) == Some((1, 8, 2));
-    given & posts(&termed(rt), &page).is_none()
+    let given = posts(&bare(rt), &page, Some((1, 8, 2)));
+    given & posts(&termed(rt), &page, None)
 }
 
 /// Whether the parent's term of the page may be held, if the page begins at the key.
@@ -169,7 +164,7 @@ fn removes<R: Abort + AllocGlobal>(rt: &R, pid: u16, items: u8, deltas: u8) -> b
     requires pid { IsPid pid }
 {
     let page = leaf_under(rt, pid, key(b"k09"), items, deltas);
-    plan_remove(&held(rt), &page).is_some()
+    merges::removes(&held(rt), &page)
 }
 
 /// Whether leaves of four items under seven deltas may be removed, and no others.
@@ -179,7 +174,7 @@ fn removes_small_ones<R: Abort + AllocGlobal>(rt: &R) -> bool {
 }
 
 #[test]
-fn posts_holds_and_removes(rt: HostRuntime) {
-    let given = [posts_once(&rt), holds_one(&rt), removes_small_ones(&rt)];
-    assert!(rt; given == [true; 3]);
+fn splits_posts_holds_and_removes(rt: HostRuntime) {
+    let given = are_split(&rt) & posts_once(&rt);
+    assert!(rt; given & holds_one(&rt) & removes_small_ones(&rt));
 }

@@ -69,9 +69,8 @@ fn spelled(words: &mut Pcg32, good: Words) -> Option<u32> {
 /// Whether of each kind some rows with another word spell a record, and all that do are their own words.
 fn each_kind_is_spelled(words: &mut Pcg32) -> bool {
     for good in EACH_KIND {
-        match spelled(words, good) {
-            Some(count) if count > 0 => {}
-            _ => return false,
+        if spelled(words, good).unwrap_or(0) == 0 {
+            return false;
         }
     }
     true

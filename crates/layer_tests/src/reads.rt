@@ -96,11 +96,12 @@ fn left_of_second<R: Abort + AllocGlobal>(rt: &R, page: &mut PageInHand) -> Opti
     let key = key(b"y");
     round.restart(&key);
     let mut second = leaf_of(rt, 2, key.copied(), 0);
-    if !ends_at(&mut round, &key, &mut second) {
-        return None;
+    if ends_at(&mut round, &key, &mut second) {
+        round.go_left();
+        meet(&mut round, page)
+    } else {
+        None
     }
-    round.go_left();
-    meet(&mut round, page)
 }
 
 /// What it does at an index page, at the leaf whose right page 2 is, and at a leaf that page 2 has come into.

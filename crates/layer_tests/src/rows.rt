@@ -102,7 +102,7 @@ const INDEX: Words = &[
 /// The same with both children at the empty key.
 const EQUAL_KEYS: Words = &[(0, 0x02020101), (12, 255), (30, 1), (39, 0x100), (48, 2)];
 
-pub(crate) const EACH_KIND: [Words; 10] = [
+pub(crate) const EACH_KIND: &[Words] = &[
     OPENING, INDEX, PUT, DELETE, SPLIT, TERM, HOLD, REMOVE, MERGE, UNTERM,
 ];
 
@@ -171,11 +171,6 @@ fn writes_a_split_and_a_hold() -> bool {
     writes(&split, SPLIT) & writes(&hold, HOLD)
 }
 
-#[test]
-fn writes_the_rows_of_records(rt: HostRuntime) {
-    assert!(rt; writes_a_leaf_and_a_put() & writes_a_split_and_a_hold());
-}
-
 /// Rows with one word changed, so that they spell nothing.
 const SPOILT: &[(Words, usize, u64)] = &[
     // a byte past the key, and lengths past the greatest
@@ -214,14 +209,10 @@ fn are_refused() -> bool {
 }
 
 #[test]
-fn refuses_rows_that_spell_nothing(rt: HostRuntime) {
-    let refused = [
-        is_refused(&[0; ROW_WORDS]),
-        is_refused(&[u64::MAX; ROW_WORDS]),
-        is_refused(&row(EQUAL_KEYS)),
-        are_refused(),
-    ];
-    assert!(rt; refused == [true; 4]);
+fn writes_the_rows_of_records_and_refuses_rows_that_spell_nothing(rt: HostRuntime) {
+    let written = writes_a_leaf_and_a_put() & writes_a_split_and_a_hold();
+    let same = is_refused(&[0; ROW_WORDS]) & is_refused(&[u64::MAX; ROW_WORDS]);
+    assert!(rt; written & same & is_refused(&row(EQUAL_KEYS)) & are_refused());
 }
 
 /// How many of the rows that differ in one bit spell a record, counted by the rules of a row.
@@ -249,20 +240,18 @@ const TURNED: &[(Words, u32)] = &[
     (UNTERM, 3 + 13 + 11 + 4 + 24),
 ];
 
-/// How many of these ten rows are their record's, and have so many that differ in one bit and spell a record, from the first on.
-fn counted() -> u8 {
-    let mut counted = 0u8;
+/// Whether each of these rows is its record's, and so many that differ in one bit spell a record.
+fn are_counted() -> bool {
     for (words, spelled) in TURNED {
         let row = row(words);
         if !is_spelled(&row) || spelled_by_one_bit(&row) != Some(*spelled) {
-            return counted;
+            return false;
         }
-        counted = counted.saturating_add(1);
     }
-    counted
+    true
 }
 
 #[test]
 fn each_bit_of_a_row_counts(rt: HostRuntime) {
-    assert_eq!(rt; counted(), 10);
+    assert!(rt; are_counted());
 }

@@ -41,25 +41,34 @@ fn told(epoch: u64, announced: &[u64], step: &Step<Record>) -> Told
     }
 }
 
-/// A step by a text and a number, and the bits that it frees.
-fn named(step: &Step<Record>) -> (&'static str, Option<u64>, Option<u64>) {
-    match step {
-        Step::Epoch => ("epoch", None, None),
-        Step::Retire(epoch) => ("retire ", Some(*epoch), None),
-        Step::Announce(other) => ("a", Some(u64::from(*other)), None),
-        Step::ReuseRows(word, bits) => ("rows ", Some(u64::from(*word)), Some(*bits)),
-        Step::ReusePids(word, bits) => ("pids ", Some(u64::from(*word)), Some(*bits)),
-        _ => ("?", None, None),
-    }
+/// Adds a text and a number to the log.
+fn add(log: &mut Log, text: &str, number: u64) {
+    let _ = write!(log, "{text}{number}");
+}
+
+/// Adds the bits that a step frees to the log.
+fn add_bits(log: &mut Log, bits: u64) {
+    let _ = write!(log, ":{bits:x}");
 }
 
 /// Adds a step to the log.
 fn show(log: &mut Log, step: &Step<Record>) {
-    let _ = match named(step) {
-        (name, Some(number), Some(bits)) => write!(log, "{name}{number}:{bits:x} "),
-        (name, Some(number), _) => write!(log, "{name}{number} "),
-        (name, _, _) => write!(log, "{name} "),
-    };
+    match step {
+        Step::Epoch => {
+            let _ = log.write_str(" epoch");
+        }
+        Step::Retire(epoch) => add(log, " retire ", *epoch),
+        Step::Announce(other) => add(log, " a", u64::from(*other)),
+        Step::ReuseRows(word, bits) => {
+            add(log, " rows ", u64::from(*word));
+            add_bits(log, *bits);
+        }
+        Step::ReusePids(word, bits) => {
+            add(log, " pids ", u64::from(*word));
+            add_bits(log, *bits);
+        }
+        _ => add(log, " ? ", 0),
+    }
 }
 
 /// The steps of a sweep.
@@ -110,7 +119,7 @@ fn goes(limits: &Limits, actor: u8, limbo: &mut Limbo, case: &Case) -> bool
         return false;
     }
     let log = drive(limits, actor, limbo, epoch, announced);
-    log.as_str().trim_end() == steps && limbo.is_empty() == empty
+    log.as_str().trim_start() == steps && limbo.is_empty() == empty
 }
 
 /// Whether the sweeps go as they say, one after another.
@@ -141,9 +150,9 @@ fn swept(alloc: Global, actors: u64, actor: u8, cases: &[Case]) -> bool {
 }
 
 /// Of how many actors which one sweeps, one sweep after another.
-const SWEEPS: &[(&str, u64, u8, &[Case])] = &[
+const SWEEPS: &[(u64, u8, &[Case])] = &[
+    // Frees a row that the other actor has passed.
     (
-        "frees a row that the other actor has passed",
         2,
         0,
         &[(
@@ -154,15 +163,14 @@ const SWEEPS: &[(&str, u64, u8, &[Case])] = &[
             true,
         )],
     ),
+    // Retires no last epoch.
     (
-        "retires no last epoch",
         2,
         1,
         &[(&[Item::Row(3)], 1 << 62, &[0, 0], "epoch a0 rows 0:8", true)],
     ),
-    // The first one finds nothing in limbo.
+    // Reads nobody where there is no other actor. The first one finds nothing in limbo.
     (
-        "reads nobody where there is no other actor",
         1,
         0,
         &[
@@ -170,8 +178,8 @@ const SWEEPS: &[(&str, u64, u8, &[Case])] = &[
             (&[Item::Pid(2)], 5, &[], "epoch retire 5 pids 0:4", true),
         ],
     ),
+    // Reads each of sixteen actors but its own.
     (
-        "reads each of sixteen actors but its own",
         16,
         7,
         &[(
@@ -182,9 +190,8 @@ const SWEEPS: &[(&str, u64, u8, &[Case])] = &[
             true,
         )],
     ),
-    // The third one frees what the first one found, and keeps its own.
+    // Frees later what an actor may hold. The third one frees what the first one found, and keeps its own.
     (
-        "frees later what an actor may hold",
         3,
         1,
         &[
@@ -205,8 +212,8 @@ const SWEEPS: &[(&str, u64, u8, &[Case])] = &[
             ),
         ],
     ),
+    // Frees word by word.
     (
-        "frees word by word",
         2,
         0,
         &[(
@@ -219,16 +226,14 @@ const SWEEPS: &[(&str, u64, u8, &[Case])] = &[
     ),
 ];
 
-/// How many of these six rules sweeps keep, from the first on.
-fn kept(alloc: Global) -> u8 {
-    let mut kept = 0u8;
-    for (_, actors, actor, cases) in SWEEPS {
+/// Whether sweeps keep each of these rules.
+fn are_kept(alloc: Global) -> bool {
+    for (actors, actor, cases) in SWEEPS {
         if !swept(alloc, *actors, *actor, cases) {
-            return kept;
+            return false;
         }
-        kept = kept.saturating_add(1);
     }
-    kept
+    true
 }
 
 /// Two rows and a PID are taken out of the tree.
@@ -261,11 +266,7 @@ const TAKEN_OUT: &[Case] = &[(
 )];
 
 #[test]
-fn goes_step_by_step(rt: HostRuntime) {
-    assert_eq!(rt; kept(rt.alloc()), 6);
-}
-
-#[test]
-fn frees_what_was_taken_out(rt: HostRuntime) {
-    assert!(rt; swept_out(rt.alloc(), TAKEN_OUT));
+fn goes_step_by_step_and_frees_what_was_taken_out(rt: HostRuntime) {
+    let alloc = rt.alloc();
+    assert!(rt; are_kept(alloc) & swept_out(alloc, TAKEN_OUT));
 }

@@ -13,22 +13,33 @@ use rounds::{Asked, WriteEnded, WriteRound};
 use smo::{PageInHand, Upkeep};
 use std::process::Abort;
 
-/// How a round went on: to the page that it asks for, or to its end, with the pages that stand in the places which it is about.
+/// How a round went on: to the page that it asks for, or to its end.
 #[derive(Clone, Copy, PartialEq, Eq)]
-enum Turn {
-    To(u16),
-    Removed(u16),
-    Consolidate(u16),
-    Split(u16),
-    Term(u16, u16, u16),
-    Root(u16),
-    Remove(u16),
-    Hold(u16, u16),
-    Leaf(Option<u16>, u16),
-    Merge(u16, u16),
-    Unterm(u16, u16, u16),
+enum Way {
+    To,
+    Removed,
+    Consolidate,
+    Split,
+    Term,
+    Root,
+    Remove,
+    Hold,
+    Leaf,
+    Merge,
+    Unterm,
     Done,
     Other,
+}
+
+/// How it went on, and the pages that stand in the places which it is about, and 0 behind them.
+type Turn = (Way, [u16; 3]);
+
+/// The page that is kept above, or 0.
+fn kept_above(round: &WriteRound) -> u16 {
+    match round.kept_parent() {
+        Some(parent) => parent.pid(),
+        None => 0,
+    }
 }
 
 /// The turn that an end is.
@@ -37,25 +48,25 @@ fn turn_of(round: &WriteRound, ended: &WriteEnded) -> Turn {
     let parent = round.parent().pid();
     let left = round.left().pid();
     match ended {
-        WriteEnded::Removed => Turn::Removed(page),
-        WriteEnded::Consolidate => Turn::Consolidate(page),
-        WriteEnded::Split(_) => Turn::Split(page),
-        WriteEnded::Term(term) => Turn::Term(parent, term.next, term.child),
-        WriteEnded::Root(_) => Turn::Root(left),
-        WriteEnded::Tend(Upkeep::Remove(_)) => Turn::Remove(page),
-        WriteEnded::Tend(Upkeep::Hold(hold)) => Turn::Hold(parent, hold.child),
-        WriteEnded::Leaf => Turn::Leaf(round.kept_parent().map(|parent| parent.pid()), page),
-        WriteEnded::Merge(_) => Turn::Merge(left, page),
-        WriteEnded::Unterm(_) => Turn::Unterm(parent, left, page),
-        WriteEnded::Done => Turn::Done,
-        WriteEnded::Again => Turn::Other,
+        WriteEnded::Removed => (Way::Removed, [page, 0, 0]),
+        WriteEnded::Consolidate => (Way::Consolidate, [page, 0, 0]),
+        WriteEnded::Split(_) => (Way::Split, [page, 0, 0]),
+        WriteEnded::Term(term) => (Way::Term, [parent, term.next, term.child]),
+        WriteEnded::Root(_) => (Way::Root, [left, 0, 0]),
+        WriteEnded::Tend(Upkeep::Remove(_)) => (Way::Remove, [page, 0, 0]),
+        WriteEnded::Tend(Upkeep::Hold(hold)) => (Way::Hold, [parent, hold.child, 0]),
+        WriteEnded::Leaf => (Way::Leaf, [kept_above(round), page, 0]),
+        WriteEnded::Merge(_) => (Way::Merge, [left, page, 0]),
+        WriteEnded::Unterm(_) => (Way::Unterm, [parent, left, page]),
+        WriteEnded::Done => (Way::Done, [0; 3]),
+        WriteEnded::Again => (Way::Other, [0; 3]),
     }
 }
 
 fn asked(asked: Asked) -> Turn {
     match asked {
-        Asked::Slot(pid) => Turn::To(pid),
-        Asked::Row(_) => Turn::Other,
+        Asked::Slot(pid) => (Way::To, [pid, 0, 0]),
+        Asked::Row(_) => (Way::Other, [0; 3]),
     }
 }
 
@@ -77,7 +88,7 @@ fn meet(round: &mut WriteRound, key: &Key, page: &mut PageInHand) -> Turn
 {
     keeps_rules(page);
     if !is_reached(round, key, page) {
-        return Turn::Other;
+        return (Way::Other, [0; 3]);
     }
     match round.take_page(page) {
         None => asked(round.asks()),
@@ -131,8 +142,8 @@ fn consolidates_at_eight_deltas_and_splits_at_sixteen_items(rt: HostRuntime) {
         at_leaf(&rt, 7, 16, 8),
         at_leaf(&rt, 8, 16, 8),
     ];
-    let (leaf, long) = (Turn::Leaf(None, 1), Turn::Consolidate(1));
-    assert!(rt; turns == [leaf, long, leaf, long, leaf, Turn::Split(1), long]);
+    let (leaf, long) = ((Way::Leaf, [0, 1, 0]), (Way::Consolidate, [1, 0, 0]));
+    assert!(rt; turns == [leaf, long, leaf, long, leaf, (Way::Split, [1, 0, 0]), long]);
 }
 
 /// What the round does at a page that was split, and then at the new page.
@@ -163,9 +174,13 @@ fn below_parent<R: Abort + AllocGlobal>(rt: &R) -> [Turn; 3] {
 
 #[test]
 fn finishes_a_split_without_a_parent_and_below_one(rt: HostRuntime) {
-    let alone = seeking(&rt) == [Turn::To(2), Turn::Root(1)];
-    let below = [Turn::To(1), Turn::To(2), Turn::Term(5, 8, 2)];
-    assert!(rt; alone && below_parent(&rt) == below);
+    let alone = seeking(&rt) == [(Way::To, [2, 0, 0]), (Way::Root, [1, 0, 0])];
+    let below = [
+        (Way::To, [1, 0, 0]),
+        (Way::To, [2, 0, 0]),
+        (Way::Term, [5, 8, 2]),
+    ];
+    assert!(rt; alone & (below_parent(&rt) == below));
 }
 
 /// What the round does at an index page, and then at a leaf that has no right.
@@ -192,8 +207,9 @@ fn to_the_left<R: Abort + AllocGlobal>(rt: &R) -> [Turn; 2] {
 
 #[test]
 fn goes_down_to_a_leaf(rt: HostRuntime) {
-    let leaf = to_a_leaf(&rt) == [Turn::To(1), Turn::Leaf(Some(5), 1)];
-    assert!(rt; leaf && to_the_left(&rt) == [Turn::To(1), Turn::Done]);
+    let leaf = to_a_leaf(&rt) == [(Way::To, [1, 0, 0]), (Way::Leaf, [5, 1, 0])];
+    let left = to_the_left(&rt) == [(Way::To, [1, 0, 0]), (Way::Done, [0; 3])];
+    assert!(rt; leaf & left);
 }
 
 /// A page of level 2 as page 9, with the terms of page 5 and of the index page, whose term is held or isn't.
@@ -229,29 +245,27 @@ fn on_way<R: Abort + AllocGlobal>(rt: &R, way: OnWay) -> Turn {
 }
 
 /// Such ways, and what is done: small pages are removed, or their terms held first; others stay.
-const ON_WAY: [(OnWay, Turn); 10] = [
-    ((1, [false, true, true, false]), Turn::Remove(2)),
-    ((4, [false, true, true, false]), Turn::Remove(2)),
-    ((1, [false, false, true, false]), Turn::Hold(9, 2)),
-    ((4, [false, false, true, false]), Turn::Hold(9, 2)),
-    ((5, [false, true, true, false]), Turn::To(14)),
-    ((5, [false, false, true, false]), Turn::To(14)),
-    ((1, [false, true, false, false]), Turn::To(3)),
-    ((1, [false, false, false, false]), Turn::To(3)),
-    ((2, [true, true, true, false]), Turn::To(11)),
-    ((1, [false, true, true, true]), Turn::To(3)),
+const ON_WAY: &[(OnWay, Turn)] = &[
+    ((1, [false, true, true, false]), (Way::Remove, [2, 0, 0])),
+    ((4, [false, true, true, false]), (Way::Remove, [2, 0, 0])),
+    ((1, [false, false, true, false]), (Way::Hold, [9, 2, 0])),
+    ((4, [false, false, true, false]), (Way::Hold, [9, 2, 0])),
+    ((5, [false, true, true, false]), (Way::To, [14, 0, 0])),
+    ((5, [false, false, true, false]), (Way::To, [14, 0, 0])),
+    ((1, [false, true, false, false]), (Way::To, [3, 0, 0])),
+    ((1, [false, false, false, false]), (Way::To, [3, 0, 0])),
+    ((2, [true, true, true, false]), (Way::To, [11, 0, 0])),
+    ((1, [false, true, true, true]), (Way::To, [3, 0, 0])),
 ];
 
-/// How many of these ten ways go so, from the first on.
-fn on_ways<R: Abort + AllocGlobal>(rt: &R) -> u8 {
-    let mut gone = 0u8;
+/// Whether each of these ways goes so.
+fn on_ways<R: Abort + AllocGlobal>(rt: &R) -> bool {
     for (way, turn) in ON_WAY {
-        if on_way(rt, way) != turn {
-            return gone;
+        if on_way(rt, *way) != *turn {
+            return false;
         }
-        gone = gone.saturating_add(1);
     }
-    gone
+    true
 }
 
 /// What a writer that removes small index pages does at the first one.
@@ -263,8 +277,8 @@ fn at_first<R: Abort + AllocGlobal>(rt: &R) -> Turn {
 
 #[test]
 fn removes_small_index_pages_but_the_first_one(rt: HostRuntime) {
-    assert!(rt; at_first(&rt) == Turn::To(1));
-    assert_eq!(rt; on_ways(&rt), 10);
+    let first = at_first(&rt) == (Way::To, [1, 0, 0]);
+    assert!(rt; first & on_ways(&rt));
 }
 
 /// What a writer to the left of page 2, which is removed, does at its parent, which holds its term, at the leaf, and at page 2.
@@ -291,8 +305,16 @@ fn ends<R: Abort + AllocGlobal>(rt: &R) -> [[Turn; 3]; 2] {
 
 #[test]
 fn merges_a_removed_page_and_takes_out_its_term(rt: HostRuntime) {
-    let merges = [Turn::To(1), Turn::To(2), Turn::Merge(1, 2)];
-    let unterms = [Turn::To(1), Turn::To(2), Turn::Unterm(5, 1, 2)];
+    let merges = [
+        (Way::To, [1, 0, 0]),
+        (Way::To, [2, 0, 0]),
+        (Way::Merge, [1, 2, 0]),
+    ];
+    let unterms = [
+        (Way::To, [1, 0, 0]),
+        (Way::To, [2, 0, 0]),
+        (Way::Unterm, [5, 1, 2]),
+    ];
     assert!(rt; ends(&rt) == [merges, unterms]);
 }
 
@@ -309,6 +331,6 @@ fn left_of<R: Abort + AllocGlobal>(rt: &R, key: Key, removed: u16) -> [Turn; 2]
 #[test]
 fn goes_to_the_right_page(rt: HostRuntime) {
     let turns = [left_of(&rt, at(8), 2), left_of(&rt, key(b"y"), 3)];
-    let again = [Turn::To(2), Turn::Done];
-    assert!(rt; turns == [again, [Turn::To(2), Turn::Root(1)]]);
+    let again = [(Way::To, [2, 0, 0]), (Way::Done, [0; 3])];
+    assert!(rt; turns == [again, [(Way::To, [2, 0, 0]), (Way::Root, [1, 0, 0])]]);
 }

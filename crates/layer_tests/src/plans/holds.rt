@@ -3,8 +3,8 @@ ghost use Rattle.std.specs.Prelude.{◌≡◌, false};
 ghost use Rattle.traces.specs.chain.Chains.{is_removed};
 
 use crate::plans::grown::{at, with_each, with_hold};
-use crate::plans::{bare, leaf_of};
-use smo::{PageInHand, plan_hold, plan_split};
+use crate::plans::{bare, leaf_of, split_at};
+use smo::{PageInHand, plan_hold};
 use std::process::Abort;
 
 /// An index page of sixteen terms, where those at these places are held.
@@ -19,18 +19,22 @@ fn sixteen<R: Abort + AllocGlobal>(rt: &R, places: &[u8]) -> PageInHand
     page
 }
 
-/// Whether what such a page gets, over row 7, holds the term at the place; none where it gets nothing.
-fn holds<R: Abort + AllocGlobal>(rt: &R, places: &[u8], place: u8) -> Option<bool> {
-    let parent = sixteen(rt, places);
-    let child = u16::from(place) + 10;
-    let page = leaf_of(rt, child, at(place), 0);
-    match plan_hold(&parent, &page) {
+/// Whether what the parent gets, over row 7, holds the term at the place; none where it gets nothing.
+fn holds_at(parent: &PageInHand, page: &PageInHand, place: u8) -> Option<bool> {
+    match plan_hold(parent, page) {
         None => None,
         Some(hold) => {
+            let child = u16::from(place) + 10;
             let named = (hold.level, hold.next, hold.child) == (1, 7, child);
             Some(named & (hold.separator == at(place)))
         }
     }
+}
+
+/// The same of such a page.
+fn holds<R: Abort + AllocGlobal>(rt: &R, places: &[u8], place: u8) -> Option<bool> {
+    let page = leaf_of(rt, u16::from(place) + 10, at(place), 0);
+    holds_at(&sixteen(rt, places), &page, place)
 }
 
 /// Terms that are held, a place, and whether its term may be held; none where it may not.
@@ -63,18 +67,10 @@ const SPLIT: &[(&[u8], u8, usize)] = &[
     (&[9], 8, 8),
 ];
 
-/// Whether the page is split at the place, and so many items go.
-fn is_split(page: PageInHand, place: u8, count: usize) -> bool {
-    match plan_split(&page) {
-        None => false,
-        Some(plan) => (plan.upper.low() == &at(place)) & (plan.upper.items().len() == count),
-    }
-}
-
 /// Whether each of them is.
 fn are_split<R: Abort + AllocGlobal>(rt: &R) -> bool {
     for (held, place, count) in SPLIT {
-        if !is_split(sixteen(rt, held), *place, *count) {
+        if split_at(&sixteen(rt, held), *place) != Some((true, *count)) {
             return false;
         }
     }

@@ -1,22 +1,15 @@
 //! Merges of a removed page into an index page.
 use crate::plans::grown::{consolidate, hold, remove, root_over, with_each, with_hold, with_terms};
 use crate::plans::index_pages::{read, right};
-use crate::plans::{key, leaf_of};
-use smo::{PageInHand, plan_merge};
+use crate::plans::{key, leaf_of, merges};
+use smo::PageInHand;
 use std::process::Abort;
 
-/// Whether the right page comes into the left one, once it is removed under a root over both; none where it isn't removed.
-fn merges<R: Abort + AllocGlobal>(
-    rt: &R,
-    left: &PageInHand,
-    right: &mut PageInHand,
-) -> Option<bool> {
+/// Whether the right page is removed under a root over both, and whether it comes into the left one then.
+fn merges<R: Abort + AllocGlobal>(rt: &R, left: &PageInHand, right: &mut PageInHand) -> [bool; 2] {
     let mut root = root_over(rt, left, right);
     hold(rt, &mut root, right);
-    if !remove(rt, &root, right) {
-        return None;
-    }
-    Some(plan_merge(left, right).is_some())
+    [remove(rt, &root, right), merges::merges(left, right)]
 }
 
 /// Whether an index page of one term comes into one of fifteen terms, and not into one of sixteen.
@@ -24,14 +17,14 @@ fn merges_beside_fifteen<R: Abort + AllocGlobal>(rt: &R) -> bool {
     let mut left = read(rt, 1);
     with_each(rt, &mut left, b'a', 0, 14);
     consolidate(rt, &mut left);
-    let given = merges(rt, &left, &mut right(rt)) == Some(true);
+    let given = merges(rt, &left, &mut right(rt)) == [true, true];
     with_terms(rt, &mut left, b'a', 14, 15);
     consolidate(rt, &mut left);
-    given & (merges(rt, &left, &mut right(rt)) == Some(false))
+    given & (merges(rt, &left, &mut right(rt)) == [true, false])
 }
 
 /// Whether an index page of two terms comes into its left one, and isn't even removed where one of them is held.
-fn merges_two<R: Abort + AllocGlobal>(rt: &R, left: &PageInHand, held: bool) -> Option<bool> {
+fn merges_two<R: Abort + AllocGlobal>(rt: &R, left: &PageInHand, held: bool) -> [bool; 2] {
     let mut two = right(rt);
     with_each(rt, &mut two, b'x', 1, 2);
     if held {
@@ -43,9 +36,9 @@ fn merges_two<R: Abort + AllocGlobal>(rt: &R, left: &PageInHand, held: bool) -> 
 /// Whether such pages come into their left one where no term of them is held, and leaves don't.
 fn merges_by_level<R: Abort + AllocGlobal>(rt: &R) -> bool {
     let left = read(rt, 1);
-    let leaf = merges(rt, &left, &mut leaf_of(rt, 2, key(b"k09"), 1)) == Some(false);
-    let holding = merges_two(rt, &left, true).is_none();
-    leaf & holding & (merges_two(rt, &left, false) == Some(true))
+    let leaf = merges(rt, &left, &mut leaf_of(rt, 2, key(b"k09"), 1)) == [true, false];
+    let holding = merges_two(rt, &left, true) == [false, false];
+    leaf & holding & (merges_two(rt, &left, false) == [true, true])
 }
 
 #[test]

@@ -13,7 +13,7 @@ use smo::{PageInHand, plan_merge, plan_remove, plan_unterm};
 use std::process::Abort;
 
 /// Whether the left page gets the removed one.
-fn merges(left: &PageInHand, removed: &PageInHand) -> bool {
+pub(crate) fn merges(left: &PageInHand, removed: &PageInHand) -> bool {
     plan_merge(left, removed).is_some()
 }
 
@@ -167,7 +167,7 @@ fn merges_under_seven<R: Abort + AllocGlobal>(rt: &R, gone: &PageInHand) -> bool
     given & !merges(&left, gone)
 }
 
-fn removes(root: &PageInHand, page: &PageInHand) -> bool {
+pub(crate) fn removes(root: &PageInHand, page: &PageInHand) -> bool {
     plan_remove(root, page).is_some()
 }
 

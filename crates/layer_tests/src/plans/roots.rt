@@ -2,9 +2,9 @@
 ghost use Rattle.std.specs.Prelude.{◌<◌, ◌≤◌};
 
 use crate::plans::grown::{at, split};
-use crate::plans::index_pages::{read, term};
+use crate::plans::index_pages::read;
 use crate::plans::{key, leaf_of};
-use base_page::Page;
+use base_page::{Content, Page};
 use bw_model::Key;
 use smo::{PageInHand, plan_root};
 use std::process::Abort;
@@ -16,9 +16,16 @@ fn is_over_both(root: &Page) -> bool {
     ends & begins & (root.items().len() == 2) & has_both(root)
 }
 
+/// Whether the page has this child at the key, and it isn't held.
+fn has(root: &Page, at: &Key, child: u16) -> bool {
+    match root.content(at) {
+        Some(Content::Child { page, held }) => (*page == child) & !*held,
+        _ => false,
+    }
+}
+
 fn has_both(root: &Page) -> bool {
-    let first = root.content(&Key::default()) == Some(&term(1));
-    first & (root.content(&at(8)) == Some(&term(2)))
+    has(root, &Key::default(), 1) & has(root, &at(8), 2)
 }
 
 /// Whether the page and its right get a root over both.
@@ -52,15 +59,20 @@ fn roots_another<R: Abort + AllocGlobal>(rt: &R) -> bool {
     second | roots(&endless, &leaf_of(rt, 2, key(b"k09"), 3))
 }
 
+/// The level of the root over both; none is 0.
+fn level_over(left: &PageInHand, right: &PageInHand) -> u8 {
+    match plan_root(left, right) {
+        None => 0,
+        Some(root) => root.level(),
+    }
+}
+
 /// The level of the root over an index page of this level and a page to its right; none is 0.
 fn root_level<R: Abort + AllocGlobal>(rt: &R, level: u8) -> u8
     requires index { 0 < level }
     requires top { level ≤ 15 }
 {
-    match plan_root(&read(rt, level), &leaf_of(rt, 2, key(b"k09"), 0)) {
-        None => 0,
-        Some(root) => root.level(),
-    }
+    level_over(&read(rt, level), &leaf_of(rt, 2, key(b"k09"), 0))
 }
 
 #[test]

@@ -61,13 +61,9 @@ fn posts_in_range<R: Abort + AllocGlobal>(rt: &R) -> bool {
 }
 
 #[test]
-fn posts_and_holds_beside_few_items_under_few_deltas(rt: HostRuntime) {
+fn posts_and_holds_at_the_edges_alone(rt: HostRuntime) {
     let beside = posts_beside(&rt) == [true, false];
-    assert!(rt; beside && under_deltas(&rt) == [true, true, false, false]);
-}
-
-#[test]
-fn posts_on_its_level_and_in_its_range(rt: HostRuntime) {
+    let under = under_deltas(&rt) == [true, true, false, false];
     let above = posts(&rt, &read(&rt, 2), b"k08");
-    assert!(rt; posts_in_range(&rt) && !above);
+    assert!(rt; beside & under & posts_in_range(&rt) & !above);
 }
