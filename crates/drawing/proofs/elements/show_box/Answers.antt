@@ -1,4 +1,4 @@
-use Rattle.byte_streams.proofs.Showing.{shows_then, no_text, flat_more}
+use Rattle.byte_streams.proofs.Showing.{shows_then, no_text}
 use Rattle.drawing.proofs.elements.show_box.Goals as goal
 
 pub returns : goal.returns

@@ -1,4 +1,5 @@
-use Rattle.byte_streams.proofs.Showing.{shows_then, no_text, flat_more}
+use Rattle.std.proofs.lemmas.List.{take_all}
+use Rattle.byte_streams.proofs.Showing.{shows_then, flat_more}
 use Rattle.shapes.specs.Document.{element_text}
 use Rattle.shapes.specs.Elements.{element_of}
 use Rattle.drawing.proofs.elements.show_shapes.Goals as goal
@@ -7,3 +8,6 @@ pub loop-shape-preserved : goal.loop-shape-preserved
 loop-shape-preserved g c =
     rw (flat_more (λ shape. element_text (element_of shape)) c.args.shapes.now c.loop-shape.shape-index c.shape-item.result c.loop-shape-test.true c.shape-item.is)
     (shows_then c.loop-shape.invariant c.show_shape.ensures)
+
+pub returns : goal.returns
+returns g c = rw (take_all c.loop-shape.shape-index c.args.shapes.now c.loop-shape-test.false) at c.loop-shape.invariant
