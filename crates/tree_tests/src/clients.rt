@@ -39,6 +39,30 @@ fn command(kind: u32, number: u32, new: u32) -> Command {
     }
 }
 
+/// The reply to such a command on a key with the value of a number, or none where that is 0.
+fn wanted(kind: u32, known: u32) -> Reply {
+    match (kind % 8, known) {
+        (0 | 1, 0) => Reply::Inserted,
+        (0 | 1, _) => Reply::Exists(value(known)),
+        (2 | 3, 0) => Reply::Set,
+        (2 | 3, _) => Reply::Replaced(value(known)),
+        (4, 0) => Reply::Absent,
+        (4, _) => Reply::Deleted(value(known)),
+        (5, _) => Reply::Tidied,
+        (_, 0) => Reply::None,
+        (_, _) => Reply::Value(value(known)),
+    }
+}
+
+/// The number of the value that such a command leaves.
+fn left(kind: u32, known: u32, new: u32) -> u32 {
+    match (kind % 8, known) {
+        (0 | 1, 0) | (2 | 3, _) => new,
+        (4, _) => 0,
+        (_, _) => known,
+    }
+}
+
 impl Client {
     /// A client that is to run so many commands.
     pub(crate) fn new(number: u32, rounds: u32) -> Client {
@@ -70,21 +94,10 @@ impl Client {
         if *reply == Reply::Full {
             return kind % 8 < 6;
         }
-        let (wanted, left) = match (kind % 8, known) {
-            (0 | 1, 0) => (Reply::Inserted, new),
-            (0 | 1, _) => (Reply::Exists(value(known)), known),
-            (2 | 3, 0) => (Reply::Set, new),
-            (2 | 3, _) => (Reply::Replaced(value(known)), new),
-            (4, 0) => (Reply::Absent, 0),
-            (4, _) => (Reply::Deleted(value(known)), 0),
-            (5, _) => (Reply::Tidied, known),
-            (_, 0) => (Reply::None, 0),
-            (_, _) => (Reply::Value(value(known)), known),
-        };
         if let Some(now) = self.values.get_mut(place) {
-            *now = left;
+            *now = left(kind, known, new);
         }
-        *reply == wanted
+        *reply == wanted(kind, known)
     }
 }
 

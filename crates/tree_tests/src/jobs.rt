@@ -1,9 +1,9 @@
 //! Jobs that workers run on a tree's seats.
-ghost use Rattle.std.specs.Prelude.{IfSome};
 ghost use Rattle.bw_tree.specs.Trees.{AreSeatsOf};
 ghost use Rattle.workers.specs.Worked.{AreIdle};
 
 use crate::numbered::{are_first, insert};
+use crate::trees::closed;
 use bw_model::{Command, Limits, Reply};
 use bw_tree::{BwSeat, Tree};
 use std::alloc::{AllocError, Global};
@@ -11,28 +11,6 @@ use std::sync::Wait;
 use std::sync::atomic::{AtomicBool, AtomicU64, Ordering};
 use std::thread::{Threads, yield_now};
 use workers::{Gate, Job, JobResult, are_ascending, opened, run_jobs};
-
-/// The results of jobs, and the seats that ran them.
-fn ran<R: Threads + Wait + Sync, G: Gate + Sync>(
-    rt: &R,
-    alloc: Global,
-    tree: &Tree,
-    seats: Vec<BwSeat>,
-    jobs: Vec<Job>,
-    gate: &G,
-) -> Option<(Vec<JobResult>, Vec<BwSeat>)>
-    requires own { AreSeatsOf tree.now seats.items }
-    requires idle { AreIdle seats.items }
-    ensures own { IfSome result (λ ran. AreSeatsOf tree.now ran.1.items) }
-{
-    if !are_ascending(jobs.as_slice()) || seats.is_empty() {
-        return None;
-    }
-    match run_jobs(rt, alloc, tree, seats, jobs, gate) {
-        Ok(ran) => Some(ran),
-        Err(_) => None,
-    }
-}
 
 /// Inserts of so many keys from one on.
 fn commands(alloc: Global, first: u32, count: u32) -> Result<Vec<Command>, AllocError> {
@@ -79,7 +57,7 @@ fn are_inserted(results: &[JobResult], count: u32, each: u32, seats: usize) -> b
 fn lists(alloc: Global, tree: Tree, seats: Vec<BwSeat>, count: u32) -> bool
     requires own { AreSeatsOf tree seats.items }
 {
-    match tree.close(alloc, seats).ok() {
+    match closed(alloc, tree, seats) {
         Some(pairs) => are_first(pairs.as_slice(), count),
         None => false,
     }
@@ -88,24 +66,51 @@ fn lists(alloc: Global, tree: Tree, seats: Vec<BwSeat>, count: u32) -> bool
 /// How many seats there are, how many jobs, and how many keys each of these inserts.
 type Amounts = (u64, u32, u32);
 
-/// Whether jobs that insert keys of their own leave a tree of so many rows with all of them.
+/// Whether jobs that insert keys of their own have the results for it, and the seats.
+fn are_right<R: Threads + Wait + Sync, G: Gate + Sync>(
+    rt: &R,
+    alloc: Global,
+    tree: &Tree,
+    list: Vec<BwSeat>,
+    amounts: Amounts,
+    gate: &G,
+) -> (bool, Vec<BwSeat>)
+    requires own { AreSeatsOf tree.now list.items }
+    requires idle { AreIdle list.items }
+    ensures own { AreSeatsOf tree.now result.1.items }
+{
+    let (seats, count, each) = amounts;
+    let Ok(jobs) = inserts(alloc, count, each) else {
+        return (false, list);
+    };
+    if !are_ascending(jobs.as_slice()) || list.is_empty() {
+        return (false, list);
+    }
+    match run_jobs(rt, alloc, tree, list, jobs, gate) {
+        Ok((results, list)) => (
+            are_inserted(results.as_slice(), count, each, seats as usize),
+            list,
+        ),
+        Err(error) => (false, error.seats),
+    }
+}
+
+/// Whether they do on a new tree of so many rows, and leave it with all keys.
 fn are_run<R: Threads + Wait + Sync, G: Gate + Sync>(
     rt: &R,
     alloc: Global,
     rows: u64,
-    (seats, count, each): Amounts,
+    amounts: Amounts,
     gate: &G,
-) -> Option<bool> {
-    let limits = Limits::new(seats, rows / 4, rows, 1).ok()?;
-    let jobs = inserts(alloc, count, each).ok()?;
+) -> bool {
+    let Ok(limits) = Limits::new(amounts.0, rows / 4, rows, 1) else {
+        return false;
+    };
     let Ok((tree, list)) = opened(alloc, limits) else {
-        return None;
+        return false;
     };
-    let Some((results, list)) = ran(rt, alloc, &tree, list, jobs, gate) else {
-        return None;
-    };
-    let listed = lists(alloc, tree, list, count.wrapping_mul(each));
-    Some(listed && are_inserted(results.as_slice(), count, each, seats as usize))
+    let (right, list) = are_right(rt, alloc, &tree, list, amounts, gate);
+    lists(alloc, tree, list, amounts.1.wrapping_mul(amounts.2)) && right
 }
 
 /// Counts the jobs that begin and end.
@@ -134,7 +139,7 @@ fn are_counted<R: Threads + Wait + Sync>(rt: &R, alloc: Global, amounts: Amounts
     let ran = are_run(rt, alloc, 16384, amounts, &counts);
     let begun = counts.begun.load(Ordering::SeqCst);
     let ended = counts.ended.load(Ordering::SeqCst);
-    ran == Some(true) && (begun, ended) == (u64::from(amounts.1), u64::from(amounts.1))
+    ran && (begun, ended) == (u64::from(amounts.1), u64::from(amounts.1))
 }
 
 // As many seats as jobs, more, and fewer; no job at all, and jobs without commands.
@@ -201,5 +206,5 @@ fn jobs_run_at_once(rt: HostRuntime) {
         late: AtomicBool::new(false),
     };
     let ran = are_run(&rt, rt.alloc(), 256, (2, 2, 2), &gate);
-    assert!(rt; ran == Some(true) && !gate.late.load(Ordering::SeqCst));
+    assert!(rt; ran && !gate.late.load(Ordering::SeqCst));
 }

@@ -1,6 +1,7 @@
 //! Trees that are opened with pairs.
 
 use crate::numbered::{key, value};
+use crate::trees::closed;
 use bw_model::{Key, Limits, Value};
 use bw_tree::LoadError;
 use std::alloc::{AllocError, Global};
@@ -14,7 +15,7 @@ fn moved(
     pairs: &[(Key, Value)],
 ) -> Result<Option<Vec<(Key, Value)>>, LoadError> {
     let (tree, seats) = opened_from(alloc, limits, pairs)?;
-    Ok(tree.close(alloc, seats).ok())
+    Ok(closed(alloc, tree, seats))
 }
 
 /// Whether they are moved.

@@ -1,20 +1,20 @@
 //! Jobs of which each growth of memory and each thread is refused in turn: none begins, the seats come back, and the same jobs run on the same
 //! tree.
-ghost use Rattle.std.specs.Prelude.{◌≤◌, IfSome, IsSome, vec_len};
+ghost use Rattle.std.specs.Prelude.{◌≤◌, IfErr, IfOk, IfSome, IsSome, vec_len};
 ghost use Rattle.bw_tree.specs.Trees.{AreSeatsOf};
 ghost use Rattle.workers.specs.Jobs.{AreAscending};
 ghost use Rattle.workers.specs.Worked.{AreIdle};
 
 use crate::numbered::{found, get, insert, key, value};
 use crate::refused_trees::Heap;
-use bw_model::{Limits, Reply};
+use bw_model::{Command, Limits, Reply};
 use bw_tree::{BwSeat, Tree};
 use refusing::Refusing;
-use std::alloc::{AllocError, Global};
+use std::alloc::Global;
 use std::sync::Wait;
 use std::sync::atomic::{AtomicU64, Ordering};
 use std::thread::Threads;
-use workers::{Gate, Job, JobResult, JobsRefusal, Ungated, are_ascending, opened, run_jobs};
+use workers::{Gate, Job, JobResult, JobsRefusal, are_ascending, opened, run_jobs};
 
 /// How often two jobs on two seats want memory: a list of lists, and one for each worker; the lists of workers, of threads, of workers that
 /// are back, of seats and of results; the channel, twice; and for each job its commands and its replies.
@@ -61,22 +61,20 @@ impl Gate for Refuses {
 /// Seats of a tree.
 type Seats<'a> = Vec<BwSeat<Heap<'a>>, Heap<'a>>;
 
-/// Results of jobs.
-type Results<'a> = Vec<JobResult<Heap<'a>>, Heap<'a>>;
+/// Adds a job of these commands, if there is memory for it.
+fn add(alloc: Global, jobs: &mut Vec<Job>, number: u32, asked: &[Command]) -> bool {
+    let mut commands = Vec::new(alloc);
+    for command in asked {
+        if commands.push(command.copied()).is_err() {
+            return false;
+        }
+    }
+    jobs.push(Job { number, commands }).is_ok()
+}
 
-/// Job 3 inserts a key and looks it up, job 8 inserts another one.
-fn made(alloc: Global) -> Result<Vec<Job>, AllocError> {
-    let commands = vec![in alloc; insert(1), get(1)]?;
-    let first = Job {
-        number: 3,
-        commands,
-    };
-    let commands = vec![in alloc; insert(2)]?;
-    let second = Job {
-        number: 8,
-        commands,
-    };
-    Ok(vec![in alloc; first, second]?)
+/// Adds job 3, which inserts a key and looks it up, and job 8, which inserts another one.
+fn add_both(alloc: Global, jobs: &mut Vec<Job>) -> bool {
+    add(alloc, jobs, 3, &[insert(1), get(1)]) && add(alloc, jobs, 8, &[insert(2)])
 }
 
 /// The jobs, if there is memory for them, and a seat to run them.
@@ -84,32 +82,56 @@ fn jobs<'a>(alloc: Global, seats: &Seats<'a>) -> Option<Vec<Job>>
     ensures ascending { IfSome result (λ jobs. AreAscending jobs.items) }
     ensures some { IsSome result → 1 ≤ vec_len seats.now }
 {
-    let jobs = made(alloc).ok()?;
-    if are_ascending(jobs.as_slice()) && !seats.is_empty() {
+    let mut jobs = Vec::new(alloc);
+    if add_both(alloc, &mut jobs) && are_ascending(jobs.as_slice()) && !seats.is_empty() {
         Some(jobs)
     } else {
         None
     }
 }
 
-/// Runs the jobs, where nothing is refused.
+/// Runs the jobs while something is refused, and hands back the seats. Says whether the results are right, or how it was refused.
+fn run_once<'a, R: Threads + Wait + Sync>(
+    rt: &R,
+    alloc: Global,
+    heap: Heap<'a>,
+    tree: &Tree<Heap<'a>>,
+    seats: Seats<'a>,
+    refuses: &Refuses,
+) -> Result<(bool, Seats<'a>), (bool, Seats<'a>)>
+    requires own { AreSeatsOf tree.now seats.items }
+    requires idle { AreIdle seats.items }
+    ensures own { IfOk result (λ done. AreSeatsOf tree.now done.1.items) }
+    ensures left { IfErr result (λ refused. AreSeatsOf tree.now refused.1.items × AreIdle refused.1.items) }
+{
+    let Some(jobs) = jobs(alloc, &seats) else {
+        return Err((false, seats));
+    };
+    heap.set(refuses.growth);
+    let ran = run_jobs(rt, heap, tree, seats, jobs, refuses);
+    heap.set(u64::MAX);
+    match ran {
+        Ok((results, seats)) => Ok((are_right(results.as_slice()), seats)),
+        Err(error) => Err((refuses.is_told(error.refusal), error.seats)),
+    }
+}
+
+/// Runs the jobs, where nothing is refused; says whether the results are right.
 fn run_again<'a, R: Threads + Wait + Sync>(
     rt: &R,
     alloc: Global,
     heap: Heap<'a>,
     tree: &Tree<Heap<'a>>,
     seats: Seats<'a>,
-) -> Option<(Results<'a>, Seats<'a>)>
+) -> (bool, Seats<'a>)
     requires own { AreSeatsOf tree.now seats.items }
     requires idle { AreIdle seats.items }
-    ensures own { IfSome result (λ done. AreSeatsOf tree.now done.1.items) }
+    ensures own { AreSeatsOf tree.now result.1.items }
 {
-    let Some(jobs) = jobs(alloc, &seats) else {
-        return None;
-    };
-    match run_jobs(rt, heap, tree, seats, jobs, &Ungated) {
-        Ok(done) => Some(done),
-        Err(_) => None,
+    let nothing = Refuses::new(u64::MAX, u64::MAX);
+    match run_once(rt, alloc, heap, tree, seats, &nothing) {
+        Ok(done) => done,
+        Err((_, seats)) => (false, seats),
     }
 }
 
@@ -121,28 +143,18 @@ fn run_twice<'a, R: Threads + Wait + Sync>(
     tree: &Tree<Heap<'a>>,
     seats: Seats<'a>,
     refuses: &Refuses,
-) -> Option<(bool, Results<'a>, Seats<'a>)>
+) -> (Option<bool>, Seats<'a>)
     requires own { AreSeatsOf tree.now seats.items }
     requires idle { AreIdle seats.items }
-    ensures own { IfSome result (λ done. AreSeatsOf tree.now done.2.items) }
+    ensures own { AreSeatsOf tree.now result.1.items }
 {
-    let Some(jobs) = jobs(alloc, &seats) else {
-        return None;
-    };
     let count = seats.len();
-    heap.set(refuses.growth);
-    let ran = run_jobs(rt, heap, tree, seats, jobs, refuses);
-    heap.set(u64::MAX);
-    match ran {
-        Ok((results, seats)) => Some((false, results, seats)),
-        Err(error) => {
-            if !refuses.is_told(error.refusal) || error.seats.len() != count {
-                return None;
-            }
-            match run_again(rt, alloc, heap, tree, error.seats) {
-                Some((results, seats)) => Some((true, results, seats)),
-                None => None,
-            }
+    match run_once(rt, alloc, heap, tree, seats, refuses) {
+        Ok((right, seats)) => (right.then_some(false), seats),
+        Err((told, seats)) => {
+            let told = told && seats.len() == count;
+            let (right, seats) = run_again(rt, alloc, heap, tree, seats);
+            ((told && right).then_some(true), seats)
         }
     }
 }
@@ -177,32 +189,52 @@ fn was_refused<R: Threads + Wait + Sync>(
     seats: u64,
     refuses: &Refuses,
 ) -> Option<bool> {
-    let limits = Limits::new(seats, 64, 64, 1).ok()?;
-    let (tree, seats) = opened(heap, limits).ok()?;
-    let Some((refused, results, seats)) = run_twice(rt, alloc, heap, &tree, seats, refuses) else {
+    let Ok(limits) = Limits::new(seats, 64, 64, 1) else {
         return None;
     };
-    let right = lists_both(alloc, tree, seats) && are_right(results.as_slice());
-    right.then_some(refused)
+    let Ok((tree, seats)) = opened(heap, limits) else {
+        return None;
+    };
+    let (refused, seats) = run_twice(rt, alloc, heap, &tree, seats, refuses);
+    if lists_both(alloc, tree, seats) {
+        refused
+    } else {
+        None
+    }
+}
+
+/// Whether jobs on so many seats are refused as they are to be, where this is refused.
+fn is_right<R: Threads + Wait + Sync>(
+    rt: &R,
+    alloc: Global,
+    seats: u64,
+    (growth, seat): (u64, u64),
+    refused: bool,
+) -> bool {
+    let heap = Refusing::new(alloc);
+    let refuses = Refuses::new(growth, seat);
+    was_refused(rt, alloc, &heap, seats, &refuses) == Some(refused)
 }
 
 #[test]
 fn jobs_want_memory(rt: HostRuntime) {
-    let heap = Refusing::new(rt.alloc());
     for growth in 0..=WANTS {
-        let refuses = Refuses::new(growth, u64::MAX);
-        let refused = was_refused(&rt, rt.alloc(), &heap, 2, &refuses);
-        assert!(rt; refused == Some(growth < WANTS), "{growth}");
+        let refuses = (growth, u64::MAX);
+        assert!(rt;
+            is_right(&rt, rt.alloc(), 2, refuses, growth < WANTS),
+            "{growth}"
+        );
     }
 }
 
 // The first thread, one in the middle, and the last; and none, where no seat stands.
 #[test]
 fn jobs_want_threads(rt: HostRuntime) {
-    let heap = Refusing::new(rt.alloc());
     for seat in 0..=SEATS {
-        let refuses = Refuses::new(u64::MAX, seat);
-        let refused = was_refused(&rt, rt.alloc(), &heap, SEATS, &refuses);
-        assert!(rt; refused == Some(seat < SEATS), "{seat}");
+        let refuses = (u64::MAX, seat);
+        assert!(rt;
+            is_right(&rt, rt.alloc(), SEATS, refuses, seat < SEATS),
+            "{seat}"
+        );
     }
 }

@@ -1,12 +1,12 @@
 //! What two seats of one tree do, one after the other, and whether each reply is right.
 ghost use Rattle.bw_tree.specs.Trees.{IsSeatOf};
 
+use crate::calls::{ends_within, goes_to_its_end, replies, stops_after, stops_again};
 use crate::numbered::{are_first, are_from_k01, found, get, insert, pair};
 use crate::shrinking::comes_and_goes;
 use crate::stops::Stop;
 use bw_model::{Command, Key, Reply, Value};
-use bw_tree::{BwSeat, Called, Tree};
-use workers::{called, reply, resumed};
+use bw_tree::{BwSeat, Tree};
 
 /// What is done.
 #[derive(Clone, Copy)]
@@ -97,14 +97,11 @@ fn steps(tree: &Tree, seat: &mut BwSeat) -> bool
     requires own { IsSeatOf tree.now seat.old }
     ensures own { IsSeatOf tree.now seat.new }
 {
-    let mut last = called(tree, seat, Command::Get(key()), 1);
-    for _ in 0..5u32 {
-        if last != Some(Called::Spent) {
-            return false;
-        }
-        last = resumed(tree, seat, 1);
+    let mut right = stops_after(tree, seat, Command::Get(key()), 1);
+    for _ in 0..4u32 {
+        right = stops_again(tree, seat, 1) && right;
     }
-    last == Some(Called::Done(Reply::None))
+    goes_to_its_end(tree, seat, 1, Reply::None) && right
 }
 
 /// Inserts the keys `k01` and on, each within 4,096 steps, so that the page is consolidated at the ninth and split at the seventeenth.
@@ -114,12 +111,34 @@ fn inserts_alone(tree: &Tree, seat: &mut BwSeat, count: u32) -> bool
 {
     for number in 0..count {
         let (key, value) = pair(number);
-        let inserted = called(tree, seat, Command::Insert(key, value), 4096);
-        if inserted != Some(Called::Done(Reply::Inserted)) {
+        if !ends_within(
+            tree,
+            seat,
+            Command::Insert(key, value),
+            4096,
+            Reply::Inserted,
+        ) {
             return false;
         }
     }
     true
+}
+
+/// Sets the value of the key within 4,096 steps, and answers whether the reply is right.
+fn sets(tree: &Tree, seat: &mut BwSeat, wanted: Reply) -> bool
+    requires own { IsSeatOf tree.now seat.old }
+    ensures own { IsSeatOf tree.now seat.new }
+{
+    ends_within(tree, seat, Command::Upsert(key(), value()), 4096, wanted)
+}
+
+/// What the update of a round is told while a lookup stands.
+fn reply_beside_a_reader(round: u32) -> Reply {
+    match round {
+        0 => Reply::Set,
+        56 => Reply::Full,
+        _ => Reply::Replaced(value()),
+    }
 }
 
 /// While a lookup stands after its second step, fifty-six updates use all rows, and the next one finds none; each within 4,096 steps.
@@ -129,19 +148,13 @@ fn stays(tree: &Tree, writer: &mut BwSeat, reader: &mut BwSeat) -> bool
     ensures one { IsSeatOf tree.now writer.new }
     ensures other { IsSeatOf tree.now reader.new }
 {
-    let stopped = called(tree, reader, Command::Get(key()), 2);
+    let stopped = stops_after(tree, reader, Command::Get(key()), 2);
     for round in 0..57u32 {
-        let wanted = match round {
-            0 => Reply::Set,
-            56 => Reply::Full,
-            _ => Reply::Replaced(value()),
-        };
-        let updated = called(tree, writer, Command::Upsert(key(), value()), 4096);
-        if updated != Some(Called::Done(wanted)) {
+        if !sets(tree, writer, reply_beside_a_reader(round)) {
             return false;
         }
     }
-    stopped == Some(Called::Spent)
+    stopped
 }
 
 /// Once that lookup is done, an update has room again.
@@ -151,10 +164,17 @@ fn goes(tree: &Tree, writer: &mut BwSeat, reader: &mut BwSeat) -> bool
     ensures one { IsSeatOf tree.now writer.new }
     ensures other { IsSeatOf tree.now reader.new }
 {
-    let last = resumed(tree, reader, 4096);
-    let updated = called(tree, writer, Command::Upsert(key(), value()), 4096);
-    last == Some(Called::Done(Reply::Value(value())))
-        && updated == Some(Called::Done(Reply::Replaced(value())))
+    let last = goes_to_its_end(tree, reader, 4096, Reply::Value(value()));
+    sets(tree, writer, Reply::Replaced(value())) && last
+}
+
+/// What an update is told of a key that has no value yet, or has it.
+fn reply_to_update(fresh: bool) -> Reply {
+    if fresh {
+        Reply::Set
+    } else {
+        Reply::Replaced(value())
+    }
 }
 
 /// So many updates within 4,096 steps each, of a key that has no value yet, or has it.
@@ -163,13 +183,7 @@ fn updates(tree: &Tree, seat: &mut BwSeat, fresh: bool, count: u32) -> bool
     ensures own { IsSeatOf tree.now seat.new }
 {
     for round in 0..count {
-        let wanted = if fresh && round == 0 {
-            Reply::Set
-        } else {
-            Reply::Replaced(value())
-        };
-        let updated = called(tree, seat, Command::Upsert(key(), value()), 4096);
-        if updated != Some(Called::Done(wanted)) {
+        if !sets(tree, seat, reply_to_update(fresh && round == 0)) {
             return false;
         }
     }
@@ -184,13 +198,10 @@ fn inserts(tree: &Tree, one: &mut BwSeat, other: &mut BwSeat, count: u32) -> boo
     ensures other { IsSeatOf tree.now other.new }
 {
     for number in 0..count {
-        let inserted = called(tree, one, insert(number), 4096);
-        let own = called(tree, one, get(number), 4096);
-        let others = called(tree, other, get(number), 4096);
-        if inserted != Some(Called::Done(Reply::Inserted))
-            || own != Some(Called::Done(found(number)))
-            || others != own
-        {
+        let inserted = ends_within(tree, one, insert(number), 4096, Reply::Inserted);
+        let own = ends_within(tree, one, get(number), 4096, found(number));
+        let others = ends_within(tree, other, get(number), 4096, found(number));
+        if !inserted || !own || !others {
             return false;
         }
     }
@@ -207,11 +218,11 @@ fn mixes(tree: &Tree, one: &mut BwSeat, other: &mut BwSeat) -> bool
     for place in 0..200u32 {
         let number = place * 77 % 200;
         let inserted = if number % 3 == 0 {
-            reply(tree, one, insert(number))
+            replies(tree, one, insert(number), Reply::Inserted)
         } else {
-            reply(tree, other, insert(number))
+            replies(tree, other, insert(number), Reply::Inserted)
         };
-        if inserted != Some(Reply::Inserted) {
+        if !inserted {
             return false;
         }
     }
@@ -226,17 +237,13 @@ fn meets(tree: &Tree, one: &mut BwSeat, other: &mut BwSeat) -> bool
     ensures other { IsSeatOf tree.now other.new }
 {
     for number in 0..20u32 {
-        let inserted = reply(tree, one, insert(number));
-        let stopped = called(tree, one, get(number), 1 + number % 6);
+        let inserted = replies(tree, one, insert(number), Reply::Inserted);
+        let stopped = stops_after(tree, one, get(number), 1 + number % 6);
         tree.meet(one, other);
-        let others = reply(tree, other, get(number));
+        let others = replies(tree, other, get(number), found(number));
         tree.meet(other, one);
-        let last = resumed(tree, one, 4096);
-        if inserted != Some(Reply::Inserted)
-            || stopped != Some(Called::Spent)
-            || others != Some(found(number))
-            || last != Some(Called::Done(found(number)))
-        {
+        let last = goes_to_its_end(tree, one, 4096, found(number));
+        if !inserted || !stopped || !others || !last {
             return false;
         }
     }

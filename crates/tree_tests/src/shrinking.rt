@@ -1,9 +1,9 @@
 //! A tree of 200 keys of three digits that shrinks to nothing, by calls of one seat.
 ghost use Rattle.bw_tree.specs.Trees.{IsSeatOf};
 
+use crate::calls::ends_within;
 use bw_model::{Command, Key, Reply, Value};
-use bw_tree::{BwSeat, Called, Tree};
-use workers::called;
+use bw_tree::{BwSeat, Tree};
 
 /// How many keys there are.
 const KEYS: u32 = 200;
@@ -49,7 +49,7 @@ pub(crate) fn comes_and_goes(tree: &Tree, seat: &mut BwSeat) -> bool
 {
     for place in 0..2 * KEYS {
         let (command, reply) = asked(place);
-        if called(tree, seat, command, BUDGET) != Some(Called::Done(reply)) {
+        if !ends_within(tree, seat, command, BUDGET, reply) {
             return false;
         }
     }

@@ -1,10 +1,10 @@
 //! A seat that is stopped after some of its steps, while another one goes on.
 ghost use Rattle.bw_tree.specs.Trees.{IsSeatOf};
 
+use crate::calls::{begins, goes_to_its_end, replies};
 use crate::numbered::{delete, found, get, insert, upsert, value};
 use bw_model::{Command, Reply};
-use bw_tree::{BwSeat, Called, Tree};
-use workers::{called, reply, resumed};
+use bw_tree::{BwSeat, Tree};
 
 /// The operation that is stopped.
 #[derive(Clone, Copy)]
@@ -76,17 +76,13 @@ impl Stop {
     {
         let (inserted, deleted) = self.before();
         let prepared = prepare(tree, one, inserted, deleted);
-        let first = called(tree, one, self.command(), steps);
+        let begun = begins(tree, one, self.command(), steps, self.reply());
         let went = goes_on(tree, other);
-        let last = match first {
-            Some(Called::Spent) => resumed(tree, one, 4096),
-            done => done,
+        let ended = match begun {
+            Some(right) => right,
+            None => goes_to_its_end(tree, one, 4096, self.reply()),
         };
-        prepared
-            && went
-            && last == Some(Called::Done(self.reply()))
-            && finds(tree, one, 0)
-            && finds(tree, one, 20)
+        prepared && went && ended && finds(tree, one, 0) && finds(tree, one, 20)
     }
 }
 
@@ -96,13 +92,13 @@ fn prepare(tree: &Tree, seat: &mut BwSeat, count: u32, deleted: u32) -> bool
     ensures own { IsSeatOf tree.now seat.new }
 {
     for number in 0..count {
-        if reply(tree, seat, insert(number)) != Some(Reply::Inserted) {
+        if !replies(tree, seat, insert(number), Reply::Inserted) {
             return false;
         }
     }
     for back in 0..deleted {
         let number = count.saturating_sub(back).saturating_sub(1);
-        if reply(tree, seat, delete(number)) != Some(Reply::Deleted(value(number))) {
+        if !replies(tree, seat, delete(number), Reply::Deleted(value(number))) {
             return false;
         }
     }
@@ -115,7 +111,7 @@ fn goes_on(tree: &Tree, seat: &mut BwSeat) -> bool
     ensures own { IsSeatOf tree.now seat.new }
 {
     for number in 20..28u32 {
-        if reply(tree, seat, insert(number)) != Some(Reply::Inserted) {
+        if !replies(tree, seat, insert(number), Reply::Inserted) {
             return false;
         }
     }
@@ -129,7 +125,7 @@ fn finds(tree: &Tree, seat: &mut BwSeat, from: u32) -> bool
 {
     for place in 0..8u32 {
         let number = from.wrapping_add(place);
-        if reply(tree, seat, get(number)) != Some(found(number)) {
+        if !replies(tree, seat, get(number), found(number)) {
             return false;
         }
     }

@@ -1,13 +1,15 @@
 //! Threads over one tree, each with a seat of its own.
 
+use crate::calls::replies;
 use crate::clients::{Client, OWN};
 use crate::loading::are_moved;
 use crate::numbered::{are_first, found, get, insert, key, value};
+use crate::trees::closed;
 use bw_model::{Key, Limits, Reply, Value};
 use bw_tree::{BwSeat, Tree};
 use std::alloc::Global;
 use std::thread::Threads;
-use workers::{Work, opened, reply, work_in_threads};
+use workers::{Work, opened, work_in_threads};
 
 /// Inserts 1,000 keys from a number on, each followed by a lookup of it, and counts the replies that are right.
 #[derive(Drop)]
@@ -26,10 +28,10 @@ impl Work for Inserts {
     fn work(&mut self, tree: &Tree, seat: &mut BwSeat) {
         for place in 0..1000u32 {
             let number = self.from.wrapping_add(place);
-            if reply(tree, seat, insert(number)) == Some(Reply::Inserted) {
+            if replies(tree, seat, insert(number), Reply::Inserted) {
                 self.right = self.right.saturating_add(1);
             }
-            if reply(tree, seat, get(number)) == Some(found(number)) {
+            if replies(tree, seat, get(number), found(number)) {
                 self.right = self.right.saturating_add(1);
             }
         }
@@ -48,7 +50,7 @@ fn done_at_once<R: Threads + Sync, W: Work>(
     };
     let done = work_in_threads(rt, &tree, &mut seats, works);
     // a seat that didn't come back is missed
-    done.zip(tree.close(alloc, seats).ok())
+    done.zip(closed(alloc, tree, seats))
 }
 
 /// Whether two threads insert 2,000 keys, and their pairs are moved into another tree of the same limits.

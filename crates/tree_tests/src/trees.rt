@@ -77,17 +77,11 @@ fn opened_at(alloc: Global, limits: Limits, epoch: u64) -> Result<(Tree, Vec<BwS
     Tree::<Global>::open_at(alloc, limits, epoch)
 }
 
-/// The pairs of a tree that opens at this epoch, and is closed after these runs; none where a reply was wrong.
-fn pairs_after(
-    alloc: Global,
-    limits: Limits,
-    epoch: u64,
-    all: &[Run],
-) -> Option<Vec<(Key, Value)>> {
-    let (tree, mut seats) = opened_at(alloc, limits, epoch).ok()?;
-    let right = runs_all(&tree, &mut seats, all);
-    let pairs = tree.close(alloc, seats).ok()?;
-    right.then_some(pairs)
+/// The pairs of a tree that is closed; none where it can't be.
+pub(crate) fn closed(alloc: Global, tree: Tree, seats: Vec<BwSeat>) -> Option<Vec<(Key, Value)>>
+    requires own { AreSeatsOf tree seats.items }
+{
+    tree.close(alloc, seats).ok()
 }
 
 /// Whether the pairs are those of a tree that is closed after these runs, of which the last one says what it leaves.
@@ -106,8 +100,12 @@ pub(crate) fn go_right(alloc: Global, size: Size, epoch: u64, all: &[Run]) -> bo
     let Ok(limits) = Limits::new(size.0, size.1, size.2, 1) else {
         return false;
     };
-    match pairs_after(alloc, limits, epoch, all) {
-        Some(pairs) => are_left(all, pairs.as_slice()),
+    let Ok((tree, mut seats)) = opened_at(alloc, limits, epoch) else {
+        return false;
+    };
+    let right = runs_all(&tree, &mut seats, all);
+    match closed(alloc, tree, seats) {
+        Some(pairs) => right && are_left(all, pairs.as_slice()),
         None => false,
     }
 }
