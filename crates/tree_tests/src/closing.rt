@@ -90,26 +90,40 @@ fn growths(alloc: Global, heap: Heap<'_>, limits: Limits, pairs: &[(Key, Value)]
     None
 }
 
+/// How many growths the closing of a tree with pairs wants, where each is refused and told.
+fn growths_of_pairs(alloc: Global) -> Option<u64> {
+    let Ok(limits) = Limits::new(2, 64, 256, 1) else {
+        return None;
+    };
+    let heap = Refusing::new(alloc);
+    match first_pairs(alloc, PAIRS) {
+        Ok(pairs) => growths(alloc, &heap, limits, pairs.as_slice()),
+        Err(_) => None,
+    }
+}
+
 #[test]
 fn each_growth_of_a_closing_is_refused(rt: HostRuntime) -> Result<(), Fail> {
-    let heap = Refusing::new(rt.alloc());
-    let limits = Limits::new(2, 64, 256, 1)?;
-    let pairs = first_pairs(rt.alloc(), PAIRS)?;
-    let count = growths(rt.alloc(), &heap, limits, pairs.as_slice());
+    let count = growths_of_pairs(rt.alloc());
     println!(rt; "closing: {count:?} growths")?;
     assert!(rt; count > Some(0));
     Ok(())
 }
 
 // A seat whose operation is unfinished holds up closing, also where there is no memory for the list, but no other seat.
-#[test]
-fn a_seat_that_stays_keeps_rows(rt: HostRuntime) -> Result<(), Fail> {
-    let heap = Refusing::new(rt.alloc());
-    let limits = Limits::new(2, 64, 64, 1)?;
+fn a_seat_that_stays_holds_up(alloc: Global) -> bool {
+    let Ok(limits) = Limits::new(2, 64, 64, 1) else {
+        return false;
+    };
+    let heap = Refusing::new(alloc);
     let runs = (Run::Stays, Run::Goes);
-    let closed = closed_how(rt.alloc(), &heap, limits, runs, 0, &[(key(), value())]);
-    assert!(rt; matches!(closed, Closing::Later(CloseRefusal::NotIdle)));
-    Ok(())
+    let closed = closed_how(alloc, &heap, limits, runs, 0, &[(key(), value())]);
+    matches!(closed, Closing::Later(CloseRefusal::NotIdle))
+}
+
+#[test]
+fn a_seat_that_stays_keeps_rows(rt: HostRuntime) {
+    assert!(rt; a_seat_that_stays_holds_up(rt.alloc()));
 }
 
 /// Lets the seat go that is the last but one of a list.
@@ -126,12 +140,18 @@ fn lets_one_go(tree: &Tree, seats: &mut Vec<BwSeat>) -> bool
 
 /// Why a tree isn't closed without one of its seats, where another one isn't idle and there is no memory, and how many seats come back.
 fn closed_without(alloc: Global, heap: Heap<'_>) -> Option<(CloseRefusal, usize)> {
-    let limits = Limits::new(2, 64, 64, 1).ok()?;
-    let (tree, mut seats) = opened(alloc, limits).ok()?;
+    let Ok(limits) = Limits::new(2, 64, 64, 1) else {
+        return None;
+    };
+    let Ok((tree, mut seats)) = opened(alloc, limits) else {
+        return None;
+    };
     let well = runs(&tree, &mut seats, Run::Stays) && lets_one_go(&tree, &mut seats);
     heap.set(0);
-    let error = tree.close(heap, seats).err()?;
-    well.then_some((error.refusal, error.seats.len()))
+    match tree.close(heap, seats) {
+        Err(error) if well => Some((error.refusal, error.seats.len())),
+        _ => None,
+    }
 }
 
 // A seat that is kept back is missed before it isn't idle, and that before memory.

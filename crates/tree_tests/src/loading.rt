@@ -5,24 +5,16 @@ use crate::trees::closed;
 use bw_model::{Key, Limits, Value};
 use bw_tree::LoadError;
 use std::alloc::{AllocError, Global};
-use std::test::Fail;
 use workers::opened_from;
 
-/// The pairs of a tree that is opened with these, and closed.
-fn moved(
-    alloc: Global,
-    limits: Limits,
-    pairs: &[(Key, Value)],
-) -> Result<Option<Vec<(Key, Value)>>, LoadError> {
-    let (tree, seats) = opened_from(alloc, limits, pairs)?;
-    Ok(closed(alloc, tree, seats))
-}
-
-/// Whether they are moved.
+/// Whether the pairs of a tree that is opened with these, and closed, are the same.
 pub(crate) fn are_moved(alloc: Global, limits: Limits, pairs: &[(Key, Value)]) -> bool {
-    match moved(alloc, limits, pairs) {
-        Ok(Some(after)) => after.as_slice() == pairs,
-        _ => false,
+    let Ok((tree, seats)) = opened_from(alloc, limits, pairs) else {
+        return false;
+    };
+    match closed(alloc, tree, seats) {
+        Some(after) => after.as_slice() == pairs,
+        None => false,
     }
 }
 
@@ -35,28 +27,36 @@ pub(crate) fn first_pairs(alloc: Global, count: u32) -> Result<Vec<(Key, Value)>
     Ok(pairs)
 }
 
-/// Whether the pairs of so many keys are moved; none where there is no memory for them.
-fn first_are_moved(alloc: Global, limits: Limits, count: u32) -> Option<bool> {
-    let pairs = first_pairs(alloc, count).ok()?;
-    Some(are_moved(alloc, limits, pairs.as_slice()))
+/// Whether the pairs of so many keys are moved.
+fn first_are_moved(alloc: Global, limits: Limits, count: u32) -> bool {
+    match first_pairs(alloc, count) {
+        Ok(pairs) => are_moved(alloc, limits, pairs.as_slice()),
+        Err(_) => false,
+    }
 }
 
 /// Why no tree is opened with the pairs of so many keys; none where one is, or where there is no memory for them.
 fn first_refused(alloc: Global, limits: Limits, count: u32) -> Option<LoadError> {
-    let pairs = first_pairs(alloc, count).ok()?;
-    opened_from(alloc, limits, pairs.as_slice()).err()
+    match first_pairs(alloc, count) {
+        Ok(pairs) => opened_from(alloc, limits, pairs.as_slice()).err(),
+        Err(_) => None,
+    }
 }
 
 // No pair, and 64 pairs in a tree of 64 rows; and then too many for the rows.
-#[test]
-fn pairs_are_moved_if_they_fit(rt: HostRuntime) -> Result<(), Fail> {
-    let limits = Limits::new(1, 64, 64, 1)?;
+fn are_moved_if_they_fit(alloc: Global) -> bool {
+    let Ok(limits) = Limits::new(1, 64, 64, 1) else {
+        return false;
+    };
     for count in [0, 1, 64] {
-        assert!(rt;
-            first_are_moved(rt.alloc(), limits, count) == Some(true),
-            "{count}"
-        );
+        if !first_are_moved(alloc, limits, count) {
+            return false;
+        }
     }
-    assert!(rt; first_refused(rt.alloc(), limits, 4000) == Some(LoadError::Full));
-    Ok(())
+    first_refused(alloc, limits, 4000) == Some(LoadError::Full)
+}
+
+#[test]
+fn pairs_are_moved_if_they_fit(rt: HostRuntime) {
+    assert!(rt; are_moved_if_they_fit(rt.alloc()));
 }

@@ -43,47 +43,54 @@ fn growths(heap: Heap<'_>, limits: Limits, epoch: Option<u64>) -> Option<u64> {
     None
 }
 
+/// How many growths an opening with so many seats wants, at the first epoch as at the last one.
+fn growths_of_seats(alloc: Global, actors: u64) -> Option<u64> {
+    let Ok(limits) = Limits::new(actors, 64, 64, 1) else {
+        return None;
+    };
+    let heap = Refusing::new(alloc);
+    let count = growths(&heap, limits, None);
+    if count == growths(&heap, limits, Some(1 << 62)) {
+        count
+    } else {
+        None
+    }
+}
+
 // A seat takes more than one growth, and a tree some of its own.
 #[test]
 fn each_growth_of_an_opening_is_refused(rt: HostRuntime) -> Result<(), Fail> {
-    let heap = Refusing::new(rt.alloc());
     for actors in [1, 2] {
-        let limits = Limits::new(actors, 64, 64, 1)?;
-        let counts = [
-            growths(&heap, limits, None),
-            growths(&heap, limits, Some(1 << 62)),
-        ];
-        println!(rt; "{actors} seats: {counts:?} growths")?;
-        assert!(rt;
-            counts[0] == counts[1] && counts[0] > Some(actors),
-            "{actors}"
-        );
+        let count = growths_of_seats(rt.alloc(), actors);
+        println!(rt; "{actors} seats: {count:?} growths")?;
+        assert!(rt; count > Some(actors), "{actors}");
     }
     Ok(())
 }
 
-/// Why no tree opens at this epoch, while the first growth is refused, and while none is.
-fn epoch_errors(heap: Heap<'_>, limits: Limits, epoch: u64) -> [Option<OpenError>; 2] {
-    [
-        open_error(heap, limits, Some(epoch), 0),
-        open_error(heap, limits, Some(epoch), u64::MAX),
-    ]
+/// Whether no tree opens at this epoch for these reasons, while the first growth is refused, and while none is.
+fn has_errors(alloc: Global, epoch: u64, errors: [Option<OpenError>; 2]) -> bool {
+    let Ok(limits) = Limits::new(2, 64, 64, 1) else {
+        return false;
+    };
+    let heap = Refusing::new(alloc);
+    open_error(&heap, limits, Some(epoch), 0) == errors[0]
+        && open_error(&heap, limits, Some(epoch), u64::MAX) == errors[1]
 }
 
 // An epoch outside the range is refused before memory is.
+const EPOCHS: [(u64, [Option<OpenError>; 2]); 4] = [
+    (0, [Some(OpenError::BadEpoch); 2]),
+    (1 << 62, [Some(OpenError::Memory), None]),
+    ((1 << 62) + 1, [Some(OpenError::BadEpoch); 2]),
+    (u64::MAX, [Some(OpenError::BadEpoch); 2]),
+];
+
 #[test]
-fn epochs_have_a_range(rt: HostRuntime) -> Result<(), Fail> {
-    let heap = Refusing::new(rt.alloc());
-    let limits = Limits::new(2, 64, 64, 1)?;
-    for (epoch, errors) in [
-        (0, [Some(OpenError::BadEpoch); 2]),
-        (1 << 62, [Some(OpenError::Memory), None]),
-        ((1 << 62) + 1, [Some(OpenError::BadEpoch); 2]),
-        (u64::MAX, [Some(OpenError::BadEpoch); 2]),
-    ] {
-        assert!(rt; epoch_errors(&heap, limits, epoch) == errors, "{epoch}");
+fn epochs_have_a_range(rt: HostRuntime) {
+    for (epoch, errors) in EPOCHS {
+        assert!(rt; has_errors(rt.alloc(), epoch, errors), "{epoch}");
     }
-    Ok(())
 }
 
 /// Why no tree opens with pairs while a growth is refused.
@@ -110,44 +117,60 @@ fn loading_growths(heap: Heap<'_>, limits: Limits, pairs: &[(Key, Value)]) -> Op
 }
 
 // The pairs take no memory of their own.
+fn growths_of_pairs(alloc: Global) -> Option<u64> {
+    let Ok(limits) = Limits::new(2, 64, 256, 1) else {
+        return None;
+    };
+    let Ok(pairs) = first_pairs(alloc, PAIRS) else {
+        return None;
+    };
+    let heap = Refusing::new(alloc);
+    let count = loading_growths(&heap, limits, pairs.as_slice());
+    if count == growths(&heap, limits, None) {
+        count
+    } else {
+        None
+    }
+}
+
 #[test]
 fn each_growth_of_a_loading_is_refused(rt: HostRuntime) -> Result<(), Fail> {
-    let heap = Refusing::new(rt.alloc());
-    let limits = Limits::new(2, 64, 256, 1)?;
-    let pairs = first_pairs(rt.alloc(), PAIRS)?;
-    let count = loading_growths(&heap, limits, pairs.as_slice());
+    let count = growths_of_pairs(rt.alloc());
     println!(rt; "loading: {count:?} growths")?;
-    assert!(rt; count > Some(0) && count == growths(&heap, limits, None));
+    assert!(rt; count > Some(0));
     Ok(())
 }
 
-/// Why no tree opens with three pairs, of which the last two have these keys, while the first growth is refused, and while none is.
-fn order_errors(heap: Heap<'_>, limits: Limits, one: u32, other: u32) -> [Option<LoadError>; 2] {
+/// Whether no tree opens with three pairs, of which the last two have these keys, for these reasons, while the first growth is refused, and
+/// while none is.
+fn has_order_errors(
+    alloc: Global,
+    (one, other): (u32, u32),
+    errors: [Option<LoadError>; 2],
+) -> bool {
+    let Ok(limits) = Limits::new(2, 64, 64, 1) else {
+        return false;
+    };
     let pairs = [
         (key(1), value(1)),
         (key(one), value(1)),
         (key(other), value(2)),
     ];
-    [
-        load_error(heap, limits, &pairs, 0),
-        load_error(heap, limits, &pairs, u64::MAX),
-    ]
+    let heap = Refusing::new(alloc);
+    load_error(&heap, limits, &pairs, 0) == errors[0]
+        && load_error(&heap, limits, &pairs, u64::MAX) == errors[1]
 }
 
 // The order of the keys is looked for before memory is: two equal keys, and a key below the one before it.
+const ORDERS: [((u32, u32), [Option<LoadError>; 2]); 3] = [
+    ((5, 5), [Some(LoadError::Order); 2]),
+    ((5, 4), [Some(LoadError::Order); 2]),
+    ((5, 6), [Some(LoadError::Memory), None]),
+];
+
 #[test]
-fn keys_that_do_not_ascend_are_refused(rt: HostRuntime) -> Result<(), Fail> {
-    let heap = Refusing::new(rt.alloc());
-    let limits = Limits::new(2, 64, 64, 1)?;
-    for (one, other, errors) in [
-        (5, 5, [Some(LoadError::Order); 2]),
-        (5, 4, [Some(LoadError::Order); 2]),
-        (5, 6, [Some(LoadError::Memory), None]),
-    ] {
-        assert!(rt;
-            order_errors(&heap, limits, one, other) == errors,
-            "{other}"
-        );
+fn keys_that_do_not_ascend_are_refused(rt: HostRuntime) {
+    for (keys, errors) in ORDERS {
+        assert!(rt; has_order_errors(rt.alloc(), keys, errors));
     }
-    Ok(())
 }

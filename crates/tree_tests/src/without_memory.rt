@@ -8,7 +8,6 @@ use bw_model::{Command, Limits, Reply};
 use bw_tree::{BwSeat, Called, Tree};
 use refusing::Refusing;
 use std::alloc::{Allocator, Global};
-use std::test::Fail;
 use std::thread::{Threads, map_vec};
 use workers::opened;
 
@@ -214,10 +213,15 @@ fn counted<R: Threads + Sync>(
 
 // The first call for memory would be refused. There are few rows and PIDs, so that pages are split, removed and used again, and some
 // writers find no room.
+fn nothing_is_wanted<R: Threads + Sync>(rt: &R, alloc: Global) -> bool {
+    let Ok(limits) = Limits::new(8, 64, 128, 1) else {
+        return false;
+    };
+    let heap = Refusing::new(alloc);
+    counted(rt, alloc, &heap, limits) == Some((0, 0))
+}
+
 #[test]
-fn no_call_wants_memory(rt: HostRuntime) -> Result<(), Fail> {
-    let heap = Refusing::new(rt.alloc());
-    let limits = Limits::new(8, 64, 128, 1)?;
-    assert!(rt; counted(&rt, rt.alloc(), &heap, limits) == Some((0, 0)));
-    Ok(())
+fn no_call_wants_memory(rt: HostRuntime) {
+    assert!(rt; nothing_is_wanted(&rt, rt.alloc()));
 }
