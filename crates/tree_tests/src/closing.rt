@@ -110,7 +110,7 @@ fn each_growth_of_a_closing_is_refused(rt: HostRuntime) -> Result<(), Fail> {
     Ok(())
 }
 
-// A seat whose operation is unfinished holds up closing, also where there is no memory for the list, but no other seat.
+/// A seat whose operation is unfinished holds up closing, also where there is no memory for the list, but no other seat.
 fn a_seat_that_stays_holds_up(alloc: Global) -> bool {
     let Ok(limits) = Limits::new(2, 64, 64, 1) else {
         return false;

@@ -43,7 +43,7 @@ fn first_refused(alloc: Global, limits: Limits, count: u32) -> Option<LoadError>
     }
 }
 
-// No pair, and 64 pairs in a tree of 64 rows; and then too many for the rows.
+/// No pair, and 64 pairs in a tree of 64 rows; and then too many for the rows.
 fn are_moved_if_they_fit(alloc: Global) -> bool {
     let Ok(limits) = Limits::new(1, 64, 64, 1) else {
         return false;

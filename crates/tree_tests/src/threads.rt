@@ -54,17 +54,24 @@ fn done_at_once<R: Threads + Sync, W: Work>(
 }
 
 /// Whether two threads insert 2,000 keys, and their pairs are moved into another tree of the same limits.
-fn two_insert<R: Threads + Sync>(rt: &R, alloc: Global) -> Option<bool> {
-    let limits = Limits::new(2, 4096, 16384, 1).ok()?;
-    let works = vec![in alloc; Inserts::new(0), Inserts::new(1000)].ok()?;
-    let (works, pairs) = done_at_once(rt, alloc, limits, works)?;
-    let right = works.iter().all(|work| work.right == 2000) && are_first(pairs.as_slice(), 2000);
-    Some(right && are_moved(alloc, limits, pairs.as_slice()))
+fn two_insert<R: Threads + Sync>(rt: &R, alloc: Global) -> bool {
+    let Ok(limits) = Limits::new(2, 4096, 16384, 1) else {
+        return false;
+    };
+    let Ok(works) = vec![in alloc; Inserts::new(0), Inserts::new(1000)] else {
+        return false;
+    };
+    match done_at_once(rt, alloc, limits, works) {
+        Some((works, pairs)) => works.iter().all(|work| work.right == 2000)
+            && are_first(pairs.as_slice(), 2000)
+            && are_moved(alloc, limits, pairs.as_slice()),
+        None => false,
+    }
 }
 
 #[test]
 fn two_threads_insert(rt: HostRuntime) {
-    assert!(rt; two_insert(&rt, rt.alloc()) == Some(true));
+    assert!(rt; two_insert(&rt, rt.alloc()));
 }
 
 /// Whether the pairs have exactly what the client knows of its own keys.
@@ -95,15 +102,21 @@ fn all_know(clients: &[Client], pairs: &[(Key, Value)]) -> bool {
 }
 
 /// Whether four clients do with few pages and rows, so that pages are split, removed and used again, and some writers find no room.
-fn four_collide<R: Threads + Sync>(rt: &R, alloc: Global) -> Option<bool> {
-    let limits = Limits::new(4, 64, 128, 1).ok()?;
+fn four_collide<R: Threads + Sync>(rt: &R, alloc: Global) -> bool {
+    let Ok(limits) = Limits::new(4, 64, 128, 1) else {
+        return false;
+    };
     let client = |number| Client::new(number, 2000);
-    let works = vec![in alloc; client(0), client(1), client(2), client(3)].ok()?;
-    let (clients, pairs) = done_at_once(rt, alloc, limits, works)?;
-    Some(all_know(clients.as_slice(), pairs.as_slice()))
+    let Ok(works) = vec![in alloc; client(0), client(1), client(2), client(3)] else {
+        return false;
+    };
+    match done_at_once(rt, alloc, limits, works) {
+        Some((clients, pairs)) => all_know(clients.as_slice(), pairs.as_slice()),
+        None => false,
+    }
 }
 
 #[test]
 fn four_threads_collide(rt: HostRuntime) {
-    assert!(rt; four_collide(&rt, rt.alloc()) == Some(true));
+    assert!(rt; four_collide(&rt, rt.alloc()));
 }

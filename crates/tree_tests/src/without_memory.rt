@@ -211,8 +211,8 @@ fn counted<R: Threads + Sync>(
     wrong_and_wanted(rt, alloc, heap, &tree, &mut seats)
 }
 
-// The first call for memory would be refused. There are few rows and PIDs, so that pages are split, removed and used again, and some
-// writers find no room.
+/// The first call for memory would be refused. There are few rows and PIDs, so that pages are split, removed and used again, and some
+/// writers find no room.
 fn nothing_is_wanted<R: Threads + Sync>(rt: &R, alloc: Global) -> bool {
     let Ok(limits) = Limits::new(8, 64, 128, 1) else {
         return false;
