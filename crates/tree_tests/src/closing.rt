@@ -9,7 +9,7 @@ use crate::trees::{give_back, runs};
 use bw_model::{Key, Limits, Value};
 use bw_tree::{BwSeat, CloseRefusal, Tree};
 use refusing::Refusing;
-use std::alloc::Global;
+use std::alloc::{Allocator, Global};
 use std::test::Fail;
 use workers::{opened, take_seat};
 
@@ -28,8 +28,8 @@ enum Closing {
 }
 
 /// Whether the tree is closed with these pairs once the run is done.
-fn closes<'a>(
-    heap: Heap<'a>,
+fn closes<A: Allocator + Copy>(
+    alloc: A,
     tree: Tree,
     seats: Vec<BwSeat>,
     run: Run,
@@ -39,7 +39,7 @@ fn closes<'a>(
 {
     let mut seats = seats;
     let right = runs(&tree, &mut seats, run);
-    match tree.close(heap, seats).ok() {
+    match tree.close(alloc, seats).ok() {
         Some(pairs) => right && pairs.as_slice() == wanted,
         None => false,
     }

@@ -10,7 +10,7 @@ use crate::refused_trees::Heap;
 use bw_model::{Command, Limits, Reply};
 use bw_tree::{BwSeat, Tree};
 use refusing::Refusing;
-use std::alloc::Global;
+use std::alloc::{Allocator, Global};
 use std::sync::Wait;
 use std::sync::atomic::{AtomicU64, Ordering};
 use std::thread::Threads;
@@ -59,7 +59,7 @@ impl Gate for Refuses {
 }
 
 /// Seats of a tree.
-type Seats<'a> = Vec<BwSeat<Heap<'a>>, Heap<'a>>;
+type Seats<A> = Vec<BwSeat<A>, A>;
 
 /// Adds a job of these commands, if there is memory for it.
 fn add(alloc: Global, jobs: &mut Vec<Job>, number: u32, asked: &[Command]) -> bool {
@@ -78,7 +78,7 @@ fn add_both(alloc: Global, jobs: &mut Vec<Job>) -> bool {
 }
 
 /// The jobs, if there is memory for them, and a seat to run them.
-fn jobs<'a>(alloc: Global, seats: &Seats<'a>) -> Option<Vec<Job>>
+fn jobs<A: Allocator>(alloc: Global, seats: &Seats<A>) -> Option<Vec<Job>>
     ensures ascending { IfSome result (λ jobs. AreAscending jobs.items) }
     ensures some { IsSome result → 1 ≤ vec_len seats.now }
 {
@@ -96,9 +96,9 @@ fn run_once<'a, R: Threads + Wait + Sync>(
     alloc: Global,
     heap: Heap<'a>,
     tree: &Tree<Heap<'a>>,
-    seats: Seats<'a>,
+    seats: Seats<Heap<'a>>,
     refuses: &Refuses,
-) -> Result<(bool, Seats<'a>), (bool, Seats<'a>)>
+) -> Result<(bool, Seats<Heap<'a>>), (bool, Seats<Heap<'a>>)>
     requires own { AreSeatsOf tree.now seats.items }
     requires idle { AreIdle seats.items }
     ensures own { IfOk result (λ done. AreSeatsOf tree.now done.1.items) }
@@ -122,8 +122,8 @@ fn run_again<'a, R: Threads + Wait + Sync>(
     alloc: Global,
     heap: Heap<'a>,
     tree: &Tree<Heap<'a>>,
-    seats: Seats<'a>,
-) -> (bool, Seats<'a>)
+    seats: Seats<Heap<'a>>,
+) -> (bool, Seats<Heap<'a>>)
     requires own { AreSeatsOf tree.now seats.items }
     requires idle { AreIdle seats.items }
     ensures own { AreSeatsOf tree.now result.1.items }
@@ -141,9 +141,9 @@ fn run_twice<'a, R: Threads + Wait + Sync>(
     alloc: Global,
     heap: Heap<'a>,
     tree: &Tree<Heap<'a>>,
-    seats: Seats<'a>,
+    seats: Seats<Heap<'a>>,
     refuses: &Refuses,
-) -> (Option<bool>, Seats<'a>)
+) -> (Option<bool>, Seats<Heap<'a>>)
     requires own { AreSeatsOf tree.now seats.items }
     requires idle { AreIdle seats.items }
     ensures own { AreSeatsOf tree.now result.1.items }
@@ -160,7 +160,7 @@ fn run_twice<'a, R: Threads + Wait + Sync>(
 }
 
 /// Whether the results are those of the jobs on a fresh tree.
-fn are_right<'a>(results: &[JobResult<Heap<'a>>]) -> bool {
+fn are_right<A: Allocator>(results: &[JobResult<A>]) -> bool {
     let [first, second] = results else {
         return false;
     };
@@ -170,7 +170,7 @@ fn are_right<'a>(results: &[JobResult<Heap<'a>>]) -> bool {
 }
 
 /// Whether the tree is closed with the pairs of the jobs.
-fn lists_both<'a>(alloc: Global, tree: Tree<Heap<'a>>, seats: Seats<'a>) -> bool
+fn lists_both<A: Allocator + Copy>(alloc: Global, tree: Tree<A>, seats: Seats<A>) -> bool
     requires own { AreSeatsOf tree seats.items }
 {
     let pairs = [(key(1), value(1)), (key(2), value(2))];

@@ -5,7 +5,7 @@ use crate::numbered::{key, value};
 use bw_model::{Key, Limits, OpenError, Value};
 use bw_tree::{LoadError, Tree};
 use refusing::Refusing;
-use std::alloc::Global;
+use std::alloc::{Allocator, Global};
 use std::test::Fail;
 
 /// An allocator that refuses one growth, and counts.
@@ -17,18 +17,23 @@ pub(crate) const MOST: u64 = 1000;
 /// How many pairs a tree is opened with.
 const PAIRS: u32 = 40;
 
-/// Why no tree opens while a growth is refused, at the epoch of the limits or at another one.
-fn open_error<'a>(
-    heap: Heap<'a>,
+/// Why no tree opens, at the epoch of the limits or at another one.
+fn error<A: Allocator + Copy>(alloc: A, limits: Limits, epoch: Option<u64>) -> Option<OpenError> {
+    match epoch {
+        Some(epoch) => Tree::<A>::open_at(alloc, limits, epoch).err(),
+        None => Tree::<A>::open(alloc, limits).err(),
+    }
+}
+
+/// Why no tree opens while a growth is refused.
+fn open_error(
+    heap: Heap<'_>,
     limits: Limits,
     epoch: Option<u64>,
     growth: u64,
 ) -> Option<OpenError> {
     heap.set(growth);
-    match epoch {
-        Some(epoch) => Tree::<Heap<'a>>::open_at(heap, limits, epoch).err(),
-        None => Tree::<Heap<'a>>::open(heap, limits).err(),
-    }
+    error(heap, limits, epoch)
 }
 
 /// How many growths an opening wants, where each of them that is refused is told as want of memory.
@@ -93,15 +98,24 @@ fn epochs_have_a_range(rt: HostRuntime) {
     }
 }
 
+/// Why no tree opens with pairs.
+fn error_of_pairs<A: Allocator + Copy>(
+    alloc: A,
+    limits: Limits,
+    pairs: &[(Key, Value)],
+) -> Option<LoadError> {
+    Tree::<A>::open_from(alloc, limits, pairs).err()
+}
+
 /// Why no tree opens with pairs while a growth is refused.
-fn load_error<'a>(
-    heap: Heap<'a>,
+fn load_error(
+    heap: Heap<'_>,
     limits: Limits,
     pairs: &[(Key, Value)],
     growth: u64,
 ) -> Option<LoadError> {
     heap.set(growth);
-    Tree::<Heap<'a>>::open_from(heap, limits, pairs).err()
+    error_of_pairs(heap, limits, pairs)
 }
 
 /// How many growths an opening with pairs wants, where each of them that is refused is told as want of memory.

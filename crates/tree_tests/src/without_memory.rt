@@ -181,12 +181,12 @@ fn wrong<A: Allocator>(pairs: &[Pair<'_, A>]) -> u32 {
 }
 
 /// How many replies are wrong, and how often memory was wanted, where every call for it is counted once the clients have their seats.
-fn wrong_and_wanted<'a, R: Threads + Sync>(
+fn wrong_and_wanted<R: Threads + Sync, A: Allocator + Send + Sync>(
     rt: &R,
     alloc: Global,
-    heap: Heap<'a>,
-    tree: &Tree<Heap<'a>>,
-    seats: &mut Vec<BwSeat<Heap<'a>>, Heap<'a>>,
+    heap: Heap<'_>,
+    tree: &Tree<A>,
+    seats: &mut Vec<BwSeat<A>, A>,
 ) -> Option<(u32, u64)>
     requires own { AreSeatsOf tree.now seats.old.items }
 {
@@ -198,14 +198,15 @@ fn wrong_and_wanted<'a, R: Threads + Sync>(
     all.then_some((wrong(done.as_slice()), wanted))
 }
 
-/// The same on a new tree.
-fn counted<R: Threads + Sync>(
+/// The same on a new tree, which has its memory of this allocator.
+fn counted<R: Threads + Sync, A: Allocator + Copy + Send + Sync>(
     rt: &R,
     alloc: Global,
     heap: Heap<'_>,
+    memory: A,
     limits: Limits,
 ) -> Option<(u32, u64)> {
-    let Ok((tree, mut seats)) = opened(heap, limits) else {
+    let Ok((tree, mut seats)) = opened(memory, limits) else {
         return None;
     };
     wrong_and_wanted(rt, alloc, heap, &tree, &mut seats)
@@ -218,7 +219,7 @@ fn nothing_is_wanted<R: Threads + Sync>(rt: &R, alloc: Global) -> bool {
         return false;
     };
     let heap = Refusing::new(alloc);
-    counted(rt, alloc, &heap, limits) == Some((0, 0))
+    counted(rt, alloc, &heap, &heap, limits) == Some((0, 0))
 }
 
 #[test]
