@@ -25,15 +25,17 @@ const SEATS: u64 = 3;
 
 /// What is refused: a growth of memory, and a seat's thread, which wants a stack that can't be had. Counts the jobs that begin.
 #[derive(Drop)]
-struct Refuses {
+struct Refuses<'a> {
+    heap: Heap<'a>,
     growth: u64,
     seat: u64,
     begun: AtomicU64,
 }
 
-impl Refuses {
-    fn new(growth: u64, seat: u64) -> Refuses {
+impl<'a> Refuses<'a> {
+    fn new(heap: Heap<'a>, growth: u64, seat: u64) -> Refuses<'a> {
         Refuses {
+            heap,
             growth,
             seat,
             begun: AtomicU64::new(0),
@@ -46,7 +48,7 @@ impl Refuses {
     }
 }
 
-impl Gate for Refuses {
+impl<'a> Gate for Refuses<'a> {
     fn before(&self, _job: u32) {
         self.begun.fetch_add(1, Ordering::SeqCst);
     }
@@ -91,14 +93,14 @@ fn jobs<A: Allocator>(alloc: Global, seats: &Seats<A>) -> Option<Vec<Job>>
 }
 
 /// Runs the jobs while something is refused, and hands back the seats. Says whether the results are right, or how it was refused.
-fn run_once<'a, R: Threads + Wait + Sync>(
+fn run_once<R: Threads + Wait + Sync, A: Allocator + Copy + Send + Sync>(
     rt: &R,
     alloc: Global,
-    heap: Heap<'a>,
-    tree: &Tree<Heap<'a>>,
-    seats: Seats<Heap<'a>>,
-    refuses: &Refuses,
-) -> Result<(bool, Seats<Heap<'a>>), (bool, Seats<Heap<'a>>)>
+    memory: A,
+    tree: &Tree<A>,
+    seats: Seats<A>,
+    refuses: &Refuses<'_>,
+) -> Result<(bool, Seats<A>), (bool, Seats<A>)>
     requires own { AreSeatsOf tree.now seats.items }
     requires idle { AreIdle seats.items }
     ensures own { IfOk result (λ done. AreSeatsOf tree.now done.1.items) }
@@ -107,9 +109,9 @@ fn run_once<'a, R: Threads + Wait + Sync>(
     let Some(jobs) = jobs(alloc, &seats) else {
         return Err((false, seats));
     };
-    heap.set(refuses.growth);
-    let ran = run_jobs(rt, heap, tree, seats, jobs, refuses);
-    heap.set(u64::MAX);
+    refuses.heap.set(refuses.growth);
+    let ran = run_jobs(rt, memory, tree, seats, jobs, refuses);
+    refuses.heap.set(u64::MAX);
     match ran {
         Ok((results, seats)) => Ok((are_right(results.as_slice()), seats)),
         Err(error) => Err((refuses.is_told(error.refusal), error.seats)),
@@ -117,43 +119,44 @@ fn run_once<'a, R: Threads + Wait + Sync>(
 }
 
 /// Runs the jobs, where nothing is refused; says whether the results are right.
-fn run_again<'a, R: Threads + Wait + Sync>(
+fn run_again<R: Threads + Wait + Sync, A: Allocator + Copy + Send + Sync>(
     rt: &R,
     alloc: Global,
-    heap: Heap<'a>,
-    tree: &Tree<Heap<'a>>,
-    seats: Seats<Heap<'a>>,
-) -> (bool, Seats<Heap<'a>>)
+    memory: A,
+    tree: &Tree<A>,
+    seats: Seats<A>,
+    refuses: &Refuses<'_>,
+) -> (bool, Seats<A>)
     requires own { AreSeatsOf tree.now seats.items }
     requires idle { AreIdle seats.items }
     ensures own { AreSeatsOf tree.now result.1.items }
 {
-    let nothing = Refuses::new(u64::MAX, u64::MAX);
-    match run_once(rt, alloc, heap, tree, seats, &nothing) {
+    let nothing = Refuses::new(refuses.heap, u64::MAX, u64::MAX);
+    match run_once(rt, alloc, memory, tree, seats, &nothing) {
         Ok(done) => done,
         Err((_, seats)) => (false, seats),
     }
 }
 
 /// Runs the jobs while something is refused, and again where that was in their way; says whether it was, and none where anything else comes.
-fn run_twice<'a, R: Threads + Wait + Sync>(
+fn run_twice<R: Threads + Wait + Sync, A: Allocator + Copy + Send + Sync>(
     rt: &R,
     alloc: Global,
-    heap: Heap<'a>,
-    tree: &Tree<Heap<'a>>,
-    seats: Seats<Heap<'a>>,
-    refuses: &Refuses,
-) -> (Option<bool>, Seats<Heap<'a>>)
+    memory: A,
+    tree: &Tree<A>,
+    seats: Seats<A>,
+    refuses: &Refuses<'_>,
+) -> (Option<bool>, Seats<A>)
     requires own { AreSeatsOf tree.now seats.items }
     requires idle { AreIdle seats.items }
     ensures own { AreSeatsOf tree.now result.1.items }
 {
     let count = seats.len();
-    match run_once(rt, alloc, heap, tree, seats, refuses) {
+    match run_once(rt, alloc, memory, tree, seats, refuses) {
         Ok((right, seats)) => (right.then_some(false), seats),
         Err((told, seats)) => {
             let told = told && seats.len() == count;
-            let (right, seats) = run_again(rt, alloc, heap, tree, seats);
+            let (right, seats) = run_again(rt, alloc, memory, tree, seats, refuses);
             ((told && right).then_some(true), seats)
         }
     }
@@ -182,20 +185,20 @@ fn lists_both<A: Allocator + Copy>(alloc: Global, tree: Tree<A>, seats: Seats<A>
 
 /// Runs the jobs on a new tree while something is refused, and again where that was in their way; says whether it was, and none where anything
 /// else comes.
-fn was_refused<R: Threads + Wait + Sync>(
+fn was_refused<R: Threads + Wait + Sync, A: Allocator + Copy + Send + Sync>(
     rt: &R,
     alloc: Global,
-    heap: Heap<'_>,
+    memory: A,
     seats: u64,
-    refuses: &Refuses,
+    refuses: &Refuses<'_>,
 ) -> Option<bool> {
     let Ok(limits) = Limits::new(seats, 64, 64, 1) else {
         return None;
     };
-    let Ok((tree, seats)) = opened(heap, limits) else {
+    let Ok((tree, seats)) = opened(memory, limits) else {
         return None;
     };
-    let (refused, seats) = run_twice(rt, alloc, heap, &tree, seats, refuses);
+    let (refused, seats) = run_twice(rt, alloc, memory, &tree, seats, refuses);
     if lists_both(alloc, tree, seats) {
         refused
     } else {
@@ -212,7 +215,7 @@ fn is_right<R: Threads + Wait + Sync>(
     refused: bool,
 ) -> bool {
     let heap = Refusing::new(alloc);
-    let refuses = Refuses::new(growth, seat);
+    let refuses = Refuses::new(&heap, growth, seat);
     was_refused(rt, alloc, &heap, seats, &refuses) == Some(refused)
 }
 
