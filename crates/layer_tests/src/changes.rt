@@ -139,70 +139,40 @@ fn key_k() -> Key
     Key::from_slice(b"k").unwrap()
 }
 
-fn install(limits: &Limits) -> Plan
-    ensures target { IsTarget limits.now result }
-    ensures spells { IsSpellablePlan result }
-{
-    let _ = limits;
-    Plan::Install {
-        pid: 1,
-        head: 7,
-        content: Record::Remove(Remove { level: 0, next: 7 }),
-    }
-}
-
-fn split(limits: &Limits) -> Plan
-    ensures target { IsTarget limits.now result }
-    ensures spells { IsSpellablePlan result }
-{
-    let _ = limits;
-    Plan::Split {
-        pid: 1,
-        plan: SplitPlan {
-            upper: Page::new(0, key_k(), None, None, Items::new()),
-            next: 7,
-        },
-    }
-}
-
-fn root(limits: &Limits) -> Plan
-    ensures target { IsTarget limits.now result }
-    ensures spells { IsSpellablePlan result }
-{
-    let _ = limits;
-    Plan::Root {
-        left: 1,
-        root: Page::empty_leaf(),
-    }
-}
-
-fn unlink(limits: &Limits) -> Plan
-    ensures target { IsTarget limits.now result }
-    ensures spells { IsSpellablePlan result }
-{
-    let _ = limits;
-    Plan::Unlink {
-        pid: 1,
-        head: 7,
-        unterm: Unterm {
-            level: 1,
-            next: 7,
-            separator: key_k(),
-            child: 9,
-        },
-        removal: 4,
-    }
-}
-
+/// What is planned at slot 1, over row 7.
 fn plan_of(limits: &Limits, plan: Planned) -> Plan
     ensures target { IsTarget limits.now result }
     ensures spells { IsSpellablePlan result }
 {
+    let _ = limits;
     match plan {
-        Planned::Install => install(limits),
-        Planned::Split => split(limits),
-        Planned::Root => root(limits),
-        Planned::Unlink => unlink(limits),
+        Planned::Install => Plan::Install {
+            pid: 1,
+            head: 7,
+            content: Record::Remove(Remove { level: 0, next: 7 }),
+        },
+        Planned::Split => Plan::Split {
+            pid: 1,
+            plan: SplitPlan {
+                upper: Page::new(0, key_k(), None, None, Items::new()),
+                next: 7,
+            },
+        },
+        Planned::Root => Plan::Root {
+            left: 1,
+            root: Page::empty_leaf(),
+        },
+        Planned::Unlink => Plan::Unlink {
+            pid: 1,
+            head: 7,
+            unterm: Unterm {
+                level: 1,
+                next: 7,
+                separator: key_k(),
+                child: 9,
+            },
+            removal: 4,
+        },
     }
 }
 
@@ -215,11 +185,7 @@ fn goes(limits: &Limits, spares: &mut Spares, case: &Case) -> bool
     let world = World { pids, rows, won };
     let (log, end) = drive(limits, spares, plan_of(limits, plan), world);
     let goes = (log.as_str().trim_start() == steps) & (end == Some(said));
-    goes & leaves(spares, pid, left)
-}
-
-fn leaves(spares: &Spares, pid: Option<u16>, rows: &[u16]) -> bool {
-    spares.pid() == pid && spares.rows() == rows
+    goes & (spares.pid() == pid) & (spares.rows() == left)
 }
 
 /// Whether an actor's changes go as they say, one after another.

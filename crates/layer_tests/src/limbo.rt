@@ -22,8 +22,14 @@ enum Act<'a> {
 fn does(limbo: &mut Limbo, act: &Act<'_>) -> bool {
     match act {
         Act::Unlinks(items) => unlinks(limbo, items),
-        Act::Stamps(epoch) => stamps(limbo, *epoch),
-        Act::MayFree(announces) => may_free(limbo, announces),
+        Act::Stamps(epoch) => {
+            limbo.stamped(*epoch);
+            true
+        }
+        Act::MayFree(announces) => {
+            limbo.may_free(announces);
+            true
+        }
         Act::HandsOn(word) => limbo.next_word() == Some(*word),
         Act::HandsOnNothing => limbo.next_word().is_none(),
         Act::Accepts(item) => limbo.accepts(*item),
@@ -41,16 +47,6 @@ fn unlinks(limbo: &mut Limbo, items: &[Item]) -> bool {
         }
         limbo.unlinked(*item);
     }
-    true
-}
-
-fn stamps(limbo: &mut Limbo, epoch: u64) -> bool {
-    limbo.stamped(epoch);
-    true
-}
-
-fn may_free(limbo: &mut Limbo, announces: &[u64]) -> bool {
-    limbo.may_free(announces);
     true
 }
 

@@ -143,19 +143,14 @@ fn writes(content: &Record, words: Words) -> bool {
     to_words(content) == row(words)
 }
 
-/// Whether a leaf and a put have their rows.
-fn writes_a_leaf_and_a_put() -> bool {
+/// Whether a leaf, a put, a split and a hold have their rows.
+fn writes_each() -> bool {
     let leaf = Record::Base(Page::empty_leaf());
     let put = Record::Put(Put {
         next: 1,
         key: key(b"a"),
         value: value(b"1"),
     });
-    writes(&leaf, OPENING) & writes(&put, PUT)
-}
-
-/// Whether a split and a hold have theirs.
-fn writes_a_split_and_a_hold() -> bool {
     let split = Record::Split(Split {
         level: 0,
         next: 11,
@@ -168,7 +163,8 @@ fn writes_a_split_and_a_hold() -> bool {
         separator: key(b"k09"),
         child: 2,
     });
-    writes(&split, SPLIT) & writes(&hold, HOLD)
+    let low = writes(&leaf, OPENING) & writes(&put, PUT);
+    low & writes(&split, SPLIT) & writes(&hold, HOLD)
 }
 
 /// Rows with one word changed, so that they spell nothing.
@@ -210,7 +206,7 @@ fn are_refused() -> bool {
 
 #[test]
 fn writes_the_rows_of_records_and_refuses_rows_that_spell_nothing(rt: HostRuntime) {
-    let written = writes_a_leaf_and_a_put() & writes_a_split_and_a_hold();
+    let written = writes_each();
     let same = is_refused(&[0; ROW_WORDS]) & is_refused(&[u64::MAX; ROW_WORDS]);
     assert!(rt; written & same & is_refused(&row(EQUAL_KEYS)) & are_refused());
 }

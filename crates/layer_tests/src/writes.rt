@@ -34,14 +34,6 @@ enum Way {
 /// How it went on, and the pages that stand in the places which it is about, and 0 behind them.
 type Turn = (Way, [u16; 3]);
 
-/// The page that is kept above, or 0.
-fn kept_above(round: &WriteRound) -> u16 {
-    match round.kept_parent() {
-        Some(parent) => parent.pid(),
-        None => 0,
-    }
-}
-
 /// The turn that an end is.
 fn turn_of(round: &WriteRound, ended: &WriteEnded) -> Turn {
     let page = round.page().pid();
@@ -55,7 +47,10 @@ fn turn_of(round: &WriteRound, ended: &WriteEnded) -> Turn {
         WriteEnded::Root(_) => (Way::Root, [left, 0, 0]),
         WriteEnded::Tend(Upkeep::Remove(_)) => (Way::Remove, [page, 0, 0]),
         WriteEnded::Tend(Upkeep::Hold(hold)) => (Way::Hold, [parent, hold.child, 0]),
-        WriteEnded::Leaf => (Way::Leaf, [kept_above(round), page, 0]),
+        WriteEnded::Leaf => match round.kept_parent() {
+            Some(parent) => (Way::Leaf, [parent.pid(), page, 0]),
+            None => (Way::Leaf, [0, page, 0]),
+        },
         WriteEnded::Merge(_) => (Way::Merge, [left, page, 0]),
         WriteEnded::Unterm(_) => (Way::Unterm, [parent, left, page]),
         WriteEnded::Done => (Way::Done, [0; 3]),

@@ -13,7 +13,8 @@ use std::process::Abort;
 fn is_over_both(root: &Page) -> bool {
     let ends = root.high().is_none() & root.right().is_none();
     let begins = (root.level() == 1) & (root.low() == &Key::default());
-    ends & begins & (root.items().len() == 2) & has_both(root)
+    let both = has(root, &Key::default(), 1) & has(root, &at(8), 2);
+    ends & begins & both & (root.items().len() == 2)
 }
 
 /// Whether the page has this child at the key, and it isn't held.
@@ -22,10 +23,6 @@ fn has(root: &Page, at: &Key, child: u16) -> bool {
         Some(Content::Child { page, held }) => (*page == child) & !*held,
         _ => false,
     }
-}
-
-fn has_both(root: &Page) -> bool {
-    has(root, &Key::default(), 1) & has(root, &at(8), 2)
 }
 
 /// Whether the page and its right get a root over both.
