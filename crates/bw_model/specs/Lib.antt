@@ -2,10 +2,7 @@ pub mod Answers
 pub mod Bytes
 pub mod Examples
 pub mod Lent
-pub mod Limits
 pub mod Log
 pub mod Pairs
 pub mod Replies
-pub mod Room
 pub mod Schedules
-pub mod Words

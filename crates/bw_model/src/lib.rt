@@ -5,9 +5,7 @@
 mod command;
 mod examples;
 mod key;
-mod limits;
 mod pairs;
-mod room;
 mod schedule;
 mod short_bytes;
 mod step;
@@ -20,10 +18,10 @@ pub use examples::{
     upkeep_changes_nothing,
 };
 pub use key::Key;
-pub use limits::{BadLimits, Limits, OpenError};
 pub use pairs::{MAX_PAIRS, Pairs};
 pub use schedule::Schedule;
 pub use short_bytes::{MAX_LENGTH, TooLong};
 pub use step::{Answer, Link, Step, Told};
+pub use tree_limits::{BadLimits, Limits, OpenError};
 pub use update::{Update, logged_value};
 pub use value::Value;

@@ -1,6 +1,6 @@
 -- Turns of a core, as its trace shows them, and why a turn is refused.
 use Rattle.std.specs.Prelude.{◌≡◌, ℕ, ◌⊎◌, List, [], ◌∷◌, ◌++◌, map, nat_lt, is_some, ◌&&◌, Bool, if◌then◌else◌, Option, None, Some}
-use Rattle.bw_model.specs.declared.limits.Limits.{Limits}
+use Rattle.tree_limits.specs.declared.limits.Limits.{Limits}
 use Rattle.traces.specs.declared.trace.Entry.{Entry}
 use Rattle.traces.specs.declared.trace.Turn.{Turn}
 use Rattle.traces.specs.declared.trace.Turn.TheVariants.{Begin, Step}

@@ -1,7 +1,7 @@
 -- What a run over an input does.
 use Rattle.std.specs.Prelude.{◌≡◌, ℕ, ◌+◌, ◌⊎◌, ◌↔◌, List, [], ◌∷◌, ◌++◌, length, Bool, true, false, not, ◌||◌, MatchBool, Option, None, Result, is_some, IsSome}
 use Rattle.std.specs.Io.KnownBytes.{Consumes, IsAtEnd}
-use Rattle.bw_model.specs.declared.limits.Limits.{Limits}
+use Rattle.tree_limits.specs.declared.limits.Limits.{Limits}
 use Rattle.shell_lines.specs.declared.request.Language.{Language}
 use Rattle.shell_lines.specs.declared.request.Request.{Request}
 use Rattle.bw_shell.specs.Lines.{lines_of, Splits}

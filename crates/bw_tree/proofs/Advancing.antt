@@ -4,7 +4,7 @@ use Rattle.std.specs.Prelude.{IsSome, Some, None}
 use Rattle.atomic_table.specs.Seated.{TableId}
 use Rattle.op_machine.specs.machine.Actors.{Actor, ActsOn, IsGoing, IsToldActor, command_left, running_command, wanted_by}
 use Rattle.bw_model.specs.declared.command.Reply.{Reply}
-use Rattle.bw_model.specs.declared.limits.Limits.{Limits}
+use Rattle.tree_limits.specs.declared.limits.Limits.{Limits}
 use Rattle.bw_model.specs.declared.step.Answer.{Answer}
 use Rattle.bw_model.specs.declared.step.Answer.TheVariants.{Done}
 use Rattle.bw_model.specs.declared.step.Step.{Step as StepOf}

@@ -4,7 +4,7 @@ use Rattle.std.proofs.Common.{◌≡◌, ◌<◌, ◌+◌, ◌++◌, ℕ, List, 
 use Rattle.bw_model.specs.declared.command.Command.{Command}
 use Rattle.bw_model.specs.declared.command.Reply.{Reply}
 use Rattle.bw_model.specs.declared.command.Reply.TheVariants as reply
-use Rattle.bw_model.specs.declared.limits.Limits.{Limits}
+use Rattle.tree_limits.specs.declared.limits.Limits.{Limits}
 use Rattle.op_machine.proofs.PairLaws.{take-grown}
 use Rattle.bw_tree.specs.Calls.{IsCalled, calls_in}
 use Rattle.bw_tree.specs.Loaded.{CallsOff, GoesOnAfter, HaveUpserted, IsLoadStop, IsStopped, upsert_of}

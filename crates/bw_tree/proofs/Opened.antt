@@ -6,7 +6,7 @@ use native.Mathlib.Decide.{ℕ_discrete}
 use Rattle.atomic_table.specs.Seated.{TableId}
 use Rattle.atomic_table.specs.Table.{opening}
 use Rattle.op_machine.specs.machine.Actors.{Actor, IsActor, idle_actor}
-use Rattle.bw_model.specs.declared.limits.Limits.{Limits}
+use Rattle.tree_limits.specs.declared.limits.Limits.{Limits}
 use Rattle.traces.specs.declared.trace.Entry.{Entry}
 use Rattle.traces.specs.discipline.Disciplined.{Extends}
 use Rattle.traces.specs.discipline.Knowledge.{nothing}

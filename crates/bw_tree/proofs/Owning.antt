@@ -1,7 +1,7 @@
 -- A seat of the tree is one of its table.
 use Rattle.std.proofs.Common.{◌≡◌, ℕ, List, sym, ap, ◌∙◌}
 use Rattle.atomic_table.specs.Seated.{TableId}
-use Rattle.bw_model.specs.declared.limits.Limits.{Limits}
+use Rattle.tree_limits.specs.declared.limits.Limits.{Limits}
 use Rattle.traces.specs.declared.trace.Entry.{Entry}
 use Rattle.slot_rule.specs.Views.{IsOf}
 use Rattle.bw_tree.specs.Seats.{Seat}

@@ -1,6 +1,6 @@
 -- The runs of a running tree.
 use Rattle.std.specs.Prelude.{List, map}
-use Rattle.bw_model.specs.declared.limits.Limits.{Limits}
+use Rattle.tree_limits.specs.declared.limits.Limits.{Limits}
 use Rattle.traces.specs.declared.trace.Entry.{Entry}
 use Rattle.traces.specs.trace.Trace.{turn_of}
 pub use Rattle.slot_rule.specs.Running.{StartsWith}

@@ -2,7 +2,7 @@
 use Rattle.std.specs.Prelude.{◌≡◌, ◌<◌, ℕ, List, Option}
 use Rattle.atomic_table.specs.Seated.{TableId}
 use Rattle.bw_model.specs.declared.command.Command.{Command}
-use Rattle.bw_model.specs.declared.limits.Limits.{Limits}
+use Rattle.tree_limits.specs.declared.limits.Limits.{Limits}
 use Rattle.op_machine.specs.machine.Actors.{Actor, IsActor, running_command}
 use Rattle.op_machine.specs.machine.UnderWay.{steps_due}
 use Rattle.traces.specs.declared.trace.Entry.{Entry}

@@ -1,9 +1,9 @@
 -- Trees and their seats: what opening gives, what a meeting does, and what closing lists.
 use Rattle.std.specs.Prelude.{◌≡◌, ◌<◌, ◌≤◌, ◌^◌, ℕ, List, [], length, None, Some, slice_get}
 use Rattle.atomic_table.specs.Seated.{TableId}
-use Rattle.bw_model.specs.declared.limits.Limits.{Limits}
-use Rattle.bw_model.specs.declared.limits.OpenError.{OpenError}
-use Rattle.bw_model.specs.declared.limits.OpenError.TheVariants.{Memory, BadEpoch}
+use Rattle.tree_limits.specs.declared.limits.Limits.{Limits}
+use Rattle.tree_limits.specs.declared.limits.OpenError.{OpenError}
+use Rattle.tree_limits.specs.declared.limits.OpenError.TheVariants.{Memory, BadEpoch}
 use Rattle.traces.specs.declared.trace.Entry.{Entry}
 use Rattle.traces.specs.discipline.Disciplined.{Extends}
 use Rattle.listing.specs.Listed.{IsListing}

@@ -1,6 +1,6 @@
 //! The law of the tree as that of the rule, and what it says of runs.
 ghost use Rattle.std.specs.Prelude.{List, []};
-ghost use Rattle.bw_model.specs.declared.limits.Limits.{Limits};
+ghost use Rattle.tree_limits.specs.declared.limits.Limits.{Limits};
 ghost use Rattle.bw_tree.specs.Laws.{HaveLaws};
 ghost use Rattle.bw_tree.specs.Runs.{IsLawfulRun, IsOneHistory};
 ghost use Rattle.traces.specs.declared.trace.Entry.{Entry};

@@ -1,7 +1,7 @@
 //! A seat of a running tree.
 ghost use Rattle.std.specs.Prelude.{◌≡◌, ◌∷◌, [], ℕ, None, Some, IsSome, is_none};
 ghost use Rattle.op_machine.specs.machine.Actors.{ActsOn, IsGoing, IsToldActor, running_command, wanted_by};
-ghost use Rattle.bw_model.specs.declared.limits.Limits.{Limits as LimitsSeen};
+ghost use Rattle.tree_limits.specs.declared.limits.Limits.{Limits as LimitsSeen};
 ghost use Rattle.bw_model.specs.declared.step.Answer.TheVariants.{Done};
 ghost use Rattle.bw_tree.specs.Calls.{Advances, HasBegun, IsResumed};
 ghost use Rattle.bw_tree.specs.Runs.{IsOneHistory};

@@ -8,12 +8,12 @@ use Rattle.std.proofs.lemmas.List.{get_or_default, get_or-replicate, get_or_past
 use Rattle.std.proofs.Math.ListN.{length-set, replicate}
 use Rattle.std.proofs.lemmas.Nat.{one_shl, pow_pos}
 use Rattle.std.proofs.lemmas.Nat.Bits.{and_pow, bit_at_clear_same, bit_at_clear_other, bit_at_mask_below, bit_at_mask_inside, bit_at_ones, bit_at_or, bit_at-lt, bit_at-zero}
-use Rattle.bw_model.specs.declared.limits.Limits.{Limits}
+use Rattle.tree_limits.specs.declared.limits.Limits.{Limits}
 use Rattle.base_page.specs.Pages.{empty_leaf}
 use Rattle.deltas.specs.declared.record.Record.{Record}
 use Rattle.deltas.specs.declared.record.Record.TheVariants.{Base}
 use Rattle.deltas.specs.Memory.{opening, replaced_at}
-use Rattle.bw_model.specs.Words.{is_among}
+use Rattle.tree_limits.specs.Words.{is_among}
 use Rattle.core_memory.specs.Tables.{Table, is_free, memory_in}
 
 same_or_not : (a b : ℕ) → (a ≡ b) ⊎ (a ≢ b)

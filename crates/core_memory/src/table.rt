@@ -1,7 +1,7 @@
 //! The memory that all actors share, and what one step makes of it.
 ghost use Rattle.std.specs.Prelude.{◌≡◌, ◌<◌, ◌≤◌, ◌*◌, ◌%◌, ◌&&◌, ◌||◌, None, false, length, nat_le, nat_lt, replicate, slice_set, IfOk, OnErr, Some};
 ghost use Rattle.deltas.specs.Memory.{opening, replaced_at};
-ghost use Rattle.bw_model.specs.Words.{is_among};
+ghost use Rattle.tree_limits.specs.Words.{is_among};
 ghost use Rattle.traces.specs.trace.Steps.{IsAnswer, IsWordOf, MovesRecord, memory_after};
 ghost use Rattle.core_memory.specs.Tables.{IsWithinTable, is_free, memory_in};
 

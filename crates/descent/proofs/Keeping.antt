@@ -3,7 +3,7 @@ use Rattle.std.proofs.Common.{◌≡◌, ◌≢◌, ◌<◌, ◌++◌, ◌⊎◌
 use Rattle.std.specs.Prelude.{IfSome, IsFalse, IsTrue, ⊤}
 use Rattle.std.proofs.lemmas.Bool.Decides.{eqb_tells}
 use Rattle.std.proofs.lemmas.Option.{IfSome_then}
-use Rattle.bw_model.specs.declared.limits.Limits.{Limits}
+use Rattle.tree_limits.specs.declared.limits.Limits.{Limits}
 use Rattle.bw_model.specs.declared.step.Step.TheVariants as step
 use Rattle.bw_model.specs.declared.step.Answer.{Answer}
 use Rattle.bw_model.specs.declared.step.Answer.TheVariants as answer

@@ -1,7 +1,7 @@
 -- Which page is on the way.
 use Rattle.std.proofs.Common.{◌≡◌, ◌<◌, ◌-◌, ◌⊎◌, inl, inr, ℕ, List, [], ◌∷◌, Bool, true, false, Option, Some, None, sym, ap, ◌∙◌, refl, arith}
 use Rattle.std.specs.Prelude.{is_some, not, IsTrue, MatchOption}
-use Rattle.bw_model.specs.declared.limits.Limits.{Limits}
+use Rattle.tree_limits.specs.declared.limits.Limits.{Limits}
 use Rattle.bw_model.specs.Bytes.{is_below, is_in_range}
 use Rattle.base_page.specs.Places.{IsGreatestChild}
 use Rattle.base_page.proofs.KeyLaws.{not_true}

@@ -1,6 +1,6 @@
 -- The way from the root to a page: the step that it wants, and what it makes of an answer.
 use Rattle.std.specs.Prelude.{◌≡◌, ◌⊎◌, ℕ, Option, Some, None, true, ⊤}
-use Rattle.bw_model.specs.declared.limits.Limits.{Limits}
+use Rattle.tree_limits.specs.declared.limits.Limits.{Limits}
 use Rattle.bw_model.specs.declared.step.Step.{Step as StepOf}
 use Rattle.bw_model.specs.declared.step.Step.TheVariants as step
 use Rattle.bw_model.specs.declared.step.Answer.{Answer}

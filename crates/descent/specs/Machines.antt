@@ -1,6 +1,6 @@
 -- What is said alike of each machine that wants steps and is told their answers.
 use Rattle.std.specs.Prelude.{ℕ}
-use Rattle.bw_model.specs.declared.limits.Limits.{Limits}
+use Rattle.tree_limits.specs.declared.limits.Limits.{Limits}
 use Rattle.bw_model.specs.declared.step.Step.{Step as StepOf}
 use Rattle.bw_model.specs.declared.step.Answer.{Answer}
 use Rattle.deltas.specs.declared.record.Record.{Record}

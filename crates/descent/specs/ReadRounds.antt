@@ -1,6 +1,6 @@
 -- A reader's round from the root to a leaf: the step that it wants, what its actor knows meanwhile, and how it ends.
 use Rattle.std.specs.Prelude.{◌≡◌, ◌≢◌, ◌<◌, ◌+◌, ◌⊎◌, ◌||◌, ℕ, suc, List, Bool, Option, Some, None, true, false, IsTrue, IfSome, ⊤}
-use Rattle.bw_model.specs.declared.limits.Limits.{Limits}
+use Rattle.tree_limits.specs.declared.limits.Limits.{Limits}
 use Rattle.bw_model.specs.declared.step.Step.{Step as StepOf}
 use Rattle.bw_model.specs.declared.step.Answer.{Answer}
 use Rattle.base_page.specs.Places.{HasNoChild}

@@ -1,6 +1,6 @@
 -- The reading of one page: the step that it wants, what its actor knows meanwhile, and what it finds.
 use Rattle.std.specs.Prelude.{◌≡◌, ◌<◌, ◌==◌, ◌++◌, ◌∷◌, ◌⊎◌, ℕ, List, [], Bool, Option, Some, None, true, false, not, is_some, IsTrue, ⊤}
-use Rattle.bw_model.specs.declared.limits.Limits.{Limits}
+use Rattle.tree_limits.specs.declared.limits.Limits.{Limits}
 use Rattle.bw_model.specs.declared.step.Step.{Step as StepOf}
 use Rattle.bw_model.specs.declared.step.Step.TheVariants as step
 use Rattle.bw_model.specs.declared.step.Answer.{Answer}

@@ -1,6 +1,6 @@
 //! Laws of rounds: each function does nothing, and its contract is proved of all of them.
 ghost use Rattle.std.specs.Prelude.{◌≡◌, ◌≤◌, ◌+◌, ℕ, List, Option, None};
-ghost use Rattle.bw_model.specs.declared.limits.Limits.{Limits};
+ghost use Rattle.tree_limits.specs.declared.limits.Limits.{Limits};
 ghost use Rattle.bw_model.specs.declared.step.Answer.{Answer};
 ghost use Rattle.traces.specs.discipline.Discipline.{MayHold, MayMerge, MayRemove, MayUnterm, WasStanding};
 ghost use Rattle.traces.specs.discipline.Fitting.{Fits};

@@ -1,7 +1,7 @@
 -- What is drawn of a tree, and what a run that draws it writes.
 use Rattle.std.specs.Prelude.{◌≡◌, ℕ, ◌⊎◌, ◌↔◌, List, [], Bool, true, false, not, Option, Some, None}
 use Rattle.std.specs.Io.KnownBytes.{Consumes}
-use Rattle.bw_model.specs.declared.limits.Limits.{Limits}
+use Rattle.tree_limits.specs.declared.limits.Limits.{Limits}
 use Rattle.traces.specs.trace.Trace.{memory_of}
 use Rattle.scene.specs.Scenes.{Scene, IsSceneOf}
 use Rattle.shapes.specs.declared.shape.Shape.{Shape}

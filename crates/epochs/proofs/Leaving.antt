@@ -9,7 +9,7 @@ use Rattle.std.proofs.lemmas.List.Elements.{All-filter, filter_passes}
 use Rattle.std.proofs.lemmas.List.Folds.{Any-from_list_any, list_any_none}
 use Rattle.epochs.specs.declared.entry.Entry.{Entry}
 use Rattle.epochs.specs.Limbo.{IsLimboList, LimboList, is_in, is_passed}
-use Rattle.bw_model.specs.Words.{is_among}
+use Rattle.tree_limits.specs.Words.{is_among}
 use Rattle.epochs.specs.Words.{AreBitsOf, HandsOn, IsFirstWord, may_go, without}
 use Rattle.epochs.proofs.Handing.{both, equal, second}
 

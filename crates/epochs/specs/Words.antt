@@ -1,7 +1,7 @@
 -- Numbers by words of 64 bits, and what one reuse hands on.
 use Rattle.std.specs.Prelude.{◌≡◌, ◌≤◌, ◌==◌, ◌/◌, ◌&&◌, ℕ, Bool, min, not, IsTrue, IsFalse, List, Option, None, Some}
 use Rattle.std.specs.List.{filter, list_any}
-use Rattle.bw_model.specs.Words.{is_among}
+use Rattle.tree_limits.specs.Words.{is_among}
 use Rattle.epochs.specs.declared.entry.Entry.{Entry}
 use Rattle.epochs.specs.declared.item.Reuse.{Reuse}
 use Rattle.epochs.specs.declared.item.Reuse.TheVariants.{Rows, Pids}

@@ -6,7 +6,7 @@ ghost use Rattle.epochs.specs.Words.{IsHandedOn};
 
 use crate::list::LimboList;
 use crate::{Entry, Item, Reuse};
-use bw_model::{Limits, OpenError};
+use tree_limits::{Limits, OpenError};
 use std::alloc::{AllocError, Allocator, Global};
 use std::marker::Model;
 

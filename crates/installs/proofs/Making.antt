@@ -1,6 +1,6 @@
 -- What a change has made to be placed is of no matter to anything but the placing.
 use Rattle.std.proofs.Common.{ℕ, Option, Some, None}
-use Rattle.bw_model.specs.declared.limits.Limits.{Limits}
+use Rattle.tree_limits.specs.declared.limits.Limits.{Limits}
 use Rattle.bw_model.specs.declared.step.Answer.{Answer}
 use Rattle.deltas.specs.declared.record.Record.{Record}
 use Rattle.deltas.specs.declared.record.Record.TheVariants as kind

@@ -1,6 +1,6 @@
 -- Where an answer leads a change.
 use Rattle.std.specs.Prelude.{◌++◌, ◌-◌, ℕ, [], ◌∷◌, length, take, ltb, Bool, true, false, not, ◌&&◌, is_some, if◌then◌else◌, Option, Some, None}
-use Rattle.bw_model.specs.declared.limits.Limits.{Limits}
+use Rattle.tree_limits.specs.declared.limits.Limits.{Limits}
 use Rattle.bw_model.specs.declared.step.Answer.{Answer}
 use Rattle.bw_model.specs.declared.step.Answer.TheVariants.{Whether}
 use Rattle.deltas.specs.declared.record.Record.{Record}

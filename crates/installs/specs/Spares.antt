@@ -1,7 +1,7 @@
 -- What an actor has taken and not linked.
 use Rattle.std.specs.Prelude.{◌≡◌, ◌==◌, ◌<◌, ◌≤◌, ◌-◌, ℕ, List, [], ◌∷◌, Option, Some, false, length, get_or, unwrap_or, All, IfSome, ⊤}
 use Rattle.std.specs.List.{Contains}
-use Rattle.bw_model.specs.declared.limits.Limits.{Limits}
+use Rattle.tree_limits.specs.declared.limits.Limits.{Limits}
 use Rattle.deltas.specs.Spellable.{IsPid}
 use Rattle.traces.specs.discipline.Discipline.{IsOwn}
 use Rattle.traces.specs.discipline.Knowledge.{Belongings, OwnPage, OwnRow, Other, Empty, Ready, Gone}

@@ -1,7 +1,7 @@
 -- The taking of one free number: a PID or a row.
 use Rattle.std.specs.Prelude.{◌<◌, ◌*◌, ◌/◌, ◌-◌, ◌+◌, ℕ, zero, suc, ltb, Bool, true, false, if◌then◌else◌, Option, IsTrue, ⊤}
 use Rattle.std.specs.Int.{trailing_zeros, w64}
-use Rattle.bw_model.specs.declared.limits.Limits.{Limits}
+use Rattle.tree_limits.specs.declared.limits.Limits.{Limits}
 use Rattle.bw_model.specs.declared.step.Step.{Step as StepOf}
 use Rattle.bw_model.specs.declared.step.Step.TheVariants as step
 use Rattle.bw_model.specs.declared.step.Answer.{Answer}

@@ -1,7 +1,7 @@
 -- Rounds that tests lead from page to page, in a tree of 4,096 PIDs.
 use Rattle.std.proofs.Common.{◌≡◌, ◌<◌, ℕ, List, None, inl, inr, ap, ◌∙◌, subst, arith}
 use Rattle.std.specs.Prelude.{IfSome}
-use Rattle.bw_model.specs.declared.limits.Limits.{Limits}
+use Rattle.tree_limits.specs.declared.limits.Limits.{Limits}
 use Rattle.base_page.specs.declared.item.Content.TheVariants.{Child}
 use Rattle.deltas.specs.declared.record.Record.{Record}
 use Rattle.deltas.specs.Spellable.{IsPid}

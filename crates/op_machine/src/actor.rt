@@ -4,7 +4,7 @@ ghost use Rattle.op_machine.specs.machine.Actors.{ActsOn, IsActor, IsGoing, IsAc
 ghost use Rattle.op_machine.specs.machine.UnderWay.{steps_due};
 ghost use Rattle.bw_model.specs.Answers.{answer_of};
 ghost use Rattle.bw_model.specs.Lent.{lent};
-ghost use Rattle.bw_model.specs.declared.limits.Limits.{Limits as LimitsSeen};
+ghost use Rattle.tree_limits.specs.declared.limits.Limits.{Limits as LimitsSeen};
 ghost use Rattle.bw_model.specs.declared.step.Answer.TheVariants.{Content, Done};
 ghost use Rattle.traces.specs.discipline.Knowledge.{Knowledge, begun, nothing};
 ghost use Rattle.traces.specs.discipline.Recalled.{Recalled, blank};

@@ -1,6 +1,6 @@
 //! What an actor keeps between operations.
 ghost use Rattle.std.specs.Prelude.{◌≡◌, ℕ, IfErr, IfOk};
-ghost use Rattle.bw_model.specs.declared.limits.Limits.{Limits as LimitsSeen};
+ghost use Rattle.tree_limits.specs.declared.limits.Limits.{Limits as LimitsSeen};
 ghost use Rattle.traces.specs.discipline.Knowledge.{Knowledge, Limbos};
 ghost use Rattle.op_machine.specs.machine.Hands.{Unlinks, empty_hand};
 ghost use Rattle.sweep.specs.Kept.{AreKept};

@@ -1,7 +1,7 @@
 //! Laws of the definitions: each function does nothing, and its contract is proved of all runs.
 ghost use Rattle.std.specs.Prelude.{◌≡◌, ◌∷◌, ◌++◌, ℕ, suc, [], List, Bool, true, false, None, Some, if◌then◌else◌, length, slice_get, take, set};
 ghost use Rattle.std.specs.Option.{option_map};
-ghost use Rattle.bw_model.specs.declared.limits.Limits.{Limits};
+ghost use Rattle.tree_limits.specs.declared.limits.Limits.{Limits};
 ghost use Rattle.bw_model.specs.declared.step.Step.{Step};
 ghost use Rattle.bw_model.specs.declared.step.Step.TheVariants.{Enter, Leave};
 ghost use Rattle.bw_model.specs.declared.step.Answer.{Answer};

@@ -2,7 +2,7 @@
 use Rattle.std.specs.Prelude.{◌≡◌, ℕ, ◌⊎◌, ◌↔◌, List, [], ◌++◌, Bool, true, false, not, Option}
 use Rattle.std.specs.Io.KnownBytes.{Consumes, IsAtEnd}
 use Rattle.std.specs.Global.{Global}
-use Rattle.bw_model.specs.declared.limits.Limits.{Limits}
+use Rattle.tree_limits.specs.declared.limits.Limits.{Limits}
 use Rattle.shell_lines.specs.declared.race_line.JobCommand.{JobCommand}
 use Rattle.bw_tree.specs.Seats.{Seat}
 use Rattle.bw_tree.specs.Trees.{Tree, AreFresh, AreClosed}

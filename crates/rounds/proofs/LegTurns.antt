@@ -2,7 +2,7 @@
 use Rattle.std.proofs.Common.{◌≡◌, ◌≢◌, ◌<◌, ◌-◌, ◌⊎◌, inl, inr, ℕ, List, Bool, true, false, Option, None, Some, refl, ap, arith}
 use Rattle.std.specs.Prelude.{MatchOption}
 use Rattle.std.proofs.lemmas.Bool.Decides.{eqb_tells}
-use Rattle.bw_model.specs.declared.limits.Limits.{Limits}
+use Rattle.tree_limits.specs.declared.limits.Limits.{Limits}
 use Rattle.base_page.specs.Places.{HasNoChild, IsGreatestChild}
 use Rattle.traces.specs.chain.Chains.{content_in, is_removed, level_in, right_in}
 use Rattle.traces.specs.discipline.Discipline.{NamesChild}

@@ -1,7 +1,7 @@
 -- What a reader's round in its place makes of an answer, by what its descent makes of it.
 use Rattle.std.proofs.Common.{◌≡◌, inl, inr, Option, None, sym, ap, subst, ◌∙◌}
 use Rattle.std.specs.Option.{option_map}
-use Rattle.bw_model.specs.declared.limits.Limits.{Limits}
+use Rattle.tree_limits.specs.declared.limits.Limits.{Limits}
 use Rattle.bw_model.specs.declared.step.Answer.{Answer}
 use Rattle.deltas.specs.declared.record.Record.{Record}
 use Rattle.descent.specs.Descents as from_root

@@ -1,6 +1,6 @@
 -- What stands in a tree.
 use Rattle.std.specs.Prelude.{◌≡◌, ℕ, List}
-use Rattle.bw_model.specs.declared.limits.Limits.{Limits}
+use Rattle.tree_limits.specs.declared.limits.Limits.{Limits}
 use Rattle.deltas.specs.Memory.{Memory}
 use Rattle.traces.specs.chain.SideChain.{LivePage}
 use Rattle.scene.specs.Counts.{how_many}

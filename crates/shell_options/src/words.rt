@@ -1,13 +1,13 @@
 //! The command line's words.
 
 ghost use Rattle.std.specs.Prelude.{◌≡◌, ◌↔◌, IfErr, IfOk, IfSome, IsOk, map, false};
-ghost use Rattle.bw_model.specs.Limits.{AreLimits};
+ghost use Rattle.tree_limits.specs.Limits.{AreLimits};
 ghost use Rattle.std.specs.String.{string_bytes};
 ghost use Rattle.clap.specs.Words.{app_of, found_of, rows_of, rule_of};
 ghost use Rattle.clap.specs.declared.builder.command.Command.TheViews.{out-Command as fields_of};
 ghost use Rattle.shell_options.specs.Words.{number_rule, limits_rules, actors_app, draw_app, script_app, weave_app, race_app, bwtree_app, SpellsOr, HasActors, HasNumbers, HasOneMore, default_pids_of, default_rows_of, told_by, HasNoFault, IsSpelled, IsNamedBy, MayRefuse};
 
-use bw_model::{BadLimits, Limits};
+use tree_limits::{BadLimits, Limits};
 use clap::error::ErrorKind;
 use clap::{Arg, ArgMatches, Command, Error, value_parser};
 use std::alloc::{AllocError, Global};

@@ -2,7 +2,7 @@
 use Rattle.std.specs.Prelude.{◌≡◌, ℕ, zero, suc, List, [], ◌∷◌, map}
 use Rattle.atomic_table.specs.Table.{Me, Step}
 use Rattle.atomic_table.specs.Seated.{TableId}
-use Rattle.bw_model.specs.declared.limits.Limits.{Limits}
+use Rattle.tree_limits.specs.declared.limits.Limits.{Limits}
 use Rattle.traces.specs.declared.trace.Entry.{Entry}
 use Rattle.tree_words.specs.Layout.{width}
 use Rattle.slot_rule.specs.declared.view.Reach.{Reach}

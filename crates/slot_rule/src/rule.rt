@@ -1,7 +1,7 @@
 //! The rule, by the law of the runs that there may be.
 ghost use Rattle.std.specs.Prelude.{[]};
 ghost use Rattle.atomic_table.specs.Table.{opening};
-ghost use Rattle.bw_model.specs.declared.limits.Limits.{Limits as LimitsSeen};
+ghost use Rattle.tree_limits.specs.declared.limits.Limits.{Limits as LimitsSeen};
 ghost use Rattle.slot_rule.specs.Closing.{LeavesWords};
 ghost use Rattle.slot_rule.specs.Running.{Running};
 ghost use Rattle.slot_rule.specs.Views.{dealt};
@@ -16,7 +16,7 @@ use tree_words::opening_is_spelled;
 /// Which runs there may be.
 pub trait Law {
     ghost use Rattle.std.specs.Prelude.{List};
-    ghost use Rattle.bw_model.specs.declared.limits.Limits.{Limits};
+    ghost use Rattle.tree_limits.specs.declared.limits.Limits.{Limits};
     ghost use Rattle.traces.specs.declared.trace.Entry.{Entry};
 
     ghost law: { Limits → List Entry → Type 0 };

@@ -1,7 +1,7 @@
 //! One actor of a core: what its step needs of memory, and how it is taken.
 ghost use Rattle.std.specs.Prelude.{◌≡◌, ◌≢◌, ℕ, IfOk, IsSome, None, OnErr, Some, is_some, true};
 ghost use Rattle.op_machine.specs.machine.Actors.{ActsOn, IsGoing, IsActorShown, IsToldActor, running_command, wanted_by};
-ghost use Rattle.bw_model.specs.declared.limits.Limits.{Limits};
+ghost use Rattle.tree_limits.specs.declared.limits.Limits.{Limits};
 ghost use Rattle.traces.specs.discipline.Knowledge.{Knowledge};
 ghost use Rattle.traces.specs.discipline.Recalled.{Recalled};
 ghost use Rattle.traces.specs.trace.Steps.{IsAnswer, memory_after};

@@ -3,7 +3,7 @@ use Rattle.std.proofs.Common.{◌≡◌, ◌<◌, ◌≤◌, ◌/◌, ◌^◌, �
 use Rattle.std.specs.Prelude.{if◌then◌else◌, IfSome}
 use Rattle.std.specs.List.{list_any}
 use Rattle.std.proofs.lemmas.Bool.{cases_Bool, cases_lt}
-use Rattle.bw_model.specs.declared.limits.Limits.{Limits}
+use Rattle.tree_limits.specs.declared.limits.Limits.{Limits}
 use Rattle.bw_model.specs.declared.step.Answer.{Answer}
 use Rattle.bw_model.specs.declared.step.Answer.TheVariants as answer
 use Rattle.bw_model.specs.declared.step.Step.TheVariants as step
@@ -12,7 +12,7 @@ use Rattle.traces.specs.discipline.Discipline.{IsPassed}
 use Rattle.traces.specs.discipline.Fitting.{Fits}
 use Rattle.traces.specs.discipline.Knowledge as known
 use Rattle.traces.specs.discipline.Knowledge.{Knowledge, Limbos, freed, learn}
-use Rattle.bw_model.specs.Words.{is_among}
+use Rattle.tree_limits.specs.Words.{is_among}
 use Rattle.epochs.specs.declared.entry.Entry.{Entry}
 use Rattle.epochs.specs.declared.entry.Stage.{Stage}
 use Rattle.epochs.specs.declared.entry.Stage.TheVariants.{Unstamped, Stamped, Passed}

@@ -1,7 +1,7 @@
 -- A small limbo agrees with what is known, number by number.
 use Rattle.std.proofs.Common.{ℕ, List, [], ◌∷◌, drop, eqb, Option, Some, true, false, refl, arith}
 use Rattle.std.specs.Prelude.{if◌then◌else◌}
-use Rattle.bw_model.specs.declared.limits.Limits.{Limits}
+use Rattle.tree_limits.specs.declared.limits.Limits.{Limits}
 use Rattle.deltas.specs.Memory.{replaced_at}
 use Rattle.traces.specs.discipline.Knowledge as known
 use Rattle.epochs.specs.declared.entry.Entry.{Entry}

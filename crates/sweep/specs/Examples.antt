@@ -1,6 +1,6 @@
 -- A small limbo, and what its actor may know.
 use Rattle.std.specs.Prelude.{ℕ, Bool, true, false, [], ◌∷◌, Some}
-use Rattle.bw_model.specs.declared.limits.Limits.{Limits}
+use Rattle.tree_limits.specs.declared.limits.Limits.{Limits}
 use Rattle.deltas.specs.Memory.{replaced_at}
 use Rattle.traces.specs.discipline.Knowledge as known
 use Rattle.traces.specs.discipline.Knowledge.{Limbos, LimboMark}

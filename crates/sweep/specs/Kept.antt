@@ -1,6 +1,6 @@
 -- How an actor's limbo agrees with what the actor knows of what it took out of the tree.
 use Rattle.std.specs.Prelude.{◌≡◌, ◌≢◌, ◌<◌, ◌≤◌, ℕ, [], Bool, Option, None, Some, IsTrue, ⊤}
-use Rattle.bw_model.specs.declared.limits.Limits.{Limits}
+use Rattle.tree_limits.specs.declared.limits.Limits.{Limits}
 use Rattle.traces.specs.discipline.Knowledge as known
 use Rattle.traces.specs.discipline.Knowledge.{Limbos}
 use Rattle.epochs.specs.declared.entry.Stage.{Stage}

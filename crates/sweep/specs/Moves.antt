@@ -1,7 +1,7 @@
 -- Where a sweep begins, and where an answer leads it.
 use Rattle.std.specs.Prelude.{◌≡◌, ◌<◌, ◌≤◌, ◌^◌, ◌++◌, ◌||◌, ℕ, suc, List, [], ◌∷◌, length, Bool, true, false, Option, None, Some, IsTrue, IsFalse}
 use Rattle.std.specs.List.{list_any}
-use Rattle.bw_model.specs.declared.limits.Limits.{Limits}
+use Rattle.tree_limits.specs.declared.limits.Limits.{Limits}
 use Rattle.bw_model.specs.declared.step.Answer.{Answer}
 use Rattle.bw_model.specs.declared.step.Answer.TheVariants.{Number}
 use Rattle.deltas.specs.declared.record.Record.{Record}

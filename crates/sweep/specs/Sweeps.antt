@@ -1,6 +1,6 @@
 -- The sweep of an actor's limbo: the steps by which it is freed.
 use Rattle.std.specs.Prelude.{◌≡◌, ◌<◌, ◌*◌, ◌/◌, ◌^◌, ℕ, suc, ltb, List, [], length, get_or, Bool, true, false, if◌then◌else◌, Option, None, Some, IsTrue, IsFalse, ⊤}
-use Rattle.bw_model.specs.declared.limits.Limits.{Limits}
+use Rattle.tree_limits.specs.declared.limits.Limits.{Limits}
 use Rattle.bw_model.specs.declared.step.Answer.{Answer}
 use Rattle.bw_model.specs.declared.step.Answer.TheVariants.{Done}
 use Rattle.bw_model.specs.declared.step.Step.{Step as StepOf}

@@ -1,7 +1,7 @@
 -- What an exchange takes out of the tree comes into limbo.
 use Rattle.std.specs.Prelude.{◌≢◌, ◌++◌, ℕ, List, map, Option, None, Some, IfSome}
 use Rattle.std.specs.List.{All, AllPairs}
-use Rattle.bw_model.specs.declared.limits.Limits.{Limits}
+use Rattle.tree_limits.specs.declared.limits.Limits.{Limits}
 use Rattle.traces.specs.discipline.Knowledge.{Limbos}
 use Rattle.epochs.specs.declared.entry.Entry.{Entry}
 use Rattle.epochs.specs.declared.entry.Stage.TheVariants.{Unstamped}

@@ -1,6 +1,6 @@
 //! Which limbos agree with what is known: each function does nothing, and its contract says it of a small limbo.
 ghost use Rattle.std.specs.Prelude.{◌<◌};
-ghost use Rattle.bw_model.specs.declared.limits.Limits.{Limits};
+ghost use Rattle.tree_limits.specs.declared.limits.Limits.{Limits};
 ghost use Rattle.traces.specs.discipline.Knowledge.{Absent, Stamped, Unstamped};
 ghost use Rattle.sweep.specs.Examples.{all_passed, known_with, none_passed, small_limbo};
 ghost use Rattle.sweep.specs.Kept.{AreKept, empty_limbo};

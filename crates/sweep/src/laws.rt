@@ -1,7 +1,7 @@
 //! Laws of limbos: each function does nothing, and its contract is proved of all of them.
 ghost use Rattle.std.specs.Prelude.{◌≡◌, ◌<◌, ◌≤◌, ◌↔◌, ℕ, List, Option, None, Some, IsTrue, length};
 ghost use Rattle.std.specs.List.{Contains};
-ghost use Rattle.bw_model.specs.declared.limits.Limits.{Limits};
+ghost use Rattle.tree_limits.specs.declared.limits.Limits.{Limits};
 ghost use Rattle.bw_model.specs.declared.step.Answer.TheVariants.{Number};
 ghost use Rattle.bw_model.specs.declared.step.Step.TheVariants.{Epoch};
 ghost use Rattle.traces.specs.chain.Chains.{IsChainFrom, chain_rows};

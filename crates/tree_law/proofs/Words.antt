@@ -19,11 +19,11 @@ pub use Rattle.bw_model.specs.Bytes.{key_cmp, is_under, is_in_range, is_below}
 pub use Rattle.bw_model.specs.Log.{Update, logged_value, set, unset}
 pub use Rattle.bw_model.specs.Pairs.{ArePairsOf}
 pub use Rattle.bw_model.specs.Replies.{update_of, command_key, reply_of}
-pub use Rattle.bw_model.specs.Words.{is_among}
+pub use Rattle.tree_limits.specs.Words.{is_among}
 pub use Rattle.bw_model.specs.declared.command.Command.{Command}
 pub use Rattle.bw_model.specs.declared.command.Command.TheVariants.{Swap, Upsert, Insert}
 pub use Rattle.bw_model.specs.declared.command.Reply.{Reply}
-pub use Rattle.bw_model.specs.declared.limits.Limits.{Limits}
+pub use Rattle.tree_limits.specs.declared.limits.Limits.{Limits}
 pub use Rattle.bw_model.specs.declared.step.Answer.{Answer}
 pub use Rattle.bw_model.specs.declared.step.Answer.TheVariants.{Whether, Content, Number, Done, Start}
 pub use Rattle.bw_model.specs.declared.step.Link.{Link}

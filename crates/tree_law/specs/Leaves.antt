@@ -1,7 +1,7 @@
 -- What the leaves of a state are.
 use Rattle.std.specs.Prelude.{◌≡◌, ◌<◌, List, length}
 use Rattle.std.specs.List.{AllByRecursion}
-use Rattle.bw_model.specs.declared.limits.Limits.{Limits}
+use Rattle.tree_limits.specs.declared.limits.Limits.{Limits}
 use Rattle.deltas.specs.Memory.{Memory}
 use Rattle.traces.specs.chain.Chains.{IsChainOf, level_in}
 use Rattle.traces.specs.chain.Fitted.{IsPageChain}

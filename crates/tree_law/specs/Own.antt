@@ -1,6 +1,6 @@
 -- What is an actor's own: rows that nobody else has or learns, and what lasts whatever the others do.
 use Rattle.std.specs.Prelude.{◌≡◌, ◌<◌, ℕ, List, Some, true}
-use Rattle.bw_model.specs.declared.limits.Limits.{Limits}
+use Rattle.tree_limits.specs.declared.limits.Limits.{Limits}
 use Rattle.deltas.specs.declared.record.Record.{Record}
 use Rattle.traces.specs.declared.trace.Entry.{Entry}
 use Rattle.traces.specs.discipline.Discipline.{IsOwn}

@@ -9,7 +9,7 @@ use Rattle.deltas.specs.declared.record.Record.TheVariants.{Base, Put, Delete, S
 use Rattle.traces.specs.chain.Chains.{IsChainFrom, right_in}
 use Rattle.traces.specs.discipline.Discipline.{root_over}
 use Rattle.traces.specs.chain.Unheld.{IsUnheld}
-use Rattle.bw_model.specs.Words.{is_among}
+use Rattle.tree_limits.specs.Words.{is_among}
 use Rattle.tree_law.specs.Keys.{Key, IsBelow}
 use Rattle.tree_law.specs.Phase.{Stage, Fresh, Indexed, Held, Removed, Merged, PageOwner, Nobody, Keeps, Placed, Cleared}
 use Rattle.tree_law.specs.Put.{put}

@@ -1,7 +1,7 @@
 -- What an operation has read, each at one of its own steps: the chains of pages, and leaves that stood.
 use Rattle.std.specs.Prelude.{◌≡◌, ◌<◌, ℕ, List, [], length, Option, Some, IsTrue, take, true, false}
 use Rattle.std.specs.List.{Contains}
-use Rattle.bw_model.specs.declared.limits.Limits.{Limits}
+use Rattle.tree_limits.specs.declared.limits.Limits.{Limits}
 use Rattle.bw_model.specs.declared.step.Answer.TheVariants.{Number}
 use Rattle.bw_model.specs.declared.step.Step.TheVariants.{Slot}
 use Rattle.base_page.specs.declared.item.Content.TheVariants.{Value}

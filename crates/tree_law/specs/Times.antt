@@ -1,6 +1,6 @@
 -- When rows and pages were taken out of the tree, when actors entered, and so what an actor that is inside may still hold.
 use Rattle.std.specs.Prelude.{◌≡◌, ◌<◌, ◌≤◌, ◌==◌, ◌&&◌, ◌⊎◌, ℕ, zero, suc, List, Option, Some, None, IfSome, Bool, true, false, if◌then◌else◌, ⊤}
-use Rattle.bw_model.specs.declared.limits.Limits.{Limits}
+use Rattle.tree_limits.specs.declared.limits.Limits.{Limits}
 use Rattle.bw_model.specs.declared.step.Step.{Step as StepOf}
 use Rattle.bw_model.specs.declared.step.Step.TheVariants.{Exchange, Enter, ReusePids, ReuseRows}
 use Rattle.bw_model.specs.declared.step.Answer.{Answer}
@@ -13,7 +13,7 @@ use Rattle.deltas.specs.Records.{next_row}
 use Rattle.traces.specs.chain.Chains.{IsChainFrom, content_in, level_in, right_in, is_removed}
 use Rattle.traces.specs.discipline.Discipline.{IsOwn, IsOwnBase}
 use Rattle.traces.specs.discipline.Knowledge.{Ready, Gone, LimboMark, Absent, Unstamped, Stamped, Knowledge}
-use Rattle.bw_model.specs.Words.{is_among}
+use Rattle.tree_limits.specs.Words.{is_among}
 use Rattle.tree_law.specs.Keys.{Key, Covers}
 use Rattle.tree_law.specs.Owners.{Owner, Spare, Linked, Owners, Reached}
 use Rattle.tree_law.specs.Phase.{PageOwner, Cleared, child_of}

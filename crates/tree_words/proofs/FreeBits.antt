@@ -7,7 +7,7 @@ use Rattle.std.proofs.lemmas.Nat.Bits.{and_pow, bit_at_clear_same, bit_at_clear_
 use mathlib.Core.Logic.{dite}
 use native.Mathlib.Decide.{ℕ_discrete}
 use Rattle.deltas.specs.Memory.{replaced_at}
-use Rattle.bw_model.specs.Words.{is_among}
+use Rattle.tree_limits.specs.Words.{is_among}
 use Rattle.traces.specs.trace.Steps.{IsWordOf}
 
 pub replaced_same : {X : Type 0} (n : ℕ) (x : X) (f : ℕ → X) → replaced_at n x f n ≡ x

@@ -6,7 +6,7 @@ use Rattle.std.proofs.lemmas.Bool.{cases_lt}
 use Rattle.std.proofs.lemmas.Bool.Decides.{nat_tests}
 use Rattle.std.proofs.lemmas.List.{get_or-replicate, length-replicate}
 use Rattle.std.proofs.lemmas.Nat.Bits.{bit_at_mask_below, bit_at_mask_inside, bit_at_ones, bit_at-zero}
-use Rattle.bw_model.specs.declared.limits.Limits.{Limits}
+use Rattle.tree_limits.specs.declared.limits.Limits.{Limits}
 use Rattle.base_page.specs.Pages.{empty_leaf}
 use Rattle.deltas.specs.declared.record.Record.TheVariants.{Base}
 use Rattle.deltas.specs.Memory.{opening}

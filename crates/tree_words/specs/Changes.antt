@@ -1,7 +1,7 @@
 -- The steps that are one atomic operation on a word: which word that is, what it says, and what the step leaves in it.
 use Rattle.std.specs.Prelude.{◌≡◌, ◌<◌, ℕ, ◌+◌, ◌/◌, ◌%◌, ◌^◌, ◌==◌, ⊤, not, if◌then◌else◌, List, length, slice_index, slice_set, bit_and, bit_or}
 use Rattle.std.specs.Int.{bit_not, w64}
-use Rattle.bw_model.specs.declared.limits.Limits.{Limits}
+use Rattle.tree_limits.specs.declared.limits.Limits.{Limits}
 use Rattle.bw_model.specs.declared.step.Answer.{Answer}
 use Rattle.bw_model.specs.declared.step.Answer.TheVariants.{Number, Whether, Done}
 use Rattle.bw_model.specs.declared.step.Step.{Step}

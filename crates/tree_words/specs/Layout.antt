@@ -1,6 +1,6 @@
 -- Where each part of a memory has its words, in every table alike: only the number of rows differs.
 use Rattle.std.specs.Prelude.{◌≢◌, ◌<◌, ◌+◌, ◌*◌, ℕ}
-use Rattle.bw_model.specs.declared.limits.Limits.{Limits}
+use Rattle.tree_limits.specs.declared.limits.Limits.{Limits}
 use Rattle.record_slots.specs.Layout.{row_size}
 
 -- There are 4,096 slots, 64 words of free PIDs, 256 words of free rows, the epoch, 16 announced epochs, one at every eighth

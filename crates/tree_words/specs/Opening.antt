@@ -1,6 +1,6 @@
 -- The words of the opening memory, part by part.
 use Rattle.std.specs.Prelude.{ℕ, zero, suc, ◌+◌, ◌/◌, List, replicate, slice_set}
-use Rattle.bw_model.specs.declared.limits.Limits.{Limits}
+use Rattle.tree_limits.specs.declared.limits.Limits.{Limits}
 use Rattle.record_slots.specs.Layout.{no_bound, second_at}
 use Rattle.record_slots.specs.Parts.{first_word}
 use Rattle.tree_words.specs.Layout.{pid_bits_at, row_bits_at, epoch_at, row_at, width}

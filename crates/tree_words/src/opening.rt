@@ -1,6 +1,6 @@
 //! The words of the memory that opens a tree.
 ghost use Rattle.std.specs.Prelude.{◌≡◌, ◌+◌, ◌<◌, ◌≤◌, length, IfOk};
-ghost use Rattle.bw_model.specs.declared.limits.Limits.{Limits};
+ghost use Rattle.tree_limits.specs.declared.limits.Limits.{Limits};
 ghost use Rattle.deltas.specs.Memory.{opening};
 ghost use Rattle.tree_words.specs.Opening.{with_free, opening_words};
 ghost use Rattle.tree_words.specs.Words.{AreWordsOf};

@@ -1,6 +1,6 @@
 //! Laws of walks: each function does nothing, and its contract is proved of all walks.
 ghost use Rattle.std.specs.Prelude.{ℕ, List, Option, Some, ◌++◌};
-ghost use Rattle.bw_model.specs.declared.limits.Limits.{Limits};
+ghost use Rattle.tree_limits.specs.declared.limits.Limits.{Limits};
 ghost use Rattle.bw_tree.specs.Runs.{StartsWith};
 ghost use Rattle.bw_tree.specs.Seats.{IsSame, Seat};
 ghost use Rattle.traces.specs.declared.trace.Entry.{Entry};

@@ -14,7 +14,7 @@ use Rattle.bw_model.specs.declared.step.Answer.TheVariants.{Done}
 use Rattle.deltas.specs.declared.record.Record.{Record}
 use Rattle.traces.specs.declared.trace.Entry.TheVariants.{Step}
 use Rattle.traces.specs.chain.Chains.{IsChainFrom, IsOnChain, chain_rows}
-use Rattle.bw_model.specs.Words.{is_among}
+use Rattle.tree_limits.specs.Words.{is_among}
 use Rattle.traces.specs.trace.Run.{IsRun}
 use Rattle.traces.specs.trace.Trace.{memory_at, TakesStep}
 use Rattle.traces.proofs.ChainLaws.{IsChainFrom-unique}

@@ -8,7 +8,7 @@ use Rattle.deltas.specs.declared.record.Record.{Record}
 use Rattle.traces.specs.chain.Chains.{IsChainFrom, covers, level_in}
 use Rattle.traces.specs.discipline.Discipline.{LacksRoom, MayReply, WasStanding}
 use Rattle.traces.specs.discipline.Knowledge.{Knowledge, Limbos, finished, learn}
-use Rattle.bw_model.specs.declared.limits.Limits.{Limits}
+use Rattle.tree_limits.specs.declared.limits.Limits.{Limits}
 use Rattle.traces.specs.discipline.Recalled.{Recalled}
 use Rattle.descent.specs.ReadRounds as read
 use Rattle.descent.specs.Versions.{IsAlive}

@@ -1,7 +1,7 @@
 -- The places of an operation: the state that they are, by where the operation stands.
 use Rattle.std.specs.Prelude.{◌≡◌, false, Option, Some, None}
 use Rattle.bw_model.specs.declared.command.Reply.{Reply as ReplyOf}
-use Rattle.bw_model.specs.declared.limits.Limits.{Limits}
+use Rattle.tree_limits.specs.declared.limits.Limits.{Limits}
 use Rattle.bw_model.specs.declared.step.Answer.{Answer}
 use Rattle.deltas.specs.declared.record.Record.{Record}
 use Rattle.traces.specs.chain.Chains.{level_in, low_in}

@@ -1,7 +1,7 @@
 -- What an operation was asked, and how it stands with its actor.
 use Rattle.std.specs.Prelude.{◌≡◌, ℕ, List, None, Some, IfSome, true, false}
 use Rattle.bw_model.specs.declared.command.Command.{Command}
-use Rattle.bw_model.specs.declared.limits.Limits.{Limits}
+use Rattle.tree_limits.specs.declared.limits.Limits.{Limits}
 use Rattle.traces.specs.discipline.Knowledge.{Knowledge}
 use Rattle.installs.specs.Spares.{HaveRoom, Rest, Spares}
 

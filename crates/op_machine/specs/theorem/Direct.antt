@@ -3,7 +3,7 @@ use Rattle.std.specs.Prelude.{◌≡◌, ◌≢◌, ◌<◌, ◌≤◌, ◌+◌,
 use Rattle.std.specs.Int.{bit_at}
 use Rattle.std.specs.List.{All, count_by}
 use Rattle.std.specs.List.Sorted.{IsStrictlyIncreasing}
-use Rattle.bw_model.specs.declared.limits.Limits.{Limits}
+use Rattle.tree_limits.specs.declared.limits.Limits.{Limits}
 use Rattle.bw_model.specs.declared.step.Answer.{Answer}
 use Rattle.bw_model.specs.declared.step.Answer.TheVariants.{Number, Content, Whether}
 use Rattle.bw_model.specs.declared.step.Link.{Link}

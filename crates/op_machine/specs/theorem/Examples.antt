@@ -1,8 +1,8 @@
 -- Small runs step by step, and traces that the definitions refuse.
 use Rattle.std.specs.Prelude.{codes, ◌^◌, ◌-◌, List, [], ◌∷◌, true, false, None, Some}
 use Rattle.std.proofs.Common.{lit≤, refl}
-use Rattle.bw_model.specs.Limits.{AreLimits}
-use Rattle.bw_model.specs.declared.limits.Limits.{Limits}
+use Rattle.tree_limits.specs.Limits.{AreLimits}
+use Rattle.tree_limits.specs.declared.limits.Limits.{Limits}
 use Rattle.bw_model.specs.declared.command.Command.TheVariants.{Get, Insert}
 use Rattle.bw_model.specs.declared.command.Reply.TheVariants as reply
 use Rattle.bw_model.specs.declared.step.Step.TheVariants.{Slot, Row, Epoch, Announce, RowBits, TakePid, TakeRow, Place, Exchange, Enter, Leave, Retire, ReuseRows}

@@ -1,6 +1,6 @@
 -- Each record that is read is the one that was there when its row's name was learnt.
 use Rattle.std.specs.Prelude.{◌≡◌, ◌<◌, ℕ, List, Bool, true, false, IsFalse}
-use Rattle.bw_model.specs.declared.limits.Limits.{Limits}
+use Rattle.tree_limits.specs.declared.limits.Limits.{Limits}
 use Rattle.bw_model.specs.declared.step.Step.{Step as StepOf}
 use Rattle.bw_model.specs.declared.step.Step.TheVariants.{Slot, Row, Place, Exchange, TakeRow, Enter, Leave, ReuseRows}
 use Rattle.bw_model.specs.declared.step.Answer.{Answer}
@@ -8,7 +8,7 @@ use Rattle.bw_model.specs.declared.step.Answer.TheVariants.{Whether}
 use Rattle.deltas.specs.declared.record.Record.{Record}
 use Rattle.traces.specs.declared.trace.Entry.{Entry}
 use Rattle.traces.specs.discipline.Learnt.{ShowsRow}
-use Rattle.bw_model.specs.Words.{is_among}
+use Rattle.tree_limits.specs.Words.{is_among}
 use Rattle.traces.specs.trace.Trace.{TakesStep, memory_at}
 
 -- The step may change what stands in the row; a take that got nothing doesn't.

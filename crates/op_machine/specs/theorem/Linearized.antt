@@ -1,6 +1,6 @@
 -- What the theorem says of a run.
 use Rattle.std.specs.Prelude.{List, Bool}
-use Rattle.bw_model.specs.declared.limits.Limits.{Limits}
+use Rattle.tree_limits.specs.declared.limits.Limits.{Limits}
 use Rattle.traces.specs.declared.trace.Entry.{Entry}
 use Rattle.traces.specs.declared.trace.Turn.{Turn}
 use Rattle.traces.specs.trace.Run.{IsRunOf}

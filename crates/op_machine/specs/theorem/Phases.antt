@@ -1,6 +1,6 @@
 -- The life of a PID: what it is used for, in an order that is never left.
 use Rattle.std.specs.Prelude.{◌≡◌, ◌<◌, ◌≤◌, ◌==◌, ℕ, suc, List, true, if◌then◌else◌, Some, ◌⊎◌, Bool, IsTrue}
-use Rattle.bw_model.specs.declared.limits.Limits.{Limits}
+use Rattle.tree_limits.specs.declared.limits.Limits.{Limits}
 use Rattle.bw_model.specs.declared.step.Step.TheVariants.{TakePid, ReusePids}
 use Rattle.bw_model.specs.declared.step.Answer.{Answer}
 use Rattle.bw_model.specs.declared.step.Answer.TheVariants.{Whether}
@@ -17,7 +17,7 @@ use Rattle.deltas.specs.declared.record.Merge.{Merge}
 use Rattle.deltas.specs.declared.record.Unterm.{Unterm}
 use Rattle.traces.specs.declared.trace.Entry.{Entry}
 use Rattle.traces.specs.chain.Chains.{IsChainOf, content_in, low_in, right_in}
-use Rattle.bw_model.specs.Words.{is_among}
+use Rattle.tree_limits.specs.Words.{is_among}
 use Rattle.deltas.specs.Memory.{Memory}
 use Rattle.traces.specs.trace.Trace.{IsStep, Happens}
 use Rattle.traces.specs.chain.Unheld.{IsUnheld}

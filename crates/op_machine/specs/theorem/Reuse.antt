@@ -1,7 +1,7 @@
 -- A row or a PID is used again only once no actor can still reach it.
 use Rattle.std.specs.Prelude.{◌≡◌, ◌≢◌, ◌<◌, ℕ, suc, List, true, ◌⊎◌}
 use Rattle.std.specs.List.{Contains}
-use Rattle.bw_model.specs.declared.limits.Limits.{Limits}
+use Rattle.tree_limits.specs.declared.limits.Limits.{Limits}
 use Rattle.bw_model.specs.declared.step.Step.{Step as StepOf}
 use Rattle.bw_model.specs.declared.step.Step.TheVariants.{Epoch, Announce, Exchange, TakePid, TakeRow, ReusePids, ReuseRows}
 use Rattle.bw_model.specs.declared.step.Answer.{Answer}
@@ -9,7 +9,7 @@ use Rattle.bw_model.specs.declared.step.Answer.TheVariants.{Number, Whether}
 use Rattle.deltas.specs.declared.record.Record.{Record}
 use Rattle.traces.specs.declared.trace.Entry.{Entry}
 use Rattle.traces.specs.chain.Chains.{IsChainOf, IsOnChain, chain_rows}
-use Rattle.bw_model.specs.Words.{is_among}
+use Rattle.tree_limits.specs.Words.{is_among}
 use Rattle.traces.specs.trace.Trace.{TakesStep, memory_at}
 
 -- The step takes the PID, or frees it; a take that got nothing doesn't.

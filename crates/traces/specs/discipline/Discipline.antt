@@ -4,7 +4,7 @@ use Rattle.bw_model.specs.declared.command.Command.{Command}
 use Rattle.bw_model.specs.declared.command.Reply.{Reply}
 use Rattle.bw_model.specs.declared.command.Command.TheVariants.{Page, Tidy}
 use Rattle.bw_model.specs.declared.command.Reply.TheVariants.{Full, Tidied, Page as PageReply}
-use Rattle.bw_model.specs.declared.limits.Limits.{Limits}
+use Rattle.tree_limits.specs.declared.limits.Limits.{Limits}
 use Rattle.bw_model.specs.declared.step.Step.{Step as StepOf}
 use Rattle.bw_model.specs.declared.step.Step.TheVariants.{Slot, Row, Epoch, Announce, PidBits, RowBits, Place, Exchange, TakePid, TakeRow, Enter, Leave, Retire, ReusePids, ReuseRows}
 use Rattle.bw_model.specs.Bytes.{is_below, is_under}
@@ -24,7 +24,7 @@ use Rattle.traces.specs.chain.Fitted.{FitsOver, IsFitted}
 use Rattle.traces.specs.chain.HeldBack.{HoldsBack}
 use Rattle.traces.specs.chain.Unheld.{IsUnheld}
 use Rattle.traces.specs.discipline.Knowledge.{OwnRow, Foreign, Taken, Written, Empty, Ready, Gone, LimboMark, Stamped, Knowledge}
-use Rattle.bw_model.specs.Words.{is_among}
+use Rattle.tree_limits.specs.Words.{is_among}
 
 abbrev pub IsOwn : OwnRow → Type 0
 IsOwn Foreign = ⊥

@@ -13,7 +13,7 @@ use Rattle.deltas.specs.Records.{next_row}
 use Rattle.deltas.specs.Memory.{replaced_at}
 use Rattle.traces.specs.declared.trace.Entry.{Entry}
 use Rattle.traces.specs.declared.trace.Entry.TheVariants.{Begin, Step}
-use Rattle.bw_model.specs.Words.{is_among}
+use Rattle.tree_limits.specs.Words.{is_among}
 
 -- a row as its actor sees it: not its own, taken, or with what it placed there last
 pub data OwnRow : Type 0 where

@@ -1,6 +1,6 @@
 use Rattle.std.proofs.Common.{◌≡◌, List, ℕ, ap, ◌∙◌, subst}
 use Rattle.bw_model.specs.declared.command.Command.TheVariants.{Upsert}
-use Rattle.bw_model.specs.declared.limits.Limits.{Limits}
+use Rattle.tree_limits.specs.declared.limits.Limits.{Limits}
 use Rattle.bw_tree.specs.Calls.{calls_in}
 use Rattle.bw_tree.specs.Loaded.{upsert_of}
 use Rattle.bw_tree.specs.Runs.{IsOneHistory}

@@ -1,5 +1,5 @@
 use Rattle.std.proofs.Common.{◌≡◌, ℕ, [], None, map, ap, ◌∙◌, subst}
-use Rattle.bw_model.specs.declared.limits.Limits.{Limits}
+use Rattle.tree_limits.specs.declared.limits.Limits.{Limits}
 use Rattle.traces.specs.discipline.Disciplined.{Extends}
 use Rattle.traces.specs.trace.Trace.{command_of}
 use Rattle.slot_rule.specs.Views.{Mine, refreshed}

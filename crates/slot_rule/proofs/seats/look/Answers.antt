@@ -1,5 +1,5 @@
 use Rattle.std.proofs.Common.{subst, arith}
-use Rattle.bw_model.specs.declared.limits.Limits.{Limits}
+use Rattle.tree_limits.specs.declared.limits.Limits.{Limits}
 use Rattle.slot_rule.proofs.Roster.{looks_of}
 use Rattle.slot_rule.specs.Views.{Looked}
 use Rattle.slot_rule.proofs.seats.look.Goals as goal

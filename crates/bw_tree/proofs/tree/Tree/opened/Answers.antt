@@ -1,5 +1,5 @@
 use Rattle.std.proofs.Common.{[], sym, ap, ◌∙◌}
-use Rattle.bw_model.specs.declared.limits.Limits.{Limits}
+use Rattle.tree_limits.specs.declared.limits.Limits.{Limits}
 use Rattle.bw_tree.specs.Seats.{Seat}
 use Rattle.slot_rule.specs.Views.{dealt, other_parts}
 use Rattle.bw_tree.proofs.Opened.{at_fresh, fresh_extend, fresh_left}

@@ -1,7 +1,7 @@
 //! Limits by the number of keys. specs/Room.antt has the rule in one place, and docs/DECISIONS.md the reasons.
 ghost use Rattle.std.specs.Prelude.{◌≡◌, ◌≤◌, ◌^◌, ◌↔◌, IsOk, IfOk};
-ghost use Rattle.bw_model.specs.Limits.{AreLimits};
-ghost use Rattle.bw_model.specs.Room.{in_whole_words, pages_for, pids_for, rows_for};
+ghost use Rattle.tree_limits.specs.Limits.{AreLimits};
+ghost use Rattle.tree_limits.specs.Room.{in_whole_words, pages_for, pids_for, rows_for};
 
 use crate::limits::{BadLimits, Limits, MAX_ACTORS, MAX_PIDS};
 

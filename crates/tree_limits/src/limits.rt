@@ -1,6 +1,6 @@
 //! How large a tree is.
 ghost use Rattle.std.specs.Prelude.{◌≡◌, ◌↔◌, IsOk, IfOk};
-ghost use Rattle.bw_model.specs.Limits.{AreLimits};
+ghost use Rattle.tree_limits.specs.Limits.{AreLimits};
 
 use thiserror::Error;
 

@@ -1,0 +1,7 @@
+//! How large a tree is: how many actors, pages and rows it may have, and what opens it not.
+#![tactic(auto)]
+
+mod limits;
+mod room;
+
+pub use limits::{BadLimits, Limits, OpenError};
