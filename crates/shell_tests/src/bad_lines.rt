@@ -1,8 +1,8 @@
 //! Bad lines, each the first of its input.
 
+use crate::breaking::Ran;
 use crate::runs::{joined, limits, whole};
 use bw_model::Limits;
-use failing_streams::Ran;
 use shell_lines::Language;
 use std::alloc::Global;
 

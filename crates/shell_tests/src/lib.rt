@@ -1,10 +1,17 @@
-//! What the program is to print, and what it does where a stream fails: tests alone, over the shell's public calls.
+//! What the programs are to print, draw and race, and what they do where a stream fails: tests alone, over the public calls of the shell, of `drawing` and of
+//! `race`.
 #![tactic(auto)]
 
 #[cfg(test)]
 mod bad_lines;
 #[cfg(test)]
+mod breaking;
+#[cfg(test)]
+mod choppy;
+#[cfg(test)]
 mod cursor_pages;
+#[cfg(test)]
+mod documents;
 #[cfg(test)]
 mod drawn;
 #[cfg(test)]
@@ -17,6 +24,22 @@ mod interleaved;
 mod lines;
 #[cfg(test)]
 mod numbered;
+#[cfg(test)]
+mod picture_keys;
+#[cfg(test)]
+mod picture_marks;
+#[cfg(test)]
+mod picture_runs;
+#[cfg(test)]
+mod picture_sizes;
+#[cfg(test)]
+mod race_many;
+#[cfg(test)]
+mod race_rows;
+#[cfg(test)]
+mod race_runs;
+#[cfg(test)]
+mod race_streams;
 #[cfg(test)]
 mod random_lines;
 #[cfg(test)]

@@ -2,9 +2,9 @@
 
 ghost use Rattle.std.specs.Prelude.{◌<◌};
 
+use crate::breaking::Ran;
 use crate::runs::{add, limits, whole};
 use bw_model::Limits;
-use failing_streams::Ran;
 use shell_lines::Language;
 use std::alloc::Global;
 

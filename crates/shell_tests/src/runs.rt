@@ -1,9 +1,10 @@
 //! Whole runs over streams that give and take few bytes at a time, and fail.
 
+use crate::breaking::{Breaking, NEVER, Ran};
+use crate::choppy::Choppy;
 use bw_model::Limits;
 use bw_shell::{script, weave};
 use byte_streams::{Reader, Writer};
-use failing_streams::{Breaking, Choppy, NEVER, Ran};
 use shell_lines::Language;
 use std::alloc::{AllocError, Global};
 use std::process::Abort;

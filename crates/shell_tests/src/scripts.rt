@@ -1,9 +1,9 @@
 //! Scripts: one command a line.
 
+use crate::breaking::Ran;
 use crate::numbered::Width;
 use crate::runs::{Rows, agree, limits, whole};
 use bw_model::Limits;
-use failing_streams::Ran;
 use shell_lines::Language;
 use std::alloc::{AllocError, Global};
 

@@ -1,8 +1,9 @@
 //! Long lines, and streams that fail.
 
+use crate::breaking::{Breaking, NEVER};
+use crate::choppy::Choppy;
 use crate::runs::{joined, limits, run, run_into, whole};
 use bw_model::Limits;
-use failing_streams::{Breaking, Choppy, NEVER};
 use shell_lines::Language;
 use std::alloc::{AllocError, Global};
 use std::io::ErrorKind;

@@ -2,7 +2,7 @@
 ghost use Rattle.bw_tree.specs.Trees.{AreSeatsOf};
 ghost use Rattle.workers.specs.Worked.{AreIdle};
 
-use crate::numbered::{are_first, insert};
+use crate::numbered::{are_numbers, insert};
 use crate::trees::closed;
 use bw_model::{Command, Limits, Reply};
 use bw_tree::{BwSeat, Tree};
@@ -58,7 +58,7 @@ fn lists(alloc: Global, tree: Tree, seats: Vec<BwSeat>, count: u32) -> bool
     requires own { AreSeatsOf tree seats.items }
 {
     match closed(alloc, tree, seats) {
-        Some(pairs) => are_first(pairs.as_slice(), count),
+        Some(pairs) => are_numbers(pairs.as_slice(), 0, count),
         None => false,
     }
 }

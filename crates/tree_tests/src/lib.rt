@@ -1,4 +1,5 @@
-//! What a running tree is to do, with one thread and with several: tests alone, over its public calls.
+//! What a running tree is to do, with one thread and with several, what walks over it show, and how many rows and PIDs it takes: tests alone, over its
+//! public calls.
 #![tactic(auto)]
 
 #[cfg(test)]
@@ -8,7 +9,11 @@ mod clients;
 #[cfg(test)]
 mod closing;
 #[cfg(test)]
+mod cycles;
+#[cfg(test)]
 mod example;
+#[cfg(test)]
+mod full_trees;
 #[cfg(test)]
 mod jobs;
 #[cfg(test)]
@@ -18,9 +23,15 @@ mod loading;
 #[cfg(test)]
 mod numbered;
 #[cfg(test)]
+mod orders;
+#[cfg(test)]
+mod proposals;
+#[cfg(test)]
 mod refused_jobs;
 #[cfg(test)]
 mod refused_trees;
+#[cfg(test)]
+mod run_out;
 #[cfg(test)]
 mod runs;
 #[cfg(test)]
@@ -32,4 +43,16 @@ mod threads;
 #[cfg(test)]
 mod trees;
 #[cfg(test)]
+mod turns;
+#[cfg(test)]
+mod walk_beside;
+#[cfg(test)]
+mod walk_numbered;
+#[cfg(test)]
+mod walk_pages;
+#[cfg(test)]
+mod walk_refused;
+#[cfg(test)]
 mod without_memory;
+#[cfg(test)]
+mod works;

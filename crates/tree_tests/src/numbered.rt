@@ -60,10 +60,10 @@ pub(crate) fn are_from_k01(pairs: &[(Key, Value)], count: u32) -> bool {
     left.next().is_none()
 }
 
-/// Whether the pairs are those of the keys below a number, in order, each with the value of its number.
-pub(crate) fn are_first(pairs: &[(Key, Value)], count: u32) -> bool {
+/// Whether the pairs are those of the numbers from the first one on and below the end.
+pub(crate) fn are_numbers(pairs: &[(Key, Value)], first: u32, end: u32) -> bool {
     let mut left = pairs.iter();
-    for number in 0..count {
+    for number in first..end {
         if left.next() != Some(&(key(number), value(number))) {
             return false;
         }

@@ -2,7 +2,7 @@
 ghost use Rattle.bw_tree.specs.Trees.{IsSeatOf};
 
 use crate::calls::{ends_within, goes_to_its_end, replies, stops_after, stops_again};
-use crate::numbered::{are_first, are_from_k01, found, get, insert, pair};
+use crate::numbered::{are_from_k01, are_numbers, found, get, insert, pair};
 use crate::shrinking::comes_and_goes;
 use crate::stops::Stop;
 use bw_model::{Command, Key, Reply, Value};
@@ -42,9 +42,9 @@ impl Run {
             Run::Nothing | Run::Steps | Run::ComesAndGoes => pairs.is_empty(),
             Run::Stays | Run::Goes | Run::Updates(_, _) => pairs == [(key(), value())].as_slice(),
             Run::Alone(count) => are_from_k01(pairs, count),
-            Run::Inserts(count) => are_first(pairs, count),
-            Run::Mixed => are_first(pairs, 200),
-            Run::Meets => are_first(pairs, 20),
+            Run::Inserts(count) => are_numbers(pairs, 0, count),
+            Run::Mixed => are_numbers(pairs, 0, 200),
+            Run::Meets => are_numbers(pairs, 0, 20),
             Run::Stopped(stop, _) => pairs.len() == stop.left(),
         }
     }

@@ -3,7 +3,7 @@
 use crate::calls::replies;
 use crate::clients::{Client, OWN};
 use crate::loading::are_moved;
-use crate::numbered::{are_first, found, get, insert, key, value};
+use crate::numbered::{are_numbers, found, get, insert, key, value};
 use crate::trees::closed;
 use bw_model::{Key, Limits, Reply, Value};
 use bw_tree::{BwSeat, Tree};
@@ -63,7 +63,7 @@ fn two_insert<R: Threads + Sync>(rt: &R, alloc: Global) -> bool {
     };
     match done_at_once(rt, alloc, limits, works) {
         Some((works, pairs)) => works.iter().all(|work| work.right == 2000)
-            && are_first(pairs.as_slice(), 2000)
+            && are_numbers(pairs.as_slice(), 0, 2000)
             && are_moved(alloc, limits, pairs.as_slice()),
         None => false,
     }

@@ -1,5 +1,0 @@
-use Rattle.bw_tree.specs.Trees.{AreSeatsOf}
-use Rattle.room_tests.proofs.cycles.come_and_go.Given as goal
-
-abbrev pub invariant-loop-seed : goal.invariant-loop-seed
-invariant-loop-seed l = AreSeatsOf l.tree l.seats.items

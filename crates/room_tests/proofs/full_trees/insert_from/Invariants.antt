@@ -1,5 +1,0 @@
-use Rattle.bw_tree.specs.Trees.{AreSeatsOf}
-use Rattle.room_tests.proofs.full_trees.insert_from.Given as goal
-
-abbrev pub invariant-loop-number : goal.invariant-loop-number
-invariant-loop-number l = AreSeatsOf l.tree l.seats.items

@@ -1,5 +1,0 @@
-use Rattle.bw_tree.specs.Trees.{AreSeatsOf}
-use Rattle.room_tests.proofs.full_trees.works_alone.Given as goal
-
-abbrev pub invariant-loop-place : goal.invariant-loop-place
-invariant-loop-place l = AreSeatsOf l.tree l.seats.items

@@ -1,5 +1,0 @@
-use Rattle.bw_tree.specs.Trees.{AreSeatsOf}
-use Rattle.room_tests.proofs.run_out.Trial.run.Given as goal
-
-abbrev pub invariant-loop : goal.invariant-loop
-invariant-loop l = AreSeatsOf l.tree l.seats.items

@@ -1,0 +1,46 @@
+//! Small and large trees: a box for each page.
+
+use crate::documents::{count, is_document};
+use crate::picture_runs::{add_numbers, drawn};
+use bw_model::Limits;
+use std::alloc::{AllocError, Global};
+use std::test::Fail;
+
+/// Whether the picture of a tree of so many keys is a document with so many pages, and says how many PIDs are free.
+fn has_pages(
+    alloc: Global,
+    limits: Limits,
+    keys: u32,
+    pages: usize,
+    free: &[u8],
+) -> Result<bool, AllocError> {
+    let mut lines = Vec::new(alloc);
+    add_numbers(&mut lines, keys)?;
+    let Some(text) = drawn(alloc, limits, lines.as_slice()) else {
+        return Ok(false);
+    };
+    let text = text.as_slice();
+    Ok(
+        is_document(alloc, text)?
+            && count(text, b" id=\"page-") == pages
+            && count(text, b">PID ") == pages
+            && count(text, free) == 1,
+    )
+}
+
+// Keys in ascending order leave 8 in each leaf but the last one, and 8 terms in each page above but the last one of its level: 78 keys
+// are 9 leaves and a root.
+#[test]
+fn ten_pages(rt: HostRuntime) -> Result<(), Fail> {
+    let limits = Limits::new(2, 64, 256, 1)?;
+    assert!(rt; has_pages(rt.alloc(), limits, 78, 10, b"; free PIDs: 53; ")?);
+    Ok(())
+}
+
+// 7,040 keys are 879 leaves, and 109, 13 and 1 pages above them.
+#[test]
+fn a_thousand_pages(rt: HostRuntime) -> Result<(), Fail> {
+    let limits = Limits::new(2, 4096, 16384, 1)?;
+    assert!(rt; has_pages(rt.alloc(), limits, 7040, 1002, b"; free PIDs: 3093; ")?);
+    Ok(())
+}

@@ -1,0 +1,156 @@
+//! Inputs, and what is printed for them.
+
+use crate::race_runs::{add_parts, prints};
+use bw_model::Limits;
+use std::alloc::Global;
+use std::sync::Wait;
+use std::thread::Threads;
+
+// Each input, and its output.
+const ROWS: &[(&[u8], &[u8])] = &[
+    (
+        b"1 insert b 2\n0 insert a 1\n0 get a\n",
+        b"0 inserted\n0 value 1\n1 inserted\npairs 2\na 1\nb 2\n",
+    ),
+    (b"", b"pairs 0\n"),
+    (b"\n\n", b"pairs 0\n"),
+    // a job of lines that are not neighbours, and leading zeros
+    (
+        b"7 insert a 1\n3 insert b 2\n7 upsert a 3\n\n03 get b\n0007 delete a\n3 page b\n",
+        b"3 inserted\n3 value 2\n3 page 1 b 2 end\n7 inserted\n7 replaced 1\n7 deleted 3\npairs 1\nb 2\n",
+    ),
+    // the greatest number, and no last LF
+    (b"4095 insert a =6b6B", b"4095 inserted\npairs 1\na kk\n"),
+    (b"00000000000000000000001 get a", b"1 none\npairs 0\n"),
+    // a reply of each kind
+    (
+        b"0 get a\n0 insert a 1\n0 insert a 2\n0 upsert a 3\n0 upsert b =\n0 delete a\n0 delete a\n0 tidy b\n",
+        b"0 none\n0 inserted\n0 exists 1\n0 replaced 1\n0 set\n0 deleted 3\n0 absent\n0 tidied\npairs 1\nb =\n",
+    ),
+    (
+        b"0 swap a 1 2\n0 insert a 1\n0 swap a 2 3\n0 swap a 1 3\n0 get a\n",
+        b"0 absent\n0 inserted\n0 differs 1\n0 swapped\n0 value 3\npairs 1\na 3\n",
+    ),
+    // three jobs
+    (
+        b"12 insert l 1\n5 insert e 1\n4000 insert z 1\n5 get e\n12 get l\n4000 get z\n",
+        b"5 inserted\n5 value 1\n12 inserted\n12 value 1\n4000 inserted\n4000 value 1\npairs 3\ne 1\nl 1\nz 1\n",
+    ),
+];
+
+// Whether all rows are printed with so many seats.
+fn are_printed<R: Threads + Wait + Sync>(rt: &R, alloc: Global, seats: u64) -> bool {
+    let Ok(limits) = Limits::new(seats, 64, 256, 1) else {
+        return false;
+    };
+    for (input, output) in ROWS {
+        if !prints(rt, alloc, limits, input, (output, 0)) {
+            return false;
+        }
+    }
+    true
+}
+
+// As many seats as jobs, fewer and more.
+#[test]
+fn rows_with_seats(rt: HostRuntime) {
+    for seats in [2, 1, 16] {
+        assert!(rt; are_printed(&rt, rt.alloc(), seats));
+    }
+}
+
+const MALFORMED: &[u8] = b"refused line 3: 11\n";
+
+const TOO_LONG: &[u8] = b"refused line 3: 1\n";
+
+// Lines that are refused, and what is printed for them.
+const REFUSED: &[(&[u8], &[u8])] = &[
+    (b"4096 get a", MALFORMED),
+    (b"4294967296 get a", MALFORMED),
+    (b"18446744073709551616 get a", MALFORMED),
+    (b"99999999999999999999 get a", MALFORMED),
+    (b"-1 get a", MALFORMED),
+    (b"+1 get a", MALFORMED),
+    (b"a get a", MALFORMED),
+    (b" get a", MALFORMED),
+    (b" 0 get a", MALFORMED),
+    (b"0  get a", MALFORMED),
+    (b"0 get a ", MALFORMED),
+    (b"0 get a\r", MALFORMED),
+    (b"0", MALFORMED),
+    (b"0 get", MALFORMED),
+    (b"0 get a b", MALFORMED),
+    (b"0 insert a", MALFORMED),
+    (b"0 insert a 1 2", MALFORMED),
+    (b"0 list", MALFORMED),
+    (b"list", MALFORMED),
+    (b"get a", MALFORMED),
+    (b"begin 0 get a", MALFORMED),
+    (b"finish 0", MALFORMED),
+    (b"0 Get a", MALFORMED),
+    (b"0 get =6", MALFORMED),
+    (b"0 get =6g", MALFORMED),
+    (b"0 swap a 1", MALFORMED),
+    (b"0 swap a 1 2 3", MALFORMED),
+    (b"0 get a\0", MALFORMED),
+    (b"0 get \x7f", MALFORMED),
+    (b"0 get \x80", MALFORMED),
+    (b"0 get \xc3\xa9", MALFORMED),
+    (b"0 insert a \xff", MALFORMED),
+    (b"\0", MALFORMED),
+    (
+        b"0 get 12345678901234567890123456789012345678901234567890123456789012345",
+        TOO_LONG,
+    ),
+    (
+        b"0 insert a 12345678901234567890123456789012345678901234567890123456789012345",
+        TOO_LONG,
+    ),
+    (
+        b"4096 get 12345678901234567890123456789012345678901234567890123456789012345",
+        MALFORMED,
+    ),
+    (
+        b"0 insert 12345678901234567890123456789012345678901234567890123456789012345 =6",
+        MALFORMED,
+    ),
+];
+
+// Whether a line is refused behind one that isn't, and before one that is refused too.
+fn is_refused<R: Threads + Wait + Sync>(
+    rt: &R,
+    alloc: Global,
+    limits: Limits,
+    line: &[u8],
+    told: &[u8],
+) -> bool {
+    let mut input = Vec::new(alloc);
+    add_parts(&mut input, &[b"0 insert a 1\n\n", line])
+        && prints(rt, alloc, limits, input.as_slice(), (told, 1))
+        && add_parts(
+            &mut input,
+            &[b"\n0 get 12345678901234567890123456789012345678901234567890123456789012345\nlist\n"],
+        )
+        && prints(rt, alloc, limits, input.as_slice(), (told, 1))
+}
+
+// Whether all of those are, and of a lookup of 1,024 bytes and one of 1,025 the second one is no line.
+fn are_refused<R: Threads + Wait + Sync>(rt: &R, alloc: Global) -> bool {
+    let Ok(limits) = Limits::new(2, 64, 256, 1) else {
+        return false;
+    };
+    for (line, told) in REFUSED {
+        if !is_refused(rt, alloc, limits, line, told) {
+            return false;
+        }
+    }
+    let mut long = [b'k'; 1025];
+    long[..6].copy_from_slice(b"0 get ");
+    is_refused(rt, alloc, limits, &long[..1024], TOO_LONG)
+        && is_refused(rt, alloc, limits, &long, MALFORMED)
+}
+
+#[test]
+fn refused_lines(rt: HostRuntime) {
+    assert!(rt; are_refused(&rt, rt.alloc()));
+}

@@ -1,0 +1,5 @@
+use Rattle.bw_tree.specs.Trees.{AreSeatsOf}
+use Rattle.tree_tests.proofs.cycles.come_and_go.Given as goal
+
+abbrev pub invariant-loop-seed : goal.invariant-loop-seed
+invariant-loop-seed l = AreSeatsOf l.tree l.seats.items

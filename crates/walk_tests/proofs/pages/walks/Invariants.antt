@@ -1,8 +1,0 @@
-use Rattle.bw_tree.specs.Trees.{IsSeatOf}
-use Rattle.walk_tests.proofs.pages.walks.Given as goal
-
-abbrev pub invariant-loop-budget : goal.invariant-loop-budget
-invariant-loop-budget l = IsSeatOf l.tree l.seat
-
-abbrev pub invariant-loop-bound : goal.invariant-loop-bound
-invariant-loop-bound l = IsSeatOf l.tree l.seat

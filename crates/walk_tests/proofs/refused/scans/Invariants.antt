@@ -1,5 +1,0 @@
-use Rattle.bw_tree.specs.Trees.{IsSeatOf}
-use Rattle.walk_tests.proofs.refused.scans.Given as goal
-
-abbrev pub invariant-loop-grows : goal.invariant-loop-grows
-invariant-loop-grows l = IsSeatOf l.tree l.seat
