@@ -177,10 +177,10 @@ module _ (limits : Limits) (slots : List ℕ) (rows : List (Option Record)) (epo
   with_rows = ap (λ (f : ℕ → Bool). record (memory_in (table_of others words)) { free_rows = f }) is
 
 -- The table that a memory opens with.
-pub opening_is : (limits : Limits) (slots : List ℕ) (rows : List (Option Record)) (pid_bits row_bits announced : List ℕ) → slots ≡ replicate limits.pids 0 → rows ≡ replicate limits.rows None
+pub opening_is : (limits : Limits) (slots : List ℕ) (rows : List (Option Record)) (pid_bits row_bits announced : List ℕ) → slots ≡ set (set (replicate limits.pids 0) 0 1) 1 1 → rows ≡ set (replicate limits.rows None) 1 (Some (Base empty_leaf))
     → is_free pid_bits ≡ (λ n. nat_le 2 n && nat_lt n limits.pids) → is_free row_bits ≡ (λ n. nat_le 2 n && nat_lt n limits.rows) → announced ≡ replicate limits.actors 0
-    → memory_in (record { limits = limits; slots = set (set slots 0 1) 1 1; rows = set rows 1 (Some (Base empty_leaf)); pid_bits = pid_bits; row_bits = row_bits; epoch = limits.epoch; announced = announced }) ≡ opening limits
-opening_is limits slots rows pid_bits row_bits announced zeros empty pids frees outside =
+    → memory_in (record { limits = limits; slots = slots; rows = rows; pid_bits = pid_bits; row_bits = row_bits; epoch = limits.epoch; announced = announced }) ≡ opening limits
+opening_is limits slots rows pid_bits row_bits announced linked placed pids frees outside =
     λ d. record { slots = λ pid. in_slot pid d; rows = λ row. in_row row d; free_pids = pids d; free_rows = frees d; epoch = limits.epoch; announced = λ actor. by_actor actor d }
   where
     none_there : {X : Type 0} (xs : List X) (count : ℕ) (x : X) → xs ≡ replicate count x → (k : ℕ) → get_or xs k x ≡ x
@@ -189,30 +189,33 @@ opening_is limits slots rows pid_bits row_bits announced zeros empty pids frees 
       | inr ge ↦ get_or_past (replicate count x) k x (rw length-replicate ge)
     ])
 
-    long : length slots ≡ limits.pids
-    long = ap length zeros ∙ length-replicate limits.pids 0
+    zeros : List ℕ
+    zeros = replicate limits.pids 0
 
-    in_slot : (pid : ℕ) → slice_index (set (set slots 0 1) 1 1) pid ≡ (if nat_le pid 1 then 1 else 0)
+    in_slot : (pid : ℕ) → slice_index slots pid ≡ (if nat_le pid 1 then 1 else 0)
     in_slot pid =
         let some : 64 ≤ limits.pids = limits.allowed.some_pids in
-        let first : 0 < length slots = rw long (omega arith) in
-        let second : 1 < length (set slots 0 1) = rw (length-set, long) (omega arith) in
-        elim (same_or_not pid 1) [
-          | inl one ↦ rw (one, get_or-set_same (set slots 0 1) 1 1 0 second) refl
-          | inr other ↦ get_or-set_other (set slots 0 1) 1 pid 1 0 other ∙ elim (same_or_not pid 0) [
-            | inl none ↦ rw (none, get_or-set_same slots 0 1 0 first) refl
-            | inr apart ↦ get_or-set_other slots 0 pid 1 0 apart ∙ rw (le_false pid 1 (omega arith)) (none_there slots limits.pids 0 zeros pid)
+        let first : 0 < length zeros = rw length-replicate (omega arith) in
+        let second : 1 < length (set zeros 0 1) = rw (length-set, length-replicate) (omega arith) in
+        rw linked (elim (same_or_not pid 1) [
+          | inl one ↦ rw (one, get_or-set_same (set zeros 0 1) 1 1 0 second) refl
+          | inr other ↦ get_or-set_other (set zeros 0 1) 1 pid 1 0 other ∙ elim (same_or_not pid 0) [
+            | inl none ↦ rw (none, get_or-set_same zeros 0 1 0 first) refl
+            | inr apart ↦ get_or-set_other zeros 0 pid 1 0 apart ∙ rw (le_false pid 1 (omega arith)) (none_there zeros limits.pids 0 refl pid)
           ]
-        ]
+        ])
 
-    in_row : (row : ℕ) → get_or (set rows 1 (Some (Base empty_leaf))) row None ≡ (if eqb row 1 then Some (Base empty_leaf) else None)
+    empty : List (Option Record)
+    empty = replicate limits.rows None
+
+    in_row : (row : ℕ) → get_or rows row None ≡ (if eqb row 1 then Some (Base empty_leaf) else None)
     in_row row =
         let some : 64 ≤ limits.rows = limits.allowed.some_rows in
-        let second : 1 < length rows = rw (empty, length-replicate) (omega arith) in
-        elim (same_or_not row 1) [
-          | inl one ↦ rw (one, get_or-set_same rows 1 (Some (Base empty_leaf)) None second) refl
-          | inr other ↦ rw (ne_eqb row 1 other) (get_or-set_other rows 1 row (Some (Base empty_leaf)) None other ∙ none_there rows limits.rows None empty row)
-        ]
+        let second : 1 < length empty = rw length-replicate (omega arith) in
+        rw placed (elim (same_or_not row 1) [
+          | inl one ↦ rw (one, get_or-set_same empty 1 (Some (Base empty_leaf)) None second) refl
+          | inr other ↦ rw (ne_eqb row 1 other) (get_or-set_other empty 1 row (Some (Base empty_leaf)) None other ∙ none_there empty limits.rows None refl row)
+        ])
 
     by_actor : (actor : ℕ) → slice_index announced actor ≡ 0
     by_actor actor = none_there announced limits.actors 0 outside actor

@@ -1,5 +1,6 @@
 //! The memory that all actors share, and what one step makes of it.
 ghost use Rattle.std.specs.Prelude.{◌≡◌, ◌<◌, ◌≤◌, ◌*◌, ◌%◌, ◌&&◌, ◌||◌, None, false, length, nat_le, nat_lt, replicate, slice_set, IfOk, OnErr, Some};
+ghost use Rattle.base_page.specs.Pages.{empty_leaf};
 ghost use Rattle.deltas.specs.Memory.{opening, replaced_at};
 ghost use Rattle.tree_limits.specs.Words.{is_among};
 ghost use Rattle.traces.specs.trace.Steps.{IsAnswer, IsWordOf, MovesRecord, memory_after};
@@ -53,20 +54,19 @@ impl<A: Allocator + Copy> Table<A> {
         ensures limits { IfOk result (λ table. table.limits ≡ limits.now) }
         ensures opening { IfOk result (λ table. memory_in table ≡ opening limits.now) }
     {
-        let mut slots = vec![in alloc; 0; limits.pids as usize]?;
-        slots[0] = 1;
-        slots[1] = 1;
-        let mut rows = empty_rows(alloc, limits.rows)?;
-        let leaf = Record::Base(Page::empty_leaf());
-        rows[1] = Some(SharedRecord::new(alloc, &leaf)?);
+        let slots = opening_slots(alloc, limits.pids)?;
+        let pid_bits = free_bits(alloc, limits.pids)?;
+        let row_bits = free_bits(alloc, limits.rows)?;
+        let announced = vec![in alloc; 0; limits.actors as usize]?;
+        let rows = opening_rows(alloc, limits.rows)?;
         Ok(Table {
             limits: *limits,
             slots,
             rows,
-            pid_bits: free_bits(alloc, limits.pids)?,
-            row_bits: free_bits(alloc, limits.rows)?,
+            pid_bits,
+            row_bits,
             epoch: limits.epoch,
-            announced: vec![in alloc; 0; limits.actors as usize]?,
+            announced,
         })
     }
 }
@@ -180,6 +180,31 @@ impl<A: Allocator> Table<A> {
             Step::ReuseRows(word, bits) => set_bits(&mut self.row_bits, word, bits),
         }
     }
+}
+
+/// So many slots: the root is page 1, which begins in row 1.
+fn opening_slots<A: Allocator>(alloc: A, count: u64) -> Result<Vec<u16, A>, AllocError>
+    requires some { 64 ≤ count }
+    ensures { IfOk result (λ slots. slots.items ≡ slice_set (slice_set (replicate count 0) 0 1) 1 1) }
+{
+    let mut slots = vec![in alloc; 0; count as usize]?;
+    slots[0] = 1;
+    slots[1] = 1;
+    Ok(slots)
+}
+
+/// So many rows: an empty leaf is placed in row 1, and nothing in the others.
+fn opening_rows<A: Allocator + Copy>(
+    alloc: A,
+    count: u64,
+) -> Result<Vec<Option<SharedRecord<A>>, A>, AllocError>
+    requires some { 64 ≤ count }
+    ensures { IfOk result (λ rows. rows.items ≡ slice_set (replicate count None) 1 (Some (Record.Base empty_leaf))) }
+{
+    let leaf = SharedRecord::new(alloc, &Record::Base(Page::empty_leaf()))?;
+    let mut rows = empty_rows(alloc, count)?;
+    rows[1] = Some(leaf);
+    Ok(rows)
 }
 
 /// So many rows in which nothing was placed.
