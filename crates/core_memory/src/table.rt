@@ -131,20 +131,18 @@ impl<A: Allocator> Table<A> {
     {
         let _ = actor;
         match step {
-            Step::Slot(pid) => Ok(Answer::Number(u64::from(self.slots[usize::from(*pid)]))),
+            Step::Slot(pid) => Ok(Answer::Number(u64::from(self.slot(*pid)))),
             Step::Row(row) => match &self.rows[usize::from(*row)] {
                 Some(shared) => Ok(Answer::Content(shared.try_clone()?)),
                 None => unreachable!(),
             },
             Step::Epoch => Ok(Answer::Number(self.epoch)),
-            Step::Announce(other) => Ok(Answer::Number(self.announced[usize::from(*other)])),
+            Step::Announce(other) => Ok(Answer::Number(self.announced(*other))),
             Step::PidBits(word) => Ok(Answer::Number(word_at(&self.pid_bits, *word))),
             Step::RowBits(word) => Ok(Answer::Number(word_at(&self.row_bits, *word))),
-            Step::Exchange(slot, old, _) => {
-                Ok(Answer::Whether(self.slots[usize::from(*slot)] == *old))
-            }
-            Step::TakePid(pid) => Ok(Answer::Whether(is_set(&self.pid_bits, *pid))),
-            Step::TakeRow(row) => Ok(Answer::Whether(is_set(&self.row_bits, *row))),
+            Step::Exchange(slot, old, _) => Ok(Answer::Whether(self.slot(*slot) == *old)),
+            Step::TakePid(pid) => Ok(Answer::Whether(self.is_free_pid(*pid))),
+            Step::TakeRow(row) => Ok(Answer::Whether(self.is_free_row(*row))),
             Step::Retire(epoch) => Ok(Answer::Whether(self.epoch == *epoch)),
             Step::Place(_, _) | Step::Enter(_) | Step::Leave => Ok(Answer::Done),
             Step::ReusePids(_, _) | Step::ReuseRows(_, _) => Ok(Answer::Done),
