@@ -1,4 +1,5 @@
 use Rattle.std.proofs.Common.{refl, sym, ◌∙◌}
+use Rattle.std.proofs.lemmas.Bool.{false≢true}
 use Rattle.base_page.proofs.KeyLaws.{not_true}
 use Rattle.smo.proofs.Places.{decides_key}
 use Rattle.smo.proofs.hold.is_free_beside.Goals as goal
@@ -6,7 +7,7 @@ use Rattle.smo.proofs.hold.is_free_beside.Goals as goal
 pub returns-then-not-is_eq : goal.returns-then-not-is_eq
 returns-then-not-is_eq c =
     let same = decides_key c.args.one.now.key c.args.key.now c.is_eq.result (rw (← c.cmp.ensures) c.is_eq.ensures) in (
-      (λ yes is. let no = c.if-not-is_eq.true in let clash = same.1 is in absurd cc),
+      (λ yes is. absurd (false≢true (sym c.if-not-is_eq.true ∙ same.1 is))),
       (λ free. rw c.if-not-is_eq.true refl),
     )
 

@@ -1,4 +1,5 @@
 use Rattle.std.proofs.Common.{◌≡◌, ◌≢◌, ◌<◌, refl, sym, ap, ◌∙◌, arith}
+use Rattle.std.proofs.lemmas.Bool.{false≢true}
 use Rattle.base_page.specs.Rules.{held_count}
 use Rattle.traces.specs.chain.Chains.{is_removed, low_in}
 use Rattle.traces.specs.chain.Fitted.{Makes}
@@ -25,8 +26,7 @@ returns-then-not-has_free_neighbours g c = λ can.
     let makes = rw c.chain-above.ensures at c.page-made.ensures.makes in
     let free = of_made c.args.parent.now.chain c.page-made.result (HasFreeNeighbours (low_in c.args.page.now.chain)) makes can.free in
     let yes = c.has_free_neighbours.ensures.1 (rw (c.as_slice-2.ensures.items, c.items-2.ensures, c.low-low.ensures, c.chain.ensures) free) in
-    let no = c.if-not-has_free_neighbours.true in
-    absurd cc
+    absurd (false≢true (sym c.if-not-has_free_neighbours.true ∙ yes))
 
 pub returns : goal.returns
 returns g c =
@@ -36,7 +36,7 @@ returns g c =
     let low : c.low-low.result ≡ low_in c.args.page.now.chain = c.low-low.ensures ∙ ap low_in c.chain.ensures in
     let alive : is_removed chain ≡ _ = sym (ap is_removed c.chain-above.ensures) ∙ sym c.is_removed.ensures ∙ c.if-is_removed.false in
     let other : low_in c.args.page.now.chain ≢ low_in chain = λ same.
-    (let yes = (decides_key c.low-low.result c.low.result c.is_eq.result (rw (← c.cmp.ensures) c.is_eq.ensures)).1 (low ∙ same ∙ sym (c.low.ensures ∙ ap low_in c.chain-above.ensures)) in let no = c.if-is_eq.false in absurd cc) in
+    absurd (false≢true (sym c.if-is_eq.false ∙ (decides_key c.low-low.result c.low.result c.is_eq.result (rw (← c.cmp.ensures) c.is_eq.ensures)).1 (low ∙ same ∙ sym (c.low.ensures ∙ ap low_in c.chain-above.ensures)))) in
     let held : held_count made.items < 4 = (let count = c.held_count.ensures ∙ ap held_count (c.as_slice.ensures.items ∙ c.items.ensures) in let few = c.if-held_count-ge-MANY_HELD.false in omega (arith, count, few)) in
     let free : HasFreeNeighbours (low_in c.args.page.now.chain) made.items = rw (← low, ← c.items-2.ensures, ← c.as_slice-2.ensures.items) (c.has_free_neighbours.ensures.0 c.if-not-has_free_neighbours.false) in
     planned c.args.parent.now c.args.page.now made _ alive makes c.page-made.ensures.ruled (rw (c.level.ensures, c.chain-above.ensures, c.head.ensures, c.pid.ensures, low) refl)

@@ -1,4 +1,5 @@
 use Rattle.std.proofs.Common.{refl, sym, ap, ◌∙◌, arith}
+use Rattle.std.proofs.lemmas.Bool.{false≢true}
 use Rattle.traces.specs.chain.Chains.{is_removed}
 use Rattle.traces.specs.chain.Fitted.{IsFitted}
 use Rattle.traces.proofs.FittedLaws.{page_of, ruled}
@@ -16,8 +17,7 @@ returns-then-item_count-gt-FEW_ITEMS g c = λ can.
 pub returns-then-not-is_unheld : goal.returns-then-not-is_unheld
 returns-then-not-is_unheld g c = λ can.
     let yes = c.is_unheld.ensures.1 (rw c.chain-chain.ensures can.unheld) in
-    let no = c.if-not-is_unheld.true in
-    absurd cc
+    absurd (false≢true (sym c.if-not-is_unheld.true ∙ yes))
 
 pub returns : goal.returns
 returns g c =

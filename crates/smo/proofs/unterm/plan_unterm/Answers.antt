@@ -1,5 +1,6 @@
 use Rattle.std.proofs.Common.{◌≡◌, false, refl, sym, ap, ◌∙◌, arith}
 use Rattle.std.specs.Prelude.{IfSome, IsFalse, IsTrue}
+use Rattle.std.proofs.lemmas.Bool.{false≢true}
 use Rattle.bw_model.specs.Bytes.{is_below}
 use Rattle.traces.specs.chain.Chains.{high_in, is_removed, low_in}
 use Rattle.traces.specs.chain.Fitted.{IsFitted}
@@ -15,7 +16,7 @@ returns g c =
     let fitted : IsFitted parent = rw c.chain-above.ensures at c.keeps_rules.ensures.fitted in
     let standing : is_removed parent ≡ false = sym (ap is_removed c.chain-above.ensures) ∙ sym c.is_removed.ensures ∙ c.if-is_removed.false in
     let low : c.low-low.result ≡ low_in removed = c.low-low.ensures ∙ ap low_in c.chain-gone.ensures in
-    let apart : ¬ IsNextTo c.args.left.now c.args.removed.now = λ m. (let yes = c.is_next_to.ensures.1 m in let no = c.if-is_next_to.false in absurd cc) in
+    let apart : ¬ IsNextTo c.args.left.now c.args.removed.now = λ m. false≢true (sym c.if-is_next_to.false ∙ c.is_next_to.ensures.1 m) in
     let below : IsTrue (is_below (low_in left) (low_in removed)) = rw (← c.chain-chain.ensures, ← c.low.ensures, ← low, ← c.cmp.ensures, ← c.is_lt.ensures) c.if-not-is_lt.false in
     let within : IfSome (high_in left) (λ high. IsFalse (is_below high (low_in removed))) = rw (← c.chain-chain.ensures, ← low) (c.reaches.ensures.0 c.if-not-reaches.false) in
     planned c.args.parent.now c.args.left.now c.args.removed.now _ standing fitted (rw (c.level.ensures, c.chain-above.ensures, c.head.ensures, c.pid.ensures, low) refl)
