@@ -2,6 +2,7 @@
 
 ghost use Rattle.std.specs.Prelude.{◌≡◌, [], ◌∷◌, MatchOption, None, Some};
 ghost use Rattle.std.specs.Option.{option_copied};
+ghost use Rattle.std.specs.Str.{bytes_eq};
 ghost use Rattle.shell_lines.specs.Fields.{fields_in, one_of, two_of, three_of};
 
 /// The next field, and what is left behind the space after it.
@@ -45,4 +46,11 @@ pub fn three_fields<'a>(rest: Option<&'a [u8]>) -> Option<(&'a [u8], &'a [u8], &
     let (one, rest) = next_field(rest)?;
     let (two, three) = two_fields(rest)?;
     Some((one, two, three))
+}
+
+/// Whether a field is this word.
+pub fn spells(field: &[u8], word: &str) -> bool
+    ensures { result ≡ bytes_eq field.now word.now }
+{
+    field == word.as_bytes()
 }

@@ -10,7 +10,7 @@ ghost use Rattle.shell_lines.specs.Reading.{GivesCommand, GivesPair, GivesReques
 ghost use Rattle.shell_lines.specs.declared.request.Language.{Language as LanguageSeen};
 ghost use Rattle.shell_lines.specs.declared.request.Request.{Request as RequestSeen};
 
-use crate::fields::{next_field, one_field, three_fields, two_fields};
+use crate::fields::{next_field, one_field, spells, three_fields, two_fields};
 use crate::number::{read_number, read_seed};
 use crate::token::{LineError, key_of, value_of};
 use bw_model::{Command, Key, Link, Value};
@@ -113,27 +113,27 @@ pub fn read_command(fields: Option<&[u8]>) -> Result<Command, LineError>
     let Some((verb, args)) = next_field(fields) else {
         return Err(LineError::Malformed);
     };
-    if verb == b"get".as_slice() {
+    if spells(verb, "get") {
         return Ok(Command::Get(read_key(args)?));
     }
-    if verb == b"insert".as_slice() {
+    if spells(verb, "insert") {
         let (key, value) = read_pair(args)?;
         return Ok(Command::Insert(key, value));
     }
-    if verb == b"upsert".as_slice() {
+    if spells(verb, "upsert") {
         let (key, value) = read_pair(args)?;
         return Ok(Command::Upsert(key, value));
     }
-    if verb == b"delete".as_slice() {
+    if spells(verb, "delete") {
         return Ok(Command::Delete(read_key(args)?));
     }
-    if verb == b"swap".as_slice() {
+    if spells(verb, "swap") {
         return read_swap(args);
     }
-    if verb == b"page".as_slice() {
+    if spells(verb, "page") {
         return Ok(Command::Page(read_key(args)?));
     }
-    if verb == b"tidy".as_slice() {
+    if spells(verb, "tidy") {
         return Ok(Command::Tidy(read_key(args)?));
     }
     Err(LineError::Malformed)
@@ -181,37 +181,37 @@ fn read_turn(args: Option<&[u8]>) -> Option<Request>
 fn read_link(word: &[u8]) -> Option<Link>
     ensures { result ≡ link_in word.now }
 {
-    if word == b"put".as_slice() {
+    if spells(word, "put") {
         return Some(Link::Put);
     }
-    if word == b"delete".as_slice() {
+    if spells(word, "delete") {
         return Some(Link::Delete);
     }
-    if word == b"base".as_slice() {
+    if spells(word, "base") {
         return Some(Link::Base);
     }
-    if word == b"split".as_slice() {
+    if spells(word, "split") {
         return Some(Link::Split);
     }
-    if word == b"term".as_slice() {
+    if spells(word, "term") {
         return Some(Link::Term);
     }
-    if word == b"root".as_slice() {
+    if spells(word, "root") {
         return Some(Link::Root);
     }
-    if word == b"hold".as_slice() {
+    if spells(word, "hold") {
         return Some(Link::Hold);
     }
-    if word == b"remove".as_slice() {
+    if spells(word, "remove") {
         return Some(Link::Remove);
     }
-    if word == b"merge".as_slice() {
+    if spells(word, "merge") {
         return Some(Link::Merge);
     }
-    if word == b"unterm".as_slice() {
+    if spells(word, "unterm") {
         return Some(Link::Unterm);
     }
-    if word == b"clear".as_slice() {
+    if spells(word, "clear") {
         return Some(Link::Clear);
     }
     None
@@ -281,22 +281,22 @@ fn read_woven(line: &[u8]) -> Result<Request, LineError>
     let Some((verb, args)) = next_field(Some(line)) else {
         return Err(LineError::Malformed);
     };
-    if verb == b"begin".as_slice() {
+    if spells(verb, "begin") {
         return read_begin(args);
     }
-    if verb == b"turn".as_slice() {
+    if spells(verb, "turn") {
         return given(read_turn(args));
     }
-    if verb == b"until".as_slice() {
+    if spells(verb, "until") {
         return given(read_until(args));
     }
-    if verb == b"finish".as_slice() {
+    if spells(verb, "finish") {
         return given(read_finish(args));
     }
-    if verb == b"mix".as_slice() {
+    if spells(verb, "mix") {
         return given(read_mix(args));
     }
-    if verb == b"list".as_slice() {
+    if spells(verb, "list") {
         return given(read_list(args));
     }
     given(None)
@@ -309,7 +309,7 @@ fn read_script(line: &[u8]) -> Result<Request, LineError>
     let Some((verb, args)) = next_field(Some(line)) else {
         return Err(LineError::Malformed);
     };
-    if verb == b"list".as_slice() {
+    if spells(verb, "list") {
         return given(read_list(args));
     }
     match read_command(Some(line)) {
