@@ -1,21 +1,31 @@
 -- A command that has a subcommand or an option more.
-use Rattle.std.proofs.Common.{◌≡◌, ap, ◌∙◌, subst, Bool, Result, IfOk, false, ◌||◌}
+use Rattle.std.proofs.Common.{◌≡◌, ap, ◌∙◌, subst, Bool, Result, Ok, Err, IfOk, ◌||◌, false}
 use Rattle.clap.specs.Simple.{App}
-use Rattle.clap.specs.Words.{AddsArg, Rule, app_of, rule_of, with_rule, with_subcommand}
+use Rattle.clap.specs.Words.{AddsArg, AddsSubcommand, Rule, app_of, rule_of, with_rule, with_subcommand}
 use Rattle.clap.specs.declared.builder.arg.Arg.{Arg}
 use Rattle.clap.specs.declared.builder.command.Command.{Command}
 use Rattle.clap.specs.declared.builder.command.Command.TheViews.{out-Command as fields_of}
-use Rattle.shell_options.specs.Words.{HasOneMore}
+use Rattle.shell_options.specs.Words.{MakesApp}
 
-pub added : {E : Type 0} (old new : Command) (made : Result Command E) (app : App)
-    → HasOneMore old made new → IfOk made (λ c. app_of c ≡ app) → IfOk made (λ c. (fields_of c).has_globals ≡ false) → app_of new ≡ with_subcommand (app_of old) app.top
-added {E = E} old new made app more shape local =
-    let same : app_of more.0 ≡ app = subst (λ (m : Result Command E). IfOk m (λ c. app_of c ≡ app)) more.1 shape in
-    let free : (fields_of more.0).has_globals ≡ false = subst (λ (m : Result Command E). IfOk m (λ c. (fields_of c).has_globals ≡ false)) more.1 local in
-    more.2.shape free ∙ ap (λ (a : App). with_subcommand (app_of old) a.top) same
+is_made : {E : Type 0} (made : Result Command E) (command : Command) (app : App) → made ≡ Ok command → MakesApp app made → (app_of command ≡ app) × ((fields_of command).has_globals ≡ false)
+is_made {E = E} made command app found makes = subst (λ (m : Result Command E). MakesApp app m) found makes
 
-pub ruled : (old new : Command) (option : Arg) (rule : Rule) → AddsArg old option new → rule_of option ≡ rule → option.global ≡ false → app_of new ≡ with_rule (app_of old) rule
-ruled old new option rule adds is local = adds.shape local ∙ ap (with_rule (app_of old)) is
+pub ruled : {E : Type 0} (made new : Result Command E) (old : Command) (option : Arg) (rule : Rule) (app : App)
+    → made ≡ Ok old → IfOk new (AddsArg old option) → rule_of option ≡ rule → option.global ≡ false → MakesApp app made → MakesApp (with_rule app rule) new
+ruled made (Ok new) old option rule app found adds is local makes =
+    let was = is_made made old app found makes in
+    (adds.shape local ∙ ap (with_rule (app_of old)) is ∙ ap (λ (a : App). with_rule a rule) was.0, adds.globals ∙ ap (λ (b : Bool). b || option.global) was.1 ∙ local)
+ruled made (Err e) old option rule app found adds is local makes = tt
 
-pub still_local : (old new : Command) (option : Arg) → AddsArg old option new → option.global ≡ false → (fields_of old).has_globals ≡ false → (fields_of new).has_globals ≡ false
-still_local old new option adds local was = adds.globals ∙ ap (λ (b : Bool). b || option.global) was ∙ local
+pub added : {E : Type 0} (made new : Result Command E) (old sub : Command) (app : App)
+    → made ≡ Ok sub → IfOk new (AddsSubcommand old sub) → MakesApp app made → IfOk new (λ c. app_of c ≡ with_subcommand (app_of old) app.top)
+added made (Ok new) old sub app found adds makes =
+    let is = is_made made sub app found makes in
+    adds.shape is.1 ∙ ap (λ (a : App). with_subcommand (app_of old) a.top) is.0
+added made (Err e) old sub app found adds makes = tt
+
+-- the last subcommand, where the command before it is known
+pub last_added : {E : Type 0} (new : Result Command E) (above known sub : App)
+    → above ≡ known → IfOk new (λ c. app_of c ≡ with_subcommand above sub.top) → IfOk new (λ c. app_of c ≡ with_subcommand known sub.top)
+last_added (Ok new) above known sub is adds = adds ∙ ap (λ (a : App). with_subcommand a sub.top) is
+last_added (Err e) above known sub is adds = tt

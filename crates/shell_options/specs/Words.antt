@@ -1,10 +1,11 @@
 -- what the words of a command line mean, by clap's own words
-use Rattle.std.specs.Prelude.{◌≡◌, ℕ, List, [], Ok, Option, Result, Some, true, MatchOption, codes, option_map}
+use Rattle.std.specs.Prelude.{◌≡◌, ℕ, List, [], IfOk, Option, Result, Some, false, true, MatchOption, codes, option_map}
 use Rattle.std.specs.Option.{option_map_or}
 use Rattle.std.specs.Str.Parse.{digits_value, without_leading_plus}
-use Rattle.clap.specs.Words.{AddsSubcommand, IsAmong, fault_of, kind_of, App, Row, Rule, Text, new_app, new_rule, one_of, subcommand_of, takes, with_rule, with_subcommand}
+use Rattle.clap.specs.Words.{IsAmong, app_of, fault_of, kind_of, App, Row, Rule, Text, new_app, new_rule, one_of, subcommand_of, takes, with_rule, with_subcommand}
 use Rattle.clap.specs.Simple.{on_top, subcommand_rows}
 use Rattle.clap.specs.declared.builder.command.Command.{Command}
+use Rattle.clap.specs.declared.builder.command.Command.TheViews.{out-Command as fields_of}
 use Rattle.clap.specs.declared.parser.matches.ArgMatches.{ArgMatches}
 use Rattle.clap.specs.declared.parser.matches.ArgMatches.TheViews.{out-ArgMatches}
 use Rattle.clap.specs.declared.builder.value_parser.ValueParser.TheVariants as vp
@@ -97,9 +98,9 @@ IsSpelled words line = IsNamedBy (subcommand_of bwtree_app words) line
 abbrev pub told_by : ArgMatches → Option (Text × List Row)
 told_by matches = subcommand_rows (out-ArgMatches matches).subcommand
 
--- `new` is `old` with the subcommand that was made
-abbrev pub HasOneMore : {E : Type 0} → Command → Result Command E → Command → Type 0
-HasOneMore old made new = (sub : Command) × (made ≡ Ok sub) × AddsSubcommand old sub new
+-- the command, if it could be made, is of this shape, and no option of it is its subcommands' too
+abbrev pub MakesApp : {E : Type 0} → App → Result Command E → Type 0
+MakesApp app made = IfOk made (λ c. (app_of c ≡ app) × ((fields_of c).has_globals ≡ false))
 
 -- The words are in the grammar of the command line.
 unfoldable pub AreTaken : List Text → Type 0

@@ -3,14 +3,13 @@
 ghost use Rattle.std.specs.Prelude.{◌≡◌, ◌↔◌, IfErr, IfOk, IfSome, IsOk, map, false};
 ghost use Rattle.tree_limits.specs.Limits.{AreLimits};
 ghost use Rattle.std.specs.String.{string_bytes};
-ghost use Rattle.clap.specs.Words.{app_of, found_of, rows_of, rule_of};
-ghost use Rattle.clap.specs.declared.builder.command.Command.TheViews.{out-Command as fields_of};
-ghost use Rattle.shell_options.specs.Words.{number_rule, limits_rules, actors_app, draw_app, script_app, weave_app, race_app, bwtree_app, SpellsOr, HasActors, HasNumbers, HasOneMore, default_pids_of, default_rows_of, told_by, HasNoFault, IsSpelled, IsNamedBy, MayRefuse};
+ghost use Rattle.clap.specs.Words.{App, app_of, found_of, new_app, rows_of, rule_of, with_rule, with_subcommand};
+ghost use Rattle.shell_options.specs.Words.{number_rule, limits_rules, actors_app, draw_app, script_app, weave_app, race_app, bwtree_app, SpellsOr, HasActors, HasNumbers, MakesApp, default_pids_of, default_rows_of, told_by, HasNoFault, IsSpelled, IsNamedBy, MayRefuse};
 
-use tree_limits::{BadLimits, Limits};
 use clap::error::ErrorKind;
 use clap::{Arg, ArgMatches, Command, Error, value_parser};
 use std::alloc::{AllocError, Global};
+use tree_limits::{BadLimits, Limits};
 
 /// What the program is to do.
 #[derive(Clone, Copy, Debug, PartialEq, Eq)]
@@ -77,29 +76,39 @@ fn number<'a>(alloc: Global, name: &'a str, help: &'a str) -> Arg<'a>
     option(alloc, name).help(help)
 }
 
+// The command with one such option more, if there is a command.
+fn with_number<'a>(
+    alloc: Global,
+    command: Result<Command<'a>, AllocError>,
+    name: &'a str,
+    help: &'a str,
+) -> Result<Command<'a>, AllocError>
+    ensures { (app : App) → MakesApp app command.entry → MakesApp (with_rule app (number_rule name.entry.now)) result }
+{
+    command?.arg(number(alloc, name, help))
+}
+
 // A program's words: a command with the options of its limits, but for the number of actors.
 fn with_limits<'a>(
     alloc: Global,
-    command: Command<'a>,
+    command: Result<Command<'a>, AllocError>,
     pids_help: &'a str,
     rows_help: &'a str,
 ) -> Result<Command<'a>, AllocError>
-    requires local { (fields_of command).has_globals ≡ false }
-    ensures shape { IfOk result (λ c. app_of c ≡ limits_rules (app_of command.entry)) }
-    ensures local { IfOk result (λ c. (fields_of c).has_globals ≡ false) }
+    ensures { (app : App) → MakesApp app command.entry → MakesApp (limits_rules app) result }
 {
-    let command = command.arg(number(alloc, "pids", pids_help))?;
-    let command = command.arg(number(alloc, "rows", rows_help))?;
+    let command = with_number(alloc, command, "pids", pids_help);
+    let command = with_number(alloc, command, "rows", rows_help);
     let epoch_help = "The opening epoch, 1 to 4611686018427387904 [default: 1]";
-    let command = command.arg(number(alloc, "epoch", epoch_help))?;
-    Ok(command)
+    with_number(alloc, command, "epoch", epoch_help)
 }
 
 // The limits of a program that takes turns.
-fn with_few<'a>(alloc: Global, command: Command<'a>) -> Result<Command<'a>, AllocError>
-    requires local { (fields_of command).has_globals ≡ false }
-    ensures shape { IfOk result (λ c. app_of c ≡ limits_rules (app_of command.entry)) }
-    ensures local { IfOk result (λ c. (fields_of c).has_globals ≡ false) }
+fn with_few<'a>(
+    alloc: Global,
+    command: Result<Command<'a>, AllocError>,
+) -> Result<Command<'a>, AllocError>
+    ensures { (app : App) → MakesApp app command.entry → MakesApp (limits_rules app) result }
 {
     with_limits(
         alloc,
@@ -109,72 +118,77 @@ fn with_few<'a>(alloc: Global, command: Command<'a>) -> Result<Command<'a>, Allo
     )
 }
 
-// The words of a program of several actors that take turns.
-fn actors_words<'a>(alloc: Global, name: &'a str) -> Result<Command<'a>, AllocError>
-    ensures shape { IfOk result (λ c. app_of c ≡ actors_app name.entry.now) }
-    ensures local { IfOk result (λ c. (fields_of c).has_globals ≡ false) }
+// A command without options, and what help says of it.
+fn described<'a>(
+    alloc: Global,
+    name: &'a str,
+    about: &'a str,
+    example: &'a str,
+) -> Result<Command<'a>, AllocError>
+    ensures { MakesApp (new_app name.entry.now) result }
 {
-    let actors = number(alloc, "actors", "Actors, 1 to 16 [default: 2]");
-    let command = Command::new(alloc, name).arg(actors)?;
+    Ok(Command::new(alloc, name).about(about).after_help(example))
+}
+
+// The words of a program of several actors that take turns.
+fn actors_command<'a>(
+    alloc: Global,
+    name: &'a str,
+    about: &'a str,
+    example: &'a str,
+) -> Result<Command<'a>, AllocError>
+    ensures { MakesApp (actors_app name.entry.now) result }
+{
+    let command = described(alloc, name, about, example);
+    let command = with_number(alloc, command, "actors", "Actors, 1 to 16 [default: 2]");
     with_few(alloc, command)
 }
 
 fn weave_command<'a>(alloc: Global) -> Result<Command<'a>, AllocError>
-    ensures shape { IfOk result (λ c. app_of c ≡ weave_app) }
-    ensures local { IfOk result (λ c. (fields_of c).has_globals ≡ false) }
+    ensures { MakesApp weave_app result }
 {
-    let weave = actors_words(alloc, "weave")?;
-    let weave = weave.about(
+    actors_command(
+        alloc,
+        "weave",
         "Runs the lines of standard input, turn by turn, and prints what they answer",
-    );
-    Ok(weave.after_help(
         "Example: the lines 'begin 0 insert a 1' and 'finish 0' print '0 inserted'",
-    ))
+    )
 }
 
 fn draw_command<'a>(alloc: Global) -> Result<Command<'a>, AllocError>
-    ensures shape { IfOk result (λ c. app_of c ≡ draw_app) }
-    ensures local { IfOk result (λ c. (fields_of c).has_globals ≡ false) }
+    ensures { MakesApp draw_app result }
 {
-    let draw = actors_words(alloc, "draw")?;
-    let draw = draw.about(
+    actors_command(
+        alloc,
+        "draw",
         "Runs the lines of standard input as weave does, and prints a picture of the tree, as SVG",
-    );
-    Ok(draw.after_help(
         "Example: the lines 'begin 0 insert a 1' and 'finish 0' print a picture of one page with one item",
-    ))
-}
-
-fn script_words<'a>(alloc: Global) -> Result<Command<'a>, AllocError>
-    ensures shape { IfOk result (λ c. app_of c ≡ script_app) }
-    ensures local { IfOk result (λ c. (fields_of c).has_globals ≡ false) }
-{
-    with_few(alloc, Command::new(alloc, "script"))
+    )
 }
 
 fn script_command<'a>(alloc: Global) -> Result<Command<'a>, AllocError>
-    ensures shape { IfOk result (λ c. app_of c ≡ script_app) }
-    ensures local { IfOk result (λ c. (fields_of c).has_globals ≡ false) }
+    ensures { MakesApp script_app result }
 {
-    let script = script_words(alloc)?;
-    let script = script.about(
+    let script = described(
+        alloc,
+        "script",
         "Runs the commands of standard input, one a line, and prints what they answer",
-    );
-    Ok(script.after_help(
         "Example: the lines 'insert a 1' and 'get a' print '0 inserted' and '0 value 1'",
-    ))
+    );
+    with_few(alloc, script)
 }
 
-fn race_words<'a>(alloc: Global) -> Result<Command<'a>, AllocError>
-    ensures shape { IfOk result (λ c. app_of c ≡ race_app) }
-    ensures local { IfOk result (λ c. (fields_of c).has_globals ≡ false) }
+fn race_command<'a>(alloc: Global) -> Result<Command<'a>, AllocError>
+    ensures { MakesApp race_app result }
 {
-    let seats = number(
+    let race = described(
         alloc,
-        "seats",
-        "Seats, one thread each, 1 to 16 [default: 2]",
+        "race",
+        "Runs the jobs of standard input on threads, and prints what they answer and all pairs",
+        "Example: the lines '0 insert a 1' and '1 get b' print '0 inserted', '1 none', 'pairs 1' and 'a 1'",
     );
-    let race = Command::new(alloc, "race").arg(seats)?;
+    let seats_help = "Seats, one thread each, 1 to 16 [default: 2]";
+    let race = with_number(alloc, race, "seats", seats_help);
     with_limits(
         alloc,
         race,
@@ -183,46 +197,27 @@ fn race_words<'a>(alloc: Global) -> Result<Command<'a>, AllocError>
     )
 }
 
-fn race_command<'a>(alloc: Global) -> Result<Command<'a>, AllocError>
-    ensures shape { IfOk result (λ c. app_of c ≡ race_app) }
-    ensures local { IfOk result (λ c. (fields_of c).has_globals ≡ false) }
-{
-    let race = race_words(alloc)?;
-    let race = race.about(
-        "Runs the jobs of standard input on threads, and prints what they answer and all pairs",
-    );
-    Ok(race.after_help(
-        "Example: the lines '0 insert a 1' and '1 get b' print '0 inserted', '1 none', 'pairs 1' and 'a 1'",
-    ))
-}
-
 // The command with a subcommand more, where that could be made.
 fn with<'a>(
     command: Command<'a>,
     made: Result<Command<'a>, AllocError>,
 ) -> Result<Command<'a>, AllocError>
-    ensures { IfOk result (HasOneMore command.entry made.entry) }
+    ensures { (sub : App) → MakesApp sub made.entry → IfOk result (λ c. app_of c ≡ with_subcommand (app_of command.entry) sub.top) }
 {
     command.subcommand(made?)
 }
 
 // The words of all programs.
-fn plain_command<'a>(alloc: Global) -> Result<Command<'a>, AllocError>
-    ensures { IfOk result (λ c. app_of c ≡ bwtree_app) }
-{
-    let command = Command::new(alloc, "bwtree").subcommand_required(true);
-    let command = with(command, script_command(alloc))?;
-    let command = with(command, weave_command(alloc))?;
-    let command = with(command, draw_command(alloc))?;
-    let command = with(command, race_command(alloc))?;
-    Ok(command)
-}
-
 fn command<'a>(alloc: Global) -> Result<Command<'a>, AllocError>
     ensures { IfOk result (λ c. app_of c ≡ bwtree_app) }
 {
-    let command = plain_command(alloc)?;
-    Ok(command.about("An ordered map of keys to values, kept in a latch-free Bw-tree"))
+    let command = Command::new(alloc, "bwtree")
+        .about("An ordered map of keys to values, kept in a latch-free Bw-tree")
+        .subcommand_required(true);
+    let command = with(command, script_command(alloc))?;
+    let command = with(command, weave_command(alloc))?;
+    let command = with(command, draw_command(alloc))?;
+    with(command, race_command(alloc))
 }
 
 // The number of the option `name`, or `default` where it isn't there.
