@@ -1,5 +1,5 @@
 //! How large a tree is.
-ghost use Rattle.std.specs.Prelude.{◌≡◌, ◌↔◌, IsOk, IfOk};
+ghost use Rattle.std.specs.Prelude.{◌≡◌, ◌≤◌, ◌%◌, ◌↔◌, IsOk, IfOk, IsTrue};
 ghost use Rattle.tree_limits.specs.Limits.{AreLimits};
 
 use thiserror::Error;
@@ -39,6 +39,13 @@ pub struct Limits {
     pub ghost allowed: { AreLimits actors pids rows epoch },
 }
 
+/// Whether a count is a multiple of 64, from 64 to the most.
+fn is_whole(count: u64, most: u64) -> bool
+    ensures { IsTrue result ↔ (64 ≤ count) × (count ≤ most) × (count % 64 ≡ 0) }
+{
+    (64..=most).contains(&count) && count % 64 == 0
+}
+
 impl Limits {
     /// These limits, refused exactly where a number is outside its range.
     pub fn new(actors: u64, pids: u64, rows: u64, epoch: u64) -> Result<Limits, BadLimits>
@@ -49,10 +56,8 @@ impl Limits {
         ensures epoch { IfOk result (λ limits. limits.epoch ≡ epoch) }
     {
         let allowed = (1..=MAX_ACTORS).contains(&actors)
-            && (64..=MAX_PIDS).contains(&pids)
-            && pids % 64 == 0
-            && (64..=16384).contains(&rows)
-            && rows % 64 == 0
+            && is_whole(pids, MAX_PIDS)
+            && is_whole(rows, 16384)
             && (1..=1 << 62).contains(&epoch);
         if allowed {
             Ok(Limits {
