@@ -6,9 +6,9 @@ ghost use Rattle.epochs.specs.Words.{IsHandedOn};
 
 use crate::list::LimboList;
 use crate::{Entry, Item, Reuse};
-use tree_limits::{Limits, OpenError};
 use std::alloc::{AllocError, Allocator, Global};
 use std::marker::Model;
+use tree_limits::{Limits, OpenError};
 
 /// The rows and PIDs that an actor has taken out of the tree and not freed yet, each once.
 pub struct Limbo<A: Allocator = Global> {
