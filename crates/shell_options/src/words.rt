@@ -197,8 +197,8 @@ fn race_command<'a>(alloc: Global) -> Result<Command<'a>, AllocError>
     )
 }
 
-// The command with a subcommand more, where that could be made.
-fn with<'a>(
+// The command with a program more, where that one's words could be made.
+fn with_program<'a>(
     command: Command<'a>,
     made: Result<Command<'a>, AllocError>,
 ) -> Result<Command<'a>, AllocError>
@@ -214,10 +214,10 @@ fn command<'a>(alloc: Global) -> Result<Command<'a>, AllocError>
     let command = Command::new(alloc, "bwtree")
         .about("An ordered map of keys to values, kept in a latch-free Bw-tree")
         .subcommand_required(true);
-    let command = with(command, script_command(alloc))?;
-    let command = with(command, weave_command(alloc))?;
-    let command = with(command, draw_command(alloc))?;
-    with(command, race_command(alloc))
+    let command = with_program(command, script_command(alloc))?;
+    let command = with_program(command, weave_command(alloc))?;
+    let command = with_program(command, draw_command(alloc))?;
+    with_program(command, race_command(alloc))
 }
 
 // The number of the option `name`, or `default` where it isn't there.

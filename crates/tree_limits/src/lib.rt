@@ -1,4 +1,4 @@
-//! How large a tree is: how many actors, pages and rows it may have, and what opens it not.
+//! How large a tree is: how many actors, pages and rows it may have, and why none is opened.
 #![tactic(auto)]
 
 mod limits;

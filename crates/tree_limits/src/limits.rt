@@ -10,6 +10,12 @@ pub(crate) const MAX_ACTORS: u64 = 16;
 /// How many PIDs there are at most.
 pub(crate) const MAX_PIDS: u64 = 4096;
 
+/// How many rows there are at most.
+const MAX_ROWS: u64 = 16384;
+
+/// The last epoch that may open a tree.
+const MAX_EPOCH: u64 = 1 << 62;
+
 /// A number is outside the range that is stated for it.
 #[derive(Clone, Copy, Debug, PartialEq, Eq, Error)]
 #[error("a limit is outside its range")]
@@ -57,8 +63,8 @@ impl Limits {
     {
         let allowed = (1..=MAX_ACTORS).contains(&actors)
             && is_whole(pids, MAX_PIDS)
-            && is_whole(rows, 16384)
-            && (1..=1 << 62).contains(&epoch);
+            && is_whole(rows, MAX_ROWS)
+            && (1..=MAX_EPOCH).contains(&epoch);
         if allowed {
             Ok(Limits {
                 actors,

@@ -13,4 +13,4 @@ returns c =
     let weave = c.in_ok-command-2.ensures weave_app c.weave_command.ensures in
     let draw = c.in_ok-command-3.ensures draw_app c.draw_command.ensures in
     let more : App → App → App = λ sub above. with_subcommand above sub.top in
-    last_added _ _ _ race_app (draw ∙ ap (more draw_app) (weave ∙ ap (more weave_app) (script ∙ ap (more script_app) root))) (c.with-4.ensures race_app c.race_command.ensures)
+    last_added _ _ _ race_app (draw ∙ ap (more draw_app) (weave ∙ ap (more weave_app) (script ∙ ap (more script_app) root))) (c.with_program-4.ensures race_app c.race_command.ensures)
