@@ -60,7 +60,7 @@ fn refuse(rt: &HostRuntime, error: OptionsError) -> u8 {
 }
 
 /// Runs a program, and answers the status. A race's threads are those of `threads`.
-fn started<R: Threads + Wait + Sync>(rt: &HostRuntime, threads: &R, settings: Settings) -> u8 {
+pub fn started<R: Threads + Wait + Sync>(rt: &HostRuntime, threads: &R, settings: Settings) -> u8 {
     let Ok(limits) = settings.limits() else {
         let _ = eprintln!(rt; "refused: {}", Refusal::BadLimits.code());
         return 2;

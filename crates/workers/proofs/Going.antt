@@ -4,7 +4,7 @@ use Rattle.std.specs.Prelude.{slice_index_or, take, zip}
 use Rattle.std.proofs.lemmas.List.{append_assoc, append-nil, length-take, take_more}
 use Rattle.bw_model.specs.declared.command.Command.{Command}
 use Rattle.bw_model.specs.declared.command.Reply.{Reply}
-use Rattle.bw_tree.specs.Calls.{IsCalled, IsFinished, IsResumed, IsSpent, answered_last, calls_in}
+use Rattle.bw_tree.specs.Calls.{IsCalled, IsDone, IsFinished, IsResumed, IsSpent, IsStill, answered_last, calls_in}
 use Rattle.bw_tree.specs.Runs.{StartsWith}
 use Rattle.bw_tree.specs.Seats.{IsSame, Seat, unfinished_command}
 use Rattle.bw_tree.specs.declared.called.Called.{Called}
@@ -20,10 +20,17 @@ stays seat idle = record {
   idle = idle;
 }
 
+-- the seat stays the same one, and what it has seen grows
+same_on : (a b c : Seat) → IsSame a b → IsSame b c → IsSame a c
+same_on a b c before same = record { table = same.table ∙ before.table; limits = same.limits ∙ before.limits; actor = same.actor ∙ before.actor }
+
+grows_on : (a b c : Seat) → StartsWith b.seen a.seen → StartsWith c.seen b.seen → StartsWith c.seen a.seen
+grows_on a b c before grows = (before.0 ++ grows.0, grows.1 ∙ ap (λ z. z ++ grows.0) before.1 ∙ append_assoc a.seen before.0 grows.0)
+
 pub goes_on : (a b c : Seat) (xs ys : List (Command × Option Reply)) → GoesOn a xs b → GoesOn b ys c → GoesOn a (xs ++ ys) c
 goes_on a b c xs ys g h = record {
-  same = record { table = h.same.table ∙ g.same.table; limits = h.same.limits ∙ g.same.limits; actor = h.same.actor ∙ g.same.actor };
-  grows = (g.grows.0 ++ h.grows.0, h.grows.1 ∙ ap (λ z. z ++ h.grows.0) g.grows.1 ∙ append_assoc a.seen g.grows.0 h.grows.0);
+  same = same_on a b c g.same h.same;
+  grows = grows_on a b c g.grows h.grows;
   calls = h.calls ∙ ap (λ z. z ++ ys) g.calls ∙ append_assoc (calls_in a) xs ys;
   idle = h.idle;
 }
@@ -67,8 +74,24 @@ begun old command budget called new same is spent =
 pub ended : (old mid new : Seat) (command : Command) (budget : ℕ) (called : Called) (reply : Reply) → IsUnderWay old command mid → IsSame mid new → IsResumed mid budget called new → called ≡ Done reply → GoesOn old ((command, Some reply) ∷ []) new
 ended old mid new command budget called reply before same is done =
     let h : IsFinished mid budget reply new = subst (λ z. IsResumed mid budget z new) done is in record {
-      same = record { table = same.table ∙ before.same.table; limits = same.limits ∙ before.same.limits; actor = same.actor ∙ before.same.actor };
-      grows = (before.grows.0 ++ h.grows.0, h.grows.1 ∙ ap (λ z. z ++ h.grows.0) before.grows.1 ∙ append_assoc old.seen before.grows.0 h.grows.0);
+      same = same_on old mid new before.same same;
+      grows = grows_on old mid new before.grows h.grows;
       calls = h.calls ∙ ap (λ z. answered_last z reply) before.calls ∙ answered (calls_in old) command None reply;
       idle = h.idle;
+    }
+
+-- a command that was done at once
+pub done : (old new : Seat) (command : Command) (budget : ℕ) (called : Called) (reply : Reply) → IsSame old new → IsCalled old command budget called new → called ≡ Done reply → GoesOn old ((command, Some reply) ∷ []) new
+done old new command budget called reply same is at_once =
+    let h : IsDone old command budget reply new = subst (λ z. IsCalled old command budget z new) at_once is in
+    record { same = same; grows = h.grows; calls = h.calls; idle = h.idle }
+
+-- one that was resumed, and isn't done
+pub still : (old mid new : Seat) (command : Command) (budget : ℕ) (called : Called) → IsUnderWay old command mid → IsSame mid new → IsResumed mid budget called new → called ≡ Spent → IsUnderWay old command new
+still old mid new command budget called before same is spent =
+    let h : IsStill mid budget new = subst (λ z. IsResumed mid budget z new) spent is in record {
+      same = same_on old mid new before.same same;
+      grows = grows_on old mid new before.grows h.grows;
+      calls = h.calls ∙ before.calls;
+      busy = h.busy ∙ before.busy;
     }

@@ -1,5 +1,6 @@
 mod Ascending
 mod Beginning
+mod Doing
 mod Going
 mod Looked
 mod Named

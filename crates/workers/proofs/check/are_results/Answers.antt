@@ -3,6 +3,12 @@ use Rattle.workers.proofs.Looked.{one_looked}
 use Rattle.workers.proofs.Parting.{below_of}
 use Rattle.workers.proofs.check.are_results.Goals as goal
 
+pub returns-then-jobs-results : goal.returns-then-jobs-results
+returns-then-jobs-results g c = λ h. c.if-jobs-results.true (sym h.count)
+
+pub loop-place-init : goal.loop-place-init
+loop-place-init g c = λ n job given below at at_given. absurd (omega (arith, below))
+
 pub loop-place-preserved : goal.loop-place-preserved
 loop-place-preserved g c = one_looked c.args.jobs.now c.args.results.now c.loop-place.place c.index-jobs-place.result c.index-results-place.result c.index-jobs-place.is c.index-results-place.is c.if-not-is_result.ensures c.loop-place.invariant
 

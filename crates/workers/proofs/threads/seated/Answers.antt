@@ -1,5 +1,7 @@
-use Rattle.std.proofs.Common.{[], ◌∷◌, ◌∙◌, ap, arith, length}
-use Rattle.std.proofs.lemmas.List.{length-append}
+use Rattle.std.proofs.Common.{[], ◌∷◌, ◌∙◌, ap, arith, length, rules, sym}
+use Rattle.std.proofs.lemmas.Iterator.Adapters.{YieldsList-from_vec}
+use Rattle.std.proofs.lemmas.Iterator.Consumers.{YieldsList-end}
+use Rattle.std.proofs.lemmas.List.{length-append, map-id}
 use Rattle.std.proofs.lemmas.List.Elements.{All-push}
 use Rattle.bw_tree.specs.Trees.{IsSeatOf}
 use Rattle.workers.proofs.threads.seated.Goals as goal
@@ -18,3 +20,9 @@ loop-work-preserved g c =
       seats = omega (arith, pushed, taken, seats);
       works = omega (arith, pushed, yielded, works);
     }
+
+pub returns-clause-works : goal.returns-clause-works
+returns-clause-works g c =
+    let end = YieldsList-end (YieldsList-from_vec {s = c.into_iter-work-iterator.result} c.args.works.items (search rules) (search rules)) c.loop-work.yielded c.loop-work.work-iterator c.loop-work.yielded_by c.next.result c.next.new.self c.in-None.is c.next.ensures.steps in
+    let all = ap length (sym (map-id c.loop-work.yielded) ∙ end.0) in
+    let works = c.loop-work.invariant.works in omega (arith, all, works)
