@@ -1,11 +1,15 @@
 //! The program: the words of a command line in, an exit status out.
 #![tactic(auto)]
 
-use bw_shell::{Refusal, script, weave};
+ghost use Rattle.std.specs.Prelude.{◌≡◌, ◌⊎◌};
+ghost use Rattle.tree_limits.specs.Limits.{AreLimits};
+
+mod programs;
+
+use bw_shell::Refusal;
 use byte_streams::{Reader, Writer};
-use drawing::draw;
-use race::race;
-use shell_options::{OptionsError, Program, Settings, options};
+use programs::run_over;
+use shell_options::{OptionsError, Settings, options};
 use std::alloc::Global;
 use std::io::ErrorKind;
 use std::process::ExitCode;
@@ -59,18 +63,25 @@ fn refuse(rt: &HostRuntime, error: OptionsError) -> u8 {
     }
 }
 
-/// Runs a program, and answers the status. A race's threads are those of `threads`.
-pub fn started<R: Threads + Wait + Sync>(rt: &HostRuntime, threads: &R, settings: Settings) -> u8 {
+/// Runs a program from standard input to standard output, and answers the status: 2 exactly where the limits aren't allowed. A race's
+/// threads are those of `threads`.
+fn started<R: Threads + Wait + Sync>(rt: &HostRuntime, threads: &R, settings: Settings) -> u8
+    ensures allowed { AreLimits settings.actors settings.pids settings.rows settings.epoch → (result ≡ 0) ⊎ (result ≡ 1) }
+    ensures refused { (AreLimits settings.actors settings.pids settings.rows settings.epoch → ⊥) → result ≡ 2 }
+{
     let Ok(limits) = settings.limits() else {
         let _ = eprintln!(rt; "refused: {}", Refusal::BadLimits.code());
         return 2;
     };
     let mut input = Reader::new(rt.reader());
     let mut output = Writer::new(io::writer(rt));
-    match settings.program {
-        Program::Script => script(rt.alloc(), limits, &mut input, &mut output),
-        Program::Weave => weave(rt.alloc(), limits, &mut input, &mut output),
-        Program::Draw => draw(rt.alloc(), limits, &mut input, &mut output),
-        Program::Race => race(threads, rt.alloc(), limits, &mut input, &mut output),
-    }
+    let program = settings.program;
+    run_over(
+        threads,
+        rt.alloc(),
+        program,
+        limits,
+        &mut input,
+        &mut output,
+    )
 }

@@ -81,6 +81,23 @@ fn an_index_page_is_split(rt: HostRuntime) {
     runs(&rt, rt.alloc(), (2, 64, 4096, 1), Width::Three, INDEX);
 }
 
+const GROWN_AND_SHRUNK: &[Part<'_>] = &[
+    Part::Inserts(1, 200),
+    Part::Deletes(200, 1),
+    Part::Adds("list\n", "pairs 0\n"),
+    Part::Adds("begin 0 insert a 1\nfinish 0\n", "0 inserted\n"),
+    Part::Adds(
+        "begin 0 get a\nfinish 0\nlist\n",
+        "0 value 1\npairs 1\na 1\n",
+    ),
+];
+
+#[test]
+fn a_tree_grows_and_shrinks_to_nothing(rt: HostRuntime) {
+    let limits = (2, 256, 4096, 1);
+    runs(&rt, rt.alloc(), limits, Width::Three, GROWN_AND_SHRUNK);
+}
+
 const FEW_ROWS: &[Part<'_>] = &[
     Part::Adds("begin 1 get k33\nturn 1 2\n", ""),
     Part::Inserts(1, 40),

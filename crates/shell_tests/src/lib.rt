@@ -51,8 +51,6 @@ mod runs;
 #[cfg(test)]
 mod scripts;
 #[cfg(test)]
-mod statuses;
-#[cfg(test)]
 mod streams;
 #[cfg(test)]
 mod swaps;

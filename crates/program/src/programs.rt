@@ -1,0 +1,39 @@
+//! The four programs, over any input and output.
+
+ghost use Rattle.std.specs.Prelude.{◌≡◌, ◌≤◌, ◌^◌, [], false};
+ghost use Rattle.program.specs.Runs.{IsRunOf};
+
+use bw_model::Limits;
+use bw_shell::{script, weave};
+use byte_streams::{Input, Output};
+use drawing::draw;
+use race::race;
+use shell_options::Program;
+use std::alloc::Global;
+use std::sync::Wait;
+use std::thread::Threads;
+
+/// Runs a program on a tree of these limits, and answers the status: 0 where it did all that it was asked, else 1. A race's threads are
+/// those of `threads`.
+pub(crate) fn run_over<R: Threads + Wait + Sync, I: Input, O: Output>(
+    threads: &R,
+    alloc: Global,
+    program: Program,
+    limits: Limits,
+    input: &mut I,
+    out: &mut O,
+) -> u8
+    requires sound_in { I.failed input.old ≡ false }
+    requires bounded { I.reads_left input.old ≤ 2 ^ 31 }
+    requires sound_out { (O.state out.old).failed ≡ false }
+    requires fresh { (O.state out.old).held ≡ [] }
+    ensures { IsRunOf program limits (I.remaining input.old) (I.remaining input.new) (I.failed input.new)
+        (O.state out.old).contents (O.state out.new).contents (O.state out.new).failed result }
+{
+    match program {
+        Program::Script => script(alloc, limits, input, out),
+        Program::Weave => weave(alloc, limits, input, out),
+        Program::Draw => draw(alloc, limits, input, out),
+        Program::Race => race(threads, alloc, limits, input, out),
+    }
+}
