@@ -7,3 +7,4 @@ mod Named
 pub mod Fresh
 mod Parting
 pub mod Pushed
+mod Yielded

@@ -1,8 +1,10 @@
 -- Workers are made of seats, and parted from them again.
-use Rattle.std.proofs.Common.{◌≡◌, ◌<◌, ◌≤◌, ◌+◌, ◌*◌, ℕ, zero, suc, List, [], ◌∷◌, Some, refl, sym, ap, subst, ◌∙◌, arith, All, false, flat_map, length, map, true}
+use Rattle.std.proofs.Common.{◌≡◌, ◌<◌, ◌≤◌, ◌+◌, ◌*◌, ℕ, zero, suc, List, [], ◌∷◌, Some, refl, sym, ap, subst, ◌++◌, ◌∙◌, arith, All, Vec, false, flat_map, length, map, true}
 use Rattle.std.specs.Prelude.{Bool, IsPermutation, MatchBool, slice_get, slice_index_or, vec_len}
 use Rattle.std.specs.List.Sorted.{IsNonDecreasingBy}
-use Rattle.std.proofs.lemmas.List.{length-map}
+use Rattle.std.proofs.Math.Nat.{mul-le-mul_right}
+use Rattle.std.proofs.lemmas.Grind.{flat_map-append}
+use Rattle.std.proofs.lemmas.List.{append-nil, length-map, map-append}
 use Rattle.std.proofs.lemmas.List.Elements.{All-weaker}
 use Rattle.std.proofs.lemmas.Option.{same_Some}
 use Rattle.bw_tree.specs.Seats.{Seat}
@@ -20,8 +22,28 @@ use Rattle.workers.proofs.Named.{ArePlaced, done_by, named, reordered}
 abbrev pub seat_of : {A : Type 0} → Worker A → Seat
 seat_of worker = worker.seat
 
-pub times_more : (n k : ℕ) → (n + 1) * k ≡ n * k + k
+-- one worker more was parted
+pub seats_more : {A : Type 0} (seats news : List Seat) (ones : List (Worker A)) (seat : Seat) (one : Worker A) → news ≡ seats ++ seat ∷ [] → seat ≡ one.seat → seats ≡ map seat_of ones → news ≡ map seat_of (ones ++ one ∷ [])
+seats_more seats news ones seat one more is before = more ∙ ap (λ z. seats ++ z ∷ []) is ∙ ap (λ z. z ++ one.seat ∷ []) before ∙ sym (map-append seat_of ones (one ∷ []))
+
+pub results_more : {A : Type 0} (results news : List (JobResult A)) (ones : List (Worker A)) (done : Vec (JobResult A) A) (one : Worker A) → news ≡ results ++ done.items → done ≡ one.done → results ≡ flat_map done_by ones → news ≡ flat_map done_by (ones ++ one ∷ [])
+results_more results news ones done one more is before =
+    more ∙ ap (λ z. results ++ z.items) is ∙ ap (λ z. z ++ one.done.items) before ∙ sym (flat_map-append done_by ones (one ∷ []) ∙ ap (λ z. flat_map done_by ones ++ z) (append-nil one.done.items))
+
+times_more : (n k : ℕ) → (n + 1) * k ≡ n * k + k
 times_more n k = omega arith
+
+pub few_more : {A : Type 0} (before after limit count more : ℕ) (done : Vec (JobResult A) A) (one : Worker A) → after ≡ before + vec_len done → done ≡ one.done → vec_len one.done ≤ limit → before ≤ count * limit → more ≡ count + 1 → after ≤ more * limit
+few_more before after limit count more done one added is few some next =
+    let long = ap (λ z. vec_len z) is in
+    let times = ap (λ n. n * limit) next ∙ times_more count limit in omega (arith, added, long, few, some, times)
+
+-- and there is room for its results
+pub has_room : {A : Type 0} (before room limit count all : ℕ) (done : Vec (JobResult A) A) (one : Worker A) → done ≡ one.done → vec_len one.done ≤ limit → before ≤ count * limit → count < all → all * limit ≤ room → room < before + vec_len done → ⊥
+has_room before room limit count all done one is few some below given full =
+    let long = ap (λ z. vec_len z) is in
+    let most : (count + 1) * limit ≤ all * limit = mul-le-mul_right limit (omega (arith, below)) in
+    let times = times_more count limit in omega (arith, long, few, some, most, times, given, full)
 
 pub below_of : {X : Type 0} (xs : List X) (n : ℕ) (x : X) → slice_get xs n ≡ Some x → n < length xs
 below_of [] n x e = cc

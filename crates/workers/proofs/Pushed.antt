@@ -1,7 +1,12 @@
 -- A list with one element more, where there was memory for it, and a list whose last element is taken.
-use Rattle.std.proofs.Common.{◌≡◌, ℕ, zero, suc, List, [], ◌∷◌, ◌++◌, Some, refl, subst}
+use Rattle.std.proofs.Common.{◌≡◌, ℕ, zero, suc, List, [], ◌∷◌, ◌++◌, ◌+◌, Some, ap, length, refl, subst, ◌∙◌}
 use Rattle.std.specs.Prelude.{IfSome, None, OnOk, Option, Result, Ok, Err, is_ok, option_to_list, slice_get, true}
+use Rattle.std.proofs.lemmas.List.{length-append}
 use Rattle.std.proofs.lemmas.Option.{same_Some}
+
+-- one element more
+pub one_longer : {X : Type 0} (xs ys : List X) (last : X) → ys ≡ xs ++ last ∷ [] → length ys ≡ length xs + 1
+one_longer xs ys last more = ap length more ∙ length-append xs (last ∷ [])
 
 -- what holds of each element of a list, and of one more, holds of each of both
 pub all_pushed : {X : Type 0} (P : X → Type 0) (xs : List X) (last : X) → ((n : ℕ) (x : X) → slice_get xs n ≡ Some x → P x) → P last

@@ -1,14 +1,11 @@
-use Rattle.std.proofs.Common.{◌≡◌, ◌∙◌, All, None, arith, rules, subst, sym}
-use Rattle.std.proofs.lemmas.List.{map-id}
-use Rattle.std.proofs.lemmas.Iterator.Adapters.{YieldsList-from_vec}
-use Rattle.std.proofs.lemmas.Iterator.Consumers.{YieldsList-end, YieldsList-turn}
-use Rattle.std.proofs.lemmas.List.Elements.{All-head, All-tail}
+use Rattle.std.proofs.Common.{◌≡◌, ℕ, None, ◌∙◌, arith, subst}
 use Rattle.bw_tree.specs.Seats.{unfinished_command}
 use Rattle.bw_tree.specs.Trees.{IsSeatOf, Tree}
 use Rattle.workers.specs.declared.worker.Worker.{Worker}
 use Rattle.workers.specs.Begun.{AreBegun}
 use Rattle.workers.specs.Working.{HasRoom}
 use Rattle.workers.proofs.Beginning.{begun_more, none_begun}
+use Rattle.workers.proofs.Yielded.{all_here, all_yielded, one_yielded}
 use Rattle.workers.proofs.begun.begin_all.Goals as goal
 
 abbrev IsOwn : {A : Type 0} → Tree → Worker A → Type 0
@@ -17,50 +14,52 @@ IsOwn tree worker = IsSeatOf tree worker.seat
 abbrev IsIdle : {A : Type 0} → Worker A → Type 0
 IsIdle worker = unfinished_command worker.seat ≡ None
 
+abbrev HasSpace : {A : Type 0} → ℕ → Worker A → Type 0
+HasSpace limit worker = HasRoom limit worker.done
+
 pub loop-worker-init : goal.loop-worker-init
-loop-worker-init g c =
-    let rest : c.into_iter-worker-iterator.result.rest.items ≡ c.args.workers.items = search rules in record {
-      begun = none_begun c.args.shared.now.limit c.args.shared.now.may_run.id c.args.begun.items c.requires.empty;
-      own = subst (All (IsOwn c.args.shared.now.tree.now)) (sym rest) c.requires.own;
-      idle = subst (All IsIdle) (sym rest) c.requires.idle;
-      room = subst (All (λ w. HasRoom c.args.shared.now.limit w.done)) (sym rest) c.requires.room;
-      space = c.requires.space;
-    }
+loop-worker-init g c = record {
+  begun = none_begun c.args.shared.now.limit c.args.shared.now.may_run.id c.args.begun.items c.requires.empty;
+  space = c.requires.space;
+}
 
 pub loop-worker-preserved : goal.loop-worker-preserved
 loop-worker-preserved g c =
-    let before = c.loop-worker.invariant in
-    let worker = c.in-Some.worker in
-    let rest = c.next.new.self.rest.items in
-    let steps = c.in-Some.ensures.steps.0 in record {
-      begun = begun_more c.args.shared.now.limit c.args.shared.now.may_run.id c.len-place.result c.loop-worker.yielded c.loop-worker.begun.items c.push_reserved.new.self.items worker c.begin.result before.begun (search rules) c.push_reserved.ensures.items c.begin.ensures;
-      own = All-tail (IsOwn c.args.shared.now.tree.now) worker rest (subst (All (IsOwn c.args.shared.now.tree.now)) steps before.own);
-      idle = All-tail IsIdle worker rest (subst (All IsIdle) steps before.idle);
-      room = All-tail (λ w. HasRoom c.args.shared.now.limit w.done) worker rest (subst (All (λ w. HasRoom c.args.shared.now.limit w.done)) steps before.room);
+    let before = c.loop-worker.invariant in record {
+      begun = begun_more c.args.shared.now.limit c.args.shared.now.may_run.id c.len-place.result c.loop-worker.yielded c.loop-worker.begun.items c.push_reserved.new.self.items c.in-Some.worker c.begin.result before.begun (c.len-place.ensures ∙ c.loop-worker.begun.ok.0) c.push_reserved.ensures.items c.begin.ensures;
       space = rw c.push_reserved.ensures.capacity before.space;
     }
 
 pub begin-requires-clause-own : goal.begin-requires-clause-own
 begin-requires-clause-own g c κs within =
-    All-head (IsOwn c.args.shared.now.tree.now) c.in-Some.worker c.next.new.self.rest.items (subst (All (IsOwn c.args.shared.now.tree.now)) c.in-Some.ensures.steps.0 c.loop-worker.invariant.own)
+    let made = c.into_iter-worker-iterator.ensures.into_iter_gives in
+    let turn = one_yielded c.args.workers c.into_iter-worker-iterator.result c.loop-worker.worker-iterator c.next.new.self c.loop-worker.yielded c.in-Some.worker c.next.result made.0 made.1 c.loop-worker.yielded_by c.in-Some.is c.next.ensures.steps in
+    all_here (IsOwn c.args.shared.now.tree.now) c.args.workers.items c.loop-worker.yielded c.in-Some.worker turn c.requires.own
 
 pub begin-requires-clause-idle : goal.begin-requires-clause-idle
 begin-requires-clause-idle g c κs within =
-    All-head IsIdle c.in-Some.worker c.next.new.self.rest.items (subst (All IsIdle) c.in-Some.ensures.steps.0 c.loop-worker.invariant.idle)
+    let made = c.into_iter-worker-iterator.ensures.into_iter_gives in
+    let turn = one_yielded c.args.workers c.into_iter-worker-iterator.result c.loop-worker.worker-iterator c.next.new.self c.loop-worker.yielded c.in-Some.worker c.next.result made.0 made.1 c.loop-worker.yielded_by c.in-Some.is c.next.ensures.steps in
+    all_here IsIdle c.args.workers.items c.loop-worker.yielded c.in-Some.worker turn c.requires.idle
 
 pub begin-requires-clause-room : goal.begin-requires-clause-room
 begin-requires-clause-room g c κs within =
-    All-head (λ w. HasRoom c.args.shared.now.limit w.done) c.in-Some.worker c.next.new.self.rest.items (subst (All (λ w. HasRoom c.args.shared.now.limit w.done)) c.in-Some.ensures.steps.0 c.loop-worker.invariant.room)
+    let made = c.into_iter-worker-iterator.ensures.into_iter_gives in
+    let turn = one_yielded c.args.workers c.into_iter-worker-iterator.result c.loop-worker.worker-iterator c.next.new.self c.loop-worker.yielded c.in-Some.worker c.next.result made.0 made.1 c.loop-worker.yielded_by c.in-Some.is c.next.ensures.steps in
+    all_here (HasSpace c.args.shared.now.limit) c.args.workers.items c.loop-worker.yielded c.in-Some.worker turn c.requires.room
 
 pub push_reserved-requires : goal.push_reserved-requires
 push_reserved-requires g c =
-    let before = c.loop-worker.invariant in
-    let turn = YieldsList-turn (YieldsList-from_vec {s = c.into_iter-worker-iterator.result} c.args.workers.items (search rules) (search rules)) c.loop-worker.yielded c.loop-worker.worker-iterator c.loop-worker.yielded_by c.next.result c.next.new.self c.in-Some.worker c.in-Some.is c.next.ensures.steps in
-    let count = before.begun.count in
+    let made = c.into_iter-worker-iterator.ensures.into_iter_gives in
+    let turn = one_yielded c.args.workers c.into_iter-worker-iterator.result c.loop-worker.worker-iterator c.next.new.self c.loop-worker.yielded c.in-Some.worker c.next.result made.0 made.1 c.loop-worker.yielded_by c.in-Some.is c.next.ensures.steps in
+    let count = c.loop-worker.invariant.begun.count in
+    let long = c.loop-worker.begun.ok.0 in
+    let all = c.args.workers.ok.0 in
     let below = turn.0 in
-    let space = before.space in omega (arith, count, below, space)
+    let space = c.loop-worker.invariant.space in omega (arith, count, long, all, below, space)
 
 pub returns : goal.returns
 returns g c =
-    let end = YieldsList-end (YieldsList-from_vec {s = c.into_iter-worker-iterator.result} c.args.workers.items (search rules) (search rules)) c.loop-worker.yielded c.loop-worker.worker-iterator c.loop-worker.yielded_by c.next.result c.next.new.self c.in-None.is c.next.ensures.steps in
-    subst (λ olds. AreBegun c.args.shared.now.limit c.args.shared.now.may_run.id olds c.loop-worker.begun.items) (sym (map-id c.loop-worker.yielded) ∙ end.0) c.loop-worker.invariant.begun
+    let made = c.into_iter-worker-iterator.ensures.into_iter_gives in
+    let all = all_yielded c.args.workers c.into_iter-worker-iterator.result c.loop-worker.worker-iterator c.next.new.self c.loop-worker.yielded c.next.result made.0 made.1 c.loop-worker.yielded_by c.in-None.is c.next.ensures.steps in
+    subst (λ olds. AreBegun c.args.shared.now.limit c.args.shared.now.may_run.id olds c.loop-worker.begun.items) all c.loop-worker.invariant.begun

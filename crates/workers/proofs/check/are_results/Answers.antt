@@ -1,5 +1,5 @@
 use Rattle.std.proofs.Common.{arith, sym}
-use Rattle.workers.proofs.Looked.{one_looked}
+use Rattle.workers.proofs.Looked.{one_looked, one_wrong}
 use Rattle.workers.proofs.Parting.{below_of}
 use Rattle.workers.proofs.check.are_results.Goals as goal
 
@@ -11,6 +11,9 @@ loop-place-init g c = λ n job given below at at_given. absurd (omega (arith, be
 
 pub loop-place-preserved : goal.loop-place-preserved
 loop-place-preserved g c = one_looked c.args.jobs.now c.args.results.now c.loop-place.place c.index-jobs-place.result c.index-results-place.result c.index-jobs-place.is c.index-results-place.is c.if-not-is_result.ensures c.loop-place.invariant
+
+pub returns-then-not-is_result : goal.returns-then-not-is_result
+returns-then-not-is_result g c = one_wrong c.args.jobs.now c.args.results.now c.loop-place.place c.index-jobs-place.result c.index-results-place.result c.index-jobs-place.is c.index-results-place.is c.loop-place-test.true c.if-not-is_result.ensures
 
 pub returns : goal.returns
 returns g c =

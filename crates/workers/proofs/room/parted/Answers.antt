@@ -1,14 +1,11 @@
-use Rattle.std.proofs.Common.{◌≡◌, ◌≤◌, ◌+◌, ◌*◌, [], ◌∷◌, ◌++◌, ◌∙◌, ℕ, All, ap, arith, flat_map, length, map, rules, subst, sym}
+use Rattle.std.proofs.Common.{◌≤◌, [], ◌∷◌, ◌∙◌, ℕ, ap, arith, flat_map, length, map}
 use Rattle.std.specs.Prelude.{vec_len}
-use Rattle.std.proofs.lemmas.List.{append-nil, length-append, map-append, map-id}
-use Rattle.std.proofs.Math.Nat.{mul-le-mul_right}
-use Rattle.std.proofs.lemmas.Iterator.Adapters.{YieldsList-from_vec}
-use Rattle.std.proofs.lemmas.Iterator.Consumers.{YieldsList-end, YieldsList-turn}
-use Rattle.std.proofs.lemmas.Grind.{flat_map-append}
-use Rattle.std.proofs.lemmas.List.Elements.{All-head, All-tail}
+use Rattle.std.specs.Vec.{vec_capacity}
+use Rattle.std.proofs.lemmas.List.{length-append}
 use Rattle.workers.specs.declared.worker.Worker.{Worker}
 use Rattle.workers.proofs.Named.{done_by}
-use Rattle.workers.proofs.Parting.{seat_of, times_more}
+use Rattle.workers.proofs.Parting.{few_more, has_room, results_more, seat_of, seats_more}
+use Rattle.workers.proofs.Yielded.{all_here, all_yielded, one_yielded}
 use Rattle.workers.proofs.room.parted.Goals as goal
 
 abbrev IsFew : {A : Type 0} → ℕ → Worker A → Type 0
@@ -21,7 +18,6 @@ loop-worker-init g c =
       count = c.args.seats.ok.0 ∙ ap length c.requires.seats;
       results = c.requires.results;
       few = omega (arith, none);
-      left = subst (All (IsFew c.args.limit)) (sym c.into_iter-worker-iterator.ensures.into_iter_gives.0) c.requires.few;
       seats_room = c.requires.seats_room;
       results_room = c.requires.results_room;
     }
@@ -29,23 +25,21 @@ loop-worker-init g c =
 pub loop-worker-preserved : goal.loop-worker-preserved
 loop-worker-preserved g c =
     let before = c.loop-worker.invariant in
+    let ones = c.loop-worker.yielded in
     let worker = c.in-Some.worker in
-    let yielded = length-append c.loop-worker.yielded (worker ∷ []) in
+    let parts = c.into_parts-seat in
+    let yielded = length-append ones (worker ∷ []) in
     let longer = c.push_reserved.ensures.len in
     let count = before.count in
-    let added : vec_len c.append.new.self ≡ vec_len c.loop-worker.results + vec_len worker.done = search rules in
-    let items : c.append.new.self.items ≡ c.loop-worker.results.items ++ worker.done.items = search rules in
-    let left = subst (All (IsFew c.args.limit)) c.in-Some.ensures.steps.0 before.left in
-    let few : vec_len worker.done ≤ c.args.limit = All-head (IsFew c.args.limit) worker c.next.new.self.rest.items left in
-    let some = before.few in
-    let times = ap (λ n. n * c.args.limit) yielded ∙ times_more (length c.loop-worker.yielded) c.args.limit in
+    let made = c.into_iter-worker-iterator.ensures.into_iter_gives in
+    let turn = one_yielded c.args.workers c.into_iter-worker-iterator.result c.loop-worker.worker-iterator c.next.new.self c.loop-worker.yielded c.in-Some.worker c.next.result made.0 made.1 c.loop-worker.yielded_by c.in-Some.is c.next.ensures.steps in
+    let few = all_here (IsFew c.args.limit) c.args.workers.items ones worker turn c.requires.few in
     let room = before.results_room in
     let kept = c.append.ensures.capacity in record {
-      seats = c.push_reserved.ensures.items ∙ ap (λ seat. c.loop-worker.seats.items ++ seat ∷ []) c.into_parts-seat.ensures.seat ∙ ap (λ z. z ++ worker.seat ∷ []) before.seats ∙ sym (map-append seat_of c.loop-worker.yielded (worker ∷ []));
+      seats = seats_more c.loop-worker.seats.items c.push_reserved.new.self.items ones parts.result.0 worker c.push_reserved.ensures.items parts.ensures.seat before.seats;
       count = omega (arith, longer, yielded, count);
-      results = items ∙ ap (λ z. z ++ worker.done.items) before.results ∙ sym (flat_map-append done_by c.loop-worker.yielded (worker ∷ []) ∙ ap (λ z. flat_map done_by c.loop-worker.yielded ++ z) (append-nil worker.done.items));
-      left = All-tail (IsFew c.args.limit) worker c.next.new.self.rest.items left;
-      few = omega (arith, added, few, some, times);
+      results = results_more c.loop-worker.results.items c.append.new.self.items ones parts.result.1 worker c.in-Ok.ensures.items parts.ensures.done before.results;
+      few = few_more (vec_len c.loop-worker.results) (vec_len c.append.new.self) c.args.limit (length ones) _ parts.result.1 worker c.in-Ok.ensures.len parts.ensures.done few before.few yielded;
       seats_room = rw c.push_reserved.ensures.capacity before.seats_room;
       results_room = omega (arith, room, kept);
     }
@@ -53,32 +47,29 @@ loop-worker-preserved g c =
 pub push_reserved-requires : goal.push_reserved-requires
 push_reserved-requires g c =
     let before = c.loop-worker.invariant in
-    let turn = YieldsList-turn (YieldsList-from_vec {s = c.into_iter-worker-iterator.result} c.args.workers.items (search rules) (search rules)) c.loop-worker.yielded c.loop-worker.worker-iterator c.loop-worker.yielded_by c.next.result c.next.new.self c.in-Some.worker c.in-Some.is c.next.ensures.steps in
+    let made = c.into_iter-worker-iterator.ensures.into_iter_gives in
+    let turn = one_yielded c.args.workers c.into_iter-worker-iterator.result c.loop-worker.worker-iterator c.next.new.self c.loop-worker.yielded c.in-Some.worker c.next.result made.0 made.1 c.loop-worker.yielded_by c.in-Some.is c.next.ensures.steps in
     let count = before.count in
     let below = turn.0 in
     let room = before.seats_room in omega (arith, count, below, room)
 
-pub returns-clause-results : goal.returns-clause-results
-returns-clause-results g c =
-    let end = YieldsList-end (YieldsList-from_vec {s = c.into_iter-worker-iterator.result} c.args.workers.items (search rules) (search rules)) c.loop-worker.yielded c.loop-worker.worker-iterator c.loop-worker.yielded_by c.next.result c.next.new.self c.in-None.is c.next.ensures.steps in
-    c.loop-worker.invariant.results ∙ ap (flat_map done_by) (sym (map-id c.loop-worker.yielded) ∙ end.0)
-
-pub returns-clause-seats : goal.returns-clause-seats
-returns-clause-seats g c =
-    let end = YieldsList-end (YieldsList-from_vec {s = c.into_iter-worker-iterator.result} c.args.workers.items (search rules) (search rules)) c.loop-worker.yielded c.loop-worker.worker-iterator c.loop-worker.yielded_by c.next.result c.next.new.self c.in-None.is c.next.ensures.steps in
-    c.loop-worker.invariant.seats ∙ ap (map seat_of) (sym (map-id c.loop-worker.yielded) ∙ end.0)
+pub returns : goal.returns
+returns g c =
+    let made = c.into_iter-worker-iterator.ensures.into_iter_gives in
+    let all = all_yielded c.args.workers c.into_iter-worker-iterator.result c.loop-worker.worker-iterator c.next.new.self c.loop-worker.yielded c.next.result made.0 made.1 c.loop-worker.yielded_by c.in-None.is c.next.ensures.steps in record {
+      results = c.loop-worker.invariant.results ∙ ap (flat_map done_by) all;
+      seats = c.loop-worker.invariant.seats ∙ ap (map seat_of) all;
+    }
 
 pub unreachable-requires : goal.unreachable-requires
 unreachable-requires g c =
     let before = c.loop-worker.invariant in
+    let ones = c.loop-worker.yielded in
     let worker = c.in-Some.worker in
-    let turn = YieldsList-turn (YieldsList-from_vec {s = c.into_iter-worker-iterator.result} c.args.workers.items (search rules) (search rules)) c.loop-worker.yielded c.loop-worker.worker-iterator c.loop-worker.yielded_by c.next.result c.next.new.self worker c.in-Some.is c.next.ensures.steps in
-    let left = subst (All (IsFew c.args.limit)) c.in-Some.ensures.steps.0 before.left in
-    let few : vec_len worker.done ≤ c.args.limit = All-head (IsFew c.args.limit) worker c.next.new.self.rest.items left in
+    let parts = c.into_parts-seat in
+    let made = c.into_iter-worker-iterator.ensures.into_iter_gives in
+    let turn = one_yielded c.args.workers c.into_iter-worker-iterator.result c.loop-worker.worker-iterator c.next.new.self c.loop-worker.yielded c.in-Some.worker c.next.result made.0 made.1 c.loop-worker.yielded_by c.in-Some.is c.next.ensures.steps in
+    let few = all_here (IsFew c.args.limit) c.args.workers.items ones worker turn c.requires.few in
     let below = turn.0 in
-    let most : (length c.loop-worker.yielded + 1) * c.args.limit ≤ vec_len c.args.workers * c.args.limit = mul-le-mul_right c.args.limit (omega (arith, below)) in
-    let times = times_more (length c.loop-worker.yielded) c.args.limit in
-    let some = before.few in
-    let room = before.results_room in
-    let full = c.in_default.ensures.full in
-    let given = ap (λ done. vec_len done) c.into_parts-seat.ensures.done in omega (arith, few, most, times, some, room, full, given)
+    let all = c.args.workers.ok.0 in
+    has_room (vec_len c.loop-worker.results) (vec_capacity c.loop-worker.results) c.args.limit (length ones) (vec_len c.args.workers) parts.result.1 worker parts.ensures.done few before.few (omega (arith, below, all)) before.results_room c.in_default.ensures.full

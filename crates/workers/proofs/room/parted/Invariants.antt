@@ -1,4 +1,4 @@
-use Rattle.std.proofs.Common.{◌≡◌, ◌≤◌, ◌*◌, All, flat_map, length, map}
+use Rattle.std.proofs.Common.{◌≡◌, ◌≤◌, ◌*◌, flat_map, length, map}
 use Rattle.std.specs.Prelude.{vec_len}
 use Rattle.std.specs.Vec.{vec_capacity}
 use Rattle.workers.proofs.room.parted.Given as goal
@@ -9,7 +9,6 @@ invariant-loop-worker g l = record {
   count : vec_len l.seats ≡ length l.yielded;
   results : l.results.items ≡ flat_map (λ worker. worker.done.items) l.yielded;
   few : vec_len l.results ≤ length l.yielded * l.fn.limit;
-  left : All (λ worker. vec_len worker.done ≤ l.fn.limit) l.worker-iterator.rest.items;
   seats_room : vec_len l.fn.workers ≤ vec_capacity l.seats;
   results_room : vec_len l.fn.workers * l.fn.limit ≤ vec_capacity l.results;
 }

@@ -1,12 +1,11 @@
-use Rattle.std.proofs.Common.{[], ◌∷◌, ◌++◌, ◌∙◌, All, ap, arith, length, map, rules, subst, sym}
+use Rattle.std.proofs.Common.{[], ◌∷◌, ◌++◌, ◌∙◌, All, ap, arith, length, map, subst, sym}
 use Rattle.std.specs.Prelude.{IfSome}
-use Rattle.std.proofs.lemmas.List.{length-append, map-append, map-id}
-use Rattle.std.proofs.lemmas.Iterator.Adapters.{YieldsList-from_vec}
-use Rattle.std.proofs.lemmas.Iterator.Consumers.{YieldsList-end, YieldsList-turn}
+use Rattle.std.proofs.lemmas.List.{length-append, map-append}
 use Rattle.std.proofs.lemmas.List.Elements.{All-nil, All-pop, All-push}
 use Rattle.workers.specs.declared.worker.Worker.{Worker}
 use Rattle.workers.specs.Working.{HasRoom}
 use Rattle.workers.proofs.Parting.{seat_of}
+use Rattle.workers.proofs.Yielded.{all_yielded, one_yielded}
 use Rattle.workers.proofs.room.seated.Goals as goal
 
 pub loop-seat-init : goal.loop-seat-init
@@ -43,12 +42,14 @@ loop-seat-preserved g c =
 pub unreachable-requires : goal.unreachable-requires
 unreachable-requires g c =
     let before = c.loop-seat.invariant in
-    let turn = YieldsList-turn (YieldsList-from_vec {s = c.into_iter-seat-iterator.result} c.args.seats.items (search rules) (search rules)) c.loop-seat.yielded c.loop-seat.seat-iterator c.loop-seat.yielded_by c.next.result c.next.new.self c.in-Some.seat c.in-Some.is c.next.ensures.steps in
+    let made = c.into_iter-seat-iterator.ensures.into_iter_gives in
+    let turn = one_yielded c.args.seats c.into_iter-seat-iterator.result c.loop-seat.seat-iterator c.next.new.self c.loop-seat.yielded c.in-Some.seat c.next.result made.0 made.1 c.loop-seat.yielded_by c.in-Some.is c.next.ensures.steps in
     let lists = before.lists in
     let below = turn.0 in
     let some = c.in_default.ensures.variant.1 (omega (arith, lists, below)) in cc
 
 pub returns-clause-seats : goal.returns-clause-seats
 returns-clause-seats g c =
-    let end = YieldsList-end (YieldsList-from_vec {s = c.into_iter-seat-iterator.result} c.args.seats.items (search rules) (search rules)) c.loop-seat.yielded c.loop-seat.seat-iterator c.loop-seat.yielded_by c.next.result c.next.new.self c.in-None.is c.next.ensures.steps in
-    c.loop-seat.invariant.seats ∙ sym (map-id c.loop-seat.yielded) ∙ end.0
+    let made = c.into_iter-seat-iterator.ensures.into_iter_gives in
+    let all = all_yielded c.args.seats c.into_iter-seat-iterator.result c.loop-seat.seat-iterator c.next.new.self c.loop-seat.yielded c.next.result made.0 made.1 c.loop-seat.yielded_by c.in-None.is c.next.ensures.steps in
+    c.loop-seat.invariant.seats ∙ all

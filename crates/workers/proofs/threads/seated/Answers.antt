@@ -1,16 +1,16 @@
-use Rattle.std.proofs.Common.{[], ◌∷◌, ◌∙◌, ap, arith, length, rules, sym}
-use Rattle.std.proofs.lemmas.Iterator.Adapters.{YieldsList-from_vec}
-use Rattle.std.proofs.lemmas.Iterator.Consumers.{YieldsList-end}
-use Rattle.std.proofs.lemmas.List.{length-append, map-id}
+use Rattle.std.proofs.Common.{[], ◌∷◌, ap, arith, length}
+use Rattle.std.proofs.lemmas.List.{length-append}
 use Rattle.std.proofs.lemmas.List.Elements.{All-push}
 use Rattle.bw_tree.specs.Trees.{IsSeatOf}
+use Rattle.workers.proofs.Pushed.{one_longer}
+use Rattle.workers.proofs.Yielded.{all_yielded}
 use Rattle.workers.proofs.threads.seated.Goals as goal
 
 pub loop-work-preserved : goal.loop-work-preserved
 loop-work-preserved g c =
     let all = All-push (λ job. IsSeatOf c.args.tree.now job.0) c.loop-work.jobs.items (c.in_ok-seat.seat, c.in-Some.work) c.loop-work.invariant.jobs c.in_ok-seat.ensures.taken in
     let pushed = c.in-Ok.ensures.len in
-    let taken = ap length c.in_ok-seat.ensures.last ∙ length-append c.take_seat.new.seats.items (c.in_ok-seat.seat ∷ []) in
+    let taken = one_longer c.take_seat.new.seats.items c.loop-work.seats.items c.in_ok-seat.seat c.in_ok-seat.ensures.last in
     let yielded = length-append c.loop-work.yielded (c.in-Some.work ∷ []) in
     let seats = c.loop-work.invariant.seats in
     let works = c.loop-work.invariant.works in
@@ -23,6 +23,8 @@ loop-work-preserved g c =
 
 pub returns-clause-works : goal.returns-clause-works
 returns-clause-works g c =
-    let end = YieldsList-end (YieldsList-from_vec {s = c.into_iter-work-iterator.result} c.args.works.items (search rules) (search rules)) c.loop-work.yielded c.loop-work.work-iterator c.loop-work.yielded_by c.next.result c.next.new.self c.in-None.is c.next.ensures.steps in
-    let all = ap length (sym (map-id c.loop-work.yielded) ∙ end.0) in
-    let works = c.loop-work.invariant.works in omega (arith, all, works)
+    let made = c.into_iter-work-iterator.ensures.into_iter_gives in
+    let all = all_yielded c.args.works c.into_iter-work-iterator.result c.loop-work.work-iterator c.next.new.self c.loop-work.yielded c.next.result made.0 made.1 c.loop-work.yielded_by c.in-None.is c.next.ensures.steps in
+    let long = ap length all in
+    let count = c.args.works.ok.0 in
+    let works = c.loop-work.invariant.works in omega (arith, long, count, works)

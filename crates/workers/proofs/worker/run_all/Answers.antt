@@ -1,12 +1,12 @@
-use Rattle.std.proofs.Common.{[], ◌∷◌, ◌∙◌, ap, arith, length}
-use Rattle.std.proofs.lemmas.List.{length-append}
+use Rattle.std.proofs.Common.{arith}
 use Rattle.workers.proofs.Going.{ran}
+use Rattle.workers.proofs.Pushed.{one_longer}
 use Rattle.workers.proofs.worker.run_all.Goals as goal
 
 pub loop-command-preserved : goal.loop-command-preserved
 loop-command-preserved g c =
     let count = c.loop-command.invariant.count in
-    let grown = ap length c.push_reserved.ensures.items ∙ length-append c.loop-command.replies.items (c.run.result ∷ []) in record {
+    let grown = one_longer c.loop-command.replies.items c.push_reserved.new.self.items c.run.result c.push_reserved.ensures.items in record {
       goes = ran c.args.seat.now c.loop-command.seat c.run.new.seat c.args.commands.now c.loop-command.command-index c.command-item.result c.copied.result c.loop-command.replies.items c.push_reserved.new.self.items c.run.result
           c.loop-command.invariant.goes c.run.ensures.goes c.copied.ensures c.loop-command-test.true c.command-item.is count c.push_reserved.ensures.items;
       count = omega (arith, grown, count);
