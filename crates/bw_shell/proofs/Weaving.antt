@@ -1,12 +1,11 @@
 -- Laws of whole runs.
-use Rattle.std.proofs.Common.{◌≡◌, ℕ, List, [], ◌∷◌, ◌++◌, length, refl, sym, ap, ◌∙◌, arith, ◌⊎◌, inl, inr, Bool, true, false, not, Option, Some, None, append_assoc, ◌↔◌, is_some}
+use Rattle.std.proofs.Common.{◌≡◌, ℕ, List, [], ◌∷◌, ◌++◌, length, refl, sym, ap, ◌∙◌, arith, ◌⊎◌, inl, inr, Bool, true, false, Option, Some, None, append_assoc, ◌↔◌, is_some}
 use Rattle.std.specs.Io.KnownBytes.{Consumes, Keeps}
 use Rattle.shell_lines.specs.declared.request.Language.{Language}
 use Rattle.bw_shell.specs.Turns.{Trace, IsOneMap, opening_trace}
 use Rattle.tree_limits.specs.declared.limits.Limits.{Limits}
-use Rattle.std.proofs.lemmas.List.{append-nil}
 use Rattle.bw_shell.specs.declared.refusal.RefusedLine.{RefusedLine}
-use Rattle.byte_streams.specs.Output.{Sink, Puts, Prints, Writes}
+use Rattle.byte_streams.specs.Output.{Sink, Prints}
 use Rattle.bw_shell.specs.Text.{last_line}
 use Rattle.bw_shell.specs.Weave.{IsTranscriptFrom, HasRun, IsWholeRun}
 use Rattle.byte_streams.proofs.Showing.{shows_then, writes_whole}
@@ -27,10 +26,6 @@ consumes_kept (Some xs) None c x p q = absurd p
 consumes_kept (Some xs) (Some ys) None x p q = absurd q
 consumes_kept (Some xs) (Some ys) (Some zs) x p q = p ∙ ap (λ (l : List ℕ). x ++ l) (sym q)
 
-pub keeps_same : (a : Option (List ℕ)) → Keeps a a
-keeps_same None = tt
-keeps_same (Some xs) = refl
-
 -- a writer that fails later fails too
 pub later_cut : (language : Language) (m : Trace) (left : Option (List ℕ)) (taken : List ℕ) (failed : Bool) (after : Trace) (text : List ℕ) (r : Option RefusedLine) (cut cut' : Bool)
     → (cut ≡ true → cut' ≡ true) → IsTranscriptFrom language m left taken failed after text r cut → IsTranscriptFrom language m left taken failed after text r cut'
@@ -38,11 +33,6 @@ later_cut language m left taken failed after text r cut cut' more (inl p) = inl 
 later_cut language m left taken failed after text r cut cut' more (inr (inl p)) = inr (inl p)
 later_cut language m left taken failed after text r cut cut' more (inr (inr p)) =
     inr (inr (p.0, elim p.1 [ inl a ↦ inl a | inr b ↦ inr (more b) ], p.2))
-
-pub not_more : (f g : Bool) → (f ≡ true → g ≡ true) → not g ≡ true → not f ≡ true
-not_more false g more h = refl
-not_more true true more h = cc h
-not_more true false more h = cc (more refl)
 
 pub no_items : (xs : List ℕ) → length xs ≡ 0 → xs ≡ []
 no_items [] h = refl

@@ -1,4 +1,4 @@
-use Rattle.std.proofs.Common.{◌≡◌, ℕ, List, [], ◌++◌, sym, subst, arith}
+use Rattle.std.proofs.Common.{◌≡◌, [], ◌++◌, sym, subst, arith}
 use Rattle.std.proofs.lemmas.List.{append-nil}
 use Rattle.bw_model.specs.Schedules.{drawn, schedule_of}
 use Rattle.bw_shell.specs.Transcript.{RefusesDrawn}

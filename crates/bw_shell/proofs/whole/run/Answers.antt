@@ -1,10 +1,13 @@
-use Rattle.std.proofs.Common.{◌<◌, [], ◌++◌, length, refl, sym, ap, ◌∙◌, arith, inl, inr}
+use Rattle.std.proofs.Common.{◌≡◌, ℕ, ◌+◌, ◌<◌, [], ◌++◌, length, refl, sym, ap, ◌∙◌, arith, inl, inr}
 use Rattle.std.proofs.lemmas.Bool.{eqb-true, eqb-false}
 use Rattle.std.proofs.lemmas.List.{append-nil}
 use Rattle.byte_streams.proofs.Showing.{no_text, shows_then}
 use Rattle.bw_shell.proofs.Feeding.{no_bytes, weaves_then, weaves_stops, end_whole, end_part, match_true_at, match_false_at}
-use Rattle.bw_shell.proofs.Weaving.{consumes_none, consumes_then, no_items}
+use Rattle.bw_shell.proofs.Weaving.{consumes_kept, consumes_none, consumes_then, no_items}
 use Rattle.bw_shell.proofs.whole.run.Goals as goal
+
+fewer : (left before : ℕ) → left + 1 ≡ before → left < before
+fewer left before is = omega arith
 
 pub reads-init : goal.reads-init
 reads-init g c = record {
@@ -91,3 +94,23 @@ returns g c =
       );
       shows = shows_then inv.woven.4 told.2;
     }
+
+pub returns-in-Err : goal.returns-in-Err
+returns-in-Err g c =
+    let inv = c.reads.invariant in
+    record {
+      taken = inv.woven.0;
+      text = inv.woven.1;
+      reads = consumes_kept _ _ _ _ inv.woven.2 c.in-Err.ensures.bytes;
+      says = inr (inl (c.in-Err.ensures.fails, refl, inv.woven.3.lines, c.reads.weaver.part.items, inv.woven.3.splits, inv.woven.3.says));
+      shows = inv.woven.4;
+    }
+
+pub feed-requires-clause-part : goal.feed-requires-clause-part
+feed-requires-clause-part g c = c.reads.invariant.woven.3.splits.open_end
+
+pub feed-requires-clause-count : goal.feed-requires-clause-count
+feed-requires-clause-count g c = omega (arith, c.split_at.ensures.front_len, c.in-Ok.ensures.fewer, c.in-Ok.ensures.bound, c.reads.invariant.count)
+
+pub reads-smaller : goal.reads-smaller
+reads-smaller g c = fewer _ _ c.in-Ok.ensures.fewer
