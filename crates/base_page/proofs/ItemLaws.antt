@@ -99,12 +99,6 @@ pub append_lacks : (xs ys : List Item) (q : List ℕ) → content_at xs q ≡ No
 append_lacks [] ys q h = refl
 append_lacks (item ∷ xs) ys q h = let p = passed_by (is_eq (key_cmp q item.key)) item.content (content_at xs q) h in rw p.0 (append_lacks xs ys q p.1)
 
-pub append_found : (xs ys : List Item) (q : List ℕ) (content : Content) → content_at xs q ≡ Some content → content_at (xs ++ ys) q ≡ Some content
-append_found [] ys q content h = cc
-append_found (item ∷ xs) ys q content h = either (is_eq (key_cmp q item.key))
-    (λ yes. rw yes (rw yes at h))
-    (λ no. rw no (append_found xs ys q content (rw no at h)))
-
 pub append_same : (xs ys zs : List Item) (q : List ℕ) → content_at ys q ≡ content_at zs q → content_at (xs ++ ys) q ≡ content_at (xs ++ zs) q
 append_same [] ys zs q h = h
 append_same (item ∷ xs) ys zs q h = ap (λ r. cond (is_eq (key_cmp q item.key)) (Some item.content) r) (append_same xs ys zs q h)

@@ -62,9 +62,6 @@ flat entries points from (suc d) beside few none =
     by_mark entry true at mark = absurd (none (from + d) (omega arith) (omega arith) mark)
     by_mark entry false at mark = log_at-step entries points (from + d) entry false beside at mark
 
-no_other : (given given' : Entry) (o : Option Entry) → o ≡ Some given → o ≡ Some given' → given ≡ given'
-no_other given given' o e f = cc
-
 step_or_begin : (o : Option Entry) (a b : ℕ) (step : StepOf Record) (answer : Answer Record) (reply : Option Reply) (command : Command) → o ≡ Some (Step a step answer reply) → o ≡ Some (Begin b command) → ⊥
 step_or_begin o a b step answer reply command e f = cc
 

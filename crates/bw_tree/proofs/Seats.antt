@@ -3,7 +3,7 @@ use Rattle.std.proofs.Common.{◌≡◌, ◌<◌, ◌+◌, ◌-◌, inl, ℕ, Li
 use Rattle.std.specs.Prelude.{IsSome, IfSome, Some, None}
 use Rattle.std.proofs.lemmas.Option.{same_Some}
 use Rattle.op_machine.specs.machine.UnderWay.{UnderWay}
-use Rattle.op_machine.specs.machine.Actors.{Actor, ActsOn, IsActorWith, IsGoing, IsRunning, IsToldActor, command_at, command_left, knows_then, running_command, wanted_by}
+use Rattle.op_machine.specs.machine.Actors.{Actor, ActsOn, IsActorWith, IsGoing, IsRunning, IsToldActor, command_left, knows_then, running_command, wanted_by}
 use Rattle.op_machine.specs.machine.UnderWay.{steps_due}
 use Rattle.bw_model.specs.declared.command.Command.{Command}
 use Rattle.bw_model.specs.declared.command.Reply.{Reply}
@@ -74,14 +74,6 @@ wants limits a k r now asked h e = let found = go now.running h e in record { ru
     go : (o : Option UnderWay) → IsActorWith limits a k r now.hand o → wanted_by o ≡ Some asked → (running : UnderWay) × (o ≡ Some running) × IsRunning limits a k r now.hand running × (running.wanted ≡ asked)
     go None h e = cc
     go (Some running) h e = (running, refl, h, same_Some running.wanted asked e)
-
--- an actor with a command has an operation
-pub wants_some : (limits : Limits) (a : ℕ) (k : Knowledge) (r : Recalled) (now : Actor) → IsActorWith limits a k r now.hand now.running → IsSome (running_command now) → (asked : StepOf Record) × (wanted_by now.running ≡ Some asked)
-wants_some limits a k r now h some = go now.running some
-  where
-    go : (o : Option UnderWay) → IsSome (command_at o) → (asked : StepOf Record) × (wanted_by o ≡ Some asked)
-    go None s = cc
-    go (Some running) s = (running.wanted, refl)
 
 module _ (limits : Limits) (a : ℕ) (k : Knowledge) (r : Recalled) (now : Actor) (asked : StepOf Record) (w : Wants limits a k r now asked) where
   pub may : May a k asked

@@ -3,7 +3,7 @@ use Rattle.std.proofs.Common.{◌≡◌, ℕ, ◌+◌, ◌<◌, get_or, List, []
 use Rattle.std.proofs.lemmas.List.{append_assoc, append-nil, take-append-drop, take_more}
 use Rattle.std.proofs.lemmas.Grind.{flat_map-append}
 use Rattle.std.specs.List.{flat_map}
-use Rattle.std.specs.Io.KnownBytes.{Appends, Keeps}
+use Rattle.std.specs.Io.KnownBytes.{Appends}
 use Rattle.byte_streams.specs.Output.{Sink, Puts, Prints, Writes}
 
 pub appends_nothing : (a : Option (List ℕ)) → Appends a a []
@@ -16,20 +16,11 @@ appends_then (Some xs) None c x y p q = absurd p
 appends_then (Some xs) (Some ys) None x y p q = absurd q
 appends_then (Some xs) (Some ys) (Some zs) x y p q = q ∙ ap (λ (l : List ℕ). l ++ y) p ∙ append_assoc xs x y
 
-pub appends_kept : (a b c : Option (List ℕ)) (x : List ℕ) → Appends a b x → Keeps b c → Appends a c x
-appends_kept None b c x p q = tt
-appends_kept (Some xs) None c x p q = absurd p
-appends_kept (Some xs) (Some ys) None x p q = absurd q
-appends_kept (Some xs) (Some ys) (Some zs) x p q = q ∙ p
-
 -- ---- all bytes to the writer
 
 -- of these bytes the rest is still to be written
 abbrev pub SoFar : Option (List ℕ) → Option (List ℕ) → List ℕ → List ℕ → Type 0
 SoFar old new bytes rest = (written : List ℕ) × (bytes ≡ written ++ rest) × Appends old new written
-
-pub so_far_none : (a : Option (List ℕ)) (bytes : List ℕ) → SoFar a a bytes bytes
-so_far_none a bytes = ([], refl, appends_nothing a)
 
 pub so_far_more : (a b c : Option (List ℕ)) (bytes rest : List ℕ) (n : ℕ) → SoFar a b bytes rest → Appends b c (take n rest) → SoFar a c bytes (drop n rest)
 so_far_more a b c bytes rest n s p = (
@@ -37,14 +28,6 @@ so_far_more a b c bytes rest n s p = (
   s.1 ∙ ap (λ (l : List ℕ). s.0 ++ l) (sym (take-append-drop n rest)) ∙ sym (append_assoc s.0 (take n rest) (drop n rest)),
   appends_then a b c s.0 (take n rest) s.2 p,
 )
-
-pub wrote_all : (a b : Option (List ℕ)) (bytes rest : List ℕ) → SoFar a b bytes rest → length rest ≡ 0 → Writes a b bytes true
-wrote_all a b bytes [] s none = record { written = s.0; rest = []; splits = s.1; appends = s.2; all = λ _. s.1 ∙ append-nil s.0 }
-wrote_all a b bytes (x ∷ xs) s none = absurd (omega arith)
-
-pub wrote_part : (a b c : Option (List ℕ)) (bytes rest : List ℕ) → SoFar a b bytes rest → Keeps b c → Writes a c bytes false
-wrote_part a b c bytes rest s kept =
-    record { written = s.0; rest = rest; splits = s.1; appends = appends_kept a b c s.0 s.2 kept; all = λ e. cc e }
 
 -- ---- one text behind another
 

@@ -15,7 +15,7 @@ use Rattle.traces.specs.discipline.Knowledge.{Knowledge}
 use Rattle.traces.specs.discipline.Recalled.{AnyNames, IsPaid, IsSpentWith, IsUnread, Recalled, Walk, is_removal, recall, trail}
 use Rattle.smo.specs.Versions.{Version}
 use Rattle.descent.specs.Visits.{VisitState, Slot, Row, FindsHead, Completes, Continues, FindsEmpty, Visit, at, wanted}
-use Rattle.descent.specs.Walks.{IsSeeking, few_reads, left_at, left_in, with_walk}
+use Rattle.descent.specs.Walks.{IsSeeking, left_at, left_in, with_walk}
 use Rattle.descent.proofs.Meeting.{few_pages, removed_push}
 use Rattle.descent.proofs.Seeking.{arrived}
 use Rattle.descent.proofs.Walking.{trail_on}
@@ -237,29 +237,6 @@ module _ (reserve : ℕ) (limits : Limits) (way : List ℕ → Bool) (beyond : B
               let all : (if now.removed then reserve else 0) ≡ reserve = rw met refl in
               let more = more_left in
               rw none (omega (arith, more, same, all))
-
--- a round takes few reads
-pub few_left : (reserve : ℕ) (limits : Limits) (way : List ℕ → Bool) (beyond : Bool) (k : Knowledge) (r : Recalled) (visit : Visit) (level : ℕ) (low : List ℕ) (earlier : List ℕ) → IsSeeking limits way beyond k r visit level low earlier → left_in reserve r visit ≤ few_reads + with_walk reserve
-few_left reserve limits way beyond k r visit level low earlier h = by_state visit.state refl
-  where
-    bound : (b : Bool) → (if b then with_walk reserve else 0) ≤ with_walk reserve
-    bound true = omega arith
-    bound false = omega arith
-
-    either : (p b : Bool) → (if p then reserve else (if b then with_walk reserve else 0)) ≤ with_walk reserve
-    either true b = omega arith
-    either false b = bound b
-
-    at_slot : (b : Bool) → (if b then reserve else 0) ≤ with_walk reserve
-    at_slot true = omega arith
-    at_slot false = omega arith
-
-    by_state : (state : VisitState) → visit.state ≡ state → left_at reserve r.walk visit.part visit.state ≤ few_reads + with_walk reserve
-    by_state Slot e = rw e (let most = at_slot r.walk.removed in omega (arith, most))
-    by_state (Row head row) e =
-        let is : r.walk.visited ≡ visit.pid ∷ earlier = rw e at h.on_way.visited in
-        let most = either r.walk.passed (is_removed visit.part) in
-        rw (e, is) (omega (arith, most))
 
 -- the same with more that is kept
 pub still : (reserve : ℕ) (r : Recalled) (asked : Step Record) (told : Answer Record) (had has kept : ℕ) → IsSpentWith (1 + reserve) r asked told had has → IsSpentWith (1 + reserve) r asked told (had + kept) (has + kept)

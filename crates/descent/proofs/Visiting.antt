@@ -9,29 +9,16 @@ use Rattle.deltas.specs.declared.record.Record.{Record}
 use Rattle.deltas.specs.Memory.{replaced_at}
 use Rattle.deltas.specs.Records.{next_row}
 use Rattle.traces.specs.chain.Chains.{IsChainFrom, IsFront}
-use Rattle.traces.specs.discipline.Discipline.{May}
 use Rattle.traces.specs.discipline.Fitting.{Fits, FitsRow, IsReadWhole}
 use Rattle.traces.specs.discipline.Knowledge.{Knowledge, learn, learn_slot}
 use Rattle.smo.specs.Versions.{Version}
-use Rattle.descent.specs.Visits.{Sight, Empty, Whole, VisitState, Slot, Row, Arrives, FindsHead, Completes, Continues, Follows, MayVisit, Reads, Responds, Shows, Visit, at, wanted}
+use Rattle.descent.specs.Visits.{Sight, Empty, Whole, VisitState, Slot, Row, Arrives, FindsHead, Completes, Continues, Follows, Reads, Responds, Shows, Visit, at, wanted}
 use Rattle.descent.specs.Versions.{IsSound}
 use Rattle.descent.proofs.FrontLaws.{front_more, front_next, front_end}
 
 -- what is so of a whole chain
 pub sound_from : (limits : Limits) (k : Knowledge) (page : ℕ) (chain : List Record) → IsReadWhole limits k page chain → IsSound limits page chain
 sound_from limits k page chain w = record { is_chain = w.is_chain; own = w.own; names = λ alive. record { right = w.right alive; child = w.child alive } }
-
--- the steps that are wanted are allowed
-may_slot : (actor : ℕ) (k : Knowledge) (pid : ℕ) → 0 < pid → k.inside ≡ true → MayVisit k pid → May actor k (step.Slot pid)
-may_slot actor k zero some inside may = absurd (omega (arith, some))
-may_slot actor k (suc pid) some inside may = (inside, may)
-
-pub may_step : (actor : ℕ) (k : Knowledge) (visit : Visit) → Shows visit k → May actor k (wanted visit)
-may_step actor k visit h = by_state visit.state refl
-  where
-    by_state : (state : VisitState) → visit.state ≡ state → May actor k (wanted visit)
-    by_state Slot e = rw e (may_slot actor k visit.pid h.page h.inside (rw e at h.stands))
-    by_state (Row head row) e = let reads = rw e at h.stands in rw e (h.inside, reads.named)
 
 replaced_same : {X : Type 0} (f : ℕ → X) (i : ℕ) (x : X) → replaced_at i x f i ≡ x
 replaced_same f i x = let e : (i == i) ≡ true = eq-eqb i i refl in rw e refl
@@ -128,6 +115,3 @@ pub follows_from : (k : Knowledge) (old : Visit) (told : Answer Record) (new : V
 follows_from k old told new None b = elim b [ inl begun ↦ begins k old told new begun | inr more ↦ continues k old told new more ]
 follows_from k old told new (Some Empty) b = λ h f. tt
 follows_from k old told new (Some (Whole version)) b = completes k old told new version b
-
-pub responds_at : (old : Visit) (state : VisitState) (a b : Answer Record) (new : Visit) (result : Option Sight) → old.state ≡ state → a ≡ b → Responds (at old state) b new result → Responds old a new result
-responds_at old state a b new result e i h = back old (λ v x. Responds v x new result) state b a e i h

@@ -157,14 +157,6 @@ pub is_on : (on : Bool) (op : Op) (hand : Hand) → is_some (command_at (running
 is_on false op hand busy = cc
 is_on true op hand busy = refl
 
-pub same_command : (on : Bool) (op new : Op) (had has : Hand) → AsksIf on op had → IsSome (wanted_of new has) → new.task.command ≡ op.task.command → command_at (running_at on new has) ≡ command_at (running_at on op had)
-same_command false op new had has asks then same = refl
-same_command true op new had has asks then same = command_is new has then ∙ ap Some same ∙ sym (command_is op had asks)
-
-pub asks_then : (on : Bool) (new : Op) (has : Hand) → IsSome (wanted_of new has) → AsksIf on new has
-asks_then false new has some = tt
-asks_then true new has some = some
-
 -- what an actor shows, its operation shows
 shown_with : (limits : Limits) (actor : ℕ) (k : Knowledge) (r : Recalled) (op : Op) (hand : Hand) (wanted : Option (StepOf Record)) → wanted_of op hand ≡ wanted → IsSome wanted → IsActorWith limits actor k r hand (asking op wanted) → Shows op hand k r
 shown_with limits actor k r op hand None is some h = cc

@@ -17,9 +17,6 @@ contained_alone : {X : Type 0} (x y : X) → Contains (x ∷ []) y → y ≡ x
 contained_alone x y (zero, h, e) = sym e
 contained_alone x y (suc k, h, e) = absurd (omega arith)
 
-some_same : {X : Type 0} {x y : X} → Some x ≡ Some y → x ≡ y
-some_same e = cc
-
 value_same : (o : Option (List ℕ)) (value : List ℕ) → option_map Value o ≡ Some (Value value) → o ≡ Some value
 value_same None value e = cc
 value_same (Some v) value e = cc

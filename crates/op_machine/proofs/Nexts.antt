@@ -1,5 +1,5 @@
 -- What an operation and its hand are after a step, from what its work or its sweep is.
-use Rattle.std.proofs.Common.{◌≡◌, ◌<◌, ◌+◌, inl, ℕ, Option, Some, None, true, false, refl, sym, ap, subst, ◌∙◌, arith}
+use Rattle.std.proofs.Common.{◌≡◌, ◌<◌, ◌+◌, inl, ℕ, Option, Some, None, true, refl, sym, ap, subst, ◌∙◌, arith}
 use Rattle.bw_model.specs.declared.step.Answer.{Answer}
 use Rattle.bw_model.specs.declared.step.Answer.TheVariants.{Start}
 use Rattle.bw_model.specs.declared.step.Step.{Step as StepOf}
@@ -19,16 +19,6 @@ use Rattle.op_machine.specs.machine.Works.{IsToldWith, asked_of}
 use Rattle.op_machine.specs.machine.States.{State, Begun, Epoch, Enter, Read, Write, Change, Leave}
 use Rattle.sweep.specs.Kept.{AreKept}
 use Rattle.sweep.specs.Sweeps.{Sweep}
-
--- before an operation has begun it is at its begin
-pub not_begun : (state : State) → has_begun state ≡ false → state ≡ Begun
-not_begun Begun e = refl
-not_begun Epoch e = cc
-not_begun (Enter epoch) e = cc
-not_begun (Read round) e = cc
-not_begun (Write round) e = cc
-not_begun (Change now then) e = cc
-not_begun (Leave reply) e = cc
 
 -- nothing of the sweep is left then
 pub nothing_left : (state : State) → has_begun state ≡ true → sweep_left None state ≡ 0

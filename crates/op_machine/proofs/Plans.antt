@@ -3,8 +3,6 @@ use Rattle.std.proofs.Common.{◌≡◌, ◌<◌, ◌≤◌, ◌+◌, inl, inr, 
 use Rattle.std.proofs.lemmas.List.{length-take}
 use Rattle.std.specs.Option.{ForSome}
 use Rattle.std.specs.Prelude.{slice_get}
-use Rattle.bw_model.specs.declared.command.Command.{Command}
-use Rattle.bw_model.specs.declared.command.Command.TheVariants.{Get, Insert, Upsert, Delete, Swap, Page as PageFrom, Tidy}
 use Rattle.tree_limits.specs.declared.limits.Limits.{Limits}
 use Rattle.base_page.specs.Pages.{Page}
 use Rattle.deltas.specs.Memory.{Memory}
@@ -23,7 +21,6 @@ use Rattle.installs.specs.Spares.{Spares}
 use Rattle.rounds.specs.WriteRounds.{PlacedWrite}
 use Rattle.smo.specs.Versions.{Version}
 use Rattle.op_machine.specs.machine.Bounded.{few_changes, one_round, with_errands}
-use Rattle.op_machine.specs.machine.Errands.{due_of}
 use Rattle.op_machine.specs.machine.Outcomes.{FacesWritten, IsAtLeafBelow}
 use Rattle.op_machine.specs.machine.Places.{left_round_of}
 use Rattle.op_machine.specs.machine.Shows.{IsRoundOf}
@@ -40,17 +37,6 @@ over_page limits k r page content alive e = place_of limits k r page content ali
 -- a base that fits by itself can be spelled
 pub spells_base : (page : Page) → IsFitted (kind.Base page ∷ []) → IsSpellablePage page
 spells_base page h = let is = h.1 in let same : page ≡ h.0 = cc in rw same h.2
-
--- a base alone is never due
-pub due_some : (errands : List (List ℕ)) (command : Command) → 0 < due_of errands command
-due_some (key ∷ errands) command = omega arith
-due_some [] (Tidy key) = omega arith
-due_some [] (Get key) = omega arith
-due_some [] (Insert key value) = omega arith
-due_some [] (Upsert key value) = omega arith
-due_some [] (Delete key) = omega arith
-due_some [] (Swap key expected value) = omega arith
-due_some [] (PageFrom key) = omega arith
 
 module _ (task : Task) (spares : Spares) (k : Knowledge) (r : Recalled) where
   -- a page that is consolidated has deltas

@@ -9,8 +9,8 @@ use Rattle.drawing.specs.Drawings.{IsWholeDrawing}
 use Rattle.race.specs.Race.{IsRace}
 
 -- What a program does: what it takes from its input, what it writes for it, and its status.
-abbrev pub IsRunOf : Program → Limits → Option (List ℕ) → Option (List ℕ) → Bool → Option (List ℕ) → Option (List ℕ) → Bool → ℕ → Type 0
-IsRunOf Script = IsWholeRun language.Script
-IsRunOf Weave = IsWholeRun language.Weave
-IsRunOf Draw = IsWholeDrawing
-IsRunOf Race = IsRace
+abbrev pub IsProgramRun : Program → Limits → Option (List ℕ) → Option (List ℕ) → Bool → Option (List ℕ) → Option (List ℕ) → Bool → ℕ → Type 0
+IsProgramRun Script = IsWholeRun language.Script
+IsProgramRun Weave = IsWholeRun language.Weave
+IsProgramRun Draw = IsWholeDrawing
+IsProgramRun Race = IsRace

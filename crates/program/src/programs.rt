@@ -1,7 +1,7 @@
 //! The four programs, over any input and output.
 
 ghost use Rattle.std.specs.Prelude.{◌≡◌, ◌≤◌, ◌^◌, [], false};
-ghost use Rattle.program.specs.Runs.{IsRunOf};
+ghost use Rattle.program.specs.Runs.{IsProgramRun};
 
 use bw_model::Limits;
 use bw_shell::{script, weave};
@@ -27,7 +27,7 @@ pub(crate) fn run_over<R: Threads + Wait + Sync, I: Input, O: Output>(
     requires bounded { I.reads_left input.old ≤ 2 ^ 31 }
     requires sound_out { (O.state out.old).failed ≡ false }
     requires fresh { (O.state out.old).held ≡ [] }
-    ensures { IsRunOf program limits (I.remaining input.old) (I.remaining input.new) (I.failed input.new)
+    ensures { IsProgramRun program limits (I.remaining input.old) (I.remaining input.new) (I.failed input.new)
         (O.state out.old).contents (O.state out.new).contents (O.state out.new).failed result }
 {
     match program {

@@ -114,11 +114,6 @@ refused_line whole last bytes done rest asked line behind ends number why l clea
 
 -- ---- the end of the bytes
 
--- the input has not ended: the rest is a part of a line
-pub part_left : (bytes : List ℕ) (done : List (List ℕ)) (rest : List ℕ) (asked : List JobCommand) → AreLooked bytes done rest asked → HasNoFeed rest
-    → (lines : List (List ℕ)) × AreLinesOf bytes false lines × AskFor lines asked
-part_left bytes done rest asked l clean = (done, (rest, record { whole = l.whole; each = l.each; open_end = clean }), l.asks)
-
 -- it has ended: the rest is the last line
 pub last_looked : Whole → Last → (bytes : List ℕ) (done : List (List ℕ)) (rest : List ℕ) (asked own : List JobCommand) → AreLooked bytes done rest asked → HasNoFeed rest → AskFor (rest ∷ []) own
     → (lines : List (List ℕ)) × AreLinesOf bytes true lines × AskFor lines (asked ++ own)

@@ -36,10 +36,6 @@ second_at = 12
 abbrev pub items_at : ℕ
 items_at = 21
 
--- how many words are left for items
-abbrev pub items_room : ℕ
-items_room = 491
-
 -- the length that stands for no bound
 abbrev pub no_bound : ℕ
 no_bound = 255

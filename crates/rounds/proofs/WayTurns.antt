@@ -1,21 +1,15 @@
 -- Where a page ends, by whether its end is on the way.
 use Rattle.std.proofs.Common.{◌≡◌, ℕ, List, Bool, Option, Some, None, sym, ap, ◌∙◌}
-use Rattle.std.specs.Prelude.{not, IsFalse, IsTrue, MatchOption}
-use Rattle.bw_model.specs.Bytes.{is_under}
+use Rattle.std.specs.Prelude.{IsFalse, IsTrue, MatchOption}
 use Rattle.deltas.specs.declared.record.Record.{Record}
 use Rattle.traces.specs.chain.Chains.{high_in, right_in}
 use Rattle.traces.specs.chain.Fitted.{IsFitted}
-use Rattle.descent.specs.Ways.{LeadsRight, StaysLeft, reaches}
+use Rattle.descent.specs.Ways.{LeadsRight, StaysLeft}
 use Rattle.descent.proofs.WayLaws.{goes_right}
 
 -- whether an end is on the way
 abbrev pub EndsOn : (List ℕ → Bool) → Option (List ℕ) → Bool → Type 0
 EndsOn way high on = MatchOption high (IsFalse on) (λ end. on ≡ way end)
-
--- an end that isn't above the key is on the way to it
-pub reached_end : (key : List ℕ) (high : Option (List ℕ)) (on : Bool) → on ≡ not (is_under key high) → EndsOn (reaches key) high on
-reached_end key None on is = is
-reached_end key (Some end) on is = is
 
 -- a page that ends on the way leads to its right
 pub leads_right : (way : List ℕ → Bool) (chain : List Record) (high : Option (List ℕ)) (on : Bool) (right : Option ℕ) → IsFitted chain → high_in chain ≡ high → EndsOn way high on → IsTrue on → right ≡ right_in chain

@@ -5,9 +5,9 @@ use Rattle.base_page.specs.Pages.{Page}
 use Rattle.deltas.specs.declared.record.Record.{Record}
 use Rattle.deltas.specs.declared.record.Record.TheVariants.{Base, Put, Delete, Split, Term, Hold, Remove, Merge, Unterm}
 use Rattle.deltas.specs.Fits.{FitsOnPage}
-use Rattle.deltas.specs.Records.{level_after, low_after, next_row, removed_after}
+use Rattle.deltas.specs.Records.{level_after, low_after, next_row}
 use Rattle.record_slots.specs.Parts.{row_of}
-use Rattle.traces.specs.chain.Chains.{is_removed, level_in, low_in}
+use Rattle.traces.specs.chain.Chains.{level_in, low_in}
 use Rattle.traces.specs.chain.Fitted.{IsFitted}
 
 pub some : (chain : List Record) → IsFitted chain → 0 < length chain
@@ -49,9 +49,3 @@ alive (Hold hold) page h fits = fits.alive
 alive (Remove remove) page h fits = fits.alive
 alive (Merge merge) page h fits = fits.alive
 alive (Unterm unterm) page h fits = fits.alive
-
--- so only the newest record may remove it
-pub removed_by_newest : (chain : List Record) (d : Record) → IsFitted chain → removed_after (get_or chain 0 d) false ≡ is_removed chain
-removed_by_newest [] d h = absurd h
-removed_by_newest (newest ∷ []) d h = refl
-removed_by_newest (newest ∷ older ∷ under) d (over, rest) = ap (removed_after newest) (sym (alive newest over.page over.delta over.fits) ∙ over.makes.removed)

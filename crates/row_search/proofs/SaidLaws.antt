@@ -1,11 +1,10 @@
 -- What a record says, by its kind, its parts and its items.
 use Rattle.std.proofs.Common.{◌≡◌, ◌==◌, ℕ, List, get_or, refl, ap, arith}
-use Rattle.std.specs.Prelude.{true, false, Option, Some, None, IfSome, unwrap_or}
+use Rattle.std.specs.Prelude.{true, false, Option, Some, None, unwrap_or}
 use Rattle.base_page.specs.declared.item.Content.TheVariants.{Child}
 use Rattle.base_page.specs.declared.item.Item.{Item}
 use Rattle.base_page.specs.Pages.{content_at}
 use Rattle.deltas.specs.Records.{content_said, high_after, removed_after, right_after}
-use Rattle.deltas.specs.Spellable.{IsPid, IsSpellable}
 use Rattle.deltas.specs.declared.record.Record.{Record}
 use Rattle.deltas.specs.declared.record.Record.TheVariants.{Base, Put, Delete, Split, Term, Hold, Remove, Merge, Unterm}
 use Rattle.record_slots.specs.Parts.{row_of, items_of}
@@ -46,47 +45,9 @@ module _ (key : List ℕ) where
   said_none (Unterm unterm) a b c d e = refl
 
 -- the page's right after it
-pub ends_base : (content : Record) → (row_of content).kind ≡ 1 → (right : Option ℕ) → right_after content right ≡ right_after content None
-ends_base (Base page) e right = refl
-ends_base content e right = absurd (omega arith)
-
-pub ends_split : (content : Record) → (row_of content).kind ≡ 4 → (right : Option ℕ) → right_after content right ≡ right_after content None
-ends_split (Split split) e right = refl
-ends_split content e right = absurd (omega arith)
-
-pub ends_merge : (content : Record) → (row_of content).kind ≡ 8 → (right : Option ℕ) → right_after content right ≡ right_after content None
-ends_merge (Merge merge) e right = refl
-ends_merge content e right = absurd (omega arith)
-
-pub ends_not : (content : Record) → ((row_of content).kind ≡ 1 → ⊥) → ((row_of content).kind ≡ 4 → ⊥) → ((row_of content).kind ≡ 8 → ⊥) → (right : Option ℕ) → right_after content right ≡ right
-ends_not (Base page) a b c right = absurd (a refl)
-ends_not (Put put) a b c right = refl
-ends_not (Delete delete) a b c right = refl
-ends_not (Split split) a b c right = absurd (b refl)
-ends_not (Term term) a b c right = refl
-ends_not (Hold hold) a b c right = refl
-ends_not (Remove remove) a b c right = refl
-ends_not (Merge merge) a b c right = absurd (c refl)
-ends_not (Unterm unterm) a b c right = refl
-
-no_right : (right : Option ℕ) → IfSome right IsPid → unwrap_or right 0 ≡ 0 → None ≡ right
-no_right None h e = refl
-no_right (Some page) h e = let some = h.0 in absurd (omega arith)
-
 some_right : (right : Option ℕ) → (unwrap_or right 0 ≡ 0 → ⊥) → Some (unwrap_or right 0) ≡ right
 some_right None h = absurd (h refl)
 some_right (Some page) h = refl
-
-pub right_none : (content : Record) → IsSpellable content → (row_of content).page ≡ 0 → None ≡ right_after content None
-right_none (Base page) h e = no_right page.right h.right e
-right_none (Put put) h e = refl
-right_none (Delete delete) h e = refl
-right_none (Split split) h e = let some = h.names.0 in absurd (omega arith)
-right_none (Term term) h e = refl
-right_none (Hold hold) h e = refl
-right_none (Remove remove) h e = refl
-right_none (Merge merge) h e = no_right merge.right h.3.right e
-right_none (Unterm unterm) h e = refl
 
 no_some : {G : Type 0} → ◌≡◌ {A = Option ℕ} (Some 0) None → G
 no_some e = let n : ◌≡◌ {A = ℕ} 0 1 = ap (λ (right : Option ℕ). unwrap_or right 1) e in absurd (omega arith)
@@ -103,18 +64,6 @@ right_some (Merge merge) f h = some_right merge.right h
 right_some (Unterm unterm) f h = no_some (f (Some 0))
 
 -- and its end
-pub high_ends_base : (content : Record) → (row_of content).kind ≡ 1 → (high : Option (List ℕ)) → high_after content high ≡ high_after content None
-high_ends_base (Base page) e high = refl
-high_ends_base content e high = absurd (omega arith)
-
-pub high_ends_split : (content : Record) → (row_of content).kind ≡ 4 → (high : Option (List ℕ)) → high_after content high ≡ high_after content None
-high_ends_split (Split split) e high = refl
-high_ends_split content e high = absurd (omega arith)
-
-pub high_ends_merge : (content : Record) → (row_of content).kind ≡ 8 → (high : Option (List ℕ)) → high_after content high ≡ high_after content None
-high_ends_merge (Merge merge) e high = refl
-high_ends_merge content e high = absurd (omega arith)
-
 pub high_ends_not : (content : Record) → ((row_of content).kind ≡ 1 → ⊥) → ((row_of content).kind ≡ 4 → ⊥) → ((row_of content).kind ≡ 8 → ⊥) → (high : Option (List ℕ)) → high_after content high ≡ high
 high_ends_not (Base page) a b c high = absurd (a refl)
 high_ends_not (Put put) a b c high = refl
@@ -151,49 +100,11 @@ removes (Merge merge) = refl
 removes (Unterm unterm) = refl
 
 -- the one key that it names
-pub one_delete : (content : Record) → (row_of content).kind ≡ 3 → Some ((row_of content).first, false) ≡ one_key content
-one_delete (Delete delete) e = refl
-one_delete content e = absurd (omega arith)
-
-pub one_term : (content : Record) → (row_of content).kind ≡ 5 → Some ((row_of content).first, true) ≡ one_key content
-one_term (Term term) e = refl
-one_term content e = absurd (omega arith)
-
-pub one_hold : (content : Record) → (row_of content).kind ≡ 6 → Some ((row_of content).first, true) ≡ one_key content
-one_hold (Hold hold) e = refl
-one_hold content e = absurd (omega arith)
-
-pub one_unterm : (content : Record) → (row_of content).kind ≡ 9 → Some ((row_of content).first, false) ≡ one_key content
-one_unterm (Unterm unterm) e = refl
-one_unterm content e = absurd (omega arith)
-
 pub one_put : (content : Record) (d : Item) → (row_of content).kind ≡ 2 → Some ((get_or (items_of content) 0 d).key, true) ≡ one_key content
 one_put (Put put) d e = refl
 one_put content d e = absurd (omega arith)
-
-pub one_none : (content : Record) → ((row_of content).kind ≡ 2 → ⊥) → ((row_of content).kind ≡ 3 → ⊥) → ((row_of content).kind ≡ 5 → ⊥) → ((row_of content).kind ≡ 6 → ⊥) → ((row_of content).kind ≡ 9 → ⊥) → None ≡ one_key content
-one_none (Base page) a b c d e = refl
-one_none (Put put) a b c d e = absurd (a refl)
-one_none (Delete delete) a b c d e = absurd (b refl)
-one_none (Split split) a b c d e = refl
-one_none (Term term) a b c d e = absurd (c refl)
-one_none (Hold hold) a b c d e = absurd (d refl)
-one_none (Remove remove) a b c d e = refl
-one_none (Merge merge) a b c d e = refl
-one_none (Unterm unterm) a b c d e = absurd (e refl)
 
 -- where it cuts the page
 pub splits : (content : Record) → (row_of content).kind ≡ 4 → Some (row_of content).first ≡ split_at content
 splits (Split split) e = refl
 splits content e = absurd (omega arith)
-
-pub splits_not : (content : Record) → ((row_of content).kind ≡ 4 → ⊥) → None ≡ split_at content
-splits_not (Base page) h = refl
-splits_not (Put put) h = refl
-splits_not (Delete delete) h = refl
-splits_not (Split split) h = absurd (h refl)
-splits_not (Term term) h = refl
-splits_not (Hold hold) h = refl
-splits_not (Remove remove) h = refl
-splits_not (Merge merge) h = refl
-splits_not (Unterm unterm) h = refl

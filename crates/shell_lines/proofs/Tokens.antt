@@ -7,7 +7,7 @@ use Rattle.std.specs.List.{list_all}
 use Rattle.bw_model.specs.Bytes.{longest}
 use Rattle.hex.specs.Hex.{decode_of, decode_pairs, value_at, pair_value, digit_or_error, hex_digit_value, ◌>>=◌, IsBytes, encode_lower, is_hex_digit}
 use Rattle.hex.specs.declared.error.FromHexError.{FromHexError}
-use Rattle.hex.proofs.HexLemmas.{decode_of-encode_lower, decode_of-ok, decode_of-digits, decode_of-odd, decode_of-even}
+use Rattle.hex.proofs.HexLemmas.{decode_of-encode_lower, decode_of-ok, decode_of-digits, decode_of-even}
 use Rattle.shell_lines.specs.Token.{IsDigitOf, SpellsBytes, Means, token_value, is_word, printed}
 use Rattle.shell_lines.specs.Gives.{Gives}
 use Rattle.shell_lines.specs.declared.token.LineError.{LineError}
@@ -163,9 +163,6 @@ no_digits s h = at (decode_of s) refl
     at : (r : Result (List ℕ) FromHexError) → decode_of s ≡ r → result_ok r ≡ None
     at (Ok bytes) e = cc (sym (list_all-from_AllPass is_hex_digit s (decode_of-ok s bytes e).1) ∙ h)
     at (Err x) e = refl
-
-pub odd_digits : (s : List ℕ) → length s % 2 ≡ 1 → result_ok (decode_of s) ≡ None
-odd_digits s h = rw (decode_of-odd s h) refl
 
 pub long_digits : (s : List ℕ) → length s % 2 ≡ 0 → list_all is_hex_digit s ≡ true → 2 * longest < length s
     → (bytes : List ℕ) × (result_ok (decode_of s) ≡ Some bytes) × (longest < length bytes)

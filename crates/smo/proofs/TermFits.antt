@@ -21,10 +21,6 @@ use Rattle.smo.specs.Versions.{Version}
 use Rattle.smo.specs.Terms.{IsTermPlan, term_of}
 use Rattle.smo.proofs.Places.{above_low, at_first, from_made, links}
 
--- no item of the key
-Lacks : List Item → List ℕ → Type 0
-Lacks items key = content_at items key ≡ None
-
 -- how many are held: as many as before
 module _ (new : Item) (unheld : is_held new.content ≡ false) where
   same_held : (items : List Item) → content_at items new.key ≡ None → held_count (with_put new items) ≡ held_count items

@@ -32,17 +32,6 @@ IsRun-front limits entries last run = record {
 pub IsRun-last : (limits : Limits) (entries : List Entry) (last : Entry) → IsRun limits (entries ++ last ∷ []) → IsNext limits entries last
 IsRun-last limits entries last run = subst (λ front. IsNext limits front last) (take-push_whole entries (last ∷ [])) (run.each (length entries) last (slice_get-push entries last))
 
--- P holds after the entries before, and after each further one
-abbrev pub HoldsAlong : (List Entry → Type 0) → List Entry → List Entry → Type 0
-HoldsAlong P before [] = P before
-HoldsAlong P before (entry ∷ entries) = P before × HoldsAlong P (before ++ entry ∷ []) entries
-
-pub HoldsAlong-front : (P : List Entry → Type 0) (before entries : List Entry) → HoldsAlong P before entries → (n : ℕ) → P (before ++ take n entries)
-HoldsAlong-front P before [] h zero = rw append-nil h
-HoldsAlong-front P before [] h (suc n) = rw append-nil h
-HoldsAlong-front P before (entry ∷ entries) h zero = rw append-nil h.0
-HoldsAlong-front P before (entry ∷ entries) h (suc n) = subst P (append_assoc before (entry ∷ []) (take n entries)) (HoldsAlong-front P (before ++ entry ∷ []) entries h.1 n)
-
 -- each entry may stand after those before it
 abbrev pub EachNext : Limits → List Entry → List Entry → Type 0
 EachNext limits before [] = Unit {0}
