@@ -13,7 +13,7 @@ use Rattle.bw_shell.specs.Transcript.{Transcript}
 use Rattle.bw_shell.specs.Weave.{Weaves, StopsAmong}
 use Rattle.bw_shell.proofs.Transcripts.{transcript_then, refused, refused_at}
 
-all_then : {A : Type 0} (P : A → Type 0) (xs ys : List A) → AllByRecursion P xs → AllByRecursion P ys → AllByRecursion P (xs ++ ys)
+pub all_then : {A : Type 0} (P : A → Type 0) (xs ys : List A) → AllByRecursion P xs → AllByRecursion P ys → AllByRecursion P (xs ++ ys)
 all_then P [] ys p q = q
 all_then P (x ∷ xs) ys p q = (p.0, all_then P xs ys p.1 q)
 

@@ -1,6 +1,5 @@
 -- Laws of whole runs.
-use Rattle.std.proofs.Common.{◌≡◌, ℕ, List, [], ◌∷◌, ◌++◌, length, refl, sym, ap, ◌∙◌, arith, ◌⊎◌, inl, inr, Bool, true, false, Option, Some, None, append_assoc, ◌↔◌, is_some}
-use Rattle.std.specs.Io.KnownBytes.{Consumes, Keeps}
+use Rattle.std.proofs.Common.{◌≡◌, ℕ, List, [], ◌∷◌, ◌++◌, length, refl, arith, ◌⊎◌, inl, inr, Bool, true, false, Option, ◌↔◌, is_some}
 use Rattle.shell_lines.specs.declared.request.Language.{Language}
 use Rattle.bw_shell.specs.Turns.{Trace, IsOneMap, opening_trace}
 use Rattle.tree_limits.specs.declared.limits.Limits.{Limits}
@@ -9,22 +8,6 @@ use Rattle.byte_streams.specs.Output.{Sink, Prints}
 use Rattle.bw_shell.specs.Text.{last_line}
 use Rattle.bw_shell.specs.Weave.{IsTranscriptFrom, HasRun, IsWholeRun}
 use Rattle.byte_streams.proofs.Showing.{shows_then, writes_whole}
-
-pub consumes_none : (a : Option (List ℕ)) → Consumes a a []
-consumes_none None = tt
-consumes_none (Some xs) = refl
-
-pub consumes_then : (a b c : Option (List ℕ)) (x y : List ℕ) → Consumes a b x → Consumes b c y → Consumes a c (x ++ y)
-consumes_then None b c x y p q = tt
-consumes_then (Some xs) None c x y p q = absurd p
-consumes_then (Some xs) (Some ys) None x y p q = absurd q
-consumes_then (Some xs) (Some ys) (Some zs) x y p q = p ∙ ap (λ (l : List ℕ). x ++ l) q ∙ sym (append_assoc x y zs)
-
-pub consumes_kept : (a b c : Option (List ℕ)) (x : List ℕ) → Consumes a b x → Keeps b c → Consumes a c x
-consumes_kept None b c x p q = tt
-consumes_kept (Some xs) None c x p q = absurd p
-consumes_kept (Some xs) (Some ys) None x p q = absurd q
-consumes_kept (Some xs) (Some ys) (Some zs) x p q = p ∙ ap (λ (l : List ℕ). x ++ l) (sym q)
 
 -- a writer that fails later fails too
 pub later_cut : (language : Language) (m : Trace) (left : Option (List ℕ)) (taken : List ℕ) (failed : Bool) (after : Trace) (text : List ℕ) (r : Option RefusedLine) (cut cut' : Bool)

@@ -1,5 +1,5 @@
 -- A seat whose operation begins with its first step.
-use Rattle.std.proofs.Common.{◌≡◌, ◌≢◌, ◌<◌, ◌^◌, ℕ, List, [], ◌∷◌, ◌++◌, Option, Bool, true, false, refl, sym, ap, ◌∙◌, subst, arith, append-nil}
+use Rattle.std.proofs.Common.{◌≡◌, ◌≢◌, ◌<◌, ◌^◌, ℕ, List, [], ◌∷◌, ◌++◌, Option, Bool, true, false, refl, sym, ap, ◌∙◌, subst, arith}
 use Rattle.std.proofs.lemmas.Option.{same_Some}
 use Rattle.std.specs.Prelude.{IsSome, Some, None, IsTrue}
 use Rattle.op_machine.specs.machine.Actors.{Actor, IsActor, IsActorWith, IsToldActor, command_at, command_left, running_command, wanted_by}
@@ -29,10 +29,9 @@ use Rattle.bw_tree.specs.Laws.{HaveLaws}
 use Rattle.bw_tree.specs.Runs.{IsLawfulRun}
 use Rattle.bw_tree.specs.Seats.{IsSeated, Seat, unfinished_command}
 use Rattle.bw_tree.proofs.Advancing.{Takes, known_may, may_go, seated_on, told_on, within}
-use Rattle.bw_tree.proofs.Seats.{replaced_same, without_begin}
-
-pub extends_self : (a : ℕ) (seen : List Entry) → Extends a seen seen
-extends_self a seen = ([], sym (append-nil seen), refl)
+use Rattle.bw_tree.proofs.Seats.{without_begin}
+use Rattle.deltas.proofs.Replaced.{replaced_same}
+use Rattle.traces.proofs.OwnEntries.{extends_self}
 
 -- an actor without a command is outside
 idle_outside : (limits : Limits) (a : ℕ) (k : Knowledge) (r : Recalled) (hand : Hand) (running : Option UnderWay) → command_at running ≡ None → IsActorWith limits a k r hand running → k.inside ≡ false

@@ -1,6 +1,6 @@
 -- A seat that goes on for several steps.
-use Rattle.std.proofs.Common.{◌≡◌, ◌<◌, ◌≤◌, ◌+◌, ◌-◌, ℕ, List, [], ◌∷◌, ◌++◌, length, Bool, true, false, refl, sym, ap, ◌∙◌, subst, arith, append_assoc, append-nil, eq-eqb, length-append}
-use Rattle.std.specs.Prelude.{Option, Some, None, IsSome, if◌then◌else◌}
+use Rattle.std.proofs.Common.{◌≡◌, ◌<◌, ◌≤◌, ◌+◌, ◌-◌, ℕ, List, [], ◌∷◌, ◌++◌, length, refl, sym, ap, ◌∙◌, subst, arith, append_assoc, append-nil, eq-eqb, length-append}
+use Rattle.std.specs.Prelude.{Option, Some, None, IsSome}
 use Rattle.atomic_table.specs.Seated.{TableId}
 use Rattle.bw_model.specs.declared.command.Command.{Command}
 use Rattle.bw_model.specs.declared.command.Reply.{Reply}
@@ -12,28 +12,14 @@ use Rattle.bw_model.specs.declared.step.Step.TheVariants.{Leave}
 use Rattle.deltas.specs.declared.record.Record.{Record}
 use Rattle.traces.specs.declared.trace.Entry.{Entry}
 use Rattle.traces.specs.declared.trace.Entry.TheVariants.{Begin, Step}
-use Rattle.traces.specs.discipline.Disciplined.{Extends, is_entry_of, own_entries}
+use Rattle.traces.specs.discipline.Disciplined.{own_entries}
 use Rattle.slot_rule.specs.Views.{IsOf}
 use Rattle.bw_tree.specs.Calls.{Advances, HasBegun, EndsWith, IsDone, IsCalled, IsFinished, IsResumed, IsSpent, IsStill, answered_last, call_after, calls_along, calls_in, own_count}
 use Rattle.bw_tree.specs.Runs.{StartsWith}
 use Rattle.bw_tree.specs.declared.called.Called.{Called}
 use Rattle.bw_tree.specs.declared.called.Called.TheVariants as called
 use Rattle.bw_tree.specs.Seats.{IsSame, Seat, unfinished_command}
-
--- the own entries of a longer run
-own_append : (a : ℕ) (run rest : List Entry) → own_entries a (run ++ rest) ≡ own_entries a run ++ own_entries a rest
-own_append a [] rest = refl
-own_append a (e ∷ run) rest = kept_or_not (is_entry_of a e) (own_entries a (run ++ rest)) (own_entries a run) (own_append a run rest)
-  where
-    kept_or_not : (b : Bool) (longer shorter : List Entry) → longer ≡ shorter ++ own_entries a rest → (if b then e ∷ longer else longer) ≡ (if b then e ∷ shorter else shorter) ++ own_entries a rest
-    kept_or_not true longer shorter is = ap (λ es. e ∷ es) is
-    kept_or_not false longer shorter is = is
-
-own_snoc : (a : ℕ) (run : List Entry) (e : Entry) → is_entry_of a e ≡ true → own_entries a (run ++ e ∷ []) ≡ own_entries a run ++ e ∷ []
-own_snoc a run e own = own_append a run (e ∷ []) ∙ ap (λ (b : Bool). own_entries a run ++ (if b then e ∷ [] else [])) own
-
-own_extends : (a : ℕ) (seen run : List Entry) → Extends a seen run → own_entries a run ≡ own_entries a seen
-own_extends a seen run x = ap (own_entries a) x.1 ∙ own_append a seen x.0 ∙ ap (λ es. own_entries a seen ++ es) x.2 ∙ append-nil (own_entries a seen)
+use Rattle.traces.proofs.OwnEntries.{own_push, own_extends}
 
 one_longer : (xs ys : List Entry) (e : Entry) → xs ≡ ys ++ e ∷ [] → length xs ≡ length ys + 1
 one_longer xs ys e is = ap length is ∙ length-append ys (e ∷ [])
@@ -75,7 +61,7 @@ module _ (old : Seat) (reply : Option Reply) (new : Seat) (same : IsSame old new
   last = Step old.actor h.step h.told reply
 
   own_then : own_entries new.actor new.seen ≡ own_entries old.actor old.seen ++ last ∷ []
-  own_then = ap (λ n. own_entries n new.seen) same.actor ∙ ap (own_entries old.actor) h.grown ∙ own_snoc old.actor h.run last (eq-eqb old.actor old.actor refl)
+  own_then = ap (λ n. own_entries n new.seen) same.actor ∙ ap (own_entries old.actor) h.grown ∙ own_push old.actor h.run last (eq-eqb old.actor old.actor refl)
       ∙ ap (λ (es : List Entry). es ++ last ∷ []) (own_extends old.actor old.seen h.run h.extends)
 
   one_more : own_count new ≡ own_count old + 1
@@ -125,8 +111,8 @@ module _ (old mid : Seat) (command : Command) (same : IsSame old mid) (h : HasBe
   begin = Begin old.actor command
 
   own_first : own_entries mid.actor mid.seen ≡ (own_entries old.actor old.seen ++ begin ∷ []) ++ first ∷ []
-  own_first = ap (λ n. own_entries n mid.seen) same.actor ∙ ap (own_entries old.actor) h.grown ∙ own_snoc old.actor (h.run ++ begin ∷ []) first (eq-eqb old.actor old.actor refl)
-      ∙ ap (λ (es : List Entry). es ++ first ∷ []) (own_snoc old.actor h.run begin (eq-eqb old.actor old.actor refl) ∙ ap (λ (es : List Entry). es ++ begin ∷ []) (own_extends old.actor old.seen h.run h.extends))
+  own_first = ap (λ n. own_entries n mid.seen) same.actor ∙ ap (own_entries old.actor) h.grown ∙ own_push old.actor (h.run ++ begin ∷ []) first (eq-eqb old.actor old.actor refl)
+      ∙ ap (λ (es : List Entry). es ++ first ∷ []) (own_push old.actor h.run begin (eq-eqb old.actor old.actor refl) ∙ ap (λ (es : List Entry). es ++ begin ∷ []) (own_extends old.actor old.seen h.run h.extends))
 
   two_more : own_count mid ≡ own_count old + 2
   two_more = let one = one_longer (own_entries mid.actor mid.seen) (own_entries old.actor old.seen ++ begin ∷ []) first own_first in

@@ -1,5 +1,5 @@
 -- A seat whose operation wants a step may take it, whatever the others have done; and what the seat keeps then.
-use Rattle.std.proofs.Common.{◌≡◌, ◌<◌, ◌+◌, ◌-◌, inl, ℕ, List, [], ◌∷◌, ◌++◌, Option, refl, sym, ap, ◌∙◌, subst, arith, append-nil, eq-eqb}
+use Rattle.std.proofs.Common.{◌≡◌, ◌<◌, ◌+◌, ◌-◌, inl, ℕ, List, [], ◌∷◌, ◌++◌, Option, refl, sym, ap, ◌∙◌, subst, arith, append-nil}
 use Rattle.std.specs.Prelude.{IsSome, IfSome, Some, None}
 use Rattle.std.proofs.lemmas.Option.{same_Some}
 use Rattle.op_machine.specs.machine.UnderWay.{UnderWay}
@@ -13,7 +13,6 @@ use Rattle.bw_model.specs.declared.step.Answer.TheVariants as answer
 use Rattle.bw_model.specs.declared.step.Step.{Step as StepOf}
 use Rattle.bw_model.specs.declared.step.Step.TheVariants.{Leave}
 use Rattle.deltas.specs.declared.record.Record.{Record}
-use Rattle.deltas.specs.Memory.{replaced_at}
 use Rattle.traces.specs.declared.trace.Entry.{Entry}
 use Rattle.traces.specs.declared.trace.Entry.TheVariants.{Step}
 use Rattle.traces.specs.discipline.Discipline.{IsAllowed, May, MayFree, MayReply}
@@ -36,9 +35,7 @@ use Rattle.tree_law.specs.Direct.{Accounts, StaysDirect}
 use Rattle.bw_tree.specs.Laws.{HaveLaws}
 use Rattle.bw_tree.specs.Runs.{IsLawfulRun}
 use Rattle.bw_tree.specs.Seats.{IsSeated}
-
-pub replaced_same : {X : Type 0} (n : ℕ) (x : X) (f : ℕ → X) → replaced_at n x f n ≡ x
-replaced_same n x f = rw (eq-eqb n n refl) refl
+use Rattle.deltas.proofs.Replaced.{replaced_same}
 
 -- no begin stands between the run and the step
 pub without_begin : (run : List Entry) (a : ℕ) (step : StepOf Record) (told : Answer Record) (reply : Option Reply) → run ++ Step a step told reply ∷ [] ≡ with_step run a None step told reply

@@ -1,20 +1,11 @@
 -- Laws of writing one text behind another.
-use Rattle.std.proofs.Common.{◌≡◌, ℕ, ◌+◌, ◌<◌, get_or, List, [], ◌∷◌, ◌++◌, length, take, drop, refl, sym, ap, ◌∙◌, arith, length-append, Bool, true, false, not, Option, Some, None, subst, Result, Ok, Err, is_ok, OnErr}
+use Rattle.std.proofs.Common.{◌≡◌, ℕ, ◌+◌, ◌<◌, get_or, List, [], ◌∷◌, ◌++◌, length, take, drop, refl, sym, ap, ◌∙◌, arith, length-append, Bool, true, false, not, Option, subst, Result, Ok, Err, is_ok, OnErr}
 use Rattle.std.proofs.lemmas.List.{append_assoc, append-nil, take-append-drop, take_more}
 use Rattle.std.proofs.lemmas.Grind.{flat_map-append}
 use Rattle.std.specs.List.{flat_map}
 use Rattle.std.specs.Io.KnownBytes.{Appends}
 use Rattle.byte_streams.specs.Output.{Sink, Puts, Prints, Writes}
-
-pub appends_nothing : (a : Option (List ℕ)) → Appends a a []
-appends_nothing None = tt
-appends_nothing (Some xs) = sym (append-nil xs)
-
-pub appends_then : (a b c : Option (List ℕ)) (x y : List ℕ) → Appends a b x → Appends b c y → Appends a c (x ++ y)
-appends_then None b c x y p q = tt
-appends_then (Some xs) None c x y p q = absurd p
-appends_then (Some xs) (Some ys) None x y p q = absurd q
-appends_then (Some xs) (Some ys) (Some zs) x y p q = q ∙ ap (λ (l : List ℕ). l ++ y) p ∙ append_assoc xs x y
+use Rattle.std.proofs.KnownBytes.{Appends-nil, Appends-trans}
 
 -- ---- all bytes to the writer
 
@@ -26,14 +17,14 @@ pub so_far_more : (a b c : Option (List ℕ)) (bytes rest : List ℕ) (n : ℕ) 
 so_far_more a b c bytes rest n s p = (
   s.0 ++ take n rest,
   s.1 ∙ ap (λ (l : List ℕ). s.0 ++ l) (sym (take-append-drop n rest)) ∙ sym (append_assoc s.0 (take n rest) (drop n rest)),
-  appends_then a b c s.0 (take n rest) s.2 p,
+  Appends-trans a b c s.0 (take n rest) s.2 p,
 )
 
 -- ---- one text behind another
 
 pub no_text : (a : Sink) → Prints a a []
 no_text a = record {
-  puts = λ _. record { written = []; rest = a.held; splits = append-nil a.held; appends = appends_nothing a.contents; all = λ _. refl };
+  puts = λ _. record { written = []; rest = a.held; splits = append-nil a.held; appends = Appends-nil a.contents; all = λ _. refl };
   stays = λ e. (refl, e);
 }
 
@@ -47,7 +38,7 @@ puts_then a b c t u w p q =
           sym (append_assoc a.held t u) ∙ ap (λ (l : List ℕ). l ++ u) p.splits ∙ append_assoc p.written p.rest u
           ∙ ap (λ (l : List ℕ). p.written ++ (l ++ u)) held ∙ ap (λ (l : List ℕ). p.written ++ l) q.splits
           ∙ sym (append_assoc p.written q.written q.rest);
-      appends = appends_then a.contents b.contents c.contents p.written q.written p.appends q.appends;
+      appends = Appends-trans a.contents b.contents c.contents p.written q.written p.appends q.appends;
       all = q.all;
     }
 
@@ -89,7 +80,7 @@ passed_on a b mid bytes whole p q sound none is_failed = record {
     written = a.held ++ q.written;
     rest = q.rest;
     splits = ap (λ (l : List ℕ). a.held ++ l) q.splits ∙ sym (append_assoc a.held q.written q.rest);
-    appends = appends_then a.contents mid b.contents a.held q.written (subst (λ (l : List ℕ). Appends a.contents mid l) (sym (p.all refl)) p.appends) q.appends;
+    appends = Appends-trans a.contents mid b.contents a.held q.written (subst (λ (l : List ℕ). Appends a.contents mid l) (sym (p.all refl)) p.appends) q.appends;
     all = λ e. nothing_left q.written q.rest (q.all (sym (not_not whole) ∙ ap not (sym is_failed) ∙ e)) q.splits ∙ sym none;
   };
   stays = λ e. cc (sym sound ∙ e);

@@ -22,8 +22,9 @@ use Rattle.installs.specs.declared.change.State.TheVariants as state
 use Rattle.installs.specs.declared.plan.Plan.{Plan}
 use Rattle.installs.specs.declared.plan.Plan.TheVariants.{Install, Split, Root, Unlink}
 use Rattle.installs.proofs.Learning.{empty_page, ready_learnt, ready_went, undo_went, undone_learnt}
-use Rattle.installs.proofs.SpareLaws.{apart, page_moved, replaced_other, replaced_same, row_placed}
+use Rattle.installs.proofs.SpareLaws.{apart, page_moved, row_placed}
 use Rattle.installs.proofs.Making.{bare_at}
+use Rattle.deltas.proofs.Replaced.{replaced_same, replaced_other}
 
 pub like_self : (k : Knowledge) → IsLike k.asked.linked k k
 like_self k = record { inside = refl; read = refl; command = refl; linked_now = refl }

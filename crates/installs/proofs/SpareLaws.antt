@@ -1,5 +1,5 @@
 -- The spares, as rows and pages go from hand to hand.
-use Rattle.std.proofs.Common.{◌≡◌, ◌≢◌, ◌<◌, ◌∙◌, inl, inr, ℕ, ◌==◌, List, [], ◌∷◌, ◌++◌, Bool, true, false, Option, Some, None, refl, sym, ap, subst, cond, arith}
+use Rattle.std.proofs.Common.{◌≡◌, ◌<◌, ◌∙◌, inl, inr, ℕ, ◌==◌, List, [], ◌∷◌, ◌++◌, Bool, true, false, Option, Some, None, refl, sym, ap, subst, cond, arith}
 use Rattle.std.specs.Prelude.{IfSome}
 use Rattle.std.proofs.lemmas.Bool.{cases_eq, ne_eqb, eq-eqb}
 use Rattle.std.proofs.lemmas.List.Elements.{Contains-append_cases, Contains-append_left, Contains-push, Contains-push_cases}
@@ -8,12 +8,7 @@ use Rattle.deltas.specs.Memory.{replaced_at}
 use Rattle.traces.specs.discipline.Discipline.{IsOwn}
 use Rattle.traces.specs.discipline.Knowledge.{Belongings, OwnPage, OwnRow, Foreign, Taken, Other, Empty}
 use Rattle.installs.specs.Spares.{AreSpare, AreTheSpares, IsNoneOf, IsUnlinked, Spares}
-
-pub replaced_same : {X : Type 0} (n : ℕ) (x : X) (f : ℕ → X) → replaced_at n x f n ≡ x
-replaced_same n x f = rw (eq-eqb n n refl) refl
-
-pub replaced_other : {X : Type 0} (n : ℕ) (x : X) (f : ℕ → X) (k : ℕ) → k ≢ n → replaced_at n x f k ≡ f k
-replaced_other n x f k other = rw (ne_eqb k n other) refl
+use Rattle.deltas.proofs.Replaced.{replaced_same, replaced_other}
 
 own_put : (b : Bool) (o p : OwnRow) → IsOwn o → IsOwn p → IsOwn (cond b o p)
 own_put true o p h i = h

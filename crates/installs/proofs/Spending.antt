@@ -28,9 +28,9 @@ use Rattle.installs.specs.declared.taking.Taking.TheVariants.{Bits, Take}
 use Rattle.installs.proofs.Answered.{only_state}
 use Rattle.installs.proofs.Following.{some_pid}
 use Rattle.installs.proofs.Learning.{went}
-use Rattle.installs.proofs.SpareLaws.{replaced_other, replaced_same}
 use Rattle.installs.proofs.Taken.{in_word}
 use Rattle.installs.proofs.Making.{bare, bare_at, sound_bare, spends_bare}
+use Rattle.deltas.proofs.Replaced.{replaced_same, replaced_other}
 
 -- a word of either kind is one of 256
 few_words : (limits : Limits) (kind : Kind) (word : ℕ) → 64 * word < count_of limits kind → word < 256

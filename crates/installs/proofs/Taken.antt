@@ -25,8 +25,9 @@ use Rattle.installs.specs.declared.taking.Kind.TheVariants.{Pid, Row}
 use Rattle.installs.specs.declared.taking.Taking.{Taking}
 use Rattle.installs.specs.declared.taking.Taking.TheVariants.{Bits, Take}
 use Rattle.installs.proofs.Following.{like_self, still_may, unlinked}
-use Rattle.installs.proofs.SpareLaws.{pid_taken, replaced_other, replaced_same, row_taken}
+use Rattle.installs.proofs.SpareLaws.{pid_taken, row_taken}
 use Rattle.installs.proofs.Making.{bare_at}
+use Rattle.deltas.proofs.Replaced.{replaced_same, replaced_other}
 
 -- a word that was read as 0 adds to those below it
 none_free : (words : ℕ → Bool) (word below : ℕ) → below ≤ word → ((below : ℕ) → below < word → words below ≡ true) → replaced_at word true words below ≡ true

@@ -20,8 +20,9 @@ use Rattle.installs.specs.declared.plan.Plan.{Plan}
 use Rattle.installs.specs.declared.plan.Plan.TheVariants.{Install, Split, Root, Unlink}
 use Rattle.installs.proofs.Following.{own_last, some_pid, still_may, unset_then}
 use Rattle.installs.proofs.Learning.{no_split, over_learnt, over_other, rooted_learnt}
-use Rattle.installs.proofs.SpareLaws.{first_linked, last_linked, page_gone, page_linked, replaced_other, replaced_same}
+use Rattle.installs.proofs.SpareLaws.{first_linked, last_linked, page_gone, page_linked}
 use Rattle.installs.proofs.Making.{bare_at}
+use Rattle.deltas.proofs.Replaced.{replaced_same, replaced_other}
 
 -- the rows but for the last one, and two rows
 rows_last : (rows : List ℕ) → 1 ≤ length rows → length rows ≤ 2 → rows ≡ take (length rows - 1) rows ++ get_or rows (length rows - 1) 0 ∷ []

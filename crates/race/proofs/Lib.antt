@@ -1,4 +1,3 @@
-pub mod Printing
 pub mod Listing
 pub mod Grouping
 pub mod Looking

@@ -12,12 +12,9 @@ use Rattle.bw_shell.specs.Lines.{lines_of, ended, HasNoFeed, Splits}
 use Rattle.bw_shell.specs.declared.refusal.Refusal.{Refusal}
 use Rattle.race.specs.Asked.{AskFor, RefuseAt, RefusesJobLine}
 use Rattle.race.specs.Looked.{AreLinesOf}
+use Rattle.bw_shell.proofs.Feeding.{all_then}
 
 -- ---- lines of bytes
-
-all_then : {A : Type 0} (P : A → Type 0) (xs ys : List A) → AllByRecursion P xs → AllByRecursion P ys → AllByRecursion P (xs ++ ys)
-all_then P [] ys p q = q
-all_then P (x ∷ xs) ys p q = (p.0, all_then P xs ys p.1 q)
 
 -- bytes are whole lines and a part of one
 some_split : (bytes : List ℕ) → (lines : List (List ℕ)) × (part : List ℕ) × Splits bytes lines part

@@ -1,26 +1,10 @@
 -- Laws of what is taken from an input.
-use Rattle.std.proofs.Common.{◌≡◌, ℕ, List, [], ◌++◌, refl, sym, ap, ◌∙◌, Option, Some, None, Bool, false, not, ◌↔◌, ◌⊎◌}
-use Rattle.std.proofs.lemmas.List.{append_assoc, append-nil}
-use Rattle.std.specs.Io.KnownBytes.{Consumes, Keeps}
+use Rattle.std.proofs.Common.{◌≡◌, ℕ, List, [], ◌++◌, Option, Bool, false, not, ◌↔◌, ◌⊎◌}
+use Rattle.std.proofs.lemmas.List.{append-nil}
+use Rattle.std.specs.Io.KnownBytes.{Consumes}
 use Rattle.tree_limits.specs.declared.limits.Limits.{Limits}
 use Rattle.byte_streams.specs.Output.{Sink, Prints, Writes}
 use Rattle.race.specs.Race.{IsRace, TellsJobs}
-
-pub consumes_none : (a : Option (List ℕ)) → Consumes a a []
-consumes_none None = tt
-consumes_none (Some xs) = refl
-
-pub consumes_then : (a b c : Option (List ℕ)) (x y : List ℕ) → Consumes a b x → Consumes b c y → Consumes a c (x ++ y)
-consumes_then None b c x y p q = tt
-consumes_then (Some xs) None c x y p q = absurd p
-consumes_then (Some xs) (Some ys) None x y p q = absurd q
-consumes_then (Some xs) (Some ys) (Some zs) x y p q = p ∙ ap (λ (l : List ℕ). x ++ l) q ∙ sym (append_assoc x y zs)
-
-pub consumes_kept : (a b c : Option (List ℕ)) (x : List ℕ) → Consumes a b x → Keeps b c → Consumes a c x
-consumes_kept None b c x p q = tt
-consumes_kept (Some xs) None c x p q = absurd p
-consumes_kept (Some xs) (Some ys) None x p q = absurd q
-consumes_kept (Some xs) (Some ys) (Some zs) x p q = p ∙ ap (λ (l : List ℕ). x ++ l) (sym q)
 
 -- ---- a whole race
 

@@ -21,7 +21,8 @@ use Rattle.tree_words.specs.Words.{AreWordsOf}
 use Rattle.slot_rule.specs.declared.view.Part.{Part}
 use Rattle.slot_rule.specs.Running.{Each, HasSpelling, IsSpelledRow, IsSettled, times, PartFits, Running}
 use Rattle.slot_rule.specs.Views.{dealt, dealt_from}
-use Rattle.slot_rule.proofs.Parts.{mark, extends_self, spells_views}
+use Rattle.slot_rule.proofs.Parts.{mark, spells_views}
+use Rattle.traces.proofs.OwnEntries.{extends_self}
 
 mark_most : (b : Bool) → mark b ≤ 1
 mark_most true = omega arith

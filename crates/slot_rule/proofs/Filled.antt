@@ -28,10 +28,12 @@ use Rattle.slot_rule.specs.declared.view.Part.{Part}
 use Rattle.slot_rule.specs.Running.{IsSettled, KnowsReadable, KnowsPlaceable, KeepsRowsApart, HasSpelling, ReachFits, PartFits}
 use Rattle.slot_rule.specs.Steps.{IsLawfulStep, Took, Fills, Places, into_row, tail_from}
 use Rattle.slot_rule.specs.Views.{part, alone, Mine, seen_of, SitsAt}
-use Rattle.slot_rule.proofs.Parts.{goes_extends, replaced_same, replaced_other, settled_back, knows_extends, starts_self}
+use Rattle.slot_rule.proofs.Parts.{goes_extends, settled_back, starts_self}
 use Rattle.slot_rule.proofs.Roster.{set_at}
 use Rattle.slot_rule.proofs.Turns.{TableState, Rule, turn, event_telling, same_actor, same_limits}
 use Rattle.slot_rule.proofs.ByWord.{done_into_row, leaves_into_row, left_by_writer, write_fits, fits_write, at_each, spells_row, stands_into_row}
+use Rattle.deltas.proofs.Replaced.{replaced_same, replaced_other}
+use Rattle.traces.proofs.OwnEntries.{knows_extends}
 
 module _ (limits : Limits) (law : Limits → List Entry → Type 0) (apart : KeepsRowsApart limits (law limits)) where
   -- The row into which one seat writes is no other seat's.

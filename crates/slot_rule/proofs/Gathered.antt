@@ -24,9 +24,10 @@ use Rattle.slot_rule.specs.declared.view.Part.{Part}
 use Rattle.slot_rule.specs.Running.{Each, LeavesRow, IsSettled, KnowsReadable, KnowsPlaceable, KeepsRowsApart, HasSpelling, ReachFits, PartFits}
 use Rattle.slot_rule.specs.Steps.{IsLawfulStep, ReadsRow, Gathers, GathersLast, in_row}
 use Rattle.slot_rule.specs.Views.{part, alone, Mine, seen_of, SitsAt}
-use Rattle.slot_rule.proofs.Parts.{goes_extends, settled_back, knows_extends, spells_views, starts_self}
+use Rattle.slot_rule.proofs.Parts.{goes_extends, settled_back, spells_views, starts_self}
 use Rattle.slot_rule.proofs.Turns.{TableState, Rule, Spares, turn, event_telling}
 use Rattle.slot_rule.proofs.ByWord.{done_in_row, leaves_in_row, one_more, whole, read_fits, fits_read, at_each, stands_in_row}
+use Rattle.traces.proofs.OwnEntries.{knows_extends}
 
 -- All rows have the same number of words.
 abbrev pub AreRows : Type 0

@@ -1,9 +1,6 @@
 -- Lists of parts, and runs that go on.
-use Rattle.std.proofs.Common.{◌≡◌, ◌≢◌, ℕ, zero, suc, ◌+◌, ◌≤◌, eqb, Bool, true, false, List, [], ◌∷◌, ◌++◌, set, sym, refl, ap, ◌∙◌, subst, arith, append_assoc, append-nil, eq-eqb, ne_eqb}
-use Rattle.std.proofs.lemmas.Bool.Decides.{nat_tests}
+use Rattle.std.proofs.Common.{◌≡◌, ◌≢◌, ℕ, zero, suc, ◌+◌, ◌≤◌, eqb, Bool, false, List, [], ◌∷◌, ◌++◌, set, sym, refl, ap, ◌∙◌, subst, arith, append_assoc, append-nil, eq-eqb, ne_eqb}
 use Rattle.std.specs.Prelude.{if◌then◌else◌, None, Some, Option, ⊤}
-use Rattle.std.specs.List.{fold}
-use Rattle.std.proofs.lemmas.List.Sums.{fold-append}
 use mathlib.Core.Option.{some, some-injective, some-ne-none}
 use mathlib.Core.Logic.{dite}
 use native.Mathlib.Decide.{ℕ_discrete}
@@ -15,13 +12,13 @@ use Rattle.tree_limits.specs.declared.limits.Limits.{Limits}
 use Rattle.bw_model.specs.declared.step.Answer.{Answer}
 use Rattle.bw_model.specs.declared.step.Step.{Step as StepOf}
 use Rattle.deltas.specs.declared.record.Record.{Record}
-use Rattle.deltas.specs.Memory.{Memory, replaced_at}
+use Rattle.deltas.specs.Memory.{Memory}
 use Rattle.traces.specs.declared.trace.Entry.{Entry}
 use Rattle.traces.specs.declared.trace.Entry.TheVariants.{Begin, Step}
-use Rattle.traces.specs.discipline.Disciplined.{is_entry_of, own_entries, Extends}
-use Rattle.traces.specs.discipline.Knowledge.{Knowledge, nothing, begun, learn, finished, knows_after, knows}
+use Rattle.traces.specs.discipline.Disciplined.{is_entry_of, Extends}
+use Rattle.traces.specs.discipline.Knowledge.{begun}
 use Rattle.traces.specs.trace.Steps.{memory_after}
-use Rattle.traces.specs.trace.Trace.{memory_of, memory_after_entry}
+use Rattle.traces.specs.trace.Trace.{memory_of}
 use Rattle.tree_words.specs.Words.{SpellsWhere}
 use Rattle.slot_rule.specs.declared.view.Reach.{Reach}
 use Rattle.slot_rule.specs.declared.view.Reach.TheVariants.{Idle, Reading, Writing, Noted}
@@ -29,6 +26,8 @@ use Rattle.slot_rule.specs.declared.view.Part.{Part}
 use Rattle.slot_rule.specs.Running.{Each, ExtendsFor, LeavesRow, IsSettled, StartsWith, GoesOnWithStep, BeginWithSteps, is_at, times, everywhere}
 use Rattle.slot_rule.specs.Steps.{opened, with_step}
 use Rattle.slot_rule.specs.Views.{alone}
+use Rattle.traces.proofs.OwnEntries.{AreOthers, others_append}
+use Rattle.traces.proofs.TraceLaws.{memory_of-push}
 
 pub each_map : {A : Type 0} (P Q : A → Type 0) → ((x : A) → P x → Q x) → (xs : List A) → Each P xs → Each Q xs
 each_map P Q f [] t = tt
@@ -41,78 +40,6 @@ each_zip P Q R f (x ∷ xs) t u = (f x t.0 u.0, each_zip P Q R f xs t.1 u.1)
 pub each_append : {A : Type 0} (P : A → Type 0) (xs ys : List A) → Each P xs → Each P ys → Each P (xs ++ ys)
 each_append P [] ys t u = u
 each_append P (x ∷ xs) ys t u = (t.0, each_append P xs ys t.1 u)
-
--- the function with a new value at n
-pub replaced_same : {X : Type 0} (n : ℕ) (x : X) (f : ℕ → X) → replaced_at n x f n ≡ x
-replaced_same n x f = rw (eq-eqb n n refl) refl
-
-pub replaced_other : {X : Type 0} (n : ℕ) (x : X) (f : ℕ → X) (k : ℕ) → k ≢ n → replaced_at n x f k ≡ f k
-replaced_other n x f k other = rw (ne_eqb k n other) refl
-
-same_number : (n m : ℕ) → eqb n m ≡ true → n ≡ m
-same_number n m e = grind (arith, nat_tests)
-
-other_number : (n m : ℕ) → eqb n m ≡ false → n ≢ m
-other_number n m e = grind (arith, nat_tests)
-
--- an entry of another actor leaves what the actor knows
-after_other : (ks : ℕ → Knowledge) (actor : ℕ) (entry : Entry) → is_entry_of actor entry ≡ false → knows_after ks entry actor ≡ ks actor
-after_other ks actor (Begin other command) e = replaced_other other (begun (ks other) command) ks actor (other_number actor other e)
-after_other ks actor (Step other step answer reply) e = replaced_other other (finished (learn (ks other) step answer) reply) ks actor (other_number actor other e)
-
--- an own entry makes the same of the same knowledge
-after_own : (ks ks' : ℕ → Knowledge) (actor : ℕ) (entry : Entry) → is_entry_of actor entry ≡ true → ks actor ≡ ks' actor → knows_after ks entry actor ≡ knows_after ks' entry actor
-after_own ks ks' actor (Begin other command) e same =
-    let i : actor ≡ other = same_number actor other e in
-    rw (i, replaced_same other (begun (ks other) command) ks, replaced_same other (begun (ks' other) command) ks') (ap (λ k. begun k command) (subst (λ n. ks n ≡ ks' n) i same))
-after_own ks ks' actor (Step other step answer reply) e same =
-    let i : actor ≡ other = same_number actor other e in
-    rw (i, replaced_same other (finished (learn (ks other) step answer) reply) ks, replaced_same other (finished (learn (ks' other) step answer) reply) ks')
-    (ap (λ k. finished (learn k step answer) reply) (subst (λ n. ks n ≡ ks' n) i same))
-
-fold_own : (entries : List Entry) (ks ks' : ℕ → Knowledge) (actor : ℕ) → ks actor ≡ ks' actor → fold knows_after ks entries actor ≡ fold knows_after ks' (own_entries actor entries) actor
-fold_own [] ks ks' actor same = same
-fold_own (entry ∷ entries) ks ks' actor same = elim (is_entry_of actor entry) as (λ t. is_entry_of actor entry ≡ t
-    → fold knows_after ks (entry ∷ entries) actor ≡ fold knows_after ks' (if t then entry ∷ own_entries actor entries else own_entries actor entries) actor) [
-      | true ↦ λ e. fold_own entries (knows_after ks entry) (knows_after ks' entry) actor (after_own ks ks' actor entry e same)
-      | false ↦ λ e. fold_own entries (knows_after ks entry) ks' actor (after_other ks actor entry e ∙ same)
-    ] refl
-
--- what an actor knows comes from its own entries
-knows_own : (run seen : List Entry) (actor : ℕ) → own_entries actor run ≡ own_entries actor seen → knows run actor ≡ knows seen actor
-knows_own run seen actor same = fold_own run (λ b. nothing) (λ b. nothing) actor refl ∙ ap (λ es. fold knows_after (λ b. nothing) es actor) same ∙ sym (fold_own seen (λ b. nothing) (λ b. nothing) actor refl)
-
--- The entries are of other actors.
-abbrev pub AreOthers : ℕ → List Entry → Type 0
-AreOthers actor entries = own_entries actor entries ≡ []
-
-own_append : (actor : ℕ) (run more : List Entry) → own_entries actor (run ++ more) ≡ own_entries actor run ++ own_entries actor more
-own_append actor [] more = refl
-own_append actor (entry ∷ run) more = elim (is_entry_of actor entry) as (λ t. (if t then entry ∷ own_entries actor (run ++ more) else own_entries actor (run ++ more)) ≡ (if t then entry ∷ own_entries actor run else own_entries actor run) ++ own_entries actor more) [
-  | true ↦ ap (λ (es : List Entry). entry ∷ es) (own_append actor run more)
-  | false ↦ own_append actor run more
-]
-
-pub others_append : (actor : ℕ) (run more : List Entry) → AreOthers actor run → AreOthers actor more → AreOthers actor (run ++ more)
-others_append actor run more r m = own_append actor run more ∙ (λ k. r k ++ m k)
-
-own_on : (actor : ℕ) (run more : List Entry) → AreOthers actor more → own_entries actor (run ++ more) ≡ own_entries actor run
-own_on actor run more others = own_append actor run more ∙ ap (λ (es : List Entry). own_entries actor run ++ es) others ∙ append-nil (own_entries actor run)
-
-pub extends_self : (actor : ℕ) (run : List Entry) → Extends actor run run
-extends_self actor run = ([], sym (append-nil run), refl)
-
-pub extends_on : (actor : ℕ) (seen run more : List Entry) → AreOthers actor more → Extends actor seen run → Extends actor seen (run ++ more)
-extends_on actor seen run more others x = (x.0 ++ more, ap (λ (r : List Entry). r ++ more) x.1 ∙ append_assoc seen x.0 more, others_append actor x.0 more x.2 others)
-
-pub knows_on : (actor : ℕ) (run more : List Entry) → AreOthers actor more → knows (run ++ more) actor ≡ knows run actor
-knows_on actor run more others = knows_own (run ++ more) run actor (own_on actor run more others)
-
-pub own_extends : (actor : ℕ) (seen run : List Entry) → Extends actor seen run → own_entries actor run ≡ own_entries actor seen
-own_extends actor seen run x = ap (own_entries actor) x.1 ∙ own_on actor seen x.0 x.2
-
-pub knows_extends : (actor : ℕ) (seen run : List Entry) → Extends actor seen run → knows run actor ≡ knows seen actor
-knows_extends actor seen run x = knows_own run seen actor (own_extends actor seen run x)
 
 pub starts_self : (run : List Entry) → StartsWith run run
 starts_self run = ([], sym (append-nil run))
@@ -172,17 +99,14 @@ pub begins_events : (actor : ℕ) (begun : Option Command) (step : StepOf Record
 begins_events actor None step answer reply = tt
 begins_events actor (Some command) step answer reply = (refl, tt)
 
-memory_push : (limits : Limits) (run : List Entry) (entry : Entry) → memory_of limits (run ++ entry ∷ []) ≡ memory_after_entry (memory_of limits run) entry
-memory_push limits run entry = fold-append _ _ run (entry ∷ [])
-
 memory_begun : (limits : Limits) (run : List Entry) (actor : ℕ) (begun : Option Command) → memory_of limits (run ++ opened actor begun) ≡ memory_of limits run
 memory_begun limits run actor None = ap (memory_of limits) (append-nil run)
-memory_begun limits run actor (Some command) = memory_push limits run (Begin actor command)
+memory_begun limits run actor (Some command) = memory_of-push limits run (Begin actor command)
 
 pub memory_stepped : (limits : Limits) (run : List Entry) (actor : ℕ) (begun : Option Command) (step : StepOf Record) (answer : Answer Record) (reply : Option Reply)
     → memory_of limits (with_step run actor begun step answer reply) ≡ memory_after actor step (memory_of limits run)
 memory_stepped limits run actor begun step answer reply =
-    memory_push limits (run ++ opened actor begun) (Step actor step answer reply) ∙ ap (memory_after actor step) (memory_begun limits run actor begun)
+    memory_of-push limits (run ++ opened actor begun) (Step actor step answer reply) ∙ ap (memory_after actor step) (memory_begun limits run actor begun)
 
 -- No reach but that of the seat id is changed, and it did not write the row r before.
 pub settled_back : (views : List (List Part)) (id : ℕ) (limits : Limits) (a : ℕ) (seen : List Entry) (h : Reach) (w : List Part) (r : ℕ) → get_elem? views id ≡ some (alone limits a seen h) → LeavesRow r h

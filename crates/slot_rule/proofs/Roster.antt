@@ -18,7 +18,8 @@ use Rattle.slot_rule.specs.declared.view.Part.{Part}
 use Rattle.slot_rule.specs.Running.{Each, ExtendsFor, LeavesRow, IsSettled, StartsWith, is_at, times, PartFits, Running}
 use Rattle.slot_rule.specs.Views.{Mine, Looked, Looks, refreshed, IsBlank, first_part, noted, other_parts}
 use Rattle.slot_rule.proofs.Turns.{TableState}
-use Rattle.slot_rule.proofs.Parts.{mark, each_map, each_append, extends_goes, extends_self, everywhere_set, everywhere_snoc, times_append, spells_views}
+use Rattle.slot_rule.proofs.Parts.{mark, each_map, each_append, extends_goes, everywhere_set, everywhere_snoc, times_append, spells_views}
+use Rattle.traces.proofs.OwnEntries.{extends_self}
 
 pub set_at : {A : Type 0} (l : List A) (i : ℕ) (v w : A) → get_elem? l i ≡ some v → get_elem? (set l i w) i ≡ some w
 set_at [] i v w e = absurd (some-ne-none v (sym e))

@@ -25,7 +25,8 @@ use Rattle.slot_rule.specs.declared.view.Part.{Part}
 use Rattle.slot_rule.specs.Running.{Each, ExtendsFor, StartsWith, KnowsReadable, KnowsPlaceable, IsSettled, IsSpelledRow, ReachFits, PartFits, BeginWithSteps, everywhere, Running}
 use Rattle.slot_rule.specs.Views.{Mine, part, alone, seen_of, SitsAt}
 use Rattle.slot_rule.specs.Steps.{with_step, IsLawfulStep, Took, Event}
-use Rattle.slot_rule.proofs.Parts.{IsApart, Stands, apart_ne, each_zip, extends_goes, extends_self, extends_on, goes_extends, knows_on, events, others_events, with_events, memory_stepped, starts_on, times_alone, times_of_one, everywhere_set, elsewhere, begins_on, begins_events}
+use Rattle.slot_rule.proofs.Parts.{IsApart, Stands, apart_ne, each_zip, extends_goes, goes_extends, events, others_events, with_events, memory_stepped, starts_on, times_alone, times_of_one, everywhere_set, elsewhere, begins_on, begins_events}
+use Rattle.traces.proofs.OwnEntries.{extends_self, extends_on, knows_on}
 
 abbrev pub TableState : Type 0
 TableState = State (Unit {0}) (List Part)

@@ -11,20 +11,7 @@ use Rattle.traces.specs.chain.Chains.{IsChainFrom, IsChainOf, chain_rows, conten
 use Rattle.traces.specs.chain.SideChain.{LivePage, IsSideChainFrom, IsWholeFrom}
 use Rattle.traces.proofs.ChainLaws.{IsSideChainFrom-unique}
 use Rattle.smo.specs.Linking.{HasLeaves, IsSpareRow, KeepsMap, linked}
-
--- functions
-
-pub replaced_here : {X : Type 0} (n : ℕ) (x : X) (f : ℕ → X) → replaced_at n x f n ≡ x
-replaced_here n x f = elim (eqb_tells n n) [
-  | inl same ↦ rw same.0 refl
-  | inr other ↦ absurd (other.1 refl)
-]
-
-pub replaced_other : {X : Type 0} (n : ℕ) (x : X) (f : ℕ → X) (k : ℕ) → k ≢ n → replaced_at n x f k ≡ f k
-replaced_other n x f k ne = elim (eqb_tells k n) [
-  | inl same ↦ absurd (ne same.1)
-  | inr other ↦ rw other.0 refl
-]
+use Rattle.deltas.proofs.Replaced.{replaced_other}
 
 -- chains
 

@@ -31,8 +31,9 @@ use Rattle.smo.specs.Removals.{IsRemovePlan}
 use Rattle.smo.specs.Merges.{IsMergePlan, merge_of}
 use Rattle.smo.specs.Unterms.{IsUntermPlan}
 use Rattle.smo.proofs.Due.{covered}
-use Rattle.smo.proofs.Leaves.{AreAlike, Avoids, Goes, Segment, Shows, apart, avoided, beside_keeps, chain_stays, link_stays, page_keeps, replaced_here, replaced_other, rest_stays}
+use Rattle.smo.proofs.Leaves.{AreAlike, Avoids, Goes, Segment, Shows, apart, avoided, beside_keeps, chain_stays, link_stays, page_keeps, rest_stays}
 use Rattle.smo.proofs.Places.{made}
+use Rattle.deltas.proofs.Replaced.{replaced_same, replaced_other}
 
 -- a page that was read is one
 pub chain_of : (memory : Memory) (version : Version) → HasVersion memory version → IsChainOf memory version.pid version.chain
@@ -77,10 +78,10 @@ with_root_keeps memory page h = beside_keeps memory (with_root page memory) 0 h
 pub over_chain : (memory : Memory) (version : Version) (row : ℕ) (content : Record) → HasVersion memory version → IsSpareRow memory row → next_row content ≡ Some version.head → IsChainOf (linked version.pid row content memory) version.pid (content ∷ version.chain)
 over_chain memory version row content holds spare next =
     let is = chain_of memory version holds in
-    let slot : replaced_at version.pid row memory.slots version.pid ≡ row = replaced_here version.pid row memory.slots in
+    let slot : replaced_at version.pid row memory.slots version.pid ≡ row = replaced_same version.pid row memory.slots in
     let avoid : Avoids row (chain_rows version.head version.chain) = subst (λ head. Avoids row (chain_rows head version.chain)) holds.slot (avoided memory row version.pid version.chain spare is) in
     let under : IsChainFrom (replaced_at row (Some content) memory.rows) version.head version.chain = chain_stays memory.rows row (Some content) version.head version.chain holds.chain avoid in
-    let records : IsChainFrom (replaced_at row (Some content) memory.rows) row (content ∷ version.chain) = (replaced_here row (Some content) memory.rows, rw next under) in
+    let records : IsChainFrom (replaced_at row (Some content) memory.rows) row (content ∷ version.chain) = (replaced_same row (Some content) memory.rows, rw next under) in
     record { page = is.page; linked = rw slot spare.some; records = rw slot records }
 
 -- a removal
@@ -178,16 +179,16 @@ module _ (memory : Memory) (page : Version) (plan : SplitPlan) (right row base_r
 
   split_is : IsChainOf split_memory page.pid (split ∷ page.chain)
   split_is =
-      let slot : split_memory.slots page.pid ≡ row = replaced_here page.pid row ready.slots in
+      let slot : split_memory.slots page.pid ≡ row = replaced_same page.pid row ready.slots in
       let avoid : Avoids row (chain_rows page.head page.chain) = subst (λ head. Avoids row (chain_rows head page.chain)) holds.slot (avoided memory row page.pid page.chain spare page_is) in
       let under : IsChainFrom split_memory.rows page.head page.chain = chain_stays ready.rows row (Some split) page.head page.chain ready_holds.chain avoid in
-      let records : IsChainFrom split_memory.rows row (split ∷ page.chain) = (replaced_here row (Some split) ready.rows, rw is.over under) in
+      let records : IsChainFrom split_memory.rows row (split ∷ page.chain) = (replaced_same row (Some split) ready.rows, rw is.over under) in
       record { page = page.is_pid.0; linked = rw slot spare.some; records = rw slot records }
 
   right_is : IsChainOf split_memory right (base ∷ [])
   right_is =
-      let slot : split_memory.slots right ≡ base_row = replaced_other page.pid row ready.slots right (λ e. right_other (sym e)) ∙ replaced_here right base_row memory.slots in
-      let there : split_memory.rows base_row ≡ Some base = replaced_other row (Some split) ready.rows base_row (λ e. distinct (sym e)) ∙ replaced_here base_row (Some base) memory.rows in
+      let slot : split_memory.slots right ≡ base_row = replaced_other page.pid row ready.slots right (λ e. right_other (sym e)) ∙ replaced_same right base_row memory.slots in
+      let there : split_memory.rows base_row ≡ Some base = replaced_other row (Some split) ready.rows base_row (λ e. distinct (sym e)) ∙ replaced_same base_row (Some base) memory.rows in
       let records : IsChainFrom split_memory.rows base_row (base ∷ []) = (there, refl) in
       record { page = some; linked = rw slot spare_base.some; records = rw slot records }
 

@@ -33,7 +33,8 @@ use Rattle.step_core.specs.Actors.{IsReady, IsServedAt, IsWithinAt, wanted_in}
 use Rattle.step_core.proofs.Lawful.{Asks, asks, is_placed, served_at, within_at}
 use Rattle.step_core.specs.Cores.{IsCore, Pays}
 use Rattle.step_core.specs.Turns.{Core, Demand, KeepsMore, LeavesAt, WantsMemory, busy_of, refused_by, refusal_of}
-use Rattle.step_core.proofs.Replaced.{get_below, get_is, replaced_other, replaced_same, set_cases, set_length, set_other}
+use Rattle.step_core.proofs.Replaced.{get_below, get_is, set_cases, set_length, set_other}
+use Rattle.deltas.proofs.Replaced.{replaced_same, replaced_other}
 
 -- a begin that isn't refused
 pub begin_goes : (core : Core) (i : ℕ) (command : Command) → refusal_of core (turn.Begin i command) ≡ None → (i < core.limits.actors) × (command_of core.entries i ≡ None)

@@ -1,14 +1,7 @@
 -- A function or a list with one value replaced, or a list with one more.
-use Rattle.std.proofs.Common.{◌≡◌, ◌≢◌, ◌<◌, ◌⊎◌, inl, inr, ℕ, zero, suc, List, [], ◌∷◌, ◌++◌, length, Some, set, get_or, eq-eqb, ne_eqb, refl, sym, ap, subst, ◌∙◌, arith}
+use Rattle.std.proofs.Common.{◌≡◌, ◌≢◌, ◌<◌, ◌⊎◌, inl, inr, ℕ, zero, suc, List, [], ◌∷◌, ◌++◌, length, Some, set, get_or, refl, sym, ap, subst, ◌∙◌, arith}
 use Rattle.std.proofs.lemmas.Option.{same_Some}
 use Rattle.std.specs.Prelude.{slice_get}
-use Rattle.deltas.specs.Memory.{replaced_at}
-
-pub replaced_same : {X : Type 0} (n : ℕ) (x : X) (f : ℕ → X) → replaced_at n x f n ≡ x
-replaced_same n x f = rw (eq-eqb n n refl) refl
-
-pub replaced_other : {X : Type 0} (n : ℕ) (x : X) (f : ℕ → X) (k : ℕ) → k ≢ n → replaced_at n x f k ≡ f k
-replaced_other n x f k other = rw (ne_eqb k n other) refl
 
 pub get_is : {X : Type 0} (xs : List X) (i : ℕ) (x : X) → i < length xs → x ≡ get_or xs i x → slice_get xs i ≡ Some x
 get_is [] i x h e = absurd (omega arith)

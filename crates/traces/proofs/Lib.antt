@@ -8,3 +8,4 @@ pub mod Updated
 pub mod PaidExamples
 pub mod HeldExamples
 pub mod UnheldLaws
+pub mod OwnEntries

@@ -5,7 +5,6 @@ pub mod Marks
 pub mod Names
 pub mod Opening
 pub mod Others
-pub mod OwnEntries
 pub mod Owned
 pub mod Phasing
 pub mod Remark

@@ -13,7 +13,8 @@ use Rattle.deltas.specs.Memory.{Memory, replaced_at}
 use Rattle.traces.specs.trace.Steps.{IsWordOf, memory_after}
 use Rattle.tree_words.specs.Layout.{pid_bits_at, row_bits_at, epoch_at, announced_at, width}
 use Rattle.tree_words.specs.Changes.{HasWord, SetsBits, word_after, SpellsParts, ChangesOneWord, StepsChangeOneWord, WordsStandFirst}
-use Rattle.tree_words.proofs.FreeBits.{replaced_same, replaced_other, word_kept, bits_set, word_apart, taken, found_free}
+use Rattle.tree_words.proofs.FreeBits.{word_kept, bits_set, word_apart, taken, found_free}
+use Rattle.deltas.proofs.Replaced.{replaced_same, replaced_other}
 
 module _ (limits : Limits) (words : List ℕ) (m : Memory) (long : length words ≡ width limits) (sp : SpellsParts limits words m) where
   same : (i : ℕ) → SpellsParts limits (set words i (get_or words i 0)) m

@@ -9,12 +9,7 @@ use native.Mathlib.Decide.{ℕ_discrete}
 use Rattle.deltas.specs.Memory.{replaced_at}
 use Rattle.tree_limits.specs.Words.{is_among}
 use Rattle.traces.specs.trace.Steps.{IsWordOf}
-
-pub replaced_same : {X : Type 0} (n : ℕ) (x : X) (f : ℕ → X) → replaced_at n x f n ≡ x
-replaced_same n x f = rw (eq-eqb n n refl) refl
-
-pub replaced_other : {X : Type 0} (n : ℕ) (x : X) (f : ℕ → X) (k : ℕ) → k ≢ n → replaced_at n x f k ≡ f k
-replaced_other n x f k other = rw (ne_eqb k n other) refl
+use Rattle.deltas.proofs.Replaced.{replaced_other}
 
 by_bit : (b : ℕ) → b < 2 → (P : ℕ → Type 0) → P 0 → P 1 → P b
 by_bit zero below P none some = none

@@ -22,6 +22,7 @@ use Rattle.bw_tree.specs.Calls.{answered_last, call_after, calls_along, calls_of
 use Rattle.bw_tree.proofs.Going.{answered_snoc}
 use Rattle.walks.proofs.Replying.{some_of}
 use Rattle.walks.proofs.Spans.{IsOpenAt, begun_since, in_hand}
+use Rattle.traces.proofs.OwnEntries.{own_push}
 
 abbrev pub Calls : Type 0
 Calls = List (Command × Option Reply)
@@ -61,15 +62,6 @@ told actor commands calls (entry ∷ run) asked fits is = by_entry entry (λ com
 
 pub last_unanswered : (actor : ℕ) (run : List Entry) (asked : Command) → command_of run actor ≡ Some asked → EndsUnanswered (calls_of actor run) asked
 last_unanswered actor run asked is = told actor (λ a. None) [] run asked (λ c has. absurd (cc)) is
-
--- one entry of the actor's more
-own_push : (actor : ℕ) (run : List Entry) (e : Entry) → is_entry_of actor e ≡ true → own_entries actor (run ++ e ∷ []) ≡ own_entries actor run ++ e ∷ []
-own_push actor [] e mine = ap (λ (b : Bool). if b then e ∷ [] else []) mine
-own_push actor (first ∷ run) e mine = kept_or_not (is_entry_of actor first) (own_entries actor (run ++ e ∷ [])) (own_entries actor run) (own_push actor run e mine)
-  where
-    kept_or_not : (b : Bool) (longer shorter : List Entry) → longer ≡ shorter ++ e ∷ [] → (if b then first ∷ longer else longer) ≡ (if b then first ∷ shorter else shorter) ++ e ∷ []
-    kept_or_not true longer shorter is = ap (λ es. first ∷ es) is
-    kept_or_not false longer shorter is = is
 
 along_push : (calls : Calls) (entries : List Entry) (e : Entry) → calls_along calls (entries ++ e ∷ []) ≡ call_after (calls_along calls entries) e
 along_push calls [] e = refl

@@ -3,11 +3,11 @@ use Rattle.tree_law.proofs.Words.{false, [], ap, refl, Option, None, List, true,
 use Rattle.tree_law.proofs.Words.{Command, Limits, own_entries, is_entry_of, knows_after, nothing, recall, Recalled, blank, recalls_after, commands_after, Entry, Begin, Step, Accounts}
 use Rattle.traces.specs.discipline.Disciplined.{Extends}
 use Rattle.tree_law.specs.Own.{OwnLasts}
-use Rattle.tree_law.proofs.trace.OwnEntries.{after_other}
 use Rattle.tree_law.proofs.shape.Puts.{eqb_false, put_other}
 use Rattle.tree_law.proofs.direct.Affording.{not_step_of}
 use Rattle.tree_law.proofs.direct.Appended.{last_cases}
 use Rattle.tree_law.proofs.direct.Counting.{affords_kept}
+use Rattle.traces.proofs.OwnEntries.{after_other}
 
 recalls_other : (rs : ℕ → Recalled) (a : ℕ) (entry : Entry) → is_entry_of a entry ≡ false → recalls_after rs entry a ≡ rs a
 recalls_other rs a (Begin b command) e = put_other rs b blank a (eqb_false a b e)

@@ -3,7 +3,8 @@ use Rattle.std.proofs.lemmas.Bool.{eqb-true, eqb-false}
 use Rattle.std.proofs.lemmas.List.{append-nil}
 use Rattle.byte_streams.proofs.Showing.{no_text, shows_then}
 use Rattle.bw_shell.proofs.Feeding.{no_bytes, weaves_then, weaves_stops, end_whole, end_part, match_true_at, match_false_at}
-use Rattle.bw_shell.proofs.Weaving.{consumes_kept, consumes_none, consumes_then, no_items}
+use Rattle.bw_shell.proofs.Weaving.{no_items}
+use Rattle.std.proofs.KnownBytes.{Consumes-nil, Consumes-trans, Consumes-kept}
 use Rattle.bw_shell.proofs.whole.run.Goals as goal
 
 fewer : (left before : ℕ) → left + 1 ≡ before → left < before
@@ -11,7 +12,7 @@ fewer left before is = omega arith
 
 pub reads-init : goal.reads-init
 reads-init g c = record {
-  woven = ([], [], consumes_none _, rw (c.requires.first, c.requires.empty) (no_bytes 1 _ [] tt), no_text _);
+  woven = ([], [], Consumes-nil _, rw (c.requires.first, c.requires.empty) (no_bytes 1 _ [] tt), no_text _);
   sound_in = c.requires.sound_in;
   sound_out = c.requires.sound_out;
   short = omega (arith, ap length c.requires.empty);
@@ -25,7 +26,7 @@ returns-in-Some g c =
     record {
       taken = inv.woven.0 ++ c.split_at.result.0.now;
       text = inv.woven.1 ++ fed.0;
-      reads = consumes_then _ _ _ _ _ inv.woven.2 (rw c.split_at.ensures.front c.in-Ok.ensures.bytes.0);
+      reads = Consumes-trans _ _ _ _ _ inv.woven.2 (rw c.split_at.ensures.front c.in-Ok.ensures.bytes.0);
       says = inr (inr (c.in-Ok.ensures.fails ∙ inv.sound_in, inl refl, weaves_stops _ _ _ _ _ _ _ _ _ _ _ _ inv.woven.3 fed.2));
       shows = shows_then inv.woven.4 fed.1;
     }
@@ -40,7 +41,7 @@ returns-then-has_failed g c =
     record {
       taken = inv.woven.0 ++ c.split_at.result.0.now;
       text = inv.woven.1 ++ fed.0;
-      reads = consumes_then _ _ _ _ _ inv.woven.2 (rw c.split_at.ensures.front c.in-Ok.ensures.bytes.0);
+      reads = Consumes-trans _ _ _ _ _ inv.woven.2 (rw c.split_at.ensures.front c.in-Ok.ensures.bytes.0);
       says = inr (inr (c.in-Ok.ensures.fails ∙ inv.sound_in, inr failed, weaves_stops _ _ _ _ _ _ _ _ _ _ _ _ inv.woven.3 stops));
       shows = shows_then inv.woven.4 fed.1;
     }
@@ -56,7 +57,7 @@ reads-preserved g c =
       woven = (
         inv.woven.0 ++ c.split_at.result.0.now,
         inv.woven.1 ++ fed.0,
-        consumes_then _ _ _ _ _ inv.woven.2 (rw c.split_at.ensures.front c.in-Ok.ensures.bytes.0),
+        Consumes-trans _ _ _ _ _ inv.woven.2 (rw c.split_at.ensures.front c.in-Ok.ensures.bytes.0),
         weaves_then _ _ _ _ _ _ _ _ _ _ _ _ _ inv.woven.3 more,
         shows_then inv.woven.4 fed.1,
       );
@@ -73,7 +74,7 @@ returns-then-is_empty g c =
     record {
       taken = inv.woven.0;
       text = inv.woven.1;
-      reads = rw append-nil at (consumes_then _ _ _ _ _ inv.woven.2 (rw c.if-n-eq0.true at c.in-Ok.ensures.bytes.0));
+      reads = rw append-nil at (Consumes-trans _ _ _ _ _ inv.woven.2 (rw c.if-n-eq0.true at c.in-Ok.ensures.bytes.0));
       says = inl (c.in-Ok.ensures.fails ∙ inv.sound_in, c.in-Ok.ensures.bytes.1 c.if-n-eq0.true (omega arith), end_whole _ _ _ _ _ (rw none at inv.woven.3));
       shows = inv.woven.4;
     }
@@ -86,7 +87,7 @@ returns g c =
     record {
       taken = inv.woven.0;
       text = inv.woven.1 ++ told.0;
-      reads = rw append-nil at (consumes_then _ _ _ _ _ inv.woven.2 (rw c.if-n-eq0.true at c.in-Ok.ensures.bytes.0));
+      reads = rw append-nil at (Consumes-trans _ _ _ _ _ inv.woven.2 (rw c.if-n-eq0.true at c.in-Ok.ensures.bytes.0));
       says = inl (
         c.in-Ok.ensures.fails ∙ inv.sound_in,
         c.in-Ok.ensures.bytes.1 c.if-n-eq0.true (omega arith),
@@ -101,7 +102,7 @@ returns-in-Err g c =
     record {
       taken = inv.woven.0;
       text = inv.woven.1;
-      reads = consumes_kept _ _ _ _ inv.woven.2 c.in-Err.ensures.bytes;
+      reads = Consumes-kept _ _ _ _ inv.woven.2 c.in-Err.ensures.bytes;
       says = inr (inl (c.in-Err.ensures.fails, refl, inv.woven.3.lines, c.reads.weaver.part.items, inv.woven.3.splits, inv.woven.3.says));
       shows = inv.woven.4;
     }

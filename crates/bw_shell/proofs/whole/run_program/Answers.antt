@@ -3,7 +3,8 @@ use Rattle.bw_shell.specs.declared.refusal.Refusal.TheVariants.{NotOpened}
 use Rattle.bw_shell.specs.Text.{lone_refusal_text}
 use Rattle.bw_shell.specs.Turns.{opening_trace}
 use Rattle.byte_streams.proofs.Showing.{shows_then, writes_whole}
-use Rattle.bw_shell.proofs.Weaving.{consumes_none, one_else, is_whole_run}
+use Rattle.bw_shell.proofs.Weaving.{one_else, is_whole_run}
+use Rattle.std.proofs.KnownBytes.{Consumes-nil}
 use Rattle.bw_shell.proofs.whole.run_program.Goals as goal
 
 pub returns-in-Err : goal.returns-in-Err
@@ -12,7 +13,7 @@ returns-in-Err g c = record {
   after = opening_trace c.args.limits;
   text = lone_refusal_text NotOpened;
   refused = true;
-  reads = consumes_none _;
+  reads = Consumes-nil _;
   says = inl (refl, c.requires.sound_in, refl, refl, refl);
   writes = writes_whole _ _ _ (shows_then c.show_lone_refusal.ensures c.finish.ensures.shows) c.requires.sound_out c.requires.fresh c.finish.ensures.ends;
   status_is = one_else 1 _ refl (λ all. cc all.2);

@@ -1,6 +1,6 @@
 use Rattle.std.proofs.lemmas.List.{take_all}
 use Rattle.race.specs.Results.{job_reply_text}
-use Rattle.race.proofs.Printing.{flat_more}
+use Rattle.byte_streams.proofs.Showing.{flat_more}
 use Rattle.race.proofs.printed.show_replies.Goals as goal
 
 pub loop-reply-init : goal.loop-reply-init

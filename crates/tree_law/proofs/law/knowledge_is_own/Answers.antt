@@ -1,4 +1,4 @@
-use Rattle.tree_law.proofs.trace.OwnEntries.{knows_own}
+use Rattle.traces.proofs.OwnEntries.{knows_own}
 use Rattle.tree_law.proofs.law.knowledge_is_own.Goals as goal
 
 pub returns : goal.returns
