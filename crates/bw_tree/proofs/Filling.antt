@@ -42,7 +42,7 @@ module _ (pairs : List Pair) (i : ℕ) (pair : Pair) (old new : Seat) (command :
   pub idle_then : GoesOnAfter result → unfinished_command new ≡ None
   idle_then (given, is, some) = let done = subst (λ (r : Called). IsCalled old (upsert_of pair) budget r new) is call_is in done.idle
 
-  module _ (limits : Limits) (stands : slice_get pairs i ≡ Some pair) (actor : old.actor ≡ 0) (history : IsOneHistory limits new.seen) where
+  module _ (limits : Limits) (stands : slice_get pairs i ≡ Some pair) (same : IsSame old new) (actor : old.actor ≡ 0) (history : IsOneHistory limits new.seen) where
     stopped : (ended : Called) → result ≡ ended → IsStopped limits pairs budget ended
     stopped ended is = record {
       old = old;
@@ -51,6 +51,7 @@ module _ (pairs : List Pair) (i : ℕ) (pair : Pair) (old new : Seat) (command :
       pair = pair;
       at = stands;
       actor = actor;
+      same = same;
       before = upserted;
       call = subst (λ (r : Called). IsCalled old (upsert_of pair) budget r new) is call_is;
       history = history;

@@ -13,7 +13,7 @@ use Rattle.traces.specs.trace.Trace.{command_of}
 use Rattle.listing.specs.Listed.{IsListing}
 use Rattle.bw_tree.specs.Calls.{IsCalled, calls_in, calls_of}
 use Rattle.bw_tree.specs.Runs.{IsOneHistory}
-use Rattle.bw_tree.specs.Seats.{Seat}
+use Rattle.bw_tree.specs.Seats.{IsSame, Seat}
 use Rattle.bw_tree.specs.Trees.{Tree}
 use Rattle.bw_tree.specs.declared.called.Called.{Called}
 use Rattle.bw_tree.specs.declared.called.Called.TheVariants as called
@@ -52,7 +52,7 @@ pub record AreLoaded (tree : Tree) (seats : List Seat) (pairs : List (List ℕ �
   pub others : (actor : ℕ) → actor ≢ 0 → own_entries actor run ≡ []
   pub listing : IsListing tree.limits run pairs
 
--- A seat of actor 0 upserted the pairs before one of them, and its call that upserts this one, with the budget, came to this.
+-- A seat of actor 0 upserted the pairs before one of them, and the same seat's call that upserts this one, with the budget, came to this.
 pub record IsStopped (limits : Limits) (pairs : List (List ℕ × List ℕ)) (budget : ℕ) (result : Called) : Type 0 where
   pub old : Seat
   pub new : Seat
@@ -60,6 +60,7 @@ pub record IsStopped (limits : Limits) (pairs : List (List ℕ × List ℕ)) (bu
   pub pair : List ℕ × List ℕ
   pub at : slice_get pairs place ≡ Some pair
   pub actor : old.actor ≡ 0
+  pub same : IsSame old new
   pub before : HaveUpserted (take place pairs) (calls_in old)
   pub call : IsCalled old (upsert_of pair) budget result new
   pub history : IsOneHistory limits new.seen

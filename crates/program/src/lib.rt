@@ -6,9 +6,10 @@ ghost use Rattle.tree_limits.specs.Limits.{AreLimits};
 
 mod programs;
 
+pub use programs::run_settings;
+
 use bw_shell::Refusal;
 use byte_streams::{Reader, Writer};
-use programs::run_over;
 use shell_options::{OptionsError, Settings, options};
 use std::alloc::Global;
 use std::io::ErrorKind;
@@ -69,19 +70,11 @@ fn started<R: Threads + Wait + Sync>(rt: &HostRuntime, threads: &R, settings: Se
     ensures allowed { AreLimits settings.actors settings.pids settings.rows settings.epoch → (result ≡ 0) ⊎ (result ≡ 1) }
     ensures refused { (AreLimits settings.actors settings.pids settings.rows settings.epoch → ⊥) → result ≡ 2 }
 {
-    let Ok(limits) = settings.limits() else {
+    let mut input = Reader::new(rt.reader());
+    let mut output = Writer::new(io::writer(rt));
+    let Some(status) = run_settings(threads, rt.alloc(), settings, &mut input, &mut output) else {
         let _ = eprintln!(rt; "refused: {}", Refusal::BadLimits.code());
         return 2;
     };
-    let mut input = Reader::new(rt.reader());
-    let mut output = Writer::new(io::writer(rt));
-    let program = settings.program;
-    run_over(
-        threads,
-        rt.alloc(),
-        program,
-        limits,
-        &mut input,
-        &mut output,
-    )
+    status
 }

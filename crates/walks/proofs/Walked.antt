@@ -80,7 +80,7 @@ module _ (first mid last : Cursor) (seat between later : Seat) (budget : ℕ) (a
       (subst (λ pairs. HasWalked mid between middle pairs last later) (sym adds) (walked_next mid last between later budget answered middle same next))
 
   pub spent_on : answered ≡ walk.Spent → HasWalked first seat before middle mid between → IsSpentAt seat budget last later
-  spent_on is walked = record { old = mid; seat = between; grows = walked.grows; asked = subst (λ one. IsNextOf mid between budget one last later) is next }
+  spent_on is walked = record { old = mid; seat = between; same = same; grows = walked.grows; asked = subst (λ one. IsNextOf mid between budget one last later) is next }
 
   pub walked_counted : answered ≡ walk.Page → (n : ℕ) → (walked : HasWalked first seat before middle mid between) × (length walked.pages ≡ n) → (walked : HasWalked first seat before after last later) × (length walked.pages ≡ n + 1)
   unfolding walked_on walked_page

@@ -7,7 +7,7 @@ use Rattle.traces.specs.trace.Trace.{command_of}
 use Rattle.traces.specs.declared.trace.Entry.{Entry}
 use Rattle.bw_tree.specs.Calls.{IsCalled, IsResumed}
 use Rattle.bw_tree.specs.Runs.{StartsWith}
-use Rattle.bw_tree.specs.Seats.{Seat}
+use Rattle.bw_tree.specs.Seats.{IsSame, Seat}
 use Rattle.bw_tree.specs.declared.called.Called.{Called}
 use Rattle.bw_tree.specs.declared.called.Called.TheVariants as called
 use Rattle.walks.specs.Pages.{IsPageOf, WalkedPage}
@@ -84,10 +84,11 @@ added_by walk.Page cursor = cursor.pairs
 added_by walk.Spent cursor = []
 added_by walk.End cursor = []
 
--- The budget of one page was spent, after all that the first seat had seen.
+-- The budget of one page was spent on the seat, after all that it had seen at first.
 pub record IsSpentAt (first : Seat) (budget : ℕ) (new : Cursor) (later : Seat) : Type 0 where
   pub old : Cursor
   pub seat : Seat
+  pub same : IsSame seat later
   pub grows : StartsWith seat.seen first.seen
   pub asked : HasAsked old seat budget new later
 

@@ -1,5 +1,5 @@
 -- The results of workers, each of which names its worker's place.
-use Rattle.std.proofs.Common.{◌≡◌, ◌<◌, ◌+◌, ℕ, zero, suc, List, [], ◌∷◌, ◌++◌, Some, refl, subst, arith, All, flat_map}
+use Rattle.std.proofs.Common.{◌≡◌, ◌<◌, ◌≤◌, ◌+◌, ℕ, zero, suc, List, [], ◌∷◌, ◌++◌, Some, refl, subst, arith, All, flat_map, length}
 use Rattle.std.specs.Prelude.{slice_get, IsPermutation}
 use Rattle.std.proofs.lemmas.List.{append_assoc}
 use Rattle.std.proofs.lemmas.List.Elements.{All-nil, All-append, All-weaker}
@@ -25,6 +25,14 @@ others_apart place base (worker ∷ workers) below placed =
     All-append (λ result. result.seat ≡ place → ⊥) (done_by worker) (flat_map done_by workers)
     (All-weaker (λ result. result.seat ≡ base + 0) (λ result. result.seat ≡ place → ⊥) (λ result e same. absurd (omega (arith, below, e, same))) (done_by worker) (placed 0 worker refl))
     (others_apart place (suc base) workers (omega (arith, below)) (shifted base worker workers placed))
+
+-- each result names a place below so many, where there are no more workers
+pub all_within : {A : Type 0} (count base : ℕ) (workers : List (Worker A)) → base + length workers ≤ count → ArePlaced base workers → All (λ result. result.seat < count) (flat_map done_by workers)
+all_within count base [] few placed = All-nil (λ result. result.seat < count)
+all_within count base (worker ∷ workers) few placed =
+    All-append (λ result. result.seat < count) (done_by worker) (flat_map done_by workers)
+    (All-weaker (λ result. result.seat ≡ base + 0) (λ result. result.seat < count) (λ result e. omega (arith, few, e)) (done_by worker) (placed 0 worker refl))
+    (all_within count (suc base) workers (omega (arith, few)) (shifted base worker workers placed))
 
 between : {A : Type 0} (xs order others : List (JobResult A)) → IsPermutation (xs ++ (order ++ others)) (order ++ (xs ++ others))
 between xs order others =

@@ -6,6 +6,7 @@ use Rattle.std.proofs.Math.Nat.{mul-le-mul_right}
 use Rattle.std.proofs.lemmas.Grind.{flat_map-append}
 use Rattle.std.proofs.lemmas.List.{append-nil, length-map, map-append}
 use Rattle.std.proofs.lemmas.List.Elements.{All-weaker}
+use Rattle.std.proofs.lemmas.List.Sorted.{All-permutation}
 use Rattle.std.proofs.lemmas.Option.{same_Some}
 use Rattle.bw_tree.specs.Seats.{Seat}
 use Rattle.bw_tree.specs.Trees.{AreSeatsOf, Tree}
@@ -17,7 +18,7 @@ use Rattle.workers.specs.declared.job.JobsRefusal.TheVariants.{NotRun, Results}
 use Rattle.workers.specs.Jobs.{AreResultsOf}
 use Rattle.workers.specs.Worked.{AreIdle, AreNamed, HasWorked, HaveStopped, HaveWorked}
 use Rattle.workers.specs.Begun.{ComesBack, HaveComeBack}
-use Rattle.workers.proofs.Named.{ArePlaced, done_by, named, reordered}
+use Rattle.workers.proofs.Named.{ArePlaced, all_within, done_by, named, reordered}
 
 abbrev pub seat_of : {A : Type 0} → Worker A → Seat
 seat_of worker = worker.seat
@@ -114,8 +115,11 @@ none_more place = omega arith
 -- where jobs might be run all seats have worked
 pub have_worked : {A : Type 0} (told : Bool) (limit : ℕ) (olds news : List (Worker A)) → HaveComeBack told limit olds news → told ≡ true → HaveWorked (flat_map done_by news) (map seat_of olds) (map seat_of news)
 have_worked told limit olds news comes is =
-    let back = subst (λ z. HaveComeBack z limit olds news) is comes in record {
+    let back = subst (λ z. HaveComeBack z limit olds news) is comes in
+    let many = length-map olds seat_of in
+    let same = back.count in record {
       count = length-map news seat_of ∙ back.count ∙ sym (length-map olds seat_of);
+      seated = all_within (length (map seat_of olds)) 0 news (omega (arith, many, same)) (placed limit olds news back);
       each = λ place before after at_before at_after.
           let old = of_map seat_of olds place before at_before in
           let new = of_map seat_of news place after at_after in
@@ -132,6 +136,7 @@ have_worked told limit olds news comes is =
 pub worked_reordered : {A : Type 0} (xs ys : List (JobResult A)) (olds news : List Seat) → IsPermutation xs ys → HaveWorked xs olds news → HaveWorked ys olds news
 worked_reordered xs ys olds news moved worked = record {
   count = worked.count;
+  seated = All-permutation (λ result. result.seat < length olds) xs ys moved worked.seated;
   each = λ place before after at_before at_after.
       let h = worked.each place before after at_before at_after in
       record { order = h.order; named = reordered place xs ys h.order moved h.named; goes = h.goes; history = h.history };

@@ -1,5 +1,5 @@
 -- What seats have done for jobs.
-use Rattle.std.specs.Prelude.{◌≡◌, ◌++◌, ℕ, List, length, Option, None, Some, slice_get, All, flat_map, IsPermutation}
+use Rattle.std.specs.Prelude.{◌≡◌, ◌<◌, ◌++◌, ℕ, List, length, Option, None, Some, slice_get, All, flat_map, IsPermutation}
 use Rattle.std.specs.List.Sorted.{IsNonDecreasingBy}
 use Rattle.bw_model.specs.declared.command.Command.{Command}
 use Rattle.bw_model.specs.declared.command.Reply.{Reply}
@@ -38,9 +38,10 @@ pub record HasWorked {A : Type 0} (results : List (JobResult A)) (place : ℕ) (
   pub goes : GoesOn old (flat_map calls_told order) new
   pub history : IsOneHistory new.limits new.seen
 
--- All seats are there, in order, and each has worked.
+-- All seats are there, in order, and each has worked. Each result names one of them.
 pub record HaveWorked {A : Type 0} (results : List (JobResult A)) (old new : List Seat) : Type 0 where
   pub count : length new ≡ length old
+  pub seated : All (λ result. result.seat < length old) results
   pub each : (place : ℕ) (before after : Seat) → slice_get old place ≡ Some before → slice_get new place ≡ Some after → HasWorked results place before after
 
 -- What the seats that come back from a refusal have done. Where memory or a thread couldn't be had, nothing. Otherwise they have worked,

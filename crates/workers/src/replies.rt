@@ -1,5 +1,5 @@
 //! Commands that run to their end.
-ghost use Rattle.std.specs.Prelude.{◌≡◌, IfSome, IsSome, None};
+ghost use Rattle.std.specs.Prelude.{◌≡◌, ◌≤◌, IfSome, IsSome, None};
 ghost use Rattle.bw_tree.specs.Calls.{IsCalled, IsDone, IsResumed};
 ghost use Rattle.bw_tree.specs.Runs.{IsOneHistory};
 ghost use Rattle.bw_tree.specs.Seats.{IsSame, unfinished_command};
@@ -36,6 +36,7 @@ pub fn resumed(tree: &Tree, seat: &mut BwSeat, budget: u32) -> Option<Called>
     ensures own { IsSeatOf tree.now seat.new }
     ensures same { IsSame seat.old seat.new }
     ensures resumed { IfSome result (λ called. IsResumed seat.old budget called seat.new) }
+    ensures some { IsSome result → IsSome (unfinished_command seat.old) }
     ensures history { IsSome result → IsOneHistory seat.new.limits seat.new.seen }
     ensures none { result ≡ None → (unfinished_command seat.old ≡ None) × (seat.new ≡ seat.old) }
 {
@@ -51,6 +52,7 @@ pub fn called(tree: &Tree, seat: &mut BwSeat, command: Command, budget: u32) -> 
     ensures own { IsSeatOf tree.now seat.new }
     ensures same { IsSame seat.old seat.new }
     ensures called { IfSome result (λ called. IsCalled seat.old command budget called seat.new) }
+    ensures some { IsSome result → (unfinished_command seat.old ≡ None) × (1 ≤ budget) }
     ensures history { IsSome result → IsOneHistory seat.new.limits seat.new.seen }
     ensures none { result ≡ None → CantBegin seat.old budget × (seat.new ≡ seat.old) }
 {

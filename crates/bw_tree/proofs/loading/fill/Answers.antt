@@ -15,6 +15,7 @@ returns-in-Some-clause-err g c =
     let asked : Upsert c.copied.result c.copied-in-loop-pair.result ≡ upsert_of c.pair-item.result = ap (λ (k : List ℕ). Upsert k c.copied-in-loop-pair.result) c.copied.ensures ∙ ap (λ (v : List ℕ). Upsert c.pair-item.result.0 v) c.copied-in-loop-pair.ensures in
     stops c.args.pairs.now c.loop-pair.pair-index c.pair-item.result c.loop-pair.seat c.call-called.new.seat (Upsert c.copied.result c.copied-in-loop-pair.result) _ c.call-called.result c.loop-pair-test.true c.pair-item.is asked
     c.loop-pair.invariant.upserted c.call-called.ensures.called c.args.tree.now.limits (at_index c.args.pairs.now c.loop-pair.pair-index c.pair-item.result c.loop-pair-test.true c.pair-item.is)
+    c.call-called.ensures.same
     (c.loop-pair.invariant.same.actor ∙ ap (λ (s : Seat). s.actor) c.requires.fresh)
     (subst (λ (l : Limits). IsOneHistory l c.call-called.new.seat.seen) (c.call-called.ensures.same.limits ∙ c.loop-pair.invariant.same.limits ∙ c.requires.own.limits) c.call-called.ensures.history)
     c.in-Some.refusal c.in-Some.ensures
