@@ -15,6 +15,9 @@ use std::marker::Model;
 /// How many items a page has at most.
 pub const MAX_ITEMS: usize = 24;
 
+/// How many terms of an index page are held at most.
+pub const MAX_HELD: usize = 4;
+
 /// At most 24 items, in strictly ascending order of their keys.
 #[derive(PartialEq, Eq, Drop)]
 pub struct Items {

@@ -6,5 +6,5 @@ mod items;
 mod page;
 
 pub use item::{Content, Item};
-pub use items::{Items, MAX_ITEMS};
+pub use items::{Items, MAX_HELD, MAX_ITEMS};
 pub use page::Page;

@@ -5,7 +5,7 @@ ghost use Rattle.bw_tree.specs.Trees.{AreClosed, AreSeatsOf, HasBusy, HasPartsOf
 
 use crate::called::{CloseError, CloseRefusal};
 use crate::closed::list;
-use crate::law::{TreeLaw, TreeWords, runs_are_one_history};
+use crate::lawful_runs::{TreeLaw, TreeWords, runs_are_one_history};
 use crate::seat::BwSeat;
 use crate::tree::Tree;
 use bw_model::{Key, Limits, Value};

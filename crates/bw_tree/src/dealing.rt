@@ -8,7 +8,7 @@ ghost use Rattle.traces.specs.discipline.Disciplined.{Extends};
 ghost use Rattle.slot_rule.specs.Running.{Each, ExtendsFor};
 ghost use Rattle.slot_rule.specs.Views.{dealt, other_parts, refreshed};
 
-use crate::law::{TreeLaw, empty_run_is_lawful, runs_are_one_history};
+use crate::lawful_runs::{TreeLaw, empty_run_is_lawful, runs_are_one_history};
 use crate::seat::BwSeat;
 use crate::tree::Tree;
 use atomic_table::Table;

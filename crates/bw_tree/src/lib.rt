@@ -5,13 +5,13 @@
 //! said of the run that its seat has seen: one history of all actors' steps up to the seat's own last one (specs/Runs, specs/Calls).
 #![tactic(auto)]
 
+mod call_laws;
 mod called;
 mod closed;
 mod closing;
 mod dealing;
 mod examples;
-mod law;
-mod laws;
+mod lawful_runs;
 mod loading;
 mod note;
 mod opening;
@@ -20,9 +20,9 @@ mod seat;
 mod taking;
 mod tree;
 
+pub use call_laws::resumed_calls_are_calls;
 pub use called::{Called, CloseError, CloseRefusal, LoadError};
 pub use examples::{entries_tell_calls, last_call_is_answered};
-pub use laws::resumed_calls_are_calls;
 pub use loading::LOAD_BUDGET;
 pub use note::Note;
 pub use seat::BwSeat;

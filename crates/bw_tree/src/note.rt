@@ -4,7 +4,7 @@ ghost use Rattle.bw_tree.specs.Notes.{HasHeeded, IsNoteOf, note_of};
 ghost use Rattle.bw_tree.specs.Runs.{IsOneHistory};
 ghost use Rattle.bw_tree.specs.Trees.{IsSeatOf};
 
-use crate::law::runs_are_one_history;
+use crate::lawful_runs::runs_are_one_history;
 use crate::seat::BwSeat;
 use crate::tree::Tree;
 use bw_model::Limits;

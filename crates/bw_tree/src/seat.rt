@@ -13,7 +13,7 @@ ghost use Rattle.slot_rule.specs.Views.{IsOf, part};
 ghost use Rattle.slot_rule.specs.declared.view.Reach.TheVariants.{Idle};
 
 use crate::called::Called;
-use crate::law::{TreeWords, laws_of_runs, runs_are_one_history};
+use crate::lawful_runs::{TreeWords, laws_of_runs, runs_are_one_history};
 use crate::taking::take;
 use bw_model::{Command, Limits, Reply, Step};
 use op_machine::Actor;

@@ -11,7 +11,7 @@ ghost use Rattle.slot_rule.specs.declared.view.Reach.TheVariants.{Idle};
 ghost use Rattle.slot_rule.specs.Steps.{IsLawfulStep, Took};
 ghost use Rattle.slot_rule.specs.Views.{SitsAt, IsOf, seen_of};
 
-use crate::law::{TreeWords, runs_keep_rows_apart};
+use crate::lawful_runs::{TreeWords, runs_keep_rows_apart};
 use crate::reading::read_held;
 use bw_model::{Limits, Step, Told};
 use deltas::Record;

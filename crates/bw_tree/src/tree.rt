@@ -6,7 +6,7 @@ ghost use Rattle.bw_tree.specs.Seats.{IsSame, unfinished_command};
 ghost use Rattle.bw_tree.specs.Trees.{HaveMet, IsSeatOf};
 
 use crate::called::Called;
-use crate::law::{TreeLaw, runs_are_one_history};
+use crate::lawful_runs::{TreeLaw, runs_are_one_history};
 use crate::seat::BwSeat;
 use atomic_table::Table;
 use bw_model::{Command, Limits};

@@ -2,12 +2,12 @@
 #![tactic(auto)]
 
 mod change;
-mod laws;
+mod change_laws;
 mod plan;
 mod spares;
 mod taking;
 
 pub use change::{Change, End};
-pub use laws::plans_may_be_linked;
+pub use change_laws::plans_may_be_linked;
 pub use plan::Plan;
 pub use spares::{MAX_SPARES, Spares};

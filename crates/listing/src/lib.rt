@@ -1,13 +1,13 @@
 //! The pairs that stand in a memory, leaf by leaf, whatever keeps the memory.
 #![tactic(auto)]
 
-mod law;
+mod listed_pages;
 mod page;
 mod pairs;
 mod rows;
 mod table;
 
-pub use law::pages_are_listed;
+pub use listed_pages::pages_are_listed;
 pub use page::{page_of, rows_of};
 pub use pairs::add_pairs;
 pub use rows::Rows;

@@ -6,8 +6,8 @@ mod actor;
 mod errands;
 mod examples;
 mod hand;
-mod laws;
 mod listing;
+mod log_laws;
 mod operation;
 mod places;
 mod read_ends;
@@ -24,8 +24,8 @@ pub use examples::{
     useless_links_are_refused,
 };
 pub use hand::Hand;
-pub use laws::{
+pub use listing::logged_pairs;
+pub use log_laws::{
     knowledge_stays, late_mark_keeps_log, log_grows, one_leaf_has_the_map, phases_grow,
 };
-pub use listing::logged_pairs;
 pub use operation::Operation;

@@ -16,7 +16,7 @@ ghost use Rattle.rounds.specs.ReadRounds.{ended_read};
 use crate::places::Places;
 use crate::task::{Task, cursor_page};
 use bw_model::Reply;
-use descent::leaves_stand;
+use descent::read_leaves_stood;
 use rounds::ReadEnded;
 use row_chain::Chain;
 use row_search::KeyWords;
@@ -49,7 +49,7 @@ impl Task {
         ensures asks { (spares : Spares) → IsSome (wanted_at spares (state_of places.new)) }
         ensures have { HaveLimits self.now.limits places.new }
     {
-        leaves_stand();
+        read_leaves_stood();
         match ended {
             ReadEnded::Again => self.begin_round(places),
             ReadEnded::Removed => places.read_left(),

@@ -6,10 +6,9 @@ ghost use Rattle.tree_limits.specs.Limits.{AreLimits};
 
 mod programs;
 
-pub use programs::run_settings;
-
 use bw_shell::Refusal;
 use byte_streams::{Reader, Writer};
+pub use programs::run_settings;
 use shell_options::{OptionsError, Settings, options};
 use std::alloc::Global;
 use std::io::ErrorKind;

@@ -6,11 +6,8 @@ ghost use Rattle.base_page.specs.Pages.{AreItems, IsOfLevel};
 ghost use Rattle.base_page.specs.Rules.{IsRuled, held_count, is_held};
 ghost use Rattle.record_slots.specs.Rules.{are_within, are_apart_after, are_terms, starts_at};
 
-use base_page::{Content, Item, Items};
+use base_page::{Content, Item, Items, MAX_HELD};
 use bw_model::Key;
-
-/// How many terms of an index page are held at most.
-const MAX_HELD: usize = 4;
 
 /// Whether a page of these parts keeps the rules.
 #[inline(never)]

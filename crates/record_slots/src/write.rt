@@ -3,10 +3,11 @@ ghost use Rattle.std.specs.Prelude.{◌≡◌, ◌≤◌, ◌+◌, ◌++◌, ◌
 ghost use Rattle.std.specs.List.{All};
 ghost use Rattle.bw_model.specs.Bytes.{IsShort, longest};
 ghost use Rattle.deltas.specs.Spellable.{IsSpellable};
+ghost use Rattle.deltas.specs.declared.record.Record.TheVariants as variant;
 ghost use Rattle.record_slots.specs.Layout.{field_size, item_size, row_size, text_size};
 ghost use Rattle.record_slots.specs.Parts.{first_word};
 ghost use Rattle.record_slots.specs.Spelling.{bound_words, content_words, field_words, item_words, items_words, packed, row_words, text_words, words_of};
-ghost use Rattle.record_slots.specs.Spells.{IsShortItem, IsSpelling};
+ghost use Rattle.record_slots.specs.Spells.{HasShortTexts, IsShortItem, IsSpelling};
 
 use crate::layout::{
     FORM, FORM_UNIT, HELD, ITEM_UNIT, LEVEL_UNIT, NO_BOUND, ROW_WORDS, TEXT_WORDS,
@@ -14,7 +15,7 @@ use crate::layout::{
 use arrayvec::ArrayVec;
 use base_page::{Content, Item};
 use bw_model::{Key, Value};
-use deltas::Record;
+use deltas::{Merge, Record};
 
 /// The words of the record; where a row can spell it, they do.
 pub fn to_words(content: &Record) -> [u64; ROW_WORDS]
@@ -46,19 +47,7 @@ pub fn to_words(content: &Record) -> [u64; ROW_WORDS]
         Record::Term(term) => link_words(5, term.level, term.next, term.child, &term.separator),
         Record::Hold(hold) => link_words(6, hold.level, hold.next, hold.child, &hold.separator),
         Record::Remove(remove) => link_words(7, remove.level, remove.next, 0, &none),
-        Record::Merge(merge) => {
-            let right = merge.right.unwrap_or(0);
-            let items = merge.items.as_slice();
-            row_words(
-                8,
-                merge.level,
-                merge.next,
-                right,
-                &merge.low,
-                merge.high.as_ref(),
-                items,
-            )
-        }
+        Record::Merge(merge) => merge_words(merge),
         Record::Unterm(unterm) => {
             link_words(
                 9,
@@ -69,6 +58,24 @@ pub fn to_words(content: &Record) -> [u64; ROW_WORDS]
             )
         }
     }
+}
+
+/// The words of a merge.
+fn merge_words(merge: &Merge) -> [u64; ROW_WORDS]
+    ensures words { result ≡ words_of (variant.Merge merge.now) }
+    ensures short { HasShortTexts (variant.Merge merge.now) }
+{
+    let right = merge.right.unwrap_or(0);
+    let items = merge.items.as_slice();
+    row_words(
+        8,
+        merge.level,
+        merge.next,
+        right,
+        &merge.low,
+        merge.high.as_ref(),
+        items,
+    )
 }
 
 /// A row with one key and no items.

@@ -2,11 +2,11 @@
 #![tactic(auto)]
 
 mod colour;
-mod law;
 mod shape;
+mod well_formed;
 mod words;
 
 pub use colour::Colour;
-pub use law::{documents_are_well_formed, escapes_are_safe};
 pub use shape::{Line, Rectangle, Shape, Text};
+pub use well_formed::{documents_are_well_formed, escapes_are_safe};
 pub use words::{MAX_WORDS, Words};

@@ -6,8 +6,8 @@ ghost use Rattle.smo.specs.Holds.{CanHold, HasFreeNeighbours, IsHoldPlan};
 
 use crate::PageInHand;
 use crate::held::{has_term, held_count, is_held};
-use crate::sizes::{MANY_DELTAS, MANY_HELD};
-use base_page::Item;
+use crate::sizes::MANY_DELTAS;
+use base_page::{Item, MAX_HELD};
 use bw_model::Key;
 use deltas::Hold;
 use std::alloc::Allocator;
@@ -33,7 +33,7 @@ pub fn plan_hold<A: Allocator>(parent: &PageInHand<A>, page: &PageInHand<A>) -> 
         return None;
     }
     let made = above.page();
-    if held_count(made.items().as_slice()) >= MANY_HELD {
+    if held_count(made.items().as_slice()) >= MAX_HELD {
         return None;
     }
     if !has_free_neighbours(&low, made.items().as_slice()) {

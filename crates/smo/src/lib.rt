@@ -3,10 +3,10 @@
 
 mod held;
 mod hold;
-mod laws;
 mod merge;
 mod neighbours;
 mod page_in_hand;
+mod plan_laws;
 mod remove;
 mod root;
 mod sizes;
@@ -16,12 +16,12 @@ mod unterm;
 mod upkeep;
 
 pub use hold::plan_hold;
-pub use laws::{links_keep_the_index, links_keep_the_map, plans_are_due};
 pub use merge::plan_merge;
 pub use page_in_hand::{Name, PageInHand};
+pub use plan_laws::{links_keep_the_index, links_keep_the_map, plans_are_due};
 pub use remove::plan_remove;
 pub use root::plan_root;
-pub use sizes::{FEW_ITEMS, MANY_DELTAS, MANY_HELD, MANY_ITEMS, TOP_LEVEL};
+pub use sizes::{FEW_ITEMS, MANY_DELTAS, MANY_ITEMS, TOP_LEVEL};
 pub use split::{SplitPlan, plan_split};
 pub use term::plan_term;
 pub use unterm::plan_unterm;

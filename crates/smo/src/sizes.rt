@@ -9,8 +9,5 @@ pub const MANY_ITEMS: usize = 16;
 /// As many items or fewer, and a page may be removed.
 pub const FEW_ITEMS: usize = 4;
 
-/// As many held terms or more, and an index page holds no other one.
-pub const MANY_HELD: usize = 4;
-
 /// The highest level of a page.
 pub const TOP_LEVEL: u8 = 15;

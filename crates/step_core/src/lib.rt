@@ -3,12 +3,12 @@
 
 mod actor;
 mod event;
-mod law;
+mod lawful_traces;
 mod link;
 mod machine;
 mod runs;
 
 pub use event::{Event, RunError, Trace};
-pub use law::disciplined_runs;
+pub use lawful_traces::disciplined_runs;
 pub use machine::Core;
 pub use runs::run;

@@ -10,7 +10,7 @@ mod views;
 
 use crate::actor::{Stepped, go_on, leave, prepare, room};
 use crate::event::{Event, RunError, Trace};
-use crate::law::{begins_keep_laws, states_are_lawful, steps_keep_laws};
+use crate::lawful_traces::{begins_keep_laws, states_are_lawful, steps_keep_laws};
 use bw_model::{Command, Key, Limits, Link, OpenError, Value};
 use core_memory::{Entries, Table};
 use listing::{add_pairs, pages_are_listed};

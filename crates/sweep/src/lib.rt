@@ -7,11 +7,11 @@
 
 mod announces;
 mod examples;
-mod laws;
+mod limbo_laws;
 mod sweep;
 mod taking_out;
 
 pub use examples::{other_limbos_are_refused, small_limbo_is_kept};
-pub use laws::{chains_go_to_limbo, limbos_are_kept};
+pub use limbo_laws::{chains_go_to_limbo, limbos_are_kept};
 pub use sweep::Sweep;
 pub use taking_out::take_out;

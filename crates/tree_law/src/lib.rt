@@ -5,8 +5,8 @@
 mod direct;
 mod examples;
 mod invariant;
-mod law;
 mod own;
+mod run_laws;
 
 pub use direct::{begins_directly, opens_directly, runs_directly, steps_directly};
 pub use examples::{
@@ -17,8 +17,8 @@ pub use invariant::{
     key_order, levels_are_indexed, one_begin_keeps, one_step_keeps, opening_is_tree,
     reply_is_by_a_log,
 };
-pub use law::{
+pub use own::{own_lasts, rows_are_apart};
+pub use run_laws::{
     answers, begins, disciplined_runs, entries_grow, frees_by_rule, index_is_exact, is_one_map,
     keeps_phases, knowledge_is_own, leaves_stand, levels_stand, opens, steps,
 };
-pub use own::{own_lasts, rows_are_apart};

@@ -5,9 +5,9 @@
 #![tactic(auto)]
 
 mod cursor;
-mod laws;
 mod scan;
+mod walk_laws;
 
 pub use cursor::{Cursor, Walk};
-pub use laws::{pages_are_the_maps, pages_are_walked, walks_go_on, walks_tell_the_map};
 pub use scan::Scanned;
+pub use walk_laws::{pages_are_the_maps, pages_are_walked, walks_go_on, walks_tell_the_map};

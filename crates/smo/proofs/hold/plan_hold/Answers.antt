@@ -13,12 +13,12 @@ returns-then-is_eq g c = λ can.
     let same = (decides_key c.low-low.result c.low.result c.is_eq.result (rw (← c.cmp.ensures) c.is_eq.ensures)).0 c.if-is_eq.true in
     can.inner (sym (c.low-low.ensures ∙ ap low_in c.chain.ensures) ∙ same ∙ c.low.ensures ∙ ap low_in c.chain-above.ensures)
 
-pub returns-then-held_count-ge-MANY_HELD : goal.returns-then-held_count-ge-MANY_HELD
-returns-then-held_count-ge-MANY_HELD g c = λ can.
+pub returns-then-held_count-ge-MAX_HELD : goal.returns-then-held_count-ge-MAX_HELD
+returns-then-held_count-ge-MAX_HELD g c = λ can.
     let makes = rw c.chain-above.ensures at c.page-made.ensures.makes in
     let few = of_made c.args.parent.now.chain c.page-made.result (λ items. held_count items < 4) makes can.few in
     let count = c.held_count.ensures ∙ ap held_count (c.as_slice.ensures.items ∙ c.items.ensures) in
-    let many = c.if-held_count-ge-MANY_HELD.true in
+    let many = c.if-held_count-ge-MAX_HELD.true in
     omega (arith, few, count, many)
 
 pub returns-then-not-has_free_neighbours : goal.returns-then-not-has_free_neighbours
@@ -37,7 +37,7 @@ returns g c =
     let alive : is_removed chain ≡ _ = sym (ap is_removed c.chain-above.ensures) ∙ sym c.is_removed.ensures ∙ c.if-is_removed.false in
     let other : low_in c.args.page.now.chain ≢ low_in chain = λ same.
     absurd (false≢true (sym c.if-is_eq.false ∙ (decides_key c.low-low.result c.low.result c.is_eq.result (rw (← c.cmp.ensures) c.is_eq.ensures)).1 (low ∙ same ∙ sym (c.low.ensures ∙ ap low_in c.chain-above.ensures)))) in
-    let held : held_count made.items < 4 = (let count = c.held_count.ensures ∙ ap held_count (c.as_slice.ensures.items ∙ c.items.ensures) in let few = c.if-held_count-ge-MANY_HELD.false in omega (arith, count, few)) in
+    let held : held_count made.items < 4 = (let count = c.held_count.ensures ∙ ap held_count (c.as_slice.ensures.items ∙ c.items.ensures) in let few = c.if-held_count-ge-MAX_HELD.false in omega (arith, count, few)) in
     let free : HasFreeNeighbours (low_in c.args.page.now.chain) made.items = rw (← low, ← c.items-2.ensures, ← c.as_slice-2.ensures.items) (c.has_free_neighbours.ensures.0 c.if-not-has_free_neighbours.false) in
     planned c.args.parent.now c.args.page.now made _ alive makes c.page-made.ensures.ruled (rw (c.level.ensures, c.chain-above.ensures, c.head.ensures, c.pid.ensures, low) refl)
     (record {

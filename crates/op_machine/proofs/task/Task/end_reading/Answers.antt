@@ -12,7 +12,7 @@ returns-in-Leaf-clause-stands g c spares k r faced =
       read = ends.page.in_hand.seen.read;
       level = ends.level;
       covered = rw h.key at ends.covered;
-      standing = c.leaves_stand.ensures.leaf h.round.limits k r h.round.key leaf ends;
+      standing = c.read_leaves_stood.ensures.leaf h.round.limits k r h.round.key leaf ends;
     })))
 
 pub returns-in-Beside-clause-stands : goal.returns-in-Beside-clause-stands
@@ -27,7 +27,7 @@ returns-in-Beside-clause-stands g c spares k r faced =
       read = ends.page.in_hand.seen.read;
       level = ends.level;
       covered = rw h.key at ends.covered;
-      standing = c.leaves_stand.ensures.beside h.round.limits k r h.round.key reader.page removed ends;
+      standing = c.read_leaves_stood.ensures.beside h.round.limits k r h.round.key reader.page removed ends;
     })))
 
 pub begin_round-requires : goal.begin_round-requires

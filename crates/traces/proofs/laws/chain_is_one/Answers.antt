@@ -1,5 +1,0 @@
-use Rattle.traces.proofs.ChainLaws.{IsChainOf-unique}
-use Rattle.traces.proofs.laws.chain_is_one.Goals as goal
-
-pub returns : goal.returns
-returns c = IsChainOf-unique

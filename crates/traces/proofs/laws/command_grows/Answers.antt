@@ -1,5 +1,0 @@
-use Rattle.traces.proofs.TraceLaws.{command_of-push}
-use Rattle.traces.proofs.laws.command_grows.Goals as goal
-
-pub returns : goal.returns
-returns c = command_of-push

@@ -1,5 +1,0 @@
-use Rattle.traces.proofs.TraceLaws.{HasLearnt-kept}
-use Rattle.traces.proofs.laws.learnt_stays.Goals as goal
-
-pub returns : goal.returns
-returns c = HasLearnt-kept

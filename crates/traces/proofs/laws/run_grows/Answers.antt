@@ -1,5 +1,0 @@
-use Rattle.traces.proofs.RunLaws.{IsRun-push}
-use Rattle.traces.proofs.laws.run_grows.Goals as goal
-
-pub returns : goal.returns
-returns c = IsRun-push

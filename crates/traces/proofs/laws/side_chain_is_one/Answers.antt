@@ -1,5 +1,0 @@
-use Rattle.traces.proofs.ChainLaws.{IsSideChainFrom-unique}
-use Rattle.traces.proofs.laws.side_chain_is_one.Goals as goal
-
-pub returns : goal.returns
-returns c = IsSideChainFrom-unique

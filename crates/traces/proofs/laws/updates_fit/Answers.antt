@@ -1,8 +1,0 @@
-use Rattle.traces.proofs.Updated.{put_fits, delete_fits}
-use Rattle.traces.proofs.laws.updates_fit.Goals as goal
-
-pub returns-clause-put : goal.returns-clause-put
-returns-clause-put c = put_fits
-
-pub returns-clause-delete : goal.returns-clause-delete
-returns-clause-delete c = delete_fits

@@ -1,5 +1,0 @@
-use Rattle.tree_law.proofs.trace.Beginning.{begins}
-use Rattle.tree_law.proofs.law.begins.Goals as goal
-
-pub returns : goal.returns
-returns c = begins

@@ -1,5 +1,0 @@
-use Rattle.tree_law.proofs.trace.Steps.{frees_by_rule}
-use Rattle.tree_law.proofs.law.frees_by_rule.Goals as goal
-
-pub returns : goal.returns
-returns c = frees_by_rule

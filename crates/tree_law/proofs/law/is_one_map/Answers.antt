@@ -1,5 +1,0 @@
-use Rattle.tree_law.proofs.trace.Steps.{is_one_map}
-use Rattle.tree_law.proofs.law.is_one_map.Goals as goal
-
-pub returns : goal.returns
-returns c = is_one_map

@@ -1,5 +1,0 @@
-use Rattle.tree_law.proofs.shape.LevelPages.{all_levels}
-use Rattle.tree_law.proofs.law.levels_stand.Goals as goal
-
-pub returns : goal.returns
-returns c = λ limits entries state. all_levels limits entries state

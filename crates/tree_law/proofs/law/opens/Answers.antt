@@ -1,5 +1,0 @@
-use Rattle.tree_law.proofs.trace.Beginning.{opens}
-use Rattle.tree_law.proofs.law.opens.Goals as goal
-
-pub returns : goal.returns
-returns c = opens

@@ -1,5 +1,0 @@
-use Rattle.tree_law.proofs.trace.Steps.{steps}
-use Rattle.tree_law.proofs.law.steps.Goals as goal
-
-pub returns : goal.returns
-returns c = steps

@@ -1,0 +1,12 @@
+use Rattle.std.proofs.Common.{[], ◌∷◌}
+use Rattle.std.proofs.lemmas.List.Sums.{fold-append}
+use Rattle.traces.proofs.TraceLaws.{command_of-push, memory_of-push}
+use Rattle.tree_law.proofs.run_laws.entries_grow.Goals as goal
+
+pub returns : goal.returns
+returns c = λ limits entries entry. record {
+  memory = memory_of-push limits entries entry;
+  commands = command_of-push entries entry;
+  known = fold-append _ _ entries (entry ∷ []);
+  recalled = fold-append _ _ entries (entry ∷ []);
+}
