@@ -1,8 +1,8 @@
-use Rattle.std.proofs.Common.{◌≡◌, ℕ, ◌+◌, ◌-◌, ◌<◌, ◌≤◌, ◌^◌, [], ◌∷◌, ◌++◌, length, refl, sym, ap, ◌∙◌, arith, get_or, Option, Some, None, Fits, w64}
+use Rattle.std.proofs.Common.{◌≡◌, ℕ, ◌+◌, ◌-◌, ◌<◌, ◌≤◌, ◌^◌, [], ◌∷◌, ◌++◌, length, refl, sym, ap, ◌∙◌, arith, get_or, Fits, w64}
 use Rattle.byte_streams.proofs.Showing.{no_text, shows_then}
 use Rattle.bw_shell.proofs.Feeding.{no_bytes, one_line, one_byte, stop_line, stop_long, stop_at, more_at, match_true, match_false}
 use Rattle.std.proofs.lemmas.List.{append-nil, take_all}
-use Rattle.bw_shell.specs.declared.refusal.RefusedLine.{RefusedLine}
+use Rattle.std.proofs.lemmas.Option.{none-some}
 use Rattle.bw_shell.proofs.pieces.feed.Goals as goal
 use Rattle.bw_shell.proofs.pieces.feed.Goals.{then-b-eq10+in_default+else-has_failed, else-b-eq10+else-len-gt1024}
 
@@ -21,9 +21,6 @@ next_fits n first i len count end fits = omega arith
 
 fewer_left : (len i : ℕ) → i < len → len - (i + 1) < len - i
 fewer_left len i end = omega arith
-
-no_none : (line : RefusedLine) (P : Type 0) → (let found : Option RefusedLine = Some line in found ≡ None) → P
-no_none line P is = cc is
 
 pub loop-b-init : goal.loop-b-init
 loop-b-init g c = record {
@@ -137,7 +134,7 @@ pub len-requires : goal.len-requires
 len-requires g c = size_fits
 
 pub returns-then-len-gt1024-clause-short : goal.returns-then-len-gt1024-clause-short
-returns-then-len-gt1024-clause-short g c = λ some. no_none _ _ some
+returns-then-len-gt1024-clause-short g c = λ some. absurd (none-some _ (sym some))
 
 pub returns-then-len-gt1024-clause-count : goal.returns-then-len-gt1024-clause-count
 returns-then-len-gt1024-clause-count g c = counted _ _ _ _ c.loop-b.invariant.count c.loop-b.auto.b-index-end

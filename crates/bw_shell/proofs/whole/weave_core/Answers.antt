@@ -1,9 +1,6 @@
-use Rattle.std.proofs.Common.{◌≡◌, refl, Option, Some, None}
-use Rattle.bw_shell.specs.declared.whole.Woven.{Woven}
+use Rattle.std.proofs.Common.{refl, sym}
+use Rattle.std.proofs.lemmas.Option.{none-some}
 use Rattle.bw_shell.proofs.whole.weave_core.Goals as goal
-
-no_none : (woven : Woven) (P : Type 0) → (let found : Option Woven = Some woven in found ≡ None) → P
-no_none woven P is = cc is
 
 pub returns-in_default-clause-none : goal.returns-in_default-clause-none
 returns-in_default-clause-none g c = λ _. (refl, refl)
@@ -15,4 +12,4 @@ pub returns-clause-ran : goal.returns-clause-ran
 returns-clause-ran g c = rw (c.in-Ok.ensures.entries, c.in-Ok.ensures.limits) at c.run-refused.ensures
 
 pub returns-clause-none : goal.returns-clause-none
-returns-clause-none g c = λ some. no_none _ _ some
+returns-clause-none g c = λ some. absurd (none-some _ (sym some))
