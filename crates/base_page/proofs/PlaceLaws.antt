@@ -20,13 +20,13 @@ use Rattle.base_page.specs.Places.{IsAt, IsCut, IsGap}
 use Rattle.base_page.proofs.KeyLaws.{above, below, itself, same, either}
 use Rattle.base_page.proofs.ItemLaws.{all-weaker, all-both, AllAbove, AllBelow, Ascends, Ascends-from, IsAscending-from, joined, front_ascends, back_ascends, before, lacks_below, lacks_above, append_lacks, middle_other, middle_here}
 
-within_take : {X : Type 0} (P : X → Type 0) (xs : List X) (i : ℕ) → i ≤ length xs → AllWithin P xs 0 i → AllByRecursion P (take i xs)
+pub within_take : {X : Type 0} (P : X → Type 0) (xs : List X) (i : ℕ) → i ≤ length xs → AllWithin P xs 0 i → AllByRecursion P (take i xs)
 within_take P [] zero l h = tt
 within_take P [] (suc i) l h = tt
 within_take P (x ∷ xs) zero l h = tt
 within_take P (x ∷ xs) (suc i) l h = (h 0 x (omega arith) (omega arith), within_take P xs i (omega arith) (λ k d a b. h (suc k) d (omega arith) (omega arith)))
 
-within_drop : {X : Type 0} (P : X → Type 0) (xs : List X) (i : ℕ) → AllWithin P xs i (length xs) → AllByRecursion P (drop i xs)
+pub within_drop : {X : Type 0} (P : X → Type 0) (xs : List X) (i : ℕ) → AllWithin P xs i (length xs) → AllByRecursion P (drop i xs)
 within_drop P [] zero h = tt
 within_drop P [] (suc i) h = tt
 within_drop P (x ∷ xs) zero h = (h 0 x (omega arith) (omega arith), within_drop P xs zero (λ k d a b. h (suc k) d (omega arith) (omega arith)))

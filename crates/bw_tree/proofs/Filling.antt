@@ -1,6 +1,6 @@
 -- A seat that upserts pairs, one after the other.
 use Rattle.std.specs.Prelude.{◌≢◌, slice_get, Option}
-use Rattle.std.proofs.Common.{◌≡◌, ◌<◌, ◌+◌, ◌++◌, ℕ, List, [], ◌∷◌, length, take, get_or, refl, sym, ap, subst, ◌∙◌, Some, None}
+use Rattle.std.proofs.Common.{◌≡◌, ◌<◌, ◌+◌, ◌++◌, ℕ, List, [], ◌∷◌, length, take, get_or, refl, sym, ap, subst, Some, None}
 use Rattle.bw_model.specs.declared.command.Command.{Command}
 use Rattle.bw_model.specs.declared.command.Reply.{Reply}
 use Rattle.bw_model.specs.declared.command.Reply.TheVariants as reply
@@ -21,9 +21,6 @@ upserted_snoc : (pairs : List Pair) (calls : List (Command × Option Reply)) (pa
 upserted_snoc [] calls pair given is some = (given, [], ap (λ (cs : List (Command × Option Reply)). cs ++ (upsert_of pair, Some given) ∷ []) is, some, refl)
 upserted_snoc (one ∷ pairs) calls pair given (first, rest, is, free, upserted) some =
     (first, rest ++ (upsert_of pair, Some given) ∷ [], ap (λ (cs : List (Command × Option Reply)). cs ++ (upsert_of pair, Some given) ∷ []) is, free, upserted_snoc pairs rest pair given upserted some)
-
-pub same_then : (first old new : Seat) → IsSame first old → IsSame old new → IsSame first new
-same_then first old new one two = record { table = two.table ∙ one.table; limits = two.limits ∙ one.limits; actor = two.actor ∙ one.actor }
 
 module _ (pairs : List Pair) (i : ℕ) (pair : Pair) (old new : Seat) (command : Command) (budget : ℕ) (result : Called) (below : i < length pairs) (at : pair ≡ get_or pairs i pair) (asked : command ≡ upsert_of pair)
     (upserted : HaveUpserted (take i pairs) (calls_in old)) (call : IsCalled old command budget result new) where

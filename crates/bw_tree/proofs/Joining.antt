@@ -8,6 +8,7 @@ use Rattle.slot_rule.specs.Running.{Each}
 use Rattle.slot_rule.specs.Views.{part}
 use Rattle.bw_tree.specs.Seats.{Seat}
 use Rattle.bw_tree.specs.Trees.{AreSeatsOf, HasPartsOf, IsSeatOf, Tree}
+use Rattle.traces.proofs.Pushes.{slice_get-push}
 
 each_snoc : (P : Part → Type 0) (parts : List Part) (last : Part) → Each P parts → P last → Each P (parts ++ last ∷ [])
 each_snoc P [] last each is = (is, tt)
@@ -17,10 +18,6 @@ get_front : {X : Type 0} (front : List X) (last : X) (n : ℕ) (x : X) → slice
 get_front [] last n x e = cc
 get_front (one ∷ front) last zero x e = e
 get_front (one ∷ front) last (suc n) x e = get_front front last n x e
-
-get_last : {X : Type 0} (front : List X) (last : X) → slice_get (front ++ last ∷ []) (length front) ≡ Some last
-get_last [] last = refl
-get_last (one ∷ front) last = get_last front last
 
 pub none_joined : (limits : Limits) → HasPartsOf limits [] []
 none_joined limits = record { count = refl; idle = tt; each = λ n seat e. cc }
@@ -36,7 +33,7 @@ one_joined limits seat seats parts has = record {
   mine = part limits seat.actor seat.seen Idle
 
   each : (n : ℕ) (one : Seat) → slice_get (seat ∷ seats) n ≡ Some one → (m : ℕ) × (slice_get (parts ++ mine ∷ []) m ≡ Some (part limits one.actor one.seen Idle))
-  each zero one e = let same : seat ≡ one = cc in (length parts, get_last parts mine ∙ ap (λ (s : Seat). Some (part limits s.actor s.seen Idle)) same)
+  each zero one e = let same : seat ≡ one = cc in (length parts, slice_get-push parts mine ∙ ap (λ (s : Seat). Some (part limits s.actor s.seen Idle)) same)
   each (suc n) one e = let (m, at) = has.each n one e in (m, get_front parts mine m (part limits one.actor one.seen Idle) at)
 
 get_middle : {X : Type 0} (front : List X) (one : X) (back : List X) → slice_get ((front ++ one ∷ []) ++ back) (length front) ≡ Some one

@@ -23,13 +23,8 @@ use Rattle.traces.proofs.TraceLaws.{command_of-push}
 use Rattle.op_machine.specs.theorem.Answered.{IsAnswered, IsTrueReply, RepliesAt, RepliesAtPoint}
 use Rattle.op_machine.specs.theorem.Operations.{Finishes, IsOwnStep, Operation}
 use Rattle.op_machine.specs.theorem.Points.{HasPoints, IsPoint, log_at, updates_at, updates_by}
-use Rattle.op_machine.proofs.LogLaws.{log_at-step}
+use Rattle.op_machine.proofs.LogLaws.{log_at-step, take-one}
 use Rattle.bw_tree.proofs.Alone.{IsSilent, get_middle}
-
-take_one : {X : Type 0} (xs : List X) (n : ℕ) (x : X) → slice_get xs n ≡ Some x → take (suc n) xs ≡ take n xs ++ x ∷ []
-take_one [] n x e = cc
-take_one (y ∷ xs) zero x e = let same : y ≡ x = cc in ap (λ z. z ∷ []) same
-take_one (y ∷ xs) (suc n) x e = ap (λ rest. y ∷ rest) (take_one xs n x e)
 
 get_behind : {X : Type 0} (xs ys : List X) (j : ℕ) → slice_get (xs ++ ys) (length xs + j) ≡ slice_get ys j
 get_behind [] ys j = let same : 0 + j ≡ j = omega arith in ap (slice_get ys) same
@@ -153,11 +148,11 @@ module _ (limits : Limits) (entries : List Entry) (points : List Bool) (pointed 
   command_then : (j : ℕ) → j ≤ length mid → command_of (take (start + suc j) entries) 0 ≡ Some asked
   command_then zero few =
       let place : start + 1 ≡ suc start = omega arith in
-      ap (λ n. command_of (take n entries) 0) place ∙ ap (λ es. command_of es 0) (take_one entries start (Begin 0 asked) begins) ∙ ap (λ cs. cs 0) (command_of-push (take start entries) (Begin 0 asked))
+      ap (λ n. command_of (take n entries) 0) place ∙ ap (λ es. command_of es 0) (take-one entries start (Begin 0 asked) begins) ∙ ap (λ cs. cs 0) (command_of-push (take start entries) (Begin 0 asked))
   command_then (suc j) few =
       let place : start + suc (suc j) ≡ suc (start + suc j) = omega arith in
       let (one, told, at) = silent_then (start + suc j) (omega arith) (omega (arith, few)) in
-      ap (λ n. command_of (take n entries) 0) place ∙ ap (λ es. command_of es 0) (take_one entries (start + suc j) (Step 0 one told None) at)
+      ap (λ n. command_of (take n entries) 0) place ∙ ap (λ es. command_of es 0) (take-one entries (start + suc j) (Step 0 one told None) at)
       ∙ ap (λ cs. cs 0) (command_of-push (take (start + suc j) entries) (Step 0 one told None)) ∙ command_then j (omega (arith, few))
 
   command_at : (n : ℕ) → start < n → n ≤ last → command_of (take n entries) 0 ≡ Some asked

@@ -7,11 +7,6 @@ at_index [] n x lt e = absurd (omega (arith, lt))
 at_index (y ∷ ys) zero x lt e = ap Some (sym e)
 at_index (y ∷ ys) (suc n) x lt e = at_index ys n x (omega (arith, lt)) e
 
-pub get_below : {X : Type 0} (xs : List X) (n : ℕ) (x : X) → slice_get xs n ≡ Some x → n < length xs
-get_below [] n x e = cc
-get_below (y ∷ ys) zero x e = omega arith
-get_below (y ∷ ys) (suc n) x e = let below = get_below ys n x e in omega (arith, below)
-
 pub get_one : {X : Type 0} (xs : List X) (n : ℕ) (x y : X) → slice_get xs n ≡ Some x → slice_get xs n ≡ Some y → x ≡ y
 get_one xs n x y e f = cc
 

@@ -2,8 +2,7 @@
 use Rattle.std.proofs.Common.{◌≡◌, ◌≢◌, ◌<◌, ◌+◌, ◌*◌, ◌/◌, ◌%◌, ◌^◌, ◌⊎◌, ℕ, Option, None, Some, List, length, get_or, take, Bool, true, false, eqb, eq-eqb, ne_eqb, refl, sym, ap, ◌∙◌, arith, rules, inl, inr}
 use Rattle.std.specs.Prelude.{bit_or, ◌||◌, ◌&&◌}
 use Rattle.std.specs.Int.{w64}
-use Rattle.std.proofs.lemmas.Bool.{cases_eq, cases_lt}
-use Rattle.std.proofs.lemmas.Bool.Decides.{Decides-eqb}
+use Rattle.std.proofs.lemmas.Bool.{cases_eq, cases_lt, or_cases, eqb-true}
 use Rattle.std.proofs.lemmas.List.Folds.{list_any_more}
 use Rattle.std.proofs.lemmas.Nat.Bits.{bit_at_set_same, bit_at_set_other}
 use Rattle.epochs.specs.declared.entry.Entry.{Entry}
@@ -23,10 +22,6 @@ or_true : (f : Bool) → (f || true) ≡ true
 or_true true = refl
 or_true false = refl
 
-either : (f g : Bool) → (f || g) ≡ true → (f ≡ true) ⊎ (g ≡ true)
-either true g e = inl refl
-either false g e = inr e
-
 pub both : (f g : Bool) → (f && g) ≡ true → f ≡ true
 both true g e = refl
 both false g e = e
@@ -35,9 +30,6 @@ pub second : (f g : Bool) → (f && g) ≡ true → g ≡ true
 second true g e = e
 second false true e = refl
 second false false e = e
-
-pub equal : (a b : ℕ) → eqb a b ≡ true → a ≡ b
-equal a b e = grind (arith, Decides-eqb)
 
 -- one entry more
 may_go_more : (entries : List Entry) (i : ℕ) (d : Entry) (n : ℕ) → i < length entries → may_go (take (i + 1) entries) n ≡ (may_go (take i entries) n || ((eqb (get_or entries i d).number n) && is_passed (get_or entries i d).stage))
@@ -62,9 +54,9 @@ may_go_still entries i d n lt there = may_go_more entries i d n lt ∙ rw there 
 -- and nothing else.
 may_go_from : (entries : List Entry) (i : ℕ) (d : Entry) (n : ℕ) → i < length entries → may_go (take (i + 1) entries) n ≡ true → (may_go (take i entries) n ≡ true) ⊎ ((get_or entries i d).number ≡ n)
 may_go_from entries i d n lt there =
-    elim (either (may_go (take i entries) n) (eqb (get_or entries i d).number n && is_passed (get_or entries i d).stage) (sym (may_go_more entries i d n lt) ∙ there)) [
+    elim (or_cases (may_go (take i entries) n) (eqb (get_or entries i d).number n && is_passed (get_or entries i d).stage) (sym (may_go_more entries i d n lt) ∙ there)) [
       | inl before ↦ inl before
-      | inr own ↦ inr (equal (get_or entries i d).number n (both (eqb (get_or entries i d).number n) (is_passed (get_or entries i d).stage) own))
+      | inr own ↦ inr (eqb-true (get_or entries i d).number n (both (eqb (get_or entries i d).number n) (is_passed (get_or entries i d).stage) own))
     ]
 
 pub first_same : (entries : List Entry) (i : ℕ) (d : Entry) (first : Option ℕ) → i < length entries → is_passed (get_or entries i d).stage ≡ false → IsFirstPlace (take i entries) first → IsFirstPlace (take (i + 1) entries) first
@@ -111,7 +103,7 @@ bits_more entries i d word bits lt goes is = λ n. at n (cases_eq (n / 64) word)
     own = (get_or entries i d).number
 
     place : own / 64 ≡ word
-    place = equal (own / 64) word (both (eqb (own / 64) word) (is_passed (get_or entries i d).stage) goes)
+    place = eqb-true (own / 64) word (both (eqb (own / 64) word) (is_passed (get_or entries i d).stage) goes)
 
     passed : is_passed (get_or entries i d).stage ≡ true
     passed = second (eqb (own / 64) word) (is_passed (get_or entries i d).stage) goes

@@ -2,7 +2,7 @@
 use Rattle.std.proofs.Common.{◌≡◌, ◌<◌, ◌≤◌, ◌/◌, ◌⊎◌, ℕ, List, length, get_or, Bool, true, false, not, eqb, refl, sym, ap, ◌∙◌, arith, rules, inl, inr, IsTrue, IsFalse}
 use Rattle.std.specs.Prelude.{◌&&◌}
 use Rattle.std.specs.List.{All, filter}
-use Rattle.std.proofs.lemmas.Bool.{cases_lt}
+use Rattle.std.proofs.lemmas.Bool.{cases_lt, eqb-true}
 use Rattle.std.proofs.lemmas.Bool.Decides.{eqb_tells}
 use Rattle.std.proofs.lemmas.List.{get_or_default}
 use Rattle.std.proofs.lemmas.List.Elements.{All-filter, filter_passes}
@@ -11,7 +11,7 @@ use Rattle.epochs.specs.declared.entry.Entry.{Entry}
 use Rattle.epochs.specs.Limbo.{IsLimboList, LimboList, is_in, is_passed}
 use Rattle.tree_limits.specs.Words.{is_among}
 use Rattle.epochs.specs.Words.{AreBitsOf, HandsOn, IsFirstWord, may_go, without}
-use Rattle.epochs.proofs.Handing.{both, equal, second}
+use Rattle.epochs.proofs.Handing.{both, second}
 
 -- The entry has this number, so it may be freed.
 abbrev MayGoAs : ℕ → Entry → Type 0
@@ -28,13 +28,13 @@ all_may_go list is n there i d lt same = here (cases_lt i found.0) (cases_lt fou
     found = Any-from_list_any (λ (entry : Entry). eqb entry.number n && is_passed entry.stage) list.entries there
 
     numbered : (get_or list.entries found.0 d).number ≡ n
-    numbered = ap (λ (entry : Entry). entry.number) (get_or_default list.entries found.0 d found.1 found.2 ∙ found.3) ∙ equal found.1.number n (both (eqb found.1.number n) (is_passed found.1.stage) found.4)
+    numbered = ap (λ (entry : Entry). entry.number) (get_or_default list.entries found.0 d found.1 found.2 ∙ found.3) ∙ eqb-true found.1.number n (both (eqb found.1.number n) (is_passed found.1.stage) found.4)
 
     passed : is_passed (get_or list.entries found.0 d).stage ≡ true
     passed = ap (λ (entry : Entry). is_passed entry.stage) (get_or_default list.entries found.0 d found.1 found.2 ∙ found.3) ∙ second (eqb found.1.number n) (is_passed found.1.stage) found.4
 
     own : (get_or list.entries i d).number ≡ n
-    own = equal (get_or list.entries i d).number n same
+    own = eqb-true (get_or list.entries i d).number n same
 
     here : (i < found.0) ⊎ (found.0 ≤ i) → (found.0 < i) ⊎ (i ≤ found.0) → is_passed (get_or list.entries i d).stage ≡ true
     here (inl before) which = absurd (is.once i found.0 d before found.2 (own ∙ sym numbered))

@@ -1,7 +1,7 @@
 -- A limbo list stays one, and has room.
 use Rattle.std.proofs.Common.{◌≡◌, ◌≢◌, ◌<◌, ◌≤◌, ◌+◌, ℕ, zero, suc, List, [], ◌∷◌, ◌++◌, Bool, true, false, length, get_or, set, take, drop, eqb, sym, ap, ◌∙◌, arith, rules, map, inl, inr, length-append}
 use Rattle.std.specs.List.{All, AllPairs, filter, list_any}
-use Rattle.std.proofs.lemmas.Bool.{cases_lt}
+use Rattle.std.proofs.lemmas.Bool.{cases_lt, eqb-true}
 use Rattle.std.proofs.lemmas.Bool.Decides.{Decides-eqb}
 use Rattle.std.proofs.lemmas.List.{append-nil, get_or-map, get_or_append_left, get_or_default, length-map, take_all}
 use Rattle.std.proofs.Math.ListN.{drop_of_length-le}
@@ -85,9 +85,6 @@ added_is_list list number is new = record {
               rw (left, last, get_or-append_seam list.entries entry [] d) (apart list number new i d earlier)
         ]
 
-equal : (a b : ℕ) → eqb a b ≡ true → a ≡ b
-equal a b e = grind (arith, Decides-eqb)
-
 few : (list : LimboList) → IsLimboList list → length list.entries ≤ list.limit
 few list is =
     let short : length (map number list.entries) ≤ list.limit = length-le_from_distinct_below (map number list.entries) list.limit (IsDistinct-from_AllPairs Decides-eqb (map number list.entries) differ) below in
@@ -112,7 +109,7 @@ few list is =
     below q found =
         let some = Any-from_list_any (eqb q) (map number list.entries) found in
         let low : some.1 < list.limit = rw some.3 at (within some.0 some.1 some.2) in
-        let is : q ≡ some.1 = equal q some.1 some.4 in
+        let is : q ≡ some.1 = eqb-true q some.1 some.4 in
         omega (arith, low, is)
 
 pub has_room : (list : LimboList) (number : ℕ) → IsLimboList list → IsNew list number → length list.entries < list.limit

@@ -23,10 +23,7 @@ use Rattle.smo.specs.Upkeep.{IsIdle, IsSmall}
 use Rattle.smo.specs.Versions.{Version}
 use Rattle.smo.proofs.Places.{from_made, index_at, made}
 use Rattle.op_machine.specs.machine.Upkeep.{IsIdleFor, tidies}
-
-neither : (a b : Bool) → (a || b) ≡ false → (a ≡ false) × (b ≡ false)
-neither true b h = cc
-neither false b h = (refl, h)
+use Rattle.std.proofs.lemmas.Bool.{or_parts}
 
 not_both : (a b : Bool) → (a && b) ≡ false → a ≡ true → b ≡ false
 not_both true b h first = h
@@ -42,8 +39,8 @@ none_beside : (key : List ℕ) (item next : Item) (items : List Item) → has_he
 none_beside key item next items none =
     let one = begins_at key (item ∷ []) && is_held next.content in
     let other = begins_at key (next ∷ []) && is_held item.content in
-    let last = neither (one || other) (has_held_neighbour key (next ∷ items)) none in
-    let both = neither one other last.0 in (
+    let last = or_parts (one || other) (has_held_neighbour key (next ∷ items)) none in
+    let both = or_parts one other last.0 in (
       (λ at. not_both (begins_at key (item ∷ [])) (is_held next.content) both.0 (begins key item at)),
       (λ at. not_both (begins_at key (next ∷ [])) (is_held item.content) both.1 (begins key next at)),
       last.1,

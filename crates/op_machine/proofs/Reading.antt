@@ -10,7 +10,7 @@ use Rattle.bw_model.specs.declared.step.Answer.TheVariants.{Start, Number, Conte
 use Rattle.deltas.specs.declared.record.Record.{Record}
 use Rattle.deltas.specs.Memory.{replaced_at}
 use Rattle.traces.specs.discipline.Fitting.{Fits}
-use Rattle.traces.specs.discipline.Knowledge.{OwnPage, Other, Empty, Ready, Gone, Knowledge, learn}
+use Rattle.traces.specs.discipline.Knowledge.{Empty, Knowledge, learn}
 use Rattle.traces.specs.discipline.Recalled.{Recalled}
 use Rattle.descent.specs.Descents.{wanted_at, WayState, Root, Page}
 use Rattle.descent.specs.ReadRounds as read
@@ -18,6 +18,7 @@ use Rattle.descent.specs.WriteRounds as write
 use Rattle.descent.specs.Visits as page
 use Rattle.installs.specs.Spares.{IsUnlinked, Spares}
 use Rattle.op_machine.specs.machine.Tasks.{Seeks, Task}
+use Rattle.installs.proofs.Learning.{empty_page}
 
 -- the step reads a slot, or a row
 abbrev pub IsReading : Step Record → Type 0
@@ -41,13 +42,6 @@ writer_reads round k r shows = go round.state shows
     go Root h = inl (0, refl)
     go (Page visit) h = of_visit visit.pid visit.state
 
--- an own page that no row was set in
-unset_empty : (v : OwnPage) → IsUnlinked v → ((row : ℕ) → v ≡ Ready row → ⊥) → v ≡ Empty
-unset_empty Other h never = absurd h
-unset_empty Empty h never = refl
-unset_empty (Ready row) h never = absurd (never row refl)
-unset_empty Gone h never = absurd h
-
 -- the slot of another page was read
 other_unread : (p n q : ℕ) (heads : ℕ → Option ℕ) → (q ≡ p → ⊥) → heads q ≡ None → replaced_at p (Some n) heads q ≡ None
 other_unread p n q heads ne e = go (q == p) refl
@@ -64,7 +58,7 @@ module _ (task : Task) (spares : Spares) (k : Knowledge) (s : Seeks task spares 
   some_page : (o : Option ℕ) → spares.pid ≡ o → (q : ℕ) → o ≡ Some q → k.own.pages q ≡ Empty
   some_page o is q e =
       let page = subst (λ (x : Option ℕ). IfSome x (λ pid. (0 < pid) × IsUnlinked (k.own.pages pid))) (is ∙ e) s.spare.rest.are.page in
-      unset_empty (k.own.pages q) page.1 (λ row. s.spare.rest.unset q row)
+      empty_page (k.own.pages q) page.1 (λ row. s.spare.rest.unset q row)
 
   unread_still : (p n : ℕ) → (k.own.pages p ≡ Empty → ⊥) → IfSome spares.pid (λ q. replaced_at p (Some n) k.read.heads q ≡ None)
   unread_still p n foreign = if_some spares.pid (λ q e h. other_unread p n q k.read.heads (λ i. foreign (subst (λ x. k.own.pages x ≡ Empty) i (some_page spares.pid refl q e))) h) s.unread

@@ -1,6 +1,6 @@
 -- What a bisection among ascending items has found so far.
-use Rattle.std.proofs.Common.{◌≡◌, ◌<◌, ◌≤◌, ◌+◌, ℕ, zero, suc, List, [], ◌∷◌, length, get_or, take, drop, map, inl, inr, ap, subst, arith}
-use Rattle.std.specs.List.{AllByRecursion, AllWithin}
+use Rattle.std.proofs.Common.{◌≡◌, ◌<◌, ◌≤◌, ◌+◌, ℕ, List, length, get_or, drop, map, inl, inr, ap, subst, arith}
+use Rattle.std.specs.List.{AllWithin}
 use Rattle.std.specs.Ordering.{is_eq}
 use Rattle.std.specs.declared.cmp.Ordering.TheVariants.{Less, Equal, Greater}
 use Rattle.std.proofs.lemmas.Bool.{cases_lt}
@@ -12,6 +12,7 @@ use Rattle.base_page.specs.Pages.{IsAscending}
 use Rattle.base_page.specs.Places.{IsAt, IsGap}
 use Rattle.base_page.proofs.KeyLaws.{above, below, below-trans, same}
 use Rattle.base_page.proofs.ItemLaws.{all-weaker}
+use Rattle.base_page.proofs.PlaceLaws.{within_take, within_drop}
 
 sorted : (items : List Item) (i j : ℕ) (d : Item) → IsAscending items → i < j → j < length items → key_cmp (get_or items i d).key (get_or items j d).key ≡ Less
 sorted items i j d asc lt within =
@@ -36,18 +37,6 @@ module _ (items : List Item) (asc : IsAscending items) (key : List ℕ) (middle 
 
   pub found_at : ((d : Item) → key_cmp (get_or items middle d).key key ≡ Equal) → IsAt items key middle
   found_at equal = record { within = within; found = λ d. same (get_or items middle d).key key (ap is_eq (equal d)) }
-
-within_take : {X : Type 0} (P : X → Type 0) (xs : List X) (i : ℕ) → i ≤ length xs → AllWithin P xs 0 i → AllByRecursion P (take i xs)
-within_take P [] zero l h = tt
-within_take P [] (suc i) l h = tt
-within_take P (x ∷ xs) zero l h = tt
-within_take P (x ∷ xs) (suc i) l h = (h 0 x (omega arith) (omega arith), within_take P xs i (omega arith) (λ k d a b. h (suc k) d (omega arith) (omega arith)))
-
-within_drop : {X : Type 0} (P : X → Type 0) (xs : List X) (i : ℕ) → AllWithin P xs i (length xs) → AllByRecursion P (drop i xs)
-within_drop P [] zero h = tt
-within_drop P [] (suc i) h = tt
-within_drop P (x ∷ xs) zero h = (h 0 x (omega arith) (omega arith), within_drop P xs zero (λ k d a b. h (suc k) d (omega arith) (omega arith)))
-within_drop P (x ∷ xs) (suc i) h = within_drop P xs i (λ k d a b. h (suc k) d (omega arith) (omega arith))
 
 pub gap_at : (items : List Item) (key : List ℕ) (place : ℕ) → place ≤ length items → AllWithin (λ item. key_cmp item.key key ≡ Less) items 0 place → AllWithin (λ item. key_cmp item.key key ≡ Greater) items place (length items) → IsGap items key place
 gap_at items key place within low high = record {

@@ -33,8 +33,9 @@ use Rattle.step_core.specs.Actors.{IsReady, IsServedAt, IsWithinAt, wanted_in}
 use Rattle.step_core.proofs.Lawful.{Asks, asks, is_placed, served_at, within_at}
 use Rattle.step_core.specs.Cores.{IsCore, Pays}
 use Rattle.step_core.specs.Turns.{Core, Demand, KeepsMore, LeavesAt, WantsMemory, busy_of, refused_by, refusal_of}
-use Rattle.step_core.proofs.Replaced.{get_below, get_is, set_cases, set_length, set_other}
+use Rattle.step_core.proofs.Replaced.{get_is, set_cases, set_length, set_other}
 use Rattle.deltas.proofs.Replaced.{replaced_same, replaced_other}
+use Rattle.traces.proofs.Pushes.{slice_get_below}
 
 -- a begin that isn't refused
 pub begin_goes : (core : Core) (i : ℕ) (command : Command) → refusal_of core (turn.Begin i command) ≡ None → (i < core.limits.actors) × (command_of core.entries i ≡ None)
@@ -123,7 +124,7 @@ module _ (limits : Limits) where
   pub core_busy : (table : Table) (actors : List Actor) (entries : List Entry) (i : ℕ) (at : Actor) → IsCore limits table actors entries → (demand : Demand) (v : Core) → record { limits = limits; entries = entries; demand = demand } ≡ v
       → slice_get actors i ≡ Some at → Some (is_some (running_command at)) ≡ busy_of v i
   core_busy table actors entries i at core demand v is found =
-      let lt : i < limits.actors = rw (← core.count) (get_below actors i at found) in
+      let lt : i < limits.actors = rw (← core.count) (slice_get_below actors i at found) in
       rw (← is, lt-ltb i limits.actors lt, core.each_running i at found) refl
 
   -- an actor that there is keeps what its entries show

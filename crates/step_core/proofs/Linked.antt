@@ -2,7 +2,6 @@
 use Rattle.std.proofs.Common.{◌≡◌, ◌<◌, ℕ, zero, suc, Some, None, Option, Bool, true, false, refl, sym, ap, subst, arith, eqb, ◌∙◌}
 use Rattle.std.specs.Prelude.{is_some, IsTrue, if◌then◌else◌}
 use Rattle.std.specs.Option.{option_map}
-use Rattle.std.proofs.lemmas.Bool.Decides.{nat_tests}
 use Rattle.bw_model.specs.declared.command.Reply.{Reply}
 use Rattle.bw_model.specs.declared.step.Answer.{Answer}
 use Rattle.bw_model.specs.declared.step.Answer.TheVariants.{Start, Number, Content, Whether, Done}
@@ -21,13 +20,11 @@ use Rattle.deltas.specs.Memory.{Memory}
 use Rattle.step_core.specs.declared.event.Event.TheVariants.{Stepped}
 use Rattle.step_core.proofs.Lawful.{Asks, HasHeads, is_placed}
 use Rattle.step_core.specs.Turns.{Core, IsEventOf, is_won, link_told, step_event}
+use Rattle.std.proofs.lemmas.Bool.{eqb-true}
 
 positive : (n : ℕ) → eqb n 0 ≡ false → 0 < n
 positive zero e = cc
 positive (suc n) e = omega arith
-
-eqb_is : (a b : ℕ) → eqb a b ≡ true → a ≡ b
-eqb_is a b h = grind (arith, nat_tests)
 
 some_at : {X Y : Type 0} (f : X → Y) (o : Option X) → IsTrue (is_some o) → is_some (option_map f o) ≡ true
 some_at f None some = cc
@@ -38,7 +35,7 @@ linked : (memory : Memory) (step : StepOf Record) (answer : Answer Record) → H
 linked memory (Exchange slot old new) (Whether true) closed asks answered = go (eqb slot 0) refl (eqb old 0) refl (eqb new 0) refl
   where
     before : memory.slots slot ≡ old
-    before = eqb_is (memory.slots slot) old (won (eqb (memory.slots slot) old) answered)
+    before = eqb-true (memory.slots slot) old (won (eqb (memory.slots slot) old) answered)
       where
         yes : Answer Record
         yes = Whether true

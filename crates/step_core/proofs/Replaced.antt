@@ -37,9 +37,3 @@ push_cases [] x zero y e = inr (cc)
 push_cases [] x (suc a) y e = cc
 push_cases (z ∷ xs) x zero y e = inl e
 push_cases (z ∷ xs) x (suc a) y e = push_cases xs x a y e
-
--- what stands at a place is below the length
-pub get_below : {X : Type 0} (xs : List X) (n : ℕ) (x : X) → slice_get xs n ≡ Some x → n < length xs
-get_below [] n x e = cc
-get_below (y ∷ xs) zero x e = omega arith
-get_below (y ∷ xs) (suc n) x e = let below = get_below xs n x e in omega arith

@@ -1,7 +1,7 @@
 -- What each step of a sweep leaves of the agreement between a limbo and what is known.
 use Rattle.std.proofs.Common.{◌≡◌, ◌≢◌, ◌<◌, ◌≤◌, ◌++◌, ◌==◌, inl, inr, ℕ, zero, suc, List, [], ◌∷◌, length, Option, Some, None, Bool, true, false, refl, arith, IsTrue, length-append}
 use Rattle.std.specs.Prelude.{◌||◌, ltb, if◌then◌else◌, IfSome}
-use Rattle.std.proofs.lemmas.Bool.{cases_Bool, cases_lt, eq-eqb, lt-ltb, ltb-true}
+use Rattle.std.proofs.lemmas.Bool.{cases_Bool, cases_lt, eq-eqb, lt-ltb, ltb-true, or_right, or_cases}
 use Rattle.std.proofs.lemmas.List.{get_or_append_left}
 use Rattle.std.proofs.lemmas.List.Sums.{AllPass-from_list_all}
 use Rattle.std.proofs.Math.Seq.{get_or-append_seam}
@@ -16,7 +16,7 @@ use Rattle.epochs.specs.Limbo.{compared_with, stamped_by}
 use Rattle.epochs.specs.Reclamation.{has_passed, may_be_freed}
 use Rattle.sweep.specs.Kept.{Agrees, HavePassed, IsReadStamp}
 use Rattle.sweep.specs.Sweeps.{HaveTold, Told, other_at}
-use Rattle.sweep.proofs.Stages.{after, one_of, or_true}
+use Rattle.sweep.proofs.Stages.{after}
 
 read_before : (last : Option ℕ) (t epoch : ℕ) → IfSome last (λ before. before ≤ t) → IsReadStamp last epoch → epoch ≤ t
 read_before None t epoch later was = absurd was
@@ -83,9 +83,9 @@ now_passed : (other n epoch : ℕ) (passed : ℕ → Bool) → IsTrue (has_passe
 now_passed other n epoch passed h = rw (h, eq-eqb other other refl) refl
 
 passes_below : (epoch stamp n : ℕ) → epoch ≤ stamp → IsTrue (has_passed stamp n) → IsTrue (has_passed epoch n)
-passes_below epoch stamp n low h = elim (one_of (n == 0) (ltb stamp n) h) [
+passes_below epoch stamp n low h = elim (or_cases (n == 0) (ltb stamp n) h) [
   | inl none ↦ rw none refl
-  | inr above ↦ or_true (n == 0) (ltb epoch n) (lt-ltb epoch n (let far = ltb-true stamp n above in omega (arith, low, far)))
+  | inr above ↦ or_right (n == 0) (ltb epoch n) (lt-ltb epoch n (let far = ltb-true stamp n above in omega (arith, low, far)))
 ]
 
 pub announced_agrees : (limits : Limits) (actor other n : ℕ) (last : Option ℕ) (stage : Option Stage) (limbo : known.LimboMark) → Agrees limits actor last stage limbo → Agrees limits actor last stage (passed_by other n limbo)

@@ -2,7 +2,7 @@
 use Rattle.std.proofs.Common.{◌≡◌, ◌<◌, ◌≤◌, ◌/◌, ◌^◌, ◌++◌, inl, inr, ℕ, suc, List, [], ◌∷◌, length, eqb, Option, Some, None, Bool, true, false, refl, sym, ap, ◌∙◌, arith, IsFalse}
 use Rattle.std.specs.Prelude.{if◌then◌else◌, IfSome}
 use Rattle.std.specs.List.{list_any}
-use Rattle.std.proofs.lemmas.Bool.{cases_Bool, cases_lt}
+use Rattle.std.proofs.lemmas.Bool.{cases_Bool, cases_lt, and_parts, or_parts}
 use Rattle.tree_limits.specs.declared.limits.Limits.{Limits}
 use Rattle.bw_model.specs.declared.step.Answer.{Answer}
 use Rattle.bw_model.specs.declared.step.Answer.TheVariants as answer
@@ -25,7 +25,7 @@ use Rattle.sweep.specs.Kept.{Agrees, AreKept, IsLimboOf}
 use Rattle.sweep.specs.Moves.{BeginsSweep, Compares, Frees, Moves, Stamps, has_unstamped, state_if}
 use Rattle.sweep.specs.Sweeps.{AreTold, Follows, IsSame, Shows, ShowsState, ShowsThen, Sweep, Told, other_at, wanted, wanted_at}
 use Rattle.sweep.proofs.Agreeing.{announced_agrees, announced_told, compared_agrees, may_free, stamped_agrees, stamped_told}
-use Rattle.sweep.proofs.Stages.{both_of, kept_stage, neither, no_item, no_stage, passed_stage, restaged_stage}
+use Rattle.sweep.proofs.Stages.{kept_stage, no_item, no_stage, passed_stage, restaged_stage}
 
 -- what is shown by what follows, if anything does
 abbrev pub ShowsNext : Limits → ℕ → Option State → Limbo → Knowledge → Type 0
@@ -37,7 +37,7 @@ module _ (limits : Limits) (actor : ℕ) (last : Option ℕ) (list : LimboList) 
   -- what one reuse frees may be freed
   pub hands_passed : (word bits : ℕ) (now : LimboList) → HandsOn list word bits now → (n : ℕ) → is_among word bits n ≡ true → IsPassed limits actor (knows n)
   hands_passed word bits now hands n among =
-      let may = both_of (eqb (n / 64) word) (may_go list.entries n) (sym (hands.exact n) ∙ among) in
+      let may = and_parts (eqb (n / 64) word) (may_go list.entries n) (sym (hands.exact n) ∙ among) in
       let stage = passed_stage list.entries word n (rw hands.rest at (hands.gone n among)) may.1 in
       may_free limits actor stage.0 last (knows n) (rw stage.1 at (agree n))
 
@@ -187,7 +187,7 @@ follows old new limbo after told goes inside same moves k shows fits = record {
 has_stamp : (entries : List Entry) → list_any (λ (entry : Entry). is_unstamped entry.stage) entries ≡ false → (n : ℕ) → stage_in entries n ≡ Some Unstamped → ⊥
 has_stamp [] stamped n is = cc
 has_stamp (e ∷ es) stamped n is =
-    let both = neither (is_unstamped e.stage) (list_any (λ (entry : Entry). is_unstamped entry.stage) es) stamped in
+    let both = or_parts (is_unstamped e.stage) (list_any (λ (entry : Entry). is_unstamped entry.stage) es) stamped in
     elim (eqb e.number n) as (λ b. (if b then Some e.stage else stage_in es n) ≡ Some Unstamped → ⊥) [
       | true ↦ λ same. (let stage : e.stage ≡ Unstamped = cc in let h : true ≡ false = rw stage at both.0 in cc)
       | false ↦ has_stamp es both.1 n
@@ -209,7 +209,7 @@ begins_show limits actor limbo after first inside begins k kept = elim (no_item 
   | inr some ↦ elim (cases_Bool (has_unstamped limbo)) [
     | inl unstamped ↦ let is = begins.epoch unstamped in rw (is.0, is.1) kept
     | inr stamped ↦
-        let both = neither (list_any (λ (entry : Entry). is_unstamped entry.stage) limbo.rows.entries) (list_any (λ (entry : Entry). is_unstamped entry.stage) limbo.pids.entries) stamped in
+        let both = or_parts (list_any (λ (entry : Entry). is_unstamped entry.stage) limbo.rows.entries) (list_any (λ (entry : Entry). is_unstamped entry.stage) limbo.pids.entries) stamped in
         compares_shows limits actor k [] limbo after first inside kept (record {
           rows = λ row. told_first actor (stage_of limbo.rows row) (k.limbo.rows row) (has_stamp limbo.rows.entries both.0 row);
           pids = λ pid. told_first actor (stage_of limbo.pids pid) (k.limbo.pids pid) (has_stamp limbo.pids.entries both.1 pid);

@@ -2,7 +2,7 @@
 use Rattle.std.proofs.Common.{◌≡◌, ◌<◌, ◌≤◌, ◌*◌, ◌-◌, ◌/◌, ◌^◌, ◌++◌, inl, inr, ℕ, suc, List, [], ◌∷◌, length, length-append, eqb, Some, None, true, false, refl, sym, ap, ◌∙◌, arith}
 use Rattle.std.specs.Prelude.{◌&&◌}
 use Rattle.std.specs.List.{All, list_any}
-use Rattle.std.proofs.lemmas.Bool.{cases_Bool, cases_eq, cases_lt, eq-eqb, eqb-true}
+use Rattle.std.proofs.lemmas.Bool.{cases_Bool, cases_eq, cases_lt, eq-eqb, eqb-true, and_parts, or_parts}
 use Rattle.std.proofs.lemmas.List.Elements.{All-map}
 use Rattle.std.proofs.lemmas.List.Folds.{Any-from_list_any}
 use Rattle.tree_limits.specs.declared.limits.Limits.{Limits}
@@ -22,7 +22,7 @@ use Rattle.sweep.specs.Bounded.{reuses_left, steps_left}
 use Rattle.sweep.specs.Kept.{IsLimboOf}
 use Rattle.sweep.specs.Moves.{BeginsSweep, Compares, Frees, IsEmpty, Moves, Stamps, has_unstamped}
 use Rattle.sweep.specs.Sweeps.{ComesFirst, HasPlace, IsInOrder, IsSame, IsSoundState, IsSoundSweep, Sweep}
-use Rattle.sweep.proofs.Stages.{both_of, left_later, neither, no_item}
+use Rattle.sweep.proofs.Stages.{left_later, no_item}
 
 -- the numbers of the list are below its limit
 abbrev AreBelow : LimboList → Type 0
@@ -39,7 +39,7 @@ number_below : (list : LimboList) → AreBelow list → (n : ℕ) → may_go lis
 number_below list is n may =
     let found = Any-from_list_any (λ (entry : Entry). eqb entry.number n && is_passed entry.stage) list.entries may in
     let within : found.1.number < list.limit = rw found.3 at (is found.0 found.1 found.2) in
-    let same : found.1.number ≡ n = eqb-true found.1.number n (both_of (eqb found.1.number n) (is_passed found.1.stage) found.4).0 in
+    let same : found.1.number ≡ n = eqb-true found.1.number n (and_parts (eqb found.1.number n) (is_passed found.1.stage) found.4).0 in
     rw same at within
 
 -- the word of a reuse is there, and comes before what may go then
@@ -213,7 +213,7 @@ begins_not limits limbo after begins = elim (no_item limbo) [
       | inl others ↦ absurd (cc (((begins.stamped some stamped).reads others).0))
       | inr alone ↦
           let frees = (begins.stamped some stamped).frees alone in
-          let both = neither (list_any (λ (entry : Entry). is_unstamped entry.stage) limbo.rows.entries) (list_any (λ (entry : Entry). is_unstamped entry.stage) limbo.pids.entries) stamped in
+          let both = or_parts (list_any (λ (entry : Entry). is_unstamped entry.stage) limbo.rows.entries) (list_any (λ (entry : Entry). is_unstamped entry.stage) limbo.pids.entries) stamped in
           (none_left limbo.rows.entries both.0 frees.0.none, none_left limbo.pids.entries both.1 frees.1.none)
     ]
   ]

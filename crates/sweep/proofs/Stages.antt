@@ -2,7 +2,7 @@
 use Rattle.std.proofs.Common.{◌≡◌, ◌⊎◌, ◌/◌, ◌≢◌, ℕ, List, [], ◌∷◌, Option, Some, None, Bool, true, false, not, eqb, refl, ap, inl, inr}
 use Rattle.std.specs.Prelude.{◌&&◌, ◌||◌, if◌then◌else◌}
 use Rattle.std.specs.List.{list_any}
-use Rattle.std.proofs.lemmas.Bool.{cases_eq, eq-eqb, eqb-true, ne_eqb}
+use Rattle.std.proofs.lemmas.Bool.{cases_eq, eq-eqb, eqb-true, ne_eqb, or_right, or_cases, and_parts}
 use Rattle.epochs.specs.declared.entry.Entry.{Entry}
 use Rattle.epochs.specs.declared.entry.Stage.{Stage}
 use Rattle.epochs.specs.declared.entry.Stage.TheVariants.{Unstamped, Stamped, Passed}
@@ -85,18 +85,6 @@ passed_stage (e ∷ es) word n gone may = elim (cases_eq e.number n) [
     at_first Unstamped is same = absurd (there (not_both (eqb (e.number / 64) word) (is_passed e.stage) (ap is_passed is)) same)
     at_first (Stamped stamp) is same = absurd (there (not_both (eqb (e.number / 64) word) (is_passed e.stage) (ap is_passed is)) same)
 
-pub or_true : (a b : Bool) → b ≡ true → (a || b) ≡ true
-or_true true b e = refl
-or_true false b e = e
-
-pub one_of : (a b : Bool) → (a || b) ≡ true → (a ≡ true) ⊎ (b ≡ true)
-one_of true b e = inl refl
-one_of false b e = inr e
-
-pub both_of : (a b : Bool) → (a && b) ≡ true → (a ≡ true) × (b ≡ true)
-both_of true b e = (refl, e)
-both_of false b e = cc
-
 away : (a p : Bool) → p ≡ true → not (a && p) ≡ true → a ≡ false
 away false p passed kept = refl
 away true p passed kept = (let h : not p ≡ true = kept in let k : not true ≡ true = rw passed at h in cc)
@@ -107,23 +95,19 @@ left_later [] word n may = cc
 left_later (e ∷ es) word n may =
     elim (not (eqb (e.number / 64) word && is_passed e.stage)) as (λ b. not (eqb (e.number / 64) word && is_passed e.stage) ≡ b → may_go (if b then e ∷ without word es else without word es) n ≡ true → (may_go (e ∷ es) n ≡ true) × (eqb (n / 64) word ≡ false)) [
       | false ↦ λ kept h. later (left_later es word n h)
-      | true ↦ λ kept h. elim (one_of (eqb e.number n && is_passed e.stage) (may_go (without word es) n) h) [
-        | inl here ↦ now kept (both_of (eqb e.number n) (is_passed e.stage) here)
+      | true ↦ λ kept h. elim (or_cases (eqb e.number n && is_passed e.stage) (may_go (without word es) n) h) [
+        | inl here ↦ now kept (and_parts (eqb e.number n) (is_passed e.stage) here)
         | inr rest ↦ later (left_later es word n rest)
       ]
     ] refl may
   where
     later : (may_go es n ≡ true) × (eqb (n / 64) word ≡ false) → (may_go (e ∷ es) n ≡ true) × (eqb (n / 64) word ≡ false)
-    later (may, apart) = (or_true (eqb e.number n && is_passed e.stage) (may_go es n) may, apart)
+    later (may, apart) = (or_right (eqb e.number n && is_passed e.stage) (may_go es n) may, apart)
 
     now : not (eqb (e.number / 64) word && is_passed e.stage) ≡ true → (eqb e.number n ≡ true) × (is_passed e.stage ≡ true) → (may_go (e ∷ es) n ≡ true) × (eqb (n / 64) word ≡ false)
     now kept (same, passed) =
         let is : e.number ≡ n = eqb-true e.number n same in
         (rw (same, passed) refl, rw is at (away (eqb (e.number / 64) word) (is_passed e.stage) passed kept))
-
-pub neither : (a b : Bool) → (a || b) ≡ false → (a ≡ false) × (b ≡ false)
-neither true b e = cc
-neither false b e = (refl, e)
 
 -- whether a limbo is empty
 pub no_item : (limbo : Limbo) → IsEmpty limbo ⊎ (IsEmpty limbo → ⊥)

@@ -2,7 +2,7 @@
 use Rattle.std.proofs.Common.{◌≡◌, ◌≢◌, ◌<◌, ◌≤◌, ◌++◌, inl, inr, ℕ, zero, suc, List, [], ◌∷◌, length, map, take, get_or, eqb, Option, Some, None, Bool, true, false, refl, sym, subst, ap, ◌∙◌, arith, IsTrue}
 use Rattle.std.specs.Prelude.{◌||◌, if◌then◌else◌, MatchOption, unwrap_or}
 use Rattle.std.specs.List.{All, AllPairs, Contains, list_any}
-use Rattle.std.proofs.lemmas.Bool.{cases_Bool, cases_eq, eq-eqb, eqb-true, ne_eqb}
+use Rattle.std.proofs.lemmas.Bool.{cases_Bool, cases_eq, eq-eqb, eqb-true, ne_eqb, or_right}
 use Rattle.std.proofs.lemmas.List.{get_or-take, get_or_default, length-take-le}
 use Rattle.std.proofs.lemmas.List.Folds.{Any-from_list_any, list_any-append, list_any_at}
 use Rattle.std.proofs.lemmas.List.Kept.{AllPairs-cons}
@@ -20,7 +20,6 @@ use Rattle.epochs.specs.declared.entry.Stage.TheVariants.{Unstamped, Stamped, Pa
 use Rattle.epochs.specs.Limbo.{IsNew, Limbo, LimboList, added, stage_in, stage_of}
 use Rattle.sweep.specs.Kept.{Agrees, AreKept}
 use Rattle.sweep.specs.Taken.{IsTakenOut, fresh, with_rows}
-use Rattle.sweep.proofs.Stages.{or_true}
 
 -- whether the row is one of these
 abbrev pub is_one : List ℕ → ℕ → Bool
@@ -134,7 +133,7 @@ rows_apart seen one head [] is some = absurd is
 rows_apart seen one head (x ∷ xs) is some = elim (next_row x) as (λ o. next_row x ≡ o → MatchOption o (xs ≡ []) (λ next. IsChainFrom seen next xs) → ((row : ℕ) → is_one (chain_rows (unwrap_or o 0) xs) row ≡ true → 0 < row) → AllPairs (λ one other. one ≢ other) (head ∷ chain_rows (unwrap_or o 0) xs)) [
   | None ↦ λ e empty more. rw empty (λ i j d before within. absurd (omega (arith, before, within)))
   | Some next ↦ λ e under more. AllPairs-cons (λ one other. one ≢ other) head (chain_rows next xs) (is_none (chain_rows next xs) head (not_below next under)) (rows_apart seen one next xs under more)
-] refl is.1 (λ row on. some row (or_true (eqb head row) (is_one (chain_rows (unwrap_or (next_row x) 0) xs) row) on))
+] refl is.1 (λ row on. some row (or_right (eqb head row) (is_one (chain_rows (unwrap_or (next_row x) 0) xs) row) on))
   where
     not_below : (next : ℕ) → IsChainFrom seen next xs → is_one (chain_rows next xs) head ≡ false
     not_below next under = elim (cases_Bool (is_one (chain_rows next xs) head)) [

@@ -10,6 +10,7 @@ use Rattle.bw_tree.specs.Seats.{IsSame, Seat, unfinished_command}
 use Rattle.bw_tree.specs.declared.called.Called.{Called}
 use Rattle.bw_tree.specs.declared.called.Called.TheVariants.{Done, Spent}
 use Rattle.workers.specs.Worked.{GoesOn}
+use Rattle.bw_tree.proofs.Going.{same_on}
 
 -- a seat that has made no call
 pub stays : (seat : Seat) → unfinished_command seat ≡ None → GoesOn seat [] seat
@@ -19,10 +20,6 @@ stays seat idle = record {
   calls = sym (append-nil (calls_in seat));
   idle = idle;
 }
-
--- the seat stays the same one, and what it has seen grows
-same_on : (a b c : Seat) → IsSame a b → IsSame b c → IsSame a c
-same_on a b c before same = record { table = same.table ∙ before.table; limits = same.limits ∙ before.limits; actor = same.actor ∙ before.actor }
 
 grows_on : (a b c : Seat) → StartsWith b.seen a.seen → StartsWith c.seen b.seen → StartsWith c.seen a.seen
 grows_on a b c before grows = (before.0 ++ grows.0, grows.1 ∙ ap (λ z. z ++ grows.0) before.1 ∙ append_assoc a.seen before.0 grows.0)

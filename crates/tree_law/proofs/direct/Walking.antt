@@ -9,6 +9,7 @@ use Rattle.tree_law.proofs.shape.Puts.{by_equal}
 use Rattle.tree_law.proofs.trace.Searches.{takes_kept}
 use Rattle.tree_law.proofs.direct.Appended.{takes_below, takes_cases, takes_last}
 use Rattle.tree_law.proofs.links.Learning.{learning, at_row, wins, leaves}
+use Rattle.std.proofs.lemmas.Bool.{or_left, or_right}
 
 -- what was read stays known but for a read of a row, and a leave
 abbrev KeepsSeen : StepOf Record → Type 0
@@ -44,14 +45,6 @@ walk_kept r Leave x h = absurd h
 walk_kept r (PidBits w) (Number n) h = refl
 walk_kept r (RowBits w) (Number n) h = refl
 walk_kept r s x h = refl
-
-or_left : (s t : Bool) → s ≡ true → (s || t) ≡ true
-or_left true t e = refl
-or_left false t e = absurd (cc)
-
-or_right : (s t : Bool) → t ≡ true → (s || t) ≡ true
-or_right true t e = refl
-or_right false t e = e
 
 or_none : (s t : Bool) → (s || t) ≡ false → t ≡ false
 or_none true t e = absurd (cc)

@@ -9,7 +9,8 @@ use Rattle.tree_law.proofs.shape.{by_equal, eqb_same, eqb_true, eqb_apart, put_o
 use Rattle.tree_law.proofs.links.Stepping.{slot_put, root_apart}
 use Rattle.tree_law.proofs.epochs.Timing.{Turn, limbo_row, limbo_pid, held_later, announced_still, put_timed}
 use Rattle.tree_law.proofs.epochs.Timely.{linked}
-use Rattle.tree_law.proofs.epochs.Exchanging.{tested_linked, tested_cleared, both_true, out_now, later_out, out_cases, spare_of, slot_linked, on_walk}
+use Rattle.tree_law.proofs.epochs.Exchanging.{tested_linked, tested_cleared, out_now, later_out, out_cases, spare_of, slot_linked, on_walk}
+use Rattle.std.proofs.lemmas.Bool.{and_parts}
 
 module _ {limits : Limits} {m : Memory} {log : List Update} {o : Owners} {knows : ℕ → Knowledge} {point : ℕ → Option (List Update)} {logs : ℕ → List (List Update)} {now : ℕ} {t : Times} (g : IsTree (shared m) log o knows point logs) (T : Timed limits m o knows now t) (a : ℕ) where
   module _ (p x : ℕ) where
@@ -35,7 +36,7 @@ module _ {limits : Limits} {m : Memory} {log : List Update} {o : Owners} {knows 
       page_cases : (q : ℕ) (w : Outing) → t2.page_out q ≡ Some w → ((l : ℕ) × (s : Key) × (o'.page q ≡ Cleared w.who l s))
       page_cases q w e = elim (out_cases g T a (t.page_out q) (eqb q (suc p) && is_cleared (o.page q)) w e) [
         | inl u ↦ let v = (T.pages q w u).0 in (v.0, v.1, ap (λ (h : ℕ → PageOwner). h q) f.pages ∙ v.2)
-        | inr u ↦ let b = both_true (eqb q (suc p)) (is_cleared (o.page q)) u.1 in
+        | inr u ↦ let b = and_parts (eqb q (suc p)) (is_cleared (o.page q)) u.1 in
             let c = tested_cleared (o.page q) b.1 in
             (c.1, c.2, ap (λ (h : ℕ → PageOwner). h q) f.pages ∙ c.3 ∙ ap (λ n. Cleared n c.1 c.2) ((f.whose c.0 c.1 c.2 (ap o.page (sym (eqb_true q (suc p) b.0)) ∙ c.3)) ∙ sym (ap (λ v. v.who) u.2)))
       ]
@@ -71,7 +72,7 @@ module _ {limits : Limits} {m : Memory} {log : List Update} {o : Owners} {knows 
         together = together_after;
         rows = λ r w e. elim (out_cases g T a (t.row_out r) (is_linked (o.row r) && eqb (t.home r) (suc p)) w e) [
           | inl u ↦ elim (T.rows r w u).0 [ inl v ↦ inl (f.stay r v) | inr v ↦ inr (f.spare r w.who v) ]
-          | inr u ↦ inl (f.stay r (tested_linked (o.row r) (both_true (is_linked (o.row r)) (eqb (t.home r) (suc p)) u.1).0))
+          | inr u ↦ inl (f.stay r (tested_linked (o.row r) (and_parts (is_linked (o.row r)) (eqb (t.home r) (suc p)) u.1).0))
         ];
         pages = λ q w e. (page_cases q w e, ap (λ v. v q) (slot_put m.slots p 0) ∙ slot_out q w e);
         own_rows = λ b r ne i. own_in b r i;

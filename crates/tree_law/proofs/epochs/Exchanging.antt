@@ -9,6 +9,7 @@ use Rattle.tree_law.proofs.shape.{by_equal, eqb_same, eqb_apart, put_other, deci
 use Rattle.tree_law.proofs.links.Stepping.{slot_put}
 use Rattle.tree_law.proofs.epochs.Timing.{IsLater, Turn, limbo_row}
 use Rattle.tree_law.proofs.epochs.Timely.{linked}
+use Rattle.std.proofs.lemmas.Bool.{and_parts}
 
 pub tested_linked : (v : Owner) → is_linked v ≡ true → v ≡ Linked
 tested_linked Linked e = refl
@@ -17,10 +18,6 @@ tested_linked v e = absurd (cc)
 pub tested_cleared : (w : PageOwner) → is_cleared w ≡ true → (b l : ℕ) × (s : Key) × (w ≡ Cleared b l s)
 tested_cleared (Cleared b l s) e = (b, l, s, refl)
 tested_cleared _ e = absurd (cc)
-
-pub both_true : (a b : Bool) → (a && b) ≡ true → (a ≡ true) × (b ≡ true)
-both_true true true e = (refl, refl)
-both_true a b e = absurd (cc)
 
 -- a record over another is no base
 over_no_base : (w : Record) (n : ℕ) → next_row w ≡ Some n → is_base (Some w) ≡ false
@@ -139,7 +136,7 @@ module _ {limits : Limits} {m : Memory} {log : List Update} {o : Owners} {knows 
         together = together_after;
         rows = λ r w e. elim (out_cases (t.row_out r) (is_base (m.rows (suc y)) && (is_linked (o.row r) && eqb (t.home r) (suc p))) w e) [
           | inl u ↦ elim (T.rows r w u).0 [ inl v ↦ inl (f.stay r v) | inr v ↦ elim (f.spare r w.who v) [ inl z ↦ inr z | inr z ↦ inl z ] ]
-          | inr u ↦ inl (f.stay r (tested_linked (o.row r) (both_true (is_linked (o.row r)) (eqb (t.home r) (suc p)) (both_true (is_base (m.rows (suc y))) (is_linked (o.row r) && eqb (t.home r) (suc p)) u.1).1).0))
+          | inr u ↦ inl (f.stay r (tested_linked (o.row r) (and_parts (is_linked (o.row r)) (eqb (t.home r) (suc p)) (and_parts (is_base (m.rows (suc y))) (is_linked (o.row r) && eqb (t.home r) (suc p)) u.1).1).0))
         ];
         pages = λ q w e. let v = T.pages q w e in ((v.0.0, v.0.1, f.cleared q w.who v.0.0 v.0.1 v.0.2), ap (λ v. v q) (slot_put m.slots p (suc y)) ∙ put_other (slot_in m.slots) (suc p) (Some (suc y)) q (λ i. absurd (cc f.page_in)) ∙ v.1);
         own_rows = λ b r ne i. in_own b r i;

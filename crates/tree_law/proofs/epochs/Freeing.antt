@@ -1,9 +1,9 @@
 -- A reuse frees what nobody can hold: the invariant and what actors hold stay.
 use Rattle.tree_law.proofs.Words.{false, ◌⊎◌, ap, refl, cond, ltb, Option, suc, None, List, true, inl, ◌≢◌, ◌≤◌, inr, ◌∷◌, subst, sym, ℕ, ◌≡◌, Bool, zero, ◌∙◌, ◌<◌, arith, Some, ltb-true}
-use Rattle.tree_law.proofs.Words.{same_Some, ◌||◌, Update, is_among, Reply, Limits, Answer, ReuseRows, ReusePids, ContentOf, Memory, next_row, Record, content_in, right_in, is_removed, level_in}
+use Rattle.tree_law.proofs.Words.{same_Some, Update, is_among, Reply, Limits, Answer, ReuseRows, ReusePids, ContentOf, Memory, next_row, Record, content_in, right_in, is_removed, level_in}
 use Rattle.tree_law.proofs.Words.{IsPassed, Knowledge, finished, learn, LimboMark, Absent, memory_after, Key, Covers, After, Free, Linked, Owners, Reached, Spare, Owner}
 use Rattle.tree_law.proofs.Words.{IsChain, IsCleared, Nobody, PageOwner, child_of, put, shared, slot_in, Times, Timed, LimboFits, Outing, IsSince, HeldHead, IsTree, HoldsBy}
-use Rattle.std.proofs.lemmas.Bool.{ltb-false, le-ltb}
+use Rattle.std.proofs.lemmas.Bool.{ltb-false, le-ltb, or_cases}
 use Rattle.tree_law.proofs.shape.{chain_unique, by_equal, decided, false_if}
 use Rattle.tree_law.proofs.links.Keeping.{quiet, mine}
 use Rattle.tree_law.proofs.epochs.Reusing.{Learnt, AreLoose, AreSame, lets_rows, frees_pages}
@@ -69,10 +69,6 @@ freed_since false out e h = h
 freed_none : (z : Bool) (out : Option Outing) → out ≡ None → cond {A = Option Outing} z None out ≡ None
 freed_none true out e = refl
 freed_none false out e = e
-
-pub or_cases : (x y : Bool) → (x || y) ≡ true → (x ≡ true) ⊎ (y ≡ true)
-or_cases true y e = inl refl
-or_cases false y e = inr e
 
 module _ {limits : Limits} {m : Memory} {log : List Update} {o : Owners} {knows : ℕ → Knowledge} {point : ℕ → Option (List Update)} {logs : ℕ → List (List Update)} {now : ℕ} {t : Times} (g : IsTree (shared m) log o knows point logs) (T : Timed limits m o knows now t) (a : ℕ) (outside : (knows a).inside ≡ false) where
   other_inside : (b : ℕ) → (knows b).inside ≡ true → b ≢ a

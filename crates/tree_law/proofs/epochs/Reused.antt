@@ -3,9 +3,10 @@ use Rattle.tree_law.proofs.Words.{false, ◌⊎◌, Option, List, true, inl, inr
 use Rattle.tree_law.proofs.Words.{ReusePids, Memory, Record, IsOwn, IsOwnBase, IsPassed, Knowledge, finished, learn, Foreign, Taken, Written, OwnRow, IsAnswer, memory_after, Entry}
 use Rattle.tree_law.proofs.Words.{Owners, Spare, OwnFits, put, shared, slot_in, IsReadyPage, IsInTree, IsNamed, Times, Timed, IsTree}
 use Rattle.op_machine.specs.theorem.Phases as phase
-use Rattle.tree_law.proofs.epochs.Freeing.{or_cases, row_free_after, freed, freed_page, held, in_tree, not_among, stays, same_page, o1, page2, o2}
+use Rattle.tree_law.proofs.epochs.Freeing.{row_free_after, freed, freed_page, held, in_tree, not_among, stays, same_page, o1, page2, o2}
 use Rattle.tree_law.proofs.trace.Names.{Numbers}
 use Rattle.tree_law.proofs.shape.Puts.{by_equal, decided}
+use Rattle.std.proofs.lemmas.Bool.{or_cases}
 
 module _ {limits : Limits} {entries : List Entry} {o : Owners} {m : Memory} {knows : ℕ → Knowledge} {log : List Update} {point : ℕ → Option (List Update)} {logs : ℕ → List (List Update)} {now : ℕ} {t : Times}
     (g : IsTree (shared m) log o knows point logs) (T : Timed limits m o knows now t) (old : IsNamed limits entries o m knows) (a : ℕ) (outside : (knows a).inside ≡ false) (word bits : ℕ) (x : Answer Record) (r : Option Reply) where

@@ -1,28 +1,13 @@
 -- A function changed at one place: what holds at that place and at the others.
-use Rattle.tree_law.proofs.Words.{false, ◌⊎◌, refl, Option, None, true, inl, ◌≢◌, inr, ℕ, ◌≡◌, Bool, arith, Some, eqb, nat_tests, put}
+use Rattle.tree_law.proofs.Words.{false, refl, Option, None, true, inl, ◌≢◌, inr, ℕ, ◌≡◌, Bool, Some, eqb, put}
+use Rattle.std.proofs.lemmas.Bool.{eq-eqb}
+-- what tests of numbers say; a test is true or false; what is not true is false
+pub use Rattle.std.proofs.lemmas.Bool.{eqb-true as eqb_true, eqb-false as eqb_false, ne_eqb as eqb_apart, cases_Bool as decided, false_from_ne_true as false_if}
 
 pub eqb_same : (i : ℕ) → eqb i i ≡ true
-eqb_same i = grind (arith, nat_tests)
+eqb_same i = eq-eqb i i refl
 
-pub eqb_true : (j i : ℕ) → eqb j i ≡ true → j ≡ i
-eqb_true j i h = grind (arith, nat_tests)
-
-pub eqb_false : (j i : ℕ) → eqb j i ≡ false → j ≢ i
-eqb_false j i h = grind (arith, nat_tests)
-
-pub eqb_apart : (j i : ℕ) → j ≢ i → eqb j i ≡ false
-eqb_apart j i h = grind (arith, nat_tests)
-
--- a test is true or false
-pub decided : (t : Bool) → (t ≡ true) ⊎ (t ≡ false)
-decided true = inl refl
-decided false = inr refl
-
--- what is not true is false, and what is not something is nothing
-pub false_if : (t : Bool) → (t ≡ true → ⊥) → t ≡ false
-false_if true never = absurd (never refl)
-false_if false never = refl
-
+-- what is not something is nothing
 pub none_if : {X : Type 0} (o : Option X) → ((x : X) → o ≡ Some x → ⊥) → o ≡ None
 none_if None never = refl
 none_if (Some x) never = absurd (never x refl)

@@ -3,7 +3,8 @@ use Rattle.std.specs.Prelude.{slice_get}
 use mathlib.Core.Logic.{dite}
 use native.Mathlib.Decide.{ℕ_discrete}
 use Rattle.bw_tree.specs.Seats.{unfinished_command}
-use Rattle.bw_tree.proofs.Resting.{at_index, get_below, get_one, has_none, has_one}
+use Rattle.bw_tree.proofs.Resting.{at_index, get_one, has_none, has_one}
+use Rattle.traces.proofs.Pushes.{slice_get_below}
 use Rattle.bw_tree.proofs.closing.are_idle.Goals as goal
 
 pub returns-then-not-is_idle : goal.returns-then-not-is_idle
@@ -22,5 +23,5 @@ loop-seat-preserved g c = λ n seat below there.
 pub returns : goal.returns
 returns g c = λ has.
     let (n, seat, there, busy) = has in
-    let below = get_below c.args.seats.now n seat there in
+    let below = slice_get_below c.args.seats.now n seat there in
     busy (c.loop-seat.invariant n seat (omega (arith, below, c.loop-seat-test.false)) there)

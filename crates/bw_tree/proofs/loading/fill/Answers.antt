@@ -5,8 +5,8 @@ use Rattle.bw_tree.specs.Calls.{calls_in}
 use Rattle.bw_tree.specs.Loaded.{upsert_of}
 use Rattle.bw_tree.specs.Runs.{IsOneHistory}
 use Rattle.bw_tree.specs.Seats.{Seat, unfinished_command}
-use Rattle.bw_tree.proofs.Filling.{idle_then, same_then, stops, upserted_then}
-use Rattle.bw_tree.proofs.Going.{same_self}
+use Rattle.bw_tree.proofs.Filling.{idle_then, stops, upserted_then}
+use Rattle.bw_tree.proofs.Going.{same_self, same_on}
 use Rattle.bw_tree.proofs.Resting.{at_index}
 use Rattle.bw_tree.proofs.loading.fill.Goals as goal
 
@@ -24,7 +24,7 @@ pub loop-pair-preserved : goal.loop-pair-preserved
 loop-pair-preserved g c =
     let asked : Upsert c.copied.result c.copied-in-loop-pair.result ≡ upsert_of c.pair-item.result = ap (λ (k : List ℕ). Upsert k c.copied-in-loop-pair.result) c.copied.ensures ∙ ap (λ (v : List ℕ). Upsert c.pair-item.result.0 v) c.copied-in-loop-pair.ensures in
     record {
-      same = same_then c.args.seat.now c.loop-pair.seat c.call-called.new.seat c.loop-pair.invariant.same c.call-called.ensures.same;
+      same = same_on c.args.seat.now c.loop-pair.seat c.call-called.new.seat c.loop-pair.invariant.same c.call-called.ensures.same;
       idle = idle_then c.args.pairs.now c.loop-pair.pair-index c.pair-item.result c.loop-pair.seat c.call-called.new.seat (Upsert c.copied.result c.copied-in-loop-pair.result) _ c.call-called.result c.loop-pair-test.true c.pair-item.is asked
           c.loop-pair.invariant.upserted c.call-called.ensures.called c.in_default.ensures;
       upserted = upserted_then c.args.pairs.now c.loop-pair.pair-index c.pair-item.result c.loop-pair.seat c.call-called.new.seat (Upsert c.copied.result c.copied-in-loop-pair.result) _ c.call-called.result c.loop-pair-test.true c.pair-item.is asked
@@ -42,4 +42,4 @@ pub call-called-requires-clause-own : goal.call-called-requires-clause-own
 call-called-requires-clause-own g c = record { table = c.loop-pair.invariant.same.table ∙ c.requires.own.table; limits = c.loop-pair.invariant.same.limits ∙ c.requires.own.limits }
 
 pub returns-in-Some-clause-same : goal.returns-in-Some-clause-same
-returns-in-Some-clause-same g c = same_then c.args.seat.now c.loop-pair.seat c.call-called.new.seat c.loop-pair.invariant.same c.call-called.ensures.same
+returns-in-Some-clause-same g c = same_on c.args.seat.now c.loop-pair.seat c.call-called.new.seat c.loop-pair.invariant.same c.call-called.ensures.same
