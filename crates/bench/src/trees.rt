@@ -6,10 +6,10 @@ use crate::amounts::{Done, Scale};
 use crate::worker::{What, Worker};
 use bw_model::Limits;
 use bw_tree::{BwSeat, Tree};
+use seats::{opened, work_in_threads};
 use std::alloc::{AllocError, Global};
 use std::thread::Threads;
 use std::time::{Clock, Instant};
-use workers::{opened, work_in_threads};
 
 /// Loads a new tree, and does what is asked on it, if that is more. Answers what was done last; none without memory, seats or a clock.
 pub(crate) fn run<R: Threads + Clock + Sync>(

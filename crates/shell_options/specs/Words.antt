@@ -98,7 +98,11 @@ IsSpelled words line = IsNamedBy (subcommand_of bwtree_app words) line
 abbrev pub told_by : ArgMatches → Option (Text × List Row)
 told_by matches = subcommand_rows (out-ArgMatches matches).subcommand
 
--- the command, if it could be made, is of this shape, and no option of it is its subcommands' too
+-- the command, if it could be made, is of this shape
+abbrev pub IsApp : {E : Type 0} → App → Result Command E → Type 0
+IsApp app made = IfOk made (λ c. app_of c ≡ app)
+
+-- the same, and no option of it is its subcommands' too
 abbrev pub MakesApp : {E : Type 0} → App → Result Command E → Type 0
 MakesApp app made = IfOk made (λ c. (app_of c ≡ app) × ((fields_of c).has_globals ≡ false))
 

@@ -4,7 +4,7 @@ ghost use Rattle.std.specs.Prelude.{◌≡◌, ◌↔◌, IfErr, IfOk, IfSome, I
 ghost use Rattle.tree_limits.specs.Limits.{AreLimits};
 ghost use Rattle.std.specs.String.{string_bytes};
 ghost use Rattle.clap.specs.Words.{App, app_of, found_of, new_app, rows_of, rule_of, with_rule, with_subcommand};
-ghost use Rattle.shell_options.specs.Words.{number_rule, limits_rules, actors_app, draw_app, script_app, weave_app, race_app, bwtree_app, SpellsOr, HasActors, HasNumbers, MakesApp, default_pids_of, default_rows_of, told_by, HasNoFault, IsSpelled, IsNamedBy, MayRefuse};
+ghost use Rattle.shell_options.specs.Words.{number_rule, limits_rules, actors_app, draw_app, script_app, weave_app, race_app, bwtree_app, SpellsOr, HasActors, HasNumbers, IsApp, MakesApp, default_pids_of, default_rows_of, told_by, HasNoFault, IsSpelled, IsNamedBy, MayRefuse};
 
 use clap::error::ErrorKind;
 use clap::{Arg, ArgMatches, Command, Error, value_parser};
@@ -197,26 +197,26 @@ fn race_command<'a>(alloc: Global) -> Result<Command<'a>, AllocError>
     )
 }
 
-// The command with a program more, where that one's words could be made.
+// The command with a program more, if there is a command, and where that one's words could be made.
 fn with_program<'a>(
-    command: Command<'a>,
+    command: Result<Command<'a>, AllocError>,
     made: Result<Command<'a>, AllocError>,
 ) -> Result<Command<'a>, AllocError>
-    ensures { (sub : App) → MakesApp sub made.entry → IfOk result (λ c. app_of c ≡ with_subcommand (app_of command.entry) sub.top) }
+    ensures { (app sub : App) → IsApp app command.entry → MakesApp sub made.entry → IsApp (with_subcommand app sub.top) result }
 {
-    command.subcommand(made?)
+    command?.subcommand(made?)
 }
 
 // The words of all programs.
 fn command<'a>(alloc: Global) -> Result<Command<'a>, AllocError>
-    ensures { IfOk result (λ c. app_of c ≡ bwtree_app) }
+    ensures { IsApp bwtree_app result }
 {
     let command = Command::new(alloc, "bwtree")
         .about("An ordered map of keys to values, kept in a latch-free Bw-tree")
         .subcommand_required(true);
-    let command = with_program(command, script_command(alloc))?;
-    let command = with_program(command, weave_command(alloc))?;
-    let command = with_program(command, draw_command(alloc))?;
+    let command = with_program(Ok(command), script_command(alloc));
+    let command = with_program(command, weave_command(alloc));
+    let command = with_program(command, draw_command(alloc));
     with_program(command, race_command(alloc))
 }
 

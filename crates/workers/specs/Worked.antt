@@ -6,15 +6,12 @@ use Rattle.bw_model.specs.declared.command.Reply.{Reply}
 use Rattle.bw_tree.specs.Calls.{calls_in}
 use Rattle.bw_tree.specs.Runs.{IsOneHistory, StartsWith}
 use Rattle.bw_tree.specs.Seats.{IsSame, Seat, unfinished_command}
+pub use Rattle.seats.specs.Idle.{AreIdle}
 use Rattle.workers.specs.declared.job.Job.{Job}
 use Rattle.workers.specs.declared.job.JobResult.{JobResult}
 use Rattle.workers.specs.declared.job.JobsRefusal.{JobsRefusal}
 use Rattle.workers.specs.declared.job.JobsRefusal.TheVariants.{NotRun, Results}
 use Rattle.workers.specs.Jobs.{AreResultsOf, calls_told}
-
--- No seat has an operation.
-abbrev pub AreIdle : List Seat → Type 0
-AreIdle seats = (n : ℕ) (seat : Seat) → slice_get seats n ≡ Some seat → unfinished_command seat ≡ None
 
 -- The results that name a seat by its place, in some order: together with others, which name other seats, they are all.
 pub record AreNamed {A : Type 0} (place : ℕ) (results order : List (JobResult A)) : Type 0 where

@@ -1,5 +1,5 @@
 use Rattle.std.proofs.lemmas.Result.{IfOk-weaker}
-use Rattle.workers.proofs.Fresh.{fresh_own}
+use Rattle.seats.proofs.Fresh.{fresh_own}
 use Rattle.tree_tests.proofs.trees.opened_at.Goals as goal
 
 pub returns : goal.returns

@@ -1,7 +1,7 @@
 use Rattle.std.proofs.Common.{subst}
 use Rattle.std.specs.Prelude.{option_to_list}
 use Rattle.bw_tree.specs.Trees.{AreSeatsOf, IsSeatOf}
-use Rattle.workers.proofs.Pushed.{all_before, last_of}
+use Rattle.seats.proofs.Pushed.{all_before, last_of}
 use Rattle.tree_tests.proofs.without_memory.take_seat.Goals as goal
 
 pub returns-clause-left : goal.returns-clause-left

@@ -5,7 +5,7 @@ use Rattle.workers.specs.declared.worker.Worker.{Worker}
 use Rattle.workers.specs.Begun.{AreBegun}
 use Rattle.workers.specs.Working.{HasRoom}
 use Rattle.workers.proofs.Beginning.{begun_more, none_begun}
-use Rattle.workers.proofs.Yielded.{all_here, all_yielded, one_yielded}
+use Rattle.seats.proofs.Yielded.{all_here, all_yielded, one_yielded}
 use Rattle.workers.proofs.begun.begin_all.Goals as goal
 
 abbrev IsOwn : {A : Type 0} → Tree → Worker A → Type 0

@@ -1,7 +1,7 @@
 use Rattle.std.proofs.Common.{arith, subst}
 use Rattle.workers.specs.Begun.{HaveJoined, IsToldBy}
 use Rattle.workers.proofs.Beginning.{joined_more, none_joined}
-use Rattle.workers.proofs.Yielded.{all_here, all_yielded, one_yielded}
+use Rattle.seats.proofs.Yielded.{all_here, all_yielded, one_yielded}
 use Rattle.workers.proofs.begun.join_all.Goals as goal
 
 pub loop-thread-preserved : goal.loop-thread-preserved

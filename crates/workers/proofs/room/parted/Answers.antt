@@ -5,7 +5,7 @@ use Rattle.std.proofs.lemmas.List.{length-append}
 use Rattle.workers.specs.declared.worker.Worker.{Worker}
 use Rattle.workers.proofs.Named.{done_by}
 use Rattle.workers.proofs.Parting.{few_more, has_room, results_more, seat_of, seats_more}
-use Rattle.workers.proofs.Yielded.{all_here, all_yielded, one_yielded}
+use Rattle.seats.proofs.Yielded.{all_here, all_yielded, one_yielded}
 use Rattle.workers.proofs.room.parted.Goals as goal
 
 abbrev IsFew : {A : Type 0} → ℕ → Worker A → Type 0

@@ -5,7 +5,7 @@ use Rattle.std.proofs.lemmas.List.Elements.{All-nil, All-pop, All-push}
 use Rattle.workers.specs.declared.worker.Worker.{Worker}
 use Rattle.workers.specs.Working.{HasRoom}
 use Rattle.workers.proofs.Parting.{seat_of}
-use Rattle.workers.proofs.Yielded.{all_yielded, one_yielded}
+use Rattle.seats.proofs.Yielded.{all_yielded, one_yielded}
 use Rattle.workers.proofs.room.seated.Goals as goal
 
 pub loop-seat-init : goal.loop-seat-init

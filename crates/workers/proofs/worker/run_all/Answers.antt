@@ -1,6 +1,6 @@
 use Rattle.std.proofs.Common.{arith}
 use Rattle.workers.proofs.Going.{ran}
-use Rattle.workers.proofs.Pushed.{one_longer}
+use Rattle.seats.proofs.Pushed.{one_longer}
 use Rattle.workers.proofs.worker.run_all.Goals as goal
 
 pub loop-command-preserved : goal.loop-command-preserved

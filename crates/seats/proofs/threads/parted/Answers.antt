@@ -1,9 +1,9 @@
 use Rattle.std.proofs.Common.{◌≡◌, [], ◌∷◌, ◌++◌, ap, arith, length}
 use Rattle.std.proofs.lemmas.List.{length-append}
 use Rattle.bw_tree.specs.Trees.{IsSeatOf}
-use Rattle.workers.proofs.Pushed.{one_longer, where_ok}
-use Rattle.workers.proofs.Yielded.{all_here, all_yielded, one_yielded}
-use Rattle.workers.proofs.threads.parted.Goals as goal
+use Rattle.seats.proofs.Pushed.{one_longer, where_ok}
+use Rattle.seats.proofs.Yielded.{all_here, all_yielded, one_yielded}
+use Rattle.seats.proofs.threads.parted.Goals as goal
 
 pub give_seat-requires-clause-given : goal.give_seat-requires-clause-given
 give_seat-requires-clause-given g c =

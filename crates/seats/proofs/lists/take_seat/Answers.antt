@@ -1,8 +1,8 @@
 use Rattle.std.proofs.Common.{subst}
 use Rattle.std.specs.Prelude.{option_to_list}
 use Rattle.bw_tree.specs.Trees.{AreSeatsOf, IsSeatOf}
-use Rattle.workers.proofs.Pushed.{all_before, last_of}
-use Rattle.workers.proofs.seats.take_seat.Goals as goal
+use Rattle.seats.proofs.Pushed.{all_before, last_of}
+use Rattle.seats.proofs.lists.take_seat.Goals as goal
 
 pub returns-clause-left : goal.returns-clause-left
 returns-clause-left c = all_before (IsSeatOf c.args.tree.now) c.pop.new.self.items (option_to_list c.pop.result) (subst (AreSeatsOf c.args.tree.now) c.pop.ensures.items c.requires.own)

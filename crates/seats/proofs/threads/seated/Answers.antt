@@ -2,9 +2,9 @@ use Rattle.std.proofs.Common.{[], ◌∷◌, ap, arith, length}
 use Rattle.std.proofs.lemmas.List.{length-append}
 use Rattle.std.proofs.lemmas.List.Elements.{All-push}
 use Rattle.bw_tree.specs.Trees.{IsSeatOf}
-use Rattle.workers.proofs.Pushed.{one_longer}
-use Rattle.workers.proofs.Yielded.{all_yielded}
-use Rattle.workers.proofs.threads.seated.Goals as goal
+use Rattle.seats.proofs.Pushed.{one_longer}
+use Rattle.seats.proofs.Yielded.{all_yielded}
+use Rattle.seats.proofs.threads.seated.Goals as goal
 
 pub loop-work-preserved : goal.loop-work-preserved
 loop-work-preserved g c =

@@ -5,7 +5,7 @@ use Rattle.std.proofs.lemmas.Option.{same_Some, slice_get_within}
 use Rattle.bw_tree.specs.Loaded.{AreLoaded, seat_at}
 use Rattle.bw_tree.specs.Seats.{Seat, unfinished_command}
 use Rattle.bw_tree.specs.Trees.{AreFresh, AreSeatsOf, IsSeatOf, Tree, fresh_seat}
-use Rattle.workers.specs.Worked.{AreIdle}
+use Rattle.seats.specs.Idle.{AreIdle}
 
 is_fresh : (tree : Tree) (seats : List Seat) → AreFresh tree seats → (n : ℕ) (seat : Seat) → slice_get seats n ≡ Some seat → fresh_seat tree n ≡ seat
 is_fresh tree seats fresh n seat at =

@@ -1,6 +1,6 @@
 use Rattle.std.proofs.Common.{◌≡◌, ◌+◌, length, All, vec_len}
 use Rattle.bw_tree.specs.Trees.{AreSeatsOf, IsSeatOf}
-use Rattle.workers.proofs.threads.seated.Given as goal
+use Rattle.seats.proofs.threads.seated.Given as goal
 
 abbrev pub invariant-loop-work : goal.invariant-loop-work
 invariant-loop-work g l = record {

@@ -2,7 +2,7 @@
 ghost use Rattle.std.specs.Prelude.{◌≡◌, ◌+◌, All, IfSome, IsSome, vec_len};
 ghost use Rattle.bw_tree.specs.Trees.{AreSeatsOf, IsSeatOf};
 
-use crate::seats::{give_seat, take_seat};
+use crate::lists::{give_seat, take_seat};
 use bw_tree::{BwSeat, Tree};
 use std::thread::{Threads, map_vec};
 

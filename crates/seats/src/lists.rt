@@ -3,7 +3,7 @@ ghost use Rattle.std.specs.Prelude.{◌≡◌, ◌↔◌, ◌++◌, ◌∷◌, [
 ghost use Rattle.bw_model.specs.declared.command.Reply.TheVariants as reply;
 ghost use Rattle.bw_tree.specs.Loaded.{AreLoaded, IsStopped, KeysAscend};
 ghost use Rattle.bw_tree.specs.Trees.{AreFresh, AreSeatsOf, IsSeatOf};
-ghost use Rattle.workers.specs.Worked.{AreIdle};
+ghost use Rattle.seats.specs.Idle.{AreIdle};
 
 use bw_model::{Key, Limits, OpenError, Value};
 use bw_tree::{BwSeat, Called, LOAD_BUDGET, LoadError, Tree};

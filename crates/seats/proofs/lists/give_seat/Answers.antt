@@ -1,7 +1,7 @@
 use Rattle.std.proofs.Common.{sym, subst}
 use Rattle.bw_tree.specs.Trees.{AreSeatsOf, IsSeatOf}
-use Rattle.workers.proofs.Pushed.{all_pushed}
-use Rattle.workers.proofs.seats.give_seat.Goals as goal
+use Rattle.seats.proofs.Pushed.{all_pushed}
+use Rattle.seats.proofs.lists.give_seat.Goals as goal
 
 pub returns-clause-own : goal.returns-clause-own
 returns-clause-own c = subst (AreSeatsOf c.args.tree.now) (sym c.in_ok-push.ensures.items) (all_pushed (IsSeatOf c.args.tree.now) c.args.seats.now.items c.args.seat c.requires.own c.requires.given)

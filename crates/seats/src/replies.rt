@@ -4,7 +4,7 @@ ghost use Rattle.bw_tree.specs.Calls.{IsCalled, IsDone, IsResumed};
 ghost use Rattle.bw_tree.specs.Runs.{IsOneHistory};
 ghost use Rattle.bw_tree.specs.Seats.{IsSame, unfinished_command};
 ghost use Rattle.bw_tree.specs.Trees.{IsSeatOf};
-ghost use Rattle.workers.specs.Replies.{CantBegin, HasNoReply, many};
+ghost use Rattle.seats.specs.Replies.{CantBegin, HasNoReply, many};
 
 use bw_model::{Command, Reply};
 use bw_tree::{BwSeat, Called, Tree};

@@ -1,6 +1,6 @@
 use Rattle.std.proofs.Common.{◌≡◌, ◌+◌, length, vec_len}
 use Rattle.bw_tree.specs.Trees.{AreSeatsOf}
-use Rattle.workers.proofs.threads.parted.Given as goal
+use Rattle.seats.proofs.threads.parted.Given as goal
 
 abbrev pub invariant-loop-job : goal.invariant-loop-job
 invariant-loop-job g l = record {
