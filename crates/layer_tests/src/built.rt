@@ -1,4 +1,4 @@
-//! Chains and pages that are put together row by row.
+//! Pages that are put together row by row.
 ghost use Rattle.std.specs.Prelude.{◌≡◌, ◌≤◌, ◌+◌, ◌∷◌, [], ◌++◌, length};
 ghost use Rattle.deltas.specs.Spellable.{IsPid, IsRow};
 ghost use Rattle.deltas.specs.declared.record.Record.TheVariants.{Base};
@@ -6,7 +6,7 @@ ghost use Rattle.traces.specs.chain.Fitted.{FitsOver, IsPageChain};
 
 use base_page::Page;
 use deltas::Record;
-use row_chain::{Chain, ChainPart, HeldRow};
+use row_chain::{ChainPart, HeldRow};
 use smo::PageInHand;
 use std::process::Abort;
 
@@ -24,17 +24,6 @@ fn rows<R: Abort + AllocGlobal>(rt: &R, deltas: &[Record], base: Page) -> ChainP
     row.write(&Record::Base(base));
     part.push(&mut row);
     part
-}
-
-/// The chain of these deltas over the base.
-pub(crate) fn chain<R: Abort + AllocGlobal>(rt: &R, deltas: &[Record], base: Page) -> Chain
-    requires { IsPageChain (deltas.now ++ Base base ∷ []) }
-    ensures { result ≡ deltas.now ++ Base base ∷ [] }
-{
-    let mut part = rows(rt, deltas, base);
-    let mut chain = Chain::new(rt.alloc()).expect(rt, "memory for a chain");
-    chain.take(&mut part);
-    chain
 }
 
 /// The page of these deltas over the base, whose newest record stands in this row.

@@ -4,8 +4,6 @@
 #[cfg(test)]
 mod built;
 #[cfg(test)]
-mod chains;
-#[cfg(test)]
 mod changes;
 #[cfg(test)]
 mod first_rows;
@@ -14,20 +12,14 @@ mod limbo;
 #[cfg(test)]
 mod limbo_memory;
 #[cfg(test)]
-mod pages;
-#[cfg(test)]
 mod plans;
 #[cfg(test)]
 mod random_rows;
 #[cfg(test)]
 mod reads;
 #[cfg(test)]
-mod records;
-#[cfg(test)]
 mod rows;
 #[cfg(test)]
 mod sweeps;
-#[cfg(test)]
-mod texts;
 #[cfg(test)]
 mod writes;

@@ -1,7 +1,8 @@
 //! Plans over pages by hand, at the edges of their conditions.
-ghost use Rattle.std.specs.Prelude.{◌≡◌, ◌≤◌, ◌∷◌, [], length, false};
+ghost use Rattle.std.specs.Prelude.{codes, ◌≡◌, ◌≤◌, ◌∷◌, [], length, false};
 ghost use Rattle.bw_model.specs.Bytes.{longest};
 ghost use Rattle.deltas.specs.Spellable.{IsPid};
+ghost use Rattle.deltas.specs.declared.record.Record.TheVariants as kind;
 ghost use Rattle.deltas.specs.declared.record.Record.TheVariants.{Base};
 ghost use Rattle.traces.specs.chain.Chains.{is_removed};
 ghost use Rattle.traces.specs.chain.Examples.{held_page, index, index_page, termed_page};
@@ -16,11 +17,11 @@ mod roots;
 mod terms;
 
 use crate::built;
-use crate::chains::{hold, term};
 use crate::plans::grown::{at, based, delete};
 use crate::plans::index_pages::index_from;
 use base_page::{Content, Items, Page};
 use bw_model::{Key, Value};
+use deltas::{Hold, Record, Term};
 use smo::{PageInHand, plan_hold, plan_split, plan_term};
 use std::process::Abort;
 
@@ -29,6 +30,37 @@ pub(crate) fn key(text: &[u8]) -> Key
     ensures { result ≡ text.now }
 {
     Key::from_slice(text).unwrap()
+}
+
+/// The separator of all deltas.
+fn ninth() -> Key
+    ensures { result ≡ codes "k09" }
+{
+    key(b"k09")
+}
+
+/// The term of a child there.
+fn term(next: u16, child: u16) -> Record
+    ensures { result ≡ kind.Term (record { level = 1; next = next; separator = codes "k09"; child = child }) }
+{
+    Record::Term(Term {
+        level: 1,
+        next,
+        separator: ninth(),
+        child,
+    })
+}
+
+/// A hold of it.
+fn hold(next: u16, child: u16) -> Record
+    ensures { result ≡ kind.Hold (record { level = 1; next = next; separator = codes "k09"; child = child }) }
+{
+    Record::Hold(Hold {
+        level: 1,
+        next,
+        separator: ninth(),
+        child,
+    })
 }
 
 /// A leaf over all keys from the low one on, with so many items, the first one at the low key.

@@ -1,9 +1,17 @@
 //! Rows by hand: one of each kind, rows that spell nothing, and each bit of a row turned over.
 
-use crate::texts::{key, value};
 use base_page::Page;
+use bw_model::{Key, Value};
 use deltas::{Hold, Put, Record, Split};
 use record_slots::{BadRow, ROW_WORDS, from_words, to_words};
+
+fn key(text: &[u8]) -> Key {
+    Key::from_slice(text).unwrap_or_default()
+}
+
+fn value(text: &[u8]) -> Value {
+    Value::from_slice(text).unwrap_or_default()
+}
 
 /// The words of a row by their places; the others are 0.
 pub(crate) type Words = &'static [(usize, u64)];
