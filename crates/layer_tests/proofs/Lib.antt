@@ -1,2 +1,1 @@
 pub mod IndexPages
-pub mod Rounds

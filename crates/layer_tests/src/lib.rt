@@ -16,10 +16,6 @@ mod plans;
 #[cfg(test)]
 mod random_rows;
 #[cfg(test)]
-mod reads;
-#[cfg(test)]
 mod rows;
 #[cfg(test)]
 mod sweeps;
-#[cfg(test)]
-mod writes;

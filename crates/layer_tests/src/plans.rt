@@ -88,7 +88,7 @@ pub(crate) fn leaf_of<R: Abort + AllocGlobal>(rt: &R, pid: u16, low: Key, count:
 }
 
 /// The same under so many deltas, which change nothing, and twelve at most.
-pub(crate) fn leaf_under<R: Abort + AllocGlobal>(
+fn leaf_under<R: Abort + AllocGlobal>(
     rt: &R,
     pid: u16,
     low: Key,

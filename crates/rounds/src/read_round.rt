@@ -173,17 +173,6 @@ impl<A: Allocator> ReadRound<A> {
         self.see(seen)
     }
 
-    /// Takes a page that is on the way, whoever read it, gives the page in hand for it, and tells how the round ends, once it does.
-    pub fn take_page(&mut self, page: &mut PageInHand<A>) -> Option<ReadEnded>
-        requires can { CanTreatRead self.old.round page.old }
-        ensures treats { TreatsRead self.old.round page.old self.new.round (option_map (ended_read self.new) result) }
-        ensures same { IsSame self.old.round self.new.round }
-        ensures given { page.new ≡ self.old.page }
-    {
-        self.descent.swap_page(page);
-        self.treat()
-    }
-
     /// Goes on from what was seen, or ends.
     fn see(&mut self, seen: Seen) -> Option<ReadEnded>
         requires can { CanSeeToRead self.old seen }

@@ -187,17 +187,6 @@ impl<A: Allocator> WriteRound<A> {
         self.see(seen)
     }
 
-    /// Takes a page that is on the way, whoever read it, gives the page in hand for it, and tells how the round ends, once it does.
-    pub fn take_page(&mut self, page: &mut PageInHand<A>) -> Option<WriteEnded>
-        requires can { CanTreatWrite self.old.round page.old }
-        ensures treats { TreatsWrite self.old.round page.old self.new.round (option_map (ended_write self.new) result) }
-        ensures same { IsSame self.old.round self.new.round }
-        ensures given { page.new ≡ self.old.page }
-    {
-        self.descent.swap_page(page);
-        self.treat()
-    }
-
     /// Goes on from what was seen, or ends.
     fn see(&mut self, seen: Seen) -> Option<WriteEnded>
         requires can { CanSeeToWrite self.old seen }
@@ -433,7 +422,7 @@ impl<A: Allocator> WriteRound<A> {
     }
 
     /// Whether the round goes to the left of a removed page.
-    pub fn is_left(&self) -> bool
+    fn is_left(&self) -> bool
         ensures { result ≡ goes_left self.now.round.goal }
     {
         self.course.removed().is_some()

@@ -7,7 +7,7 @@ ghost use Rattle.traces.specs.chain.Fitted.{IsPageChain};
 
 use crate::built::{grow, page};
 use crate::plans::{key, leaf, leaf_of};
-use base_page::{Items, Page};
+use base_page::Page;
 use bw_model::Key;
 use deltas::{Delete, Record};
 use row_search::KeyWords;
@@ -22,12 +22,6 @@ pub(crate) fn based<R: Abort + AllocGlobal>(rt: &R, pid: u16, base: Page) -> Pag
     ensures chain { result.chain ≡ Base base ∷ [] }
 {
     page(rt, pid, 6, &[], base)
-}
-
-/// An empty leaf up to "y", where page 2 begins, as page 1.
-pub(crate) fn lower_leaf<R: Abort + AllocGlobal>(rt: &R) -> PageInHand {
-    let base = Page::new(0, Key::default(), Some(key(b"y")), Some(2), Items::new());
-    based(rt, 1, base)
 }
 
 /// The key that has a leaf's item at this place.
