@@ -19,7 +19,7 @@ use Rattle.traces.specs.trace.Trace.{command_of}
 use Rattle.traces.specs.trace.Within.{IsWithin}
 use Rattle.slot_rule.specs.Steps.{IsLawfulStep, Took}
 use Rattle.bw_tree.specs.Calls.{Advances}
-use Rattle.bw_tree.specs.Laws.{HaveLaws}
+use Rattle.bw_tree.specs.SeatLaws.{HaveLaws}
 use Rattle.bw_tree.specs.Runs.{IsLawfulRun}
 use Rattle.bw_tree.specs.Seats.{IsSeated, Seat, unfinished_command}
 use Rattle.bw_tree.proofs.Seats.{Wants, wants, may, allowed, useful, due, going, is_told, goes_so, no_reply, may_take, grown, leaves, command_then, seated_then}

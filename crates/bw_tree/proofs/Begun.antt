@@ -25,7 +25,7 @@ use Rattle.op_machine.specs.machine.Hands.{Hand}
 use Rattle.slot_rule.specs.Steps.{IsLawfulStep, Took}
 use Rattle.tree_law.specs.Direct.{Accounts}
 use Rattle.tree_words.specs.Changes.{HasWord}
-use Rattle.bw_tree.specs.Laws.{HaveLaws}
+use Rattle.bw_tree.specs.SeatLaws.{HaveLaws}
 use Rattle.bw_tree.specs.Runs.{IsLawfulRun}
 use Rattle.bw_tree.specs.Seats.{IsSeated, Seat, unfinished_command}
 use Rattle.bw_tree.proofs.Advancing.{Takes, known_may, may_go, seated_on, told_on, within}

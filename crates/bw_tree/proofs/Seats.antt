@@ -32,7 +32,7 @@ use Rattle.op_machine.specs.machine.States.{State}
 use Rattle.op_machine.specs.machine.States as state
 use Rattle.slot_rule.specs.Steps.{IsLawfulStep, Took, with_step}
 use Rattle.tree_law.specs.Direct.{Accounts, StaysDirect}
-use Rattle.bw_tree.specs.Laws.{HaveLaws}
+use Rattle.bw_tree.specs.SeatLaws.{HaveLaws}
 use Rattle.bw_tree.specs.Runs.{IsLawfulRun}
 use Rattle.bw_tree.specs.Seats.{IsSeated}
 use Rattle.deltas.proofs.Replaced.{replaced_same}

@@ -1,5 +1,5 @@
 pub mod Runs
-pub mod Laws
+pub mod SeatLaws
 pub mod Notes
 pub mod Seats
 pub mod Calls

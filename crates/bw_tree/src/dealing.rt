@@ -15,7 +15,7 @@ use atomic_table::Table;
 use bw_model::Limits;
 use op_machine::{Actor, idle_actors_rest};
 use row_chain::HeldRow;
-use slot_rule::{TableSeat, join, look, opening_keeps, part};
+use slot_rule::{TableSeat, cut, join, look, opening_keeps};
 use std::alloc::{AllocError, Allocator};
 use std::mem::replace;
 use tree_law::own_lasts;
@@ -40,7 +40,7 @@ pub(crate) fn begun<A: Allocator + Copy>(
     };
     let room = HeldRow::<A>::new(alloc)?;
     let (table, mut place) = Table::of_words(alloc, words.as_slice(), &limits)?;
-    let others = part(&table.shared, &mut place, &limits);
+    let others = cut(&table.shared, &mut place, &limits);
     let first = BwSeat {
         place,
         limits,
@@ -72,7 +72,7 @@ pub(crate) fn gathered<A: Allocator>(
     let words = &tree.table.shared;
     join(words, &mut seat.place, others, &tree.limits);
     look(words, &mut seat.place, &tree.limits);
-    part(words, &mut seat.place, &tree.limits)
+    cut(words, &mut seat.place, &tree.limits)
 }
 
 /// All seats, in order: the first one, and one for each of the others, which have seen the same run and have no step in it.
@@ -98,7 +98,7 @@ pub(crate) fn dealt_out<A: Allocator + Copy>(
     let mut rest = others;
     seats.push(first)?;
     for number in 1..limits.actors as u8 {
-        let others = part(&tree.table.shared, &mut rest, &limits);
+        let others = cut(&tree.table.shared, &mut rest, &limits);
         let place = replace(&mut rest, others);
         let Ok(actor) = Actor::<A>::idle(alloc, &limits) else {
             return Err(AllocError);

@@ -1,7 +1,7 @@
 //! The law of the tree as that of the rule, and what it says of runs.
 ghost use Rattle.std.specs.Prelude.{List, []};
 ghost use Rattle.tree_limits.specs.declared.limits.Limits.{Limits};
-ghost use Rattle.bw_tree.specs.Laws.{HaveLaws};
+ghost use Rattle.bw_tree.specs.SeatLaws.{HaveLaws};
 ghost use Rattle.bw_tree.specs.Runs.{IsLawfulRun, IsOneHistory};
 ghost use Rattle.traces.specs.declared.trace.Entry.{Entry};
 ghost use Rattle.slot_rule.specs.Running.{KeepsRowsApart};

@@ -8,7 +8,7 @@ use crate::lawful_runs::runs_are_one_history;
 use crate::seat::BwSeat;
 use crate::tree::Tree;
 use bw_model::Limits;
-use slot_rule::{TableSeat, join, look, note, part};
+use slot_rule::{TableSeat, cut, join, look, note};
 use std::alloc::Allocator;
 use std::marker::Model;
 use tree_law::own_lasts;
@@ -56,6 +56,6 @@ impl<A: Allocator> Tree<A> {
         let words = &self.table.shared;
         join(words, &mut seat.place, note.place, &self.limits);
         look(words, &mut seat.place, &self.limits);
-        part(words, &mut seat.place, &self.limits);
+        cut(words, &mut seat.place, &self.limits);
     }
 }

@@ -3,7 +3,6 @@
 
 mod applies;
 mod record;
-mod says;
 
 pub use applies::apply;
 pub use record::{Delete, Hold, Merge, Put, Record, Remove, Split, Term, Unterm};

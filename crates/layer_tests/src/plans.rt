@@ -8,9 +8,9 @@ ghost use Rattle.traces.specs.chain.Chains.{is_removed};
 ghost use Rattle.traces.specs.chain.Examples.{held_page, index, index_page, termed_page};
 ghost use Rattle.traces.specs.chain.Fitted.{IsPageChain};
 
-pub(crate) mod grown;
+mod grown;
 mod holds;
-pub(crate) mod index_pages;
+mod index_pages;
 mod levels;
 mod merges;
 mod roots;
@@ -32,15 +32,15 @@ pub(crate) fn key(text: &[u8]) -> Key
     Key::from_slice(text).unwrap()
 }
 
-/// The separator of all deltas.
+/// The key of the term, and of its hold.
 fn ninth() -> Key
     ensures { result ≡ codes "k09" }
 {
     key(b"k09")
 }
 
-/// The term of a child there.
-fn term(next: u16, child: u16) -> Record
+/// The record that adds the term of a child at that key.
+fn term_of(next: u16, child: u16) -> Record
     ensures { result ≡ kind.Term (record { level = 1; next = next; separator = codes "k09"; child = child }) }
 {
     Record::Term(Term {
@@ -51,8 +51,8 @@ fn term(next: u16, child: u16) -> Record
     })
 }
 
-/// A hold of it.
-fn hold(next: u16, child: u16) -> Record
+/// The record that holds it.
+fn hold_of(next: u16, child: u16) -> Record
     ensures { result ≡ kind.Hold (record { level = 1; next = next; separator = codes "k09"; child = child }) }
 {
     Record::Hold(Hold {
@@ -134,7 +134,7 @@ fn are_split<R: Abort + AllocGlobal>(rt: &R) -> bool {
 }
 
 /// An index page that has page 1 at the empty key.
-pub(crate) fn index() -> Page
+fn index() -> Page
     ensures { result ≡ index }
 {
     index_from(1, Key::default(), 1)
@@ -151,14 +151,14 @@ pub(crate) fn bare<R: Abort + AllocGlobal>(rt: &R) -> PageInHand
 fn termed<R: Abort + AllocGlobal>(rt: &R) -> PageInHand
     ensures { result.chain ≡ termed_page }
 {
-    built::page(rt, 5, 8, &[term(4, 2)], index())
+    built::page(rt, 5, 8, &[term_of(4, 2)], index())
 }
 
 /// The same with the term held.
 fn held<R: Abort + AllocGlobal>(rt: &R) -> PageInHand
     ensures { result.chain ≡ held_page }
 {
-    built::page(rt, 5, 8, &[hold(5, 2), term(4, 2)], index())
+    built::page(rt, 5, 8, &[hold_of(5, 2), term_of(4, 2)], index())
 }
 
 /// Whether the parent gets a term of the page that has this level, row and child; or none.

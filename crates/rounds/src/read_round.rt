@@ -30,7 +30,7 @@ use std::alloc::{AllocError, Allocator, Global};
 use std::marker::Model;
 
 /// How a reader's round ends. The pages that an end is about stand in the round.
-#[derive(Clone, Copy, PartialEq, Eq)]
+#[derive(Clone, Copy)]
 pub enum ReadEnded {
     /// A page that was named isn't there, or the round can't go round a removed index page: a new round begins.
     Again,

@@ -12,12 +12,14 @@ use bw_tree::{BwSeat, Called, Tree};
 /// More steps than an operation takes in small trees.
 const BUDGET: u32 = 1 << 16;
 
-/// Runs a command to its end, if the seat is idle; none where it isn't, which changes nothing, or where its steps are spent.
+/// Runs a command to its end, if the seat is idle; none where it isn't, which changes nothing, or where its steps are spent: then it stays in
+/// the seat, and `resumed` goes on with it.
 pub fn reply(tree: &Tree, seat: &mut BwSeat, command: Command) -> Option<Reply>
     requires own { IsSeatOf tree.now seat.old }
     ensures own { IsSeatOf tree.now seat.new }
     ensures same { IsSame seat.old seat.new }
     ensures done { IfSome result (λ reply. IsDone seat.old command many reply seat.new) }
+    ensures some { IsSome result → unfinished_command seat.old ≡ None }
     ensures history { unfinished_command seat.old ≡ None → IsOneHistory seat.new.limits seat.new.seen }
     ensures none { result ≡ None → HasNoReply seat.old command seat.new }
 {
@@ -30,7 +32,7 @@ pub fn reply(tree: &Tree, seat: &mut BwSeat, command: Command) -> Option<Reply>
     }
 }
 
-/// Goes on with the operation of a seat for so many steps, if it has one.
+/// Goes on with the operation of a seat for so many steps; none where it has none, which changes nothing.
 pub fn resumed(tree: &Tree, seat: &mut BwSeat, budget: u32) -> Option<Called>
     requires own { IsSeatOf tree.now seat.old }
     ensures own { IsSeatOf tree.now seat.new }
@@ -46,7 +48,7 @@ pub fn resumed(tree: &Tree, seat: &mut BwSeat, budget: u32) -> Option<Called>
     Some(tree.resume(seat, budget))
 }
 
-/// Begins a command, if the seat is idle, and runs it for so many steps.
+/// Begins a command, if the seat is idle, and runs it for so many steps; none where it isn't, or there are no steps, which changes nothing.
 pub fn called(tree: &Tree, seat: &mut BwSeat, command: Command, budget: u32) -> Option<Called>
     requires own { IsSeatOf tree.now seat.old }
     ensures own { IsSeatOf tree.now seat.new }

@@ -3,7 +3,7 @@
 ghost use Rattle.std.specs.Prelude.{◌≡◌, ◌↔◌, IfErr, IfOk, IfSome, IsOk, map, false};
 ghost use Rattle.tree_limits.specs.Limits.{AreLimits};
 ghost use Rattle.std.specs.String.{string_bytes};
-ghost use Rattle.clap.specs.Words.{App, app_of, found_of, new_app, rows_of, rule_of, with_rule, with_subcommand};
+ghost use Rattle.clap.specs.Words.{App, found_of, new_app, rows_of, rule_of, with_rule, with_subcommand};
 ghost use Rattle.shell_options.specs.Words.{number_rule, limits_rules, actors_app, draw_app, script_app, weave_app, race_app, bwtree_app, SpellsOr, HasActors, HasNumbers, IsApp, MakesApp, default_pids_of, default_rows_of, told_by, HasNoFault, IsSpelled, IsNamedBy, MayRefuse};
 
 use clap::error::ErrorKind;

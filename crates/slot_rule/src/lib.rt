@@ -17,6 +17,6 @@ mod view;
 
 pub use rows::{place_row, read_row};
 pub use rule::{Law, Rule, TableSeat, Words, closing_spells, opening_keeps};
-pub use seats::{blank, join, look, note, part};
+pub use seats::{blank, cut, join, look, note};
 pub use steps::act;
 pub use view::{Part, Reach, View};

@@ -1,6 +1,6 @@
 //! The two steps that go word by word: a record is read, and a record is placed.
 ghost use Rattle.std.specs.Prelude.{◌≡◌, ◌<◌, None};
-ghost use Rattle.bw_model.specs.declared.step.Answer.TheVariants.{Content, Done};
+ghost use Rattle.bw_model.specs.declared.step.Answer.TheVariants.{Done};
 ghost use Rattle.bw_model.specs.declared.step.Step.TheVariants.{Place, Row};
 ghost use Rattle.traces.specs.discipline.Knowledge.{knows};
 ghost use Rattle.deltas.specs.declared.record.Record.{Record};

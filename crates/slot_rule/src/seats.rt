@@ -18,7 +18,7 @@ pub fn look<P: Law>(words: &Words<P>, seat: &mut TableSeat, limits: &Limits)
 }
 
 /// Cuts a seat in two: the first actor stays, and a new seat has the others.
-pub fn part<P: Law>(words: &Words<P>, seat: &mut TableSeat, limits: &Limits) -> TableSeat
+pub fn cut<P: Law>(words: &Words<P>, seat: &mut TableSeat, limits: &Limits) -> TableSeat
     requires table { IsOf limits.now words.now.key words.now.table_id seat.old.table_id }
     ensures same { seat.new.table_id ≡ seat.old.table_id }
     ensures table { result.table_id ≡ seat.old.table_id }

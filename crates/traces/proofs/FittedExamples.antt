@@ -76,7 +76,7 @@ without_08 = record leaf { items = item_07 ∷ item_09 ∷ [] }
 abbrev removed : Page
 removed = record without_08 { removed = true }
 
-pub ruled_leaf : IsRuled leaf
+ruled_leaf : IsRuled leaf
 unfolding IsStrictlySortedBy
 ruled_leaf = of_leaf leaf (is_page leaf refl (record { few = omega arith; ascending = ((refl, tt), (tt, tt)) }) (refl, (refl, tt)) (refl, (refl, tt))) refl refl
 

@@ -6,7 +6,7 @@ pub mod Fitness
 pub mod HelpedSplit
 pub mod Indexed
 pub mod Keys
-pub mod Laws
+pub mod TreeLaws
 pub mod Leaves
 pub mod LevelPages
 pub mod Limbos

@@ -1,5 +1,5 @@
 //! The invariant of the tree, one step at a time: each function does nothing, and its contract says what keeps it.
-ghost use Rattle.tree_law.specs.Laws.{AnswerLaw, BeginLaw, IndexLaw, KeyLaw, OpenLaw, StepLaw};
+ghost use Rattle.tree_law.specs.TreeLaws.{AnswerLaw, BeginLaw, IndexLaw, KeyLaw, OpenLaw, StepLaw};
 
 /// The order of keys is total.
 pub fn key_order()

@@ -1,5 +1,5 @@
 //! The room that workers are given before their threads begin, and what is taken out of it afterwards.
-ghost use Rattle.std.specs.Prelude.{◌≡◌, ◌≤◌, ◌*◌, [], All, IfErr, IfOk, flat_map, length, map, vec_len};
+ghost use Rattle.std.specs.Prelude.{◌≡◌, ◌≤◌, ◌*◌, [], All, IfErr, IfOk, flat_map, map, vec_len};
 ghost use Rattle.std.specs.Vec.{vec_capacity};
 ghost use Rattle.bw_tree.specs.Trees.{AreSeatsOf};
 ghost use Rattle.workers.specs.Worked.{AreIdle, HaveWorked};

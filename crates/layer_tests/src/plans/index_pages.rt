@@ -13,14 +13,14 @@ use bw_model::Key;
 use smo::PageInHand;
 use std::process::Abort;
 
-pub(crate) fn term(page: u16) -> Content
+fn term(page: u16) -> Content
     ensures { result ≡ Child page false }
 {
     Content::Child { page, held: false }
 }
 
 /// The items of a page that has one.
-pub(crate) fn item(key: Key, content: Content) -> Items
+fn item(key: Key, content: Content) -> Items
     ensures { result ≡ record { key = key; content = content } ∷ [] }
 {
     let mut items = Items::new();

@@ -1,7 +1,7 @@
 -- Each allowed step, a reuse among them, keeps the invariant, and what actors hold.
 use Rattle.tree_law.proofs.Words.{Option, List, ℕ, ◌<◌, Update, Reply, Limits, Answer, StepOf, ReuseRows, ReusePids, Memory, Record, IsAllowed, Knowledge, IsAnswer, IsReuse, After, Next, Owners}
 use Rattle.tree_law.proofs.Words.{shared, Shared, Times, Timed, times_after, IsTree}
-use Rattle.tree_law.specs.Laws.{Stepped, StepLaw}
+use Rattle.tree_law.specs.TreeLaws.{Stepped, StepLaw}
 use Rattle.tree_law.proofs.epochs.Freeing.{t1, t2, rows_after, rows_timed, pages_after, pages_timed}
 use Rattle.tree_law.proofs.links.Stepping.{step as one_step}
 use Rattle.tree_law.proofs.epochs.Timewise.{timed_step}

@@ -28,8 +28,8 @@ loop-number-init g c =
           (first_seat_at c.args.tree.now c.args.first c.requires.own c.requires.first n below);
     }
 
-pub part-others-requires : goal.part-others-requires
-part-others-requires g c =
+pub cut-others-requires : goal.cut-others-requires
+cut-others-requires g c =
     let same = c.loop-number.invariant.table ∙ sym (ap (λ (t : Tree). t.table) c.tree.view_is) in
     record { table = record { same = same; wide = c.tree.invariant.wide; own = c.tree.invariant.own } }
 
@@ -39,7 +39,7 @@ invariant_of-push g c =
     let tree : c.args.tree.now.limits ≡ c.tree.inside.limits = sym (ap (λ (t : Tree). t.limits) c.tree.view_is) in
     let same : c.first.inside.limits ≡ c.tree.inside.limits = ap (λ (s : Seat). s.limits) c.first.view_is ∙ c.requires.own.limits ∙ tree in
     let seen : seen_of c.first.inside.place.me ≡ c.args.first.seen = ap (λ (s : Seat). s.seen) c.first.view_is in
-    let alone_is : c.part-others.new.seat.me ≡ (alone c.tree.inside.limits c.loop-number.number c.args.first.seen Idle, []) = deals_one c.tree.inside.limits c.args.first.seen c.loop-number.number left c.loop-number.rest.me c.part-others.new.seat.me c.loop-number-test.true all is c.part-others.ensures.first in
+    let alone_is : c.cut-others.new.seat.me ≡ (alone c.tree.inside.limits c.loop-number.number c.args.first.seen Idle, []) = deals_one c.tree.inside.limits c.args.first.seen c.loop-number.number left c.loop-number.rest.me c.cut-others.new.seat.me c.loop-number-test.true all is c.cut-others.ensures.first in
     fresh_then c.own_lasts.ensures c.tree.inside.limits c.loop-number.number c.args.first.seen c.replace-place.result.me c.in-Ok.actor c.idle_actors_rest.ensures (c.empty_run_is_lawful.ensures c.tree.inside.limits)
     (subst (IsLawfulRun c.tree.inside.limits) seen (subst (λ (l : Limits). IsLawfulRun l (seen_of c.first.inside.place.me)) same c.first.invariant.seated.lawful))
     (extends_one c.tree.inside.limits c.args.first.seen c.loop-number.number left c.loop-number-test.true all each) c.loop-number-test.true
@@ -49,12 +49,12 @@ pub loop-number-preserved : goal.loop-number-preserved
 loop-number-preserved g c =
     let (left, all, is, each) = c.loop-number.invariant.rest in
     let tree : c.args.tree.now.limits ≡ c.tree.inside.limits = sym (ap (λ (t : Tree). t.limits) c.tree.view_is) in
-    let alone_is : c.part-others.new.seat.me ≡ (alone c.tree.inside.limits c.loop-number.number c.args.first.seen Idle, []) = deals_one c.tree.inside.limits c.args.first.seen c.loop-number.number left c.loop-number.rest.me c.part-others.new.seat.me c.loop-number-test.true all is c.part-others.ensures.first in
+    let alone_is : c.cut-others.new.seat.me ≡ (alone c.tree.inside.limits c.loop-number.number c.args.first.seen Idle, []) = deals_one c.tree.inside.limits c.args.first.seen c.loop-number.number left c.loop-number.rest.me c.cut-others.new.seat.me c.loop-number-test.true all is c.cut-others.ensures.first in
     let mine : c.replace-place.result.me ≡ (alone c.tree.inside.limits c.loop-number.number c.args.first.seen Idle, []) = ap (λ place. place.me) c.replace-place.ensures.value ∙ alone_is in
-    let table : c.replace-place.result.table_id ≡ c.args.tree.now.table = ap (λ place. place.table_id) c.replace-place.ensures.value ∙ c.part-others.ensures.same ∙ c.loop-number.invariant.table in
-    let (fewer, sum, others, extend) = leaves_others c.tree.inside.limits c.args.first.seen c.loop-number.number left c.loop-number.rest.me c.part-others.result.me c.loop-number-test.true all is each c.part-others.ensures.others in
+    let table : c.replace-place.result.table_id ≡ c.args.tree.now.table = ap (λ place. place.table_id) c.replace-place.ensures.value ∙ c.cut-others.ensures.same ∙ c.loop-number.invariant.table in
+    let (fewer, sum, others, extend) = leaves_others c.tree.inside.limits c.args.first.seen c.loop-number.number left c.loop-number.rest.me c.cut-others.result.me c.loop-number-test.true all is each c.cut-others.ensures.others in
     record {
-      table = ap (λ place. place.table_id) c.replace-place.ensures.after ∙ c.part-others.ensures.table ∙ c.loop-number.invariant.table;
+      table = ap (λ place. place.table_id) c.replace-place.ensures.after ∙ c.cut-others.ensures.table ∙ c.loop-number.invariant.table;
       rest = (fewer, sum, ap (λ place. place.me) c.replace-place.ensures.after ∙ others, extend);
       count = ap length c.in_ok-push-2.ensures.items ∙ length-append c.loop-number.seats.items _ ∙ ap (λ n. n + 1) c.loop-number.invariant.count;
       dealt = λ n below. subst (λ items. slice_get items n ≡ Some (seat_at c.args.tree.now c.args.first.seen n)) (sym c.in_ok-push-2.ensures.items)

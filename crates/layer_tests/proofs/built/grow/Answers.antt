@@ -1,4 +1,3 @@
-use Rattle.std.proofs.Common.{arith}
 use Rattle.layer_tests.proofs.built.grow.Goals as goal
 
 pub write-requires : goal.write-requires

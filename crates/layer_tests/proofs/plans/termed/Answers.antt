@@ -3,4 +3,4 @@ use Rattle.traces.proofs.FittedExamples.{index_chain_fits}
 use Rattle.layer_tests.proofs.plans.termed.Goals as goal
 
 pub page-requires-clause-chain : goal.page-requires-clause-chain
-page-requires-clause-chain g c = rw (c.term.ensures, c.index.ensures) (record { fitted = index_chain_fits.fitted.1.1.1; short = omega arith })
+page-requires-clause-chain g c = rw (c.term_of.ensures, c.index.ensures) (record { fitted = index_chain_fits.fitted.1.1.1; short = omega arith })

@@ -26,10 +26,10 @@ invariant_of-seat g c =
     let same : c.seat.inside.limits ≡ c.self.inside.limits = ap (λ (s : Seat). s.limits) c.seat.view_is ∙ c.requires.own.limits ∙ tree in
     let same_note : c.note.inside.limits ≡ c.self.inside.limits = ap (λ (n : Note). n.limits) c.note.view_is ∙ c.requires.note.limits ∙ tree in
     let seat : IsSeat c.self.inside.limits c.seat.inside.number c.seat.inside.place.me c.seat.inside.actor = subst (λ (l : Limits). IsSeat l c.seat.inside.number c.seat.inside.place.me c.seat.inside.actor) same c.seat.invariant in
-    subst (λ (l : Limits). IsSeat l c.seat.inside.number c.part.new.seat.me c.seat.inside.actor) (sym same)
+    subst (λ (l : Limits). IsSeat l c.seat.inside.number c.cut.new.seat.me c.seat.inside.actor) (sym same)
     (left_seat c.self.inside.limits c.seat.inside.number c.note.invariant.0 Noted c.seat.inside.place.me c.note.inside.place.me c.join.new.seat.me seat.place
     (subst (λ (l : Limits). SitsAt l c.note.invariant.0 Noted c.note.inside.place.me) same_note c.note.invariant.1) c.join.ensures.both
-    c.look.new.seat.me c.part.new.seat.me c.part.result.me c.look.ensures.saw c.part.ensures.first c.part.ensures.others c.own_lasts.ensures c.seat.inside.actor seat)
+    c.look.new.seat.me c.cut.new.seat.me c.cut.result.me c.look.ensures.saw c.cut.ensures.first c.cut.ensures.others c.own_lasts.ensures c.seat.inside.actor seat)
 
 pub returns-clause-heeds : goal.returns-clause-heeds
 returns-clause-heeds g c =
@@ -38,20 +38,20 @@ returns-clause-heeds g c =
     let same_note : c.note.inside.limits ≡ c.self.inside.limits = ap (λ (n : Note). n.limits) c.note.view_is ∙ c.requires.note.limits ∙ tree in
     let at : SitsAt c.self.inside.limits c.seat.inside.number Idle c.seat.inside.place.me = subst (λ (l : Limits). SitsAt l c.seat.inside.number Idle c.seat.inside.place.me) same c.seat.invariant.place in
     let at_note : SitsAt c.self.inside.limits c.note.invariant.0 Noted c.note.inside.place.me = subst (λ (l : Limits). SitsAt l c.note.invariant.0 Noted c.note.inside.place.me) same_note c.note.invariant.1 in
-    let ours : Extends c.seat.inside.number (seen_of c.seat.inside.place.me) (seen_of c.part.new.seat.me) =
+    let ours : Extends c.seat.inside.number (seen_of c.seat.inside.place.me) (seen_of c.cut.new.seat.me) =
     left_extends c.self.inside.limits c.seat.inside.number c.note.invariant.0 Noted c.seat.inside.place.me c.note.inside.place.me c.join.new.seat.me at at_note c.join.ensures.both
-    c.look.new.seat.me c.part.new.seat.me c.part.result.me c.look.ensures.saw c.part.ensures.first c.part.ensures.others in
-    let begins : StartsWith (seen_of c.part.new.seat.me) (seen_of c.note.inside.place.me) =
+    c.look.new.seat.me c.cut.new.seat.me c.cut.result.me c.look.ensures.saw c.cut.ensures.first c.cut.ensures.others in
+    let begins : StartsWith (seen_of c.cut.new.seat.me) (seen_of c.note.inside.place.me) =
     left_starts c.self.inside.limits c.seat.inside.number c.note.invariant.0 Noted c.seat.inside.place.me c.note.inside.place.me c.join.new.seat.me at at_note c.join.ensures.both
-    c.look.new.seat.me c.part.new.seat.me c.part.result.me c.look.ensures.saw c.part.ensures.first c.part.ensures.others refl in
+    c.look.new.seat.me c.cut.new.seat.me c.cut.result.me c.look.ensures.saw c.cut.ensures.first c.cut.ensures.others refl in
     record {
       same = record {
-        table = c.part.ensures.same ∙ c.look.ensures.same ∙ c.join.ensures.same ∙ ap (λ (s : Seat). s.table) c.seat.view_is;
+        table = c.cut.ensures.same ∙ c.look.ensures.same ∙ c.join.ensures.same ∙ ap (λ (s : Seat). s.table) c.seat.view_is;
         limits = ap (λ (s : Seat). s.limits) c.seat.view_is;
         actor = ap (λ (s : Seat). s.actor) c.seat.view_is;
       };
-      extends = subst (λ (s : Seat). Extends s.actor s.seen (seen_of c.part.new.seat.me)) c.seat.view_is ours;
-      begins = subst (λ (n : Note). StartsWith (seen_of c.part.new.seat.me) n.seen) c.note.view_is begins;
+      extends = subst (λ (s : Seat). Extends s.actor s.seen (seen_of c.cut.new.seat.me)) c.seat.view_is ours;
+      begins = subst (λ (n : Note). StartsWith (seen_of c.cut.new.seat.me) n.seen) c.note.view_is begins;
     }
 
 pub join-requires-clause-table : goal.join-requires-clause-table
@@ -66,8 +66,8 @@ join-requires-clause-home g c = ap (λ me. me.1) c.note.invariant.1
 pub look-requires-clause-table : goal.look-requires-clause-table
 look-requires-clause-table g c = still_of _ _ _ _ _ (is_of _ _ _ _ _ _ _ _ _ c.self.invariant c.self.view_is c.seat.view_is c.requires.own) c.join.ensures.same
 
-pub part-requires : goal.part-requires
-part-requires g c = record { table = still_of _ _ _ _ _ (is_of _ _ _ _ _ _ _ _ _ c.self.invariant c.self.view_is c.seat.view_is c.requires.own) (c.look.ensures.same ∙ c.join.ensures.same) }
+pub cut-requires : goal.cut-requires
+cut-requires g c = record { table = still_of _ _ _ _ _ (is_of _ _ _ _ _ _ _ _ _ c.self.invariant c.self.view_is c.seat.view_is c.requires.own) (c.look.ensures.same ∙ c.join.ensures.same) }
 
 pub returns-clause-history : goal.returns-clause-history
 returns-clause-history g c =
@@ -76,6 +76,6 @@ returns-clause-history g c =
     let same_note : c.note.inside.limits ≡ c.self.inside.limits = ap (λ (n : Note). n.limits) c.note.view_is ∙ c.requires.note.limits ∙ tree in
     let at : SitsAt c.self.inside.limits c.seat.inside.number Idle c.seat.inside.place.me = subst (λ (l : Limits). SitsAt l c.seat.inside.number Idle c.seat.inside.place.me) same c.seat.invariant.place in
     let at_note : SitsAt c.self.inside.limits c.note.invariant.0 Noted c.note.inside.place.me = subst (λ (l : Limits). SitsAt l c.note.invariant.0 Noted c.note.inside.place.me) same_note c.note.invariant.1 in
-    c.runs_are_one_history.ensures c.seat.inside.limits (seen_of c.part.new.seat.me) (subst (λ (l : Limits). IsLawfulRun l (seen_of c.part.new.seat.me)) (sym same)
+    c.runs_are_one_history.ensures c.seat.inside.limits (seen_of c.cut.new.seat.me) (subst (λ (l : Limits). IsLawfulRun l (seen_of c.cut.new.seat.me)) (sym same)
     (left_lawful c.self.inside.limits c.seat.inside.number c.note.invariant.0 Noted c.seat.inside.place.me c.note.inside.place.me c.join.new.seat.me at at_note c.join.ensures.both
-    c.look.new.seat.me c.part.new.seat.me c.part.result.me c.look.ensures.saw c.part.ensures.first c.part.ensures.others))
+    c.look.new.seat.me c.cut.new.seat.me c.cut.result.me c.look.ensures.saw c.cut.ensures.first c.cut.ensures.others))

@@ -29,9 +29,9 @@ invariant_of-one g c =
     let moved : c.other.inside.place.me ≡ c.replace-others.result.me = sym (ap (λ place. place.me) c.replace-others.ensures.value) in
     let at_other : SitsAt c.self.inside.limits c.other.inside.number Idle c.replace-others.result.me = subst (SitsAt c.self.inside.limits c.other.inside.number Idle) moved (subst (λ (l : Limits). SitsAt l c.other.inside.number Idle c.other.inside.place.me) same_other c.other.invariant.place) in
     let seat : IsSeat c.self.inside.limits c.one.inside.number c.one.inside.place.me c.one.inside.actor = subst (λ (l : Limits). IsSeat l c.one.inside.number c.one.inside.place.me c.one.inside.actor) same c.one.invariant in
-    subst (λ (l : Limits). IsSeat l c.one.inside.number c.part.new.seat.me c.one.inside.actor) (sym same)
+    subst (λ (l : Limits). IsSeat l c.one.inside.number c.cut.new.seat.me c.one.inside.actor) (sym same)
     (left_seat c.self.inside.limits c.one.inside.number c.other.inside.number Idle c.one.inside.place.me c.replace-others.result.me c.join.new.seat.me seat.place at_other c.join.ensures.both
-    c.look.new.seat.me c.part.new.seat.me c.part.result.me c.look.ensures.saw c.part.ensures.first c.part.ensures.others c.own_lasts.ensures c.one.inside.actor seat)
+    c.look.new.seat.me c.cut.new.seat.me c.cut.result.me c.look.ensures.saw c.cut.ensures.first c.cut.ensures.others c.own_lasts.ensures c.one.inside.actor seat)
 
 pub invariant_of-other : goal.invariant_of-other
 invariant_of-other g c =
@@ -41,10 +41,10 @@ invariant_of-other g c =
     let moved : c.other.inside.place.me ≡ c.replace-others.result.me = sym (ap (λ place. place.me) c.replace-others.ensures.value) in
     let seat : IsSeat c.self.inside.limits c.other.inside.number c.replace-others.result.me c.other.inside.actor =
     subst (λ (m : Mine). IsSeat c.self.inside.limits c.other.inside.number m c.other.inside.actor) moved (subst (λ (l : Limits). IsSeat l c.other.inside.number c.other.inside.place.me c.other.inside.actor) same_other c.other.invariant) in
-    subst (λ (l : Limits). IsSeat l c.other.inside.number c.part.result.me c.other.inside.actor) (sym same_other)
+    subst (λ (l : Limits). IsSeat l c.other.inside.number c.cut.result.me c.other.inside.actor) (sym same_other)
     (right_seat c.self.inside.limits c.one.inside.number c.other.inside.number Idle c.one.inside.place.me c.replace-others.result.me c.join.new.seat.me
     (subst (λ (l : Limits). SitsAt l c.one.inside.number Idle c.one.inside.place.me) same c.one.invariant.place) seat.place c.join.ensures.both
-    c.look.new.seat.me c.part.new.seat.me c.part.result.me c.look.ensures.saw c.part.ensures.first c.part.ensures.others c.own_lasts.ensures c.other.inside.actor refl seat)
+    c.look.new.seat.me c.cut.new.seat.me c.cut.result.me c.look.ensures.saw c.cut.ensures.first c.cut.ensures.others c.own_lasts.ensures c.other.inside.actor refl seat)
 
 pub returns-clause-met : goal.returns-clause-met
 returns-clause-met g c =
@@ -54,22 +54,22 @@ returns-clause-met g c =
     let moved : c.other.inside.place.me ≡ c.replace-others.result.me = sym (ap (λ place. place.me) c.replace-others.ensures.value) in
     let at : SitsAt c.self.inside.limits c.one.inside.number Idle c.one.inside.place.me = subst (λ (l : Limits). SitsAt l c.one.inside.number Idle c.one.inside.place.me) same c.one.invariant.place in
     let at_other : SitsAt c.self.inside.limits c.other.inside.number Idle c.replace-others.result.me = subst (SitsAt c.self.inside.limits c.other.inside.number Idle) moved (subst (λ (l : Limits). SitsAt l c.other.inside.number Idle c.other.inside.place.me) same_other c.other.invariant.place) in
-    let ours : Extends c.one.inside.number (seen_of c.one.inside.place.me) (seen_of c.part.new.seat.me) =
+    let ours : Extends c.one.inside.number (seen_of c.one.inside.place.me) (seen_of c.cut.new.seat.me) =
     left_extends c.self.inside.limits c.one.inside.number c.other.inside.number Idle c.one.inside.place.me c.replace-others.result.me c.join.new.seat.me at at_other c.join.ensures.both
-    c.look.new.seat.me c.part.new.seat.me c.part.result.me c.look.ensures.saw c.part.ensures.first c.part.ensures.others in
-    let theirs : Extends c.other.inside.number (seen_of c.replace-others.result.me) (seen_of c.part.result.me) =
+    c.look.new.seat.me c.cut.new.seat.me c.cut.result.me c.look.ensures.saw c.cut.ensures.first c.cut.ensures.others in
+    let theirs : Extends c.other.inside.number (seen_of c.replace-others.result.me) (seen_of c.cut.result.me) =
     right_extends c.self.inside.limits c.one.inside.number c.other.inside.number Idle c.one.inside.place.me c.replace-others.result.me c.join.new.seat.me at at_other c.join.ensures.both
-    c.look.new.seat.me c.part.new.seat.me c.part.result.me c.look.ensures.saw c.part.ensures.first c.part.ensures.others refl in
+    c.look.new.seat.me c.cut.new.seat.me c.cut.result.me c.look.ensures.saw c.cut.ensures.first c.cut.ensures.others refl in
     let back : seen_of c.replace-others.result.me ≡ seen_of c.other.inside.place.me = ap seen_of (sym moved) in
-    let table = c.part.ensures.same ∙ c.look.ensures.same ∙ c.join.ensures.same ∙ ap (λ (s : Seat). s.table) c.one.view_is in
-    let table_other = c.part.ensures.table ∙ c.look.ensures.same ∙ c.join.ensures.same ∙ ap (λ (s : Seat). s.table) c.one.view_is ∙ c.requires.own.table ∙ sym c.requires.own_other.table in
+    let table = c.cut.ensures.same ∙ c.look.ensures.same ∙ c.join.ensures.same ∙ ap (λ (s : Seat). s.table) c.one.view_is in
+    let table_other = c.cut.ensures.table ∙ c.look.ensures.same ∙ c.join.ensures.same ∙ ap (λ (s : Seat). s.table) c.one.view_is ∙ c.requires.own.table ∙ sym c.requires.own_other.table in
     record {
       same = record { table = table; limits = ap (λ (s : Seat). s.limits) c.one.view_is; actor = ap (λ (s : Seat). s.actor) c.one.view_is };
       same_other = record { table = table_other; limits = ap (λ (s : Seat). s.limits) c.other.view_is; actor = ap (λ (s : Seat). s.actor) c.other.view_is };
-      extends = subst (λ (s : Seat). Extends s.actor s.seen (seen_of c.part.new.seat.me)) c.one.view_is ours;
-      extends_other = subst (λ (s : Seat). Extends s.actor s.seen (seen_of c.part.result.me)) c.other.view_is (subst (λ (z : List Entry). Extends c.other.inside.number z (seen_of c.part.result.me)) back theirs);
+      extends = subst (λ (s : Seat). Extends s.actor s.seen (seen_of c.cut.new.seat.me)) c.one.view_is ours;
+      extends_other = subst (λ (s : Seat). Extends s.actor s.seen (seen_of c.cut.result.me)) c.other.view_is (subst (λ (z : List Entry). Extends c.other.inside.number z (seen_of c.cut.result.me)) back theirs);
       one = saw_one c.self.inside.limits c.one.inside.number c.other.inside.number Idle c.one.inside.place.me c.replace-others.result.me c.join.new.seat.me at at_other c.join.ensures.both
-          c.look.new.seat.me c.part.new.seat.me c.part.result.me c.look.ensures.saw c.part.ensures.first c.part.ensures.others;
+          c.look.new.seat.me c.cut.new.seat.me c.cut.result.me c.look.ensures.saw c.cut.ensures.first c.cut.ensures.others;
     }
 
 pub join-requires-clause-table : goal.join-requires-clause-table
@@ -86,8 +86,8 @@ join-requires-clause-home g c = ap (λ place. place.me.1) c.replace-others.ensur
 pub look-requires-clause-table : goal.look-requires-clause-table
 look-requires-clause-table g c = still_of _ _ _ _ _ (is_of _ _ _ _ _ _ _ _ _ c.self.invariant c.self.view_is c.one.view_is c.requires.own) c.join.ensures.same
 
-pub part-requires : goal.part-requires
-part-requires g c = record { table = still_of _ _ _ _ _ (is_of _ _ _ _ _ _ _ _ _ c.self.invariant c.self.view_is c.one.view_is c.requires.own) (c.look.ensures.same ∙ c.join.ensures.same) }
+pub cut-requires : goal.cut-requires
+cut-requires g c = record { table = still_of _ _ _ _ _ (is_of _ _ _ _ _ _ _ _ _ c.self.invariant c.self.view_is c.one.view_is c.requires.own) (c.look.ensures.same ∙ c.join.ensures.same) }
 
 pub returns-clause-history : goal.returns-clause-history
 returns-clause-history g c =
@@ -97,9 +97,9 @@ returns-clause-history g c =
     let moved : c.other.inside.place.me ≡ c.replace-others.result.me = sym (ap (λ place. place.me) c.replace-others.ensures.value) in
     let at : SitsAt c.self.inside.limits c.one.inside.number Idle c.one.inside.place.me = subst (λ (l : Limits). SitsAt l c.one.inside.number Idle c.one.inside.place.me) same c.one.invariant.place in
     let at_other : SitsAt c.self.inside.limits c.other.inside.number Idle c.replace-others.result.me = subst (SitsAt c.self.inside.limits c.other.inside.number Idle) moved (subst (λ (l : Limits). SitsAt l c.other.inside.number Idle c.other.inside.place.me) same_other c.other.invariant.place) in
-    c.runs_are_one_history.ensures c.one.inside.limits (seen_of c.part.new.seat.me) (subst (λ (l : Limits). IsLawfulRun l (seen_of c.part.new.seat.me)) (sym same)
+    c.runs_are_one_history.ensures c.one.inside.limits (seen_of c.cut.new.seat.me) (subst (λ (l : Limits). IsLawfulRun l (seen_of c.cut.new.seat.me)) (sym same)
     (left_lawful c.self.inside.limits c.one.inside.number c.other.inside.number Idle c.one.inside.place.me c.replace-others.result.me c.join.new.seat.me at at_other c.join.ensures.both
-    c.look.new.seat.me c.part.new.seat.me c.part.result.me c.look.ensures.saw c.part.ensures.first c.part.ensures.others))
+    c.look.new.seat.me c.cut.new.seat.me c.cut.result.me c.look.ensures.saw c.cut.ensures.first c.cut.ensures.others))
 
 pub returns-clause-history_other : goal.returns-clause-history_other
 returns-clause-history_other g c =
@@ -109,6 +109,6 @@ returns-clause-history_other g c =
     let moved : c.other.inside.place.me ≡ c.replace-others.result.me = sym (ap (λ place. place.me) c.replace-others.ensures.value) in
     let at : SitsAt c.self.inside.limits c.one.inside.number Idle c.one.inside.place.me = subst (λ (l : Limits). SitsAt l c.one.inside.number Idle c.one.inside.place.me) same c.one.invariant.place in
     let at_other : SitsAt c.self.inside.limits c.other.inside.number Idle c.replace-others.result.me = subst (SitsAt c.self.inside.limits c.other.inside.number Idle) moved (subst (λ (l : Limits). SitsAt l c.other.inside.number Idle c.other.inside.place.me) same_other c.other.invariant.place) in
-    c.runs_are_one_history.ensures c.other.inside.limits (seen_of c.part.result.me) (subst (λ (l : Limits). IsLawfulRun l (seen_of c.part.result.me)) (sym same_other)
+    c.runs_are_one_history.ensures c.other.inside.limits (seen_of c.cut.result.me) (subst (λ (l : Limits). IsLawfulRun l (seen_of c.cut.result.me)) (sym same_other)
     (right_lawful c.self.inside.limits c.one.inside.number c.other.inside.number Idle c.one.inside.place.me c.replace-others.result.me c.join.new.seat.me at at_other c.join.ensures.both
-    c.look.new.seat.me c.part.new.seat.me c.part.result.me c.look.ensures.saw c.part.ensures.first c.part.ensures.others))
+    c.look.new.seat.me c.cut.new.seat.me c.cut.result.me c.look.ensures.saw c.cut.ensures.first c.cut.ensures.others))
