@@ -2,7 +2,7 @@
 
 ghost use Rattle.std.specs.Prelude.{◌≡◌, ◌≤◌, ◌^◌, ◌↔◌, [], IfSome, IsSome, None, false};
 ghost use Rattle.tree_limits.specs.Limits.{AreLimits};
-ghost use Rattle.program.specs.Runs.{HasRunProgram, IsProgramRun};
+ghost use Rattle.bwtree.specs.Runs.{HasRunProgram, IsProgramRun};
 
 use bw_model::Limits;
 use bw_shell::{script, weave};
@@ -16,7 +16,7 @@ use std::thread::Threads;
 
 /// Runs the program that the settings name, on a tree of their limits, and answers the status: 0 where it did all that it was asked, else 1.
 /// None where the limits aren't allowed, and then nothing is read or written. A race's threads are those of `threads`.
-pub fn run_settings<R: Threads + Wait + Sync, I: Input, O: Output>(
+pub(crate) fn run_settings<R: Threads + Wait + Sync, I: Input, O: Output>(
     threads: &R,
     alloc: Global,
     settings: Settings,

@@ -1,14 +1,11 @@
-//! The program: the words of a command line in, an exit status out.
-#![tactic(auto)]
+//! A run of the program: from the words of a command line to an exit status.
 
 ghost use Rattle.std.specs.Prelude.{◌≡◌, ◌⊎◌};
 ghost use Rattle.tree_limits.specs.Limits.{AreLimits};
 
-mod programs;
-
+use crate::programs::run_settings;
 use bw_shell::Refusal;
 use byte_streams::{Reader, Writer};
-pub use programs::run_settings;
 use shell_options::{OptionsError, Settings, options};
 use std::alloc::Global;
 use std::io::ErrorKind;
@@ -18,7 +15,7 @@ use std::thread::Threads;
 use std::{env, io};
 
 /// Runs the program that the words of the command line ask for, and answers the exit status. A race's threads are those of `threads`.
-pub fn run<R: Threads + Wait + Sync>(rt: &HostRuntime, threads: &R) -> ExitCode {
+pub(crate) fn run<R: Threads + Wait + Sync>(rt: &HostRuntime, threads: &R) -> ExitCode {
     let alloc = rt.alloc();
     let words = match words(rt, alloc) {
         Ok(words) => words,
@@ -29,6 +26,7 @@ pub fn run<R: Threads + Wait + Sync>(rt: &HostRuntime, threads: &R) -> ExitCode 
         Err(error) => ExitCode::from(refuse(rt, error)),
     }
 }
+
 /// The words of the command line, the program's name first.
 fn words(rt: &HostRuntime, alloc: Global) -> io::Result<Vec<String>> {
     Ok(env::args(rt)?.collect(alloc)?)

@@ -3,7 +3,7 @@ use Rattle.std.proofs.Common.{◌≡◌, ◌⊎◌, ℕ, List, Bool, Option}
 use Rattle.tree_limits.specs.declared.limits.Limits.{Limits}
 use Rattle.shell_options.specs.declared.words.Program.{Program}
 use Rattle.shell_options.specs.declared.words.Program.TheVariants.{Script, Weave, Draw, Race}
-use Rattle.program.specs.Runs.{IsProgramRun}
+use Rattle.bwtree.specs.Runs.{IsProgramRun}
 
 -- Each program ends with 0 or 1.
 pub ends_with_0_or_1 : (program : Program) → (limits : Limits) → (in_old in_new : Option (List ℕ)) → (read_failed : Bool) → (out_old out_new : Option (List ℕ)) → (write_failed : Bool) → (status : ℕ) → IsProgramRun program limits in_old in_new read_failed out_old out_new write_failed status → (status ≡ 0) ⊎ (status ≡ 1)

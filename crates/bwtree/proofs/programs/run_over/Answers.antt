@@ -1,4 +1,4 @@
-use Rattle.program.proofs.programs.run_over.Goals as goal
+use Rattle.bwtree.proofs.programs.run_over.Goals as goal
 
 pub returns-in-Script : goal.returns-in-Script
 returns-in-Script g c = rw c.in-Script.is c.script.ensures
