@@ -4,10 +4,10 @@ use Rattle.std.specs.Io.KnownBytes.{Consumes}
 use Rattle.tree_limits.specs.declared.limits.Limits.{Limits}
 use Rattle.traces.specs.trace.Trace.{memory_of}
 use Rattle.scene.specs.Scenes.{Scene, IsSceneOf}
-use Rattle.shapes.specs.declared.shape.Shape.{Shape}
-use Rattle.shapes.specs.Document.{IsWellFormed}
-use Rattle.shapes.specs.Elements.{document_text, pids_of}
 use Rattle.shell_lines.specs.declared.request.Language.TheVariants.{Weave}
+use Rattle.tree_picture.specs.declared.shape.Shape.{Shape}
+use Rattle.tree_picture.specs.Document.{IsWellFormed}
+use Rattle.tree_picture.specs.Elements.{document_text, pids_of}
 use Rattle.tree_picture.specs.Pids.{all_pids}
 use Rattle.bw_shell.specs.declared.refusal.Refusal.TheVariants.{Memory, NotOpened}
 use Rattle.bw_shell.specs.declared.refusal.RefusedLine.{RefusedLine}

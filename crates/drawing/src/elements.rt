@@ -2,13 +2,13 @@
 ghost use Rattle.std.specs.Prelude.{◌≡◌, ◌++◌, ◌∷◌, [], codes, decimal};
 ghost use Rattle.std.specs.List.{flat_map};
 ghost use Rattle.byte_streams.specs.Output.{Prints};
-ghost use Rattle.shapes.specs.Colours.{colour_text};
-ghost use Rattle.shapes.specs.Document.{attribute_text, close_text, element_text, escaped, escaped_byte, open_text};
-ghost use Rattle.shapes.specs.Elements.{attribute, dashes, document_attributes, document_text, element_of, line_element, number, weight, rectangle_attributes, rectangle_element, text_element};
+ghost use Rattle.tree_picture.specs.Colours.{colour_text};
+ghost use Rattle.tree_picture.specs.Document.{attribute_text, close_text, element_text, escaped, escaped_byte, open_text};
+ghost use Rattle.tree_picture.specs.Elements.{attribute, dashes, document_attributes, document_text, element_of, line_element, number, weight, rectangle_attributes, rectangle_element, text_element};
 
 use byte_streams::Output;
 use itoa::Buffer;
-use shapes::{Colour, Line, Rectangle, Shape, Text};
+use tree_picture::{Colour, Line, Rectangle, Shape, Text};
 
 /// What stands for a byte.
 fn show_byte<O: Output>(out: &mut O, byte: &u8)

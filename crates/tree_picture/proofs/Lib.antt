@@ -1,1 +1,3 @@
+mod Documents
+mod Escapes
 mod Shapes

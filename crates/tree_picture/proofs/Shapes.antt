@@ -1,12 +1,12 @@
 -- One shape more.
 use Rattle.std.proofs.Common.{◌≡◌, ℕ, List, [], ◌∷◌, ◌++◌, refl, ap, ◌∙◌}
 use Rattle.std.proofs.lemmas.List.{append-nil}
-use Rattle.shapes.specs.declared.shape.Line.{Line as LineOf}
-use Rattle.shapes.specs.declared.shape.Rectangle.{Rectangle}
-use Rattle.shapes.specs.declared.shape.Shape.{Shape}
-use Rattle.shapes.specs.declared.shape.Shape.TheVariants.{Page, Box, Line, Text}
-use Rattle.shapes.specs.declared.shape.Text.{Text as TextOf}
-use Rattle.shapes.specs.Elements.{pids_of}
+use Rattle.tree_picture.specs.declared.shape.Line.{Line as LineOf}
+use Rattle.tree_picture.specs.declared.shape.Rectangle.{Rectangle}
+use Rattle.tree_picture.specs.declared.shape.Shape.{Shape}
+use Rattle.tree_picture.specs.declared.shape.Shape.TheVariants.{Page, Box, Line, Text}
+use Rattle.tree_picture.specs.declared.shape.Text.{Text as TextOf}
+use Rattle.tree_picture.specs.Elements.{pids_of}
 
 pids_append : (xs ys : List Shape) → pids_of (xs ++ ys) ≡ pids_of xs ++ pids_of ys
 pids_append [] ys = refl

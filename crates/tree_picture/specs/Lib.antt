@@ -1,1 +1,4 @@
+pub mod Colours
+pub mod Document
+pub mod Elements
 pub mod Pids

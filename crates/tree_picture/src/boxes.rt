@@ -1,13 +1,15 @@
 //! The box of a page.
 ghost use Rattle.std.specs.Prelude.{◌≡◌, ◌∷◌, ◌++◌, [], OnOk};
 
+use crate::colour::Colour;
 use crate::places::{DELTA, HEAD, PAGE_WIDTH, ROW, page_height};
+use crate::shape::{Rectangle, Text};
 use crate::sheet::Sheet;
+use crate::words::Words;
 use crate::write::{plain, record_words, with_number, with_range, with_token};
 use base_page::{Content, Item, Page};
 use deltas::Record;
 use scene::ScenePage;
-use shapes::{Colour, Rectangle, Text, Words};
 use std::alloc::AllocError;
 
 /// How a page stands to the level above it.

@@ -2,14 +2,16 @@
 ghost use Rattle.std.specs.Prelude.{◌≡◌};
 ghost use Rattle.op_machine.specs.machine.Actors.{IsActorShown};
 
+use crate::colour::Colour;
 use crate::places::LEFT;
+use crate::shape::Text;
 use crate::sheet::Sheet;
 use crate::steps::{command_words, step_words};
+use crate::words::Words;
 use crate::write::{with_number, with_token};
 use bw_model::Key;
 use epochs::{Entry, Stage};
 use op_machine::{Actor, Hand};
-use shapes::{Colour, Text, Words};
 
 /// How many numbers or keys of a list are written.
 const FEW: usize = 8;

@@ -2,12 +2,14 @@
 ghost use Rattle.std.specs.Prelude.{◌≡◌};
 
 use crate::boxes::Mark;
+use crate::colour::Colour;
 use crate::places::{GAP, PAGE_WIDTH, page_height, page_x};
+use crate::shape::{Line, Rectangle};
 use crate::sheet::Sheet;
+use crate::words::Words;
 use crate::write::with_number;
 use base_page::{Content, Item};
 use scene::{Level, ScenePage};
-use shapes::{Colour, Line, Rectangle, Words};
 
 /// A level where it is drawn: its pages, and the place of the first one.
 #[derive(Clone, Copy)]

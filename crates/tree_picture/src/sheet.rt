@@ -1,8 +1,10 @@
 //! Shapes while they are drawn.
 ghost use Rattle.std.specs.Prelude.{◌≡◌, ◌∷◌, ◌++◌, [], IfOk, OnOk};
-ghost use Rattle.shapes.specs.Elements.{pids_of};
+ghost use Rattle.tree_picture.specs.Elements.{pids_of};
 
-use shapes::{Colour, Line, Rectangle, Shape, Text, Words};
+use crate::colour::Colour;
+use crate::shape::{Line, Rectangle, Shape, Text};
+use crate::words::Words;
 use std::alloc::{AllocError, Global};
 use std::marker::Model;
 
@@ -23,7 +25,7 @@ pub(crate) struct Sheet {
 
 impl Model for Sheet {
     ghost use Rattle.std.specs.Prelude.{List, ℕ};
-    ghost use Rattle.shapes.specs.Elements.{pids_of};
+    ghost use Rattle.tree_picture.specs.Elements.{pids_of};
 
     ghost Value = { List ℕ };
 

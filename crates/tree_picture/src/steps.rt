@@ -1,9 +1,9 @@
 //! Words for commands and steps.
 
+use crate::words::Words;
 use crate::write::{record_words, with_number, with_token};
 use bw_model::{Command, Step};
 use deltas::Record;
-use shapes::Words;
 
 /// What an actor was asked.
 pub(crate) fn command_words(words: &mut Words, command: &Command) {

@@ -1,15 +1,16 @@
 //! The whole picture.
 ghost use Rattle.std.specs.Prelude.{◌≡◌, IfOk};
-ghost use Rattle.shapes.specs.Elements.{pids_of};
+ghost use Rattle.tree_picture.specs.Elements.{pids_of};
 ghost use Rattle.tree_picture.specs.Pids.{all_pids};
 
+use crate::colour::Colour;
 use crate::doings::actor_lines;
 use crate::frame::{head, legend};
 use crate::levels::{all_links, bottom_of, rows};
 use crate::places::{LEFT, TOP, first_x, width_of};
+use crate::shape::Rectangle;
 use crate::sheet::{Picture, Sheet};
 use scene::Scene;
-use shapes::{Colour, Rectangle};
 use std::alloc::{AllocError, Global};
 use step_core::Core;
 

@@ -2,10 +2,10 @@
 
 ghost use Rattle.std.specs.Prelude.{◌<◌};
 
+use crate::words::Words;
 use bw_model::Key;
 use deltas::Record;
 use itoa::Buffer;
-use shapes::Words;
 use shell_lines::is_word;
 
 /// How many bytes of a key or a value are written at most.

@@ -1,6 +1,6 @@
 use Rattle.std.proofs.lemmas.List.{take_all}
 use Rattle.byte_streams.proofs.Showing.{shows_then}
-use Rattle.shapes.specs.Document.{escaped_byte}
+use Rattle.tree_picture.specs.Document.{escaped_byte}
 use Rattle.drawing.proofs.Bytes.{flat_byte}
 use Rattle.drawing.proofs.elements.show_escaped.Goals as goal
 

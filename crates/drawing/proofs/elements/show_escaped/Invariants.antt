@@ -1,7 +1,7 @@
 use Rattle.std.proofs.Common.{take}
 use Rattle.std.specs.List.{flat_map}
 use Rattle.byte_streams.specs.Output.{Prints}
-use Rattle.shapes.specs.Document.{escaped_byte}
+use Rattle.tree_picture.specs.Document.{escaped_byte}
 use Rattle.drawing.proofs.elements.show_escaped.Given as goal
 
 abbrev pub invariant-loop-byte : goal.invariant-loop-byte

@@ -1,7 +1,7 @@
 use Rattle.std.proofs.lemmas.List.{take_all}
 use Rattle.byte_streams.proofs.Showing.{shows_then, flat_more}
-use Rattle.shapes.specs.Document.{element_text}
-use Rattle.shapes.specs.Elements.{element_of}
+use Rattle.tree_picture.specs.Document.{element_text}
+use Rattle.tree_picture.specs.Elements.{element_of}
 use Rattle.drawing.proofs.elements.show_shapes.Goals as goal
 
 pub loop-shape-preserved : goal.loop-shape-preserved

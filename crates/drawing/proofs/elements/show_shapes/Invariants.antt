@@ -1,8 +1,8 @@
 use Rattle.std.proofs.Common.{take}
 use Rattle.std.specs.List.{flat_map}
 use Rattle.byte_streams.specs.Output.{Prints}
-use Rattle.shapes.specs.Document.{element_text}
-use Rattle.shapes.specs.Elements.{element_of}
+use Rattle.tree_picture.specs.Document.{element_text}
+use Rattle.tree_picture.specs.Elements.{element_of}
 use Rattle.drawing.proofs.elements.show_shapes.Given as goal
 
 abbrev pub invariant-loop-shape : goal.invariant-loop-shape

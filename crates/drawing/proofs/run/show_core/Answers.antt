@@ -1,5 +1,5 @@
 use Rattle.std.proofs.Common.{refl}
-use Rattle.shapes.specs.Elements.{document_text}
+use Rattle.tree_picture.specs.Elements.{document_text}
 use Rattle.drawing.proofs.run.show_core.Goals as goal
 
 pub returns-in-Ok : goal.returns-in-Ok

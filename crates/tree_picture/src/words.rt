@@ -1,6 +1,6 @@
 //! The words of a text.
 ghost use Rattle.std.specs.Prelude.{◌≡◌, ◌++◌, ◌≤◌, ◌+◌, [], length};
-ghost use Rattle.shapes.specs.declared.words.TheConstants.{MAX_WORDS};
+ghost use Rattle.tree_picture.specs.declared.words.TheConstants.{MAX_WORDS};
 
 use arrayvec::ArrayVec;
 use std::marker::Model;

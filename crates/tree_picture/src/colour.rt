@@ -1,6 +1,6 @@
 //! Colours.
 ghost use Rattle.std.specs.Prelude.{◌≡◌};
-ghost use Rattle.shapes.specs.Colours.{colour_text};
+ghost use Rattle.tree_picture.specs.Colours.{colour_text};
 
 /// What a colour stands for.
 #[derive(Clone, Copy)]

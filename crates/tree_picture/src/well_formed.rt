@@ -1,9 +1,9 @@
 //! What is so of escaped bytes.
 ghost use Rattle.std.specs.Prelude.{◌≢◌, ◌≤◌, ℕ, List};
 ghost use Rattle.std.specs.List.{All};
-ghost use Rattle.shapes.specs.Document.{IsWellFormed, escaped};
-ghost use Rattle.shapes.specs.Elements.{document_text};
-ghost use Rattle.shapes.specs.declared.shape.Shape.{Shape};
+ghost use Rattle.tree_picture.specs.Document.{IsWellFormed, escaped};
+ghost use Rattle.tree_picture.specs.Elements.{document_text};
+ghost use Rattle.tree_picture.specs.declared.shape.Shape.{Shape};
 
 /// Whatever the bytes are, what stands for them has nothing that begins or ends an element or that ends a quoted value, and nothing
 /// but printable ASCII. It does nothing.

@@ -1,6 +1,7 @@
 //! Shapes. A place is told in pixels, from the left and from the top.
 
-use crate::{Colour, Words};
+use crate::colour::Colour;
+use crate::words::Words;
 
 /// A rectangle, from its corner that is leftmost and topmost.
 #[derive(Clone, Copy)]

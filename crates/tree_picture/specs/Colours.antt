@@ -1,7 +1,7 @@
 -- Colours as they are written.
 use Rattle.std.specs.Prelude.{ℕ, List, codes}
-use Rattle.shapes.specs.declared.colour.Colour.{Colour}
-use Rattle.shapes.specs.declared.colour.Colour.TheVariants.{Ink, Grey, Paper, Page, Delta, Side, Term, Missing, Held, Removed, Merged}
+use Rattle.tree_picture.specs.declared.colour.Colour.{Colour}
+use Rattle.tree_picture.specs.declared.colour.Colour.TheVariants.{Ink, Grey, Paper, Page, Delta, Side, Term, Missing, Held, Removed, Merged}
 
 abbrev pub colour_text : Colour → List ℕ
 colour_text Ink = codes "#1b1f24"

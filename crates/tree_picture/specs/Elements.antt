@@ -1,13 +1,13 @@
 -- Each shape as an element of an SVG document, and a list of shapes as a document.
 use Rattle.std.specs.Prelude.{ℕ, List, [], ◌∷◌, ◌++◌, Bool, true, false, codes, decimal, map}
 use Rattle.std.specs.List.{flat_map}
-use Rattle.shapes.specs.declared.shape.Line.{Line as LineOf}
-use Rattle.shapes.specs.declared.shape.Rectangle.{Rectangle}
-use Rattle.shapes.specs.declared.shape.Shape.{Shape}
-use Rattle.shapes.specs.declared.shape.Shape.TheVariants.{Page, Box, Line, Text}
-use Rattle.shapes.specs.declared.shape.Text.{Text as TextOf}
-use Rattle.shapes.specs.Colours.{colour_text}
-use Rattle.shapes.specs.Document.{Attribute, Element, element_text, open_text, close_text}
+use Rattle.tree_picture.specs.declared.shape.Line.{Line as LineOf}
+use Rattle.tree_picture.specs.declared.shape.Rectangle.{Rectangle}
+use Rattle.tree_picture.specs.declared.shape.Shape.{Shape}
+use Rattle.tree_picture.specs.declared.shape.Shape.TheVariants.{Page, Box, Line, Text}
+use Rattle.tree_picture.specs.declared.shape.Text.{Text as TextOf}
+use Rattle.tree_picture.specs.Colours.{colour_text}
+use Rattle.tree_picture.specs.Document.{Attribute, Element, element_text, open_text, close_text}
 
 abbrev pub attribute : List ℕ → List ℕ → Attribute
 attribute name value = record { name = name; value = value }

@@ -3,7 +3,7 @@ use Rattle.std.proofs.Common.{◌≡◌, ◌≢◌, ◌≤◌, ◌<◌, ℕ, Lis
 use Rattle.std.specs.Prelude.{nat_le, ◌&&◌, if◌then◌else◌, codes}
 use Rattle.std.specs.List.{AllByRecursion}
 use Rattle.std.proofs.lemmas.Bool.Decides.{nat_tests}
-use Rattle.shapes.specs.Document.{escaped_byte, escaped}
+use Rattle.tree_picture.specs.Document.{escaped_byte, escaped}
 
 abbrev pub IsSafe : ℕ → Type 0
 IsSafe b = (b ≢ 60) × (b ≢ 62) × (b ≢ 34) × (32 ≤ b) × (b ≤ 126)

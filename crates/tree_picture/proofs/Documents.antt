@@ -2,10 +2,10 @@
 use Rattle.std.proofs.Common.{◌≡◌, ℕ, List, [], ◌∷◌, ◌++◌, map, refl, ap}
 use Rattle.std.specs.Prelude.{codes}
 use Rattle.std.specs.List.{AllByRecursion, flat_map}
-use Rattle.shapes.specs.declared.shape.Shape.{Shape}
-use Rattle.shapes.specs.declared.shape.Shape.TheVariants.{Page, Box, Line, Text}
-use Rattle.shapes.specs.Document.{Element, IsElement, IsWellFormed, close_text, element_text, open_text}
-use Rattle.shapes.specs.Elements.{document_attributes, document_text, element_of}
+use Rattle.tree_picture.specs.declared.shape.Shape.{Shape}
+use Rattle.tree_picture.specs.declared.shape.Shape.TheVariants.{Page, Box, Line, Text}
+use Rattle.tree_picture.specs.Document.{Element, IsElement, IsWellFormed, close_text, element_text, open_text}
+use Rattle.tree_picture.specs.Elements.{document_attributes, document_text, element_of}
 
 is_element : (shape : Shape) → IsElement (element_of shape)
 is_element (Page pid r) = refl

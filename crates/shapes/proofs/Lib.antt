@@ -1,2 +1,0 @@
-mod Documents
-mod Escapes

@@ -1,7 +1,0 @@
-use Rattle.std.proofs.lemmas.List.Elements.{All-from_recursion}
-use Rattle.shapes.specs.Document.{escaped}
-use Rattle.shapes.proofs.Escapes.{IsSafe, all_safe}
-use Rattle.shapes.proofs.well_formed.escapes_are_safe.Goals as goal
-
-pub returns : goal.returns
-returns c = λ bytes. All-from_recursion IsSafe (escaped bytes) (all_safe bytes)

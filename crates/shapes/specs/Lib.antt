@@ -1,3 +1,0 @@
-pub mod Colours
-pub mod Document
-pub mod Elements
