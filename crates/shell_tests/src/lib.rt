@@ -11,8 +11,6 @@ mod choppy;
 #[cfg(test)]
 mod cursor_pages;
 #[cfg(test)]
-mod documents;
-#[cfg(test)]
 mod drawn;
 #[cfg(test)]
 mod faults;
@@ -24,6 +22,8 @@ mod interleaved;
 mod lines;
 #[cfg(test)]
 mod numbered;
+#[cfg(test)]
+mod parts;
 #[cfg(test)]
 mod picture_keys;
 #[cfg(test)]

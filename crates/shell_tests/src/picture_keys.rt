@@ -1,6 +1,6 @@
 //! Keys and values of bytes that a document can't have as they are, and long ones.
 
-use crate::documents::{count, is_document};
+use crate::parts::count;
 use crate::picture_runs::{add_insert, drawn};
 use bw_model::Limits;
 use std::alloc::{AllocError, Global};
@@ -38,7 +38,7 @@ fn drawn_with(alloc: Global, limits: Limits, key: &[u8]) -> Result<Option<Vec<u8
     Ok(drawn(alloc, limits, lines.as_slice()))
 }
 
-/// Whether that is a document which shows the put of the key so.
+/// Whether that shows the put of the key so, once.
 fn is_shown(alloc: Global, limits: Limits, key: &[u8], shown: &[u8]) -> Result<bool, AllocError> {
     let Some(text) = drawn_with(alloc, limits, key)? else {
         return Ok(false);
@@ -47,7 +47,7 @@ fn is_shown(alloc: Global, limits: Limits, key: &[u8], shown: &[u8]) -> Result<b
     for part in [b">put ".as_slice(), shown, b" = ", shown, b"</text>"] {
         put.extend_from_slice(part)?;
     }
-    Ok(is_document(alloc, text.as_slice())? && count(text.as_slice(), put.as_slice()) == 1)
+    Ok(count(text.as_slice(), put.as_slice()) == 1)
 }
 
 #[test]
@@ -72,11 +72,10 @@ fn drawn_with_all(alloc: Global, limits: Limits) -> Result<Option<Vec<u8>>, Allo
 #[test]
 fn each_byte_is_drawn(rt: HostRuntime) -> Result<(), Fail> {
     let limits = Limits::new(2, 256, 1024, 1)?;
-    let Some(text) = drawn_with_all(rt.alloc(), limits)? else {
-        assert!(rt; false);
-        return Ok(());
+    let pages = match drawn_with_all(rt.alloc(), limits)? {
+        Some(text) => count(text.as_slice(), b" id=\"page-"),
+        None => 0,
     };
-    assert!(rt; is_document(rt.alloc(), text.as_slice())?);
-    assert!(rt; count(text.as_slice(), b" id=\"page-") > 60);
+    assert!(rt; pages > 60);
     Ok(())
 }

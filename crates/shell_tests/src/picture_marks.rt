@@ -1,6 +1,6 @@
 //! A page in each state of a split and a removal that is half done: its mark stands once in the picture, beside the legend.
 
-use crate::documents::{count, is_document};
+use crate::parts::count;
 use crate::picture_runs::drawn;
 use bw_model::Limits;
 use std::alloc::{AllocError, Global};
@@ -41,19 +41,16 @@ fn add_commands(
     Ok(())
 }
 
-/// The marks of the picture once 34 keys were inserted and 4 of them deleted, and actor 1 has begun a change; none where it is no document.
+/// The marks of the picture once 34 keys were inserted and 4 of them deleted, and actor 1 has begun a change; none where it isn't drawn.
 fn marks_after(alloc: Global, limits: Limits, change: &[u8]) -> Result<Option<Marks>, AllocError> {
     let mut lines = Vec::new(alloc);
     add_commands(&mut lines, b"insert k", b" v", 1, 35)?;
     add_commands(&mut lines, b"delete k", b"", 9, 13)?;
     lines.extend_from_slice(change)?;
-    let Some(text) = drawn(alloc, limits, lines.as_slice()) else {
-        return Ok(None);
-    };
-    if !is_document(alloc, text.as_slice())? {
-        return Ok(None);
+    match drawn(alloc, limits, lines.as_slice()) {
+        Some(text) => Ok(Some(marks_of(text.as_slice()))),
+        None => Ok(None),
     }
-    Ok(Some(marks_of(text.as_slice())))
 }
 
 // The legend has a box for each of the first three marks, and a dashed line.

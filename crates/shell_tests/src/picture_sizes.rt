@@ -1,12 +1,12 @@
 //! Small and large trees: a box for each page.
 
-use crate::documents::{count, is_document};
+use crate::parts::count;
 use crate::picture_runs::{add_numbers, drawn};
 use bw_model::Limits;
 use std::alloc::{AllocError, Global};
 use std::test::Fail;
 
-/// Whether the picture of a tree of so many keys is a document with so many pages, and says how many PIDs are free.
+/// Whether the picture of a tree of so many keys has so many pages, and says how many PIDs are free.
 fn has_pages(
     alloc: Global,
     limits: Limits,
@@ -21,8 +21,7 @@ fn has_pages(
     };
     let text = text.as_slice();
     Ok(
-        is_document(alloc, text)?
-            && count(text, b" id=\"page-") == pages
+        count(text, b" id=\"page-") == pages
             && count(text, b">PID ") == pages
             && count(text, free) == 1,
     )

@@ -1,4 +1,5 @@
-//! Trees of the limits that are proposed for so many keys: the keys come and go again and again, and nothing is refused.
+//! Trees of the limits that are proposed for so many keys, each in a thread of its own: the keys come and go again and again, and nothing
+//! is refused.
 ghost use Rattle.bw_tree.specs.Trees.{AreSeatsOf};
 
 use crate::orders::{Order, but_eighths, numbers};
@@ -6,7 +7,9 @@ use crate::turns::done;
 use crate::works::Work;
 use bw_model::Limits;
 use bw_tree::{BwSeat, Tree};
-use std::alloc::Global;
+use std::alloc::{AllocError, Global};
+use std::test::Fail;
+use std::thread::{Threads, map_vec};
 use workers::opened;
 
 /// How often the keys come and go.
@@ -101,35 +104,49 @@ fn hold_deltas(alloc: Global, actors: u64, keys: u32) -> Option<bool> {
     Some(filled && updated && emptied && again && pairs.is_empty())
 }
 
-/// The first size at which something was refused.
-fn refused(alloc: Global, order: Order) -> Option<(u64, u32)> {
-    for (actors, keys) in SIZES {
-        if are_held(alloc, actors, keys, order) != Some(true) {
-            return Some((actors, keys));
+/// A tree, by its actors and its keys, and the order in which these come and go; none where they are updated as well.
+type Trial = (u64, u32, Option<Order>);
+
+/// All of them.
+fn trials(alloc: Global) -> Result<Vec<Trial>, AllocError> {
+    let mut trials = Vec::new(alloc);
+    for (actors, keys) in UPDATED {
+        trials.push((actors, keys, None))?;
+    }
+    for order in [Order::Up, Order::Down, Order::Drawn] {
+        for (actors, keys) in SIZES {
+            trials.push((actors, keys, Some(order)))?;
         }
     }
-    None
+    Ok(trials)
+}
+
+/// The trial, if something was refused.
+fn refused(alloc: Global, trial: Trial) -> Option<Trial> {
+    let (actors, keys, order) = trial;
+    let held = match order {
+        Some(order) => are_held(alloc, actors, keys, order),
+        None => hold_deltas(alloc, actors, keys),
+    };
+    (held != Some(true)).then_some(trial)
+}
+
+/// What was refused, of all trials.
+fn all_refused<R: Threads + Sync>(
+    threads: &R,
+    alloc: Global,
+) -> Result<Vec<Option<Trial>>, AllocError> {
+    map_vec(
+        threads,
+        trials(alloc)?,
+        &|trial: Trial| -> Option<Trial> { refused(alloc, trial) },
+    )
 }
 
 #[test]
-fn ascending_keys_are_held(rt: HostRuntime) {
-    assert!(rt; refused(rt.alloc(), Order::Up).is_none());
-}
-
-#[test]
-fn descending_keys_are_held(rt: HostRuntime) {
-    assert!(rt; refused(rt.alloc(), Order::Down).is_none());
-}
-
-#[test]
-fn drawn_keys_are_held(rt: HostRuntime) {
-    assert!(rt; refused(rt.alloc(), Order::Drawn).is_none());
-}
-
-#[test]
-fn the_longest_chains_are_held(rt: HostRuntime) {
-    for (actors, keys) in UPDATED {
-        let held = hold_deltas(rt.alloc(), actors, keys);
-        assert!(rt; held == Some(true), "{actors} {keys}");
+fn all_are_held(rt: HostRuntime) -> Result<(), Fail> {
+    for trial in all_refused(&rt, rt.alloc())? {
+        assert!(rt; trial.is_none(), "{trial:?}");
     }
+    Ok(())
 }
