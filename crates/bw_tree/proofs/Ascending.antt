@@ -11,7 +11,7 @@ use Rattle.std.proofs.lemmas.Cmp.{nat_list_cmp_total}
 use Rattle.bw_model.specs.Bytes.{key_cmp, is_in_range}
 use Rattle.bw_model.specs.Log.{Update, set, updated_key, updated_value, logged_value}
 use Rattle.bw_model.specs.Pairs.{IsPairsOf}
-use Rattle.op_machine.proofs.PairLaws.{equal_keys}
+use Rattle.listing.proofs.PairLaws.{equal_keys}
 use Rattle.bw_tree.specs.Loaded.{KeysAscend}
 
 abbrev pub Pair : Type 0

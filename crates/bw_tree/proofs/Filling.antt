@@ -5,7 +5,7 @@ use Rattle.bw_model.specs.declared.command.Command.{Command}
 use Rattle.bw_model.specs.declared.command.Reply.{Reply}
 use Rattle.bw_model.specs.declared.command.Reply.TheVariants as reply
 use Rattle.tree_limits.specs.declared.limits.Limits.{Limits}
-use Rattle.op_machine.proofs.PairLaws.{take-grown}
+use Rattle.listing.proofs.PairLaws.{take-grown}
 use Rattle.bw_tree.specs.Calls.{IsCalled, calls_in}
 use Rattle.bw_tree.specs.Loaded.{CallsOff, GoesOnAfter, HaveUpserted, IsLoadStop, IsStopped, upsert_of}
 use Rattle.bw_tree.specs.Runs.{IsOneHistory}

@@ -3,3 +3,4 @@ pub mod LeafPairs
 pub mod Listings
 pub mod Making
 pub mod Walking
+pub mod PairLaws

@@ -3,7 +3,6 @@ pub mod Listed
 pub mod LogLaws
 pub mod MapLaws
 pub mod PhaseLaws
-pub mod PairLaws
 pub mod Reading
 pub mod Rounds
 pub mod Changing

@@ -6,7 +6,6 @@ mod actor;
 mod errands;
 mod examples;
 mod hand;
-mod listing;
 mod log_laws;
 mod operation;
 mod places;
@@ -24,7 +23,6 @@ pub use examples::{
     useless_links_are_refused,
 };
 pub use hand::Hand;
-pub use listing::logged_pairs;
 pub use log_laws::{
     knowledge_stays, late_mark_keeps_log, log_grows, one_leaf_has_the_map, phases_grow,
 };

@@ -15,7 +15,7 @@ pub trait Work: Drop + Send {
 
 /// Does all works at once, each in a thread of its own and with a seat of its own, and answers them in their order. The seats are the
 /// list's last ones, and come back to its end in the order of their works, so the last one first. None where there are more works than
-/// seats, or no memory for a list, also for that of the answer, when all works are done; then seats that were taken are dropped.
+/// seats, or no memory for a list, also for that of the answer, when all works are done; then seats that were taken may be dropped.
 pub fn work_in_threads<R: Threads + Sync, W: Work>(
     rt: &R,
     tree: &Tree,

@@ -1,5 +1,5 @@
 use Rattle.std.proofs.Common.{◌≡◌, ◌++◌}
-use Rattle.op_machine.proofs.listing.pairs_of.Given as goal
+use Rattle.listing.proofs.log.pairs_of.Given as goal
 
 abbrev pub invariant-loop-key : goal.invariant-loop-key
 invariant-loop-key l = l.pairs.items ++ l.key-iterator ≡ l.values.entries

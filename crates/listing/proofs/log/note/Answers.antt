@@ -1,7 +1,7 @@
 use Rattle.std.proofs.Common.{◌≡◌, ◌∙◌, Some, None, option_copied, subst}
 use Rattle.bw_model.specs.Log.{updated_value}
-use Rattle.op_machine.proofs.PairLaws.{noted}
-use Rattle.op_machine.proofs.listing.note.Goals as goal
+use Rattle.listing.proofs.PairLaws.{noted}
+use Rattle.listing.proofs.log.note.Goals as goal
 
 pub returns-in_ok-insert-in-Some-clause-noted : goal.returns-in_ok-insert-in-Some-clause-noted
 returns-in_ok-insert-in-Some-clause-noted c =

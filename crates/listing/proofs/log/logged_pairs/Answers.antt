@@ -3,9 +3,9 @@ use Rattle.std.proofs.lemmas.List.{take_all}
 use Rattle.std.proofs.lemmas.Result.{IfOk-weaker}
 use Rattle.bw_model.specs.Bytes.{is_in_range}
 use Rattle.bw_model.specs.Log.{updated_key}
-use Rattle.op_machine.proofs.PairLaws.{Says, pairs_of_map, Says-inside, Says-outside, take-grown}
-use Rattle.op_machine.proofs.listing.logged_pairs.Goals.{then-is_inside+in_ok-note, else-is_inside}
-use Rattle.op_machine.proofs.listing.logged_pairs.Goals as goal
+use Rattle.listing.proofs.PairLaws.{Says, pairs_of_map, Says-inside, Says-outside, take-grown}
+use Rattle.listing.proofs.log.logged_pairs.Goals.{then-is_inside+in_ok-note, else-is_inside}
+use Rattle.listing.proofs.log.logged_pairs.Goals as goal
 
 pub loop-update-preserved : goal.loop-update-preserved
 loop-update-preserved c =

@@ -2,7 +2,7 @@ use Rattle.std.proofs.Common.{◌≡◌, ℕ, List, take, None, if◌then◌else
 use Rattle.std.specs.BTreeMap.{IsOrdered, get}
 use Rattle.bw_model.specs.Bytes.{key_cmp, is_in_range}
 use Rattle.bw_model.specs.Log.{logged_value}
-use Rattle.op_machine.proofs.listing.logged_pairs.Given as goal
+use Rattle.listing.proofs.log.logged_pairs.Given as goal
 
 abbrev pub invariant-loop-update : goal.invariant-loop-update
 invariant-loop-update l = record {
