@@ -79,7 +79,7 @@ fn chain_over(alloc: Global, base: Page) -> Result<Chain, AllocError>
     row.write(&Record::Base(base));
     part.push(&mut row);
     let mut chain = Chain::new(alloc)?;
-    chain.take(&mut part);
+    chain.receive(&mut part);
     Ok(chain)
 }
 

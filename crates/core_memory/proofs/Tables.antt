@@ -14,7 +14,7 @@ use Rattle.deltas.specs.declared.record.Record.{Record}
 use Rattle.deltas.specs.declared.record.Record.TheVariants.{Base}
 use Rattle.deltas.specs.Memory.{opening, replaced_at}
 use Rattle.tree_limits.specs.Words.{is_among}
-use Rattle.core_memory.specs.Tables.{Table, is_free, memory_in}
+use Rattle.core_memory.specs.Tables.{CoreTable, is_free, memory_in}
 
 same_or_not : (a b : ℕ) → (a ≡ b) ⊎ (a ≢ b)
 same_or_not a b = elim (cases_lt a b) [
@@ -167,7 +167,7 @@ with_record limits slots rows pid_bits row_bits epoch announced place row conten
 
 -- other words of free bits
 module _ (limits : Limits) (slots : List ℕ) (rows : List (Option Record)) (epoch : ℕ) (announced words others : List ℕ) (free : ℕ → Bool) (is : is_free words ≡ free) where
-  abbrev table_of : List ℕ → List ℕ → Table
+  abbrev table_of : List ℕ → List ℕ → CoreTable
   table_of pid_bits row_bits = record { limits = limits; slots = slots; rows = rows; pid_bits = pid_bits; row_bits = row_bits; epoch = epoch; announced = announced }
 
   pub with_pids : memory_in (record { limits = limits; slots = slots; rows = rows; pid_bits = words; row_bits = others; epoch = epoch; announced = announced }) ≡ record (memory_in (table_of words others)) { free_pids = free }

@@ -8,7 +8,7 @@ use Rattle.deltas.specs.declared.record.Record.{Record}
 use Rattle.deltas.specs.Memory.{Memory}
 
 -- a row in which nothing was placed has no record
-pub record Table : Type 0 where
+pub record CoreTable : Type 0 where
   pub limits : Limits
   pub slots : List ℕ
   pub rows : List (Option Record)
@@ -22,7 +22,7 @@ abbrev pub is_free : List ℕ → ℕ → Bool
 is_free words n = bit_at (slice_index words (n / 64)) (n % 64) == 1
 
 -- the memory that the table has; what has no place is 0, or none
-abbrev pub memory_in : Table → Memory
+abbrev pub memory_in : CoreTable → Memory
 memory_in table = record {
   slots = λ pid. slice_index table.slots pid;
   rows = λ row. slice_index_or table.rows row None;
@@ -33,7 +33,7 @@ memory_in table = record {
 }
 
 -- There is a place for each number below the limits.
-pub record HasPlaces (table : Table) : Type 0 where
+pub record HasPlaces (table : CoreTable) : Type 0 where
   pub slots : length table.slots ≡ table.limits.pids
   pub rows : length table.rows ≡ table.limits.rows
   pub pid_bits : 64 * length table.pid_bits ≡ table.limits.pids
@@ -41,7 +41,7 @@ pub record HasPlaces (table : Table) : Type 0 where
   pub announced : length table.announced ≡ table.limits.actors
 
 -- The actor's step names numbers that have places, and reads a row only where a record was placed.
-abbrev pub IsWithinTable : Table → ℕ → Step Record → Type 0
+abbrev pub IsWithinTable : CoreTable → ℕ → Step Record → Type 0
 IsWithinTable table actor (Slot pid) = pid < table.limits.pids
 IsWithinTable table actor (Row row) = IsSome ((memory_in table).rows row)
 IsWithinTable table actor Epoch = Unit {0}

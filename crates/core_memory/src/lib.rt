@@ -12,4 +12,4 @@ pub use entries::Entries;
 pub use replies::{BoxedPairs, BoxedReply};
 pub use shared::SharedRecord;
 pub use steps::{shared_step, step_again};
-pub use table::Table;
+pub use table::CoreTable;

@@ -14,7 +14,7 @@ use std::alloc::{AllocError, Allocator, Global};
 use std::marker::Model;
 
 /// Slots and records by number, words of free bits, the epoch, and what each actor announced.
-pub struct Table<A: Allocator = Global> {
+pub struct CoreTable<A: Allocator = Global> {
     limits: Limits,
     slots: Vec<u16, A>,
     rows: Vec<Option<SharedRecord<A>>, A>,
@@ -24,9 +24,9 @@ pub struct Table<A: Allocator = Global> {
     announced: Vec<u64, A>,
 }
 
-impl<A: Allocator> Drop for Table<A> {
+impl<A: Allocator> Drop for CoreTable<A> {
     fn drop(self) {
-        let Table {
+        let CoreTable {
             limits: _,
             slots: _,
             rows: _,
@@ -38,19 +38,19 @@ impl<A: Allocator> Drop for Table<A> {
     }
 }
 
-impl<A: Allocator> Model for Table<A> {
-    ghost use Rattle.core_memory.specs.Tables.{HasPlaces, Table};
+impl<A: Allocator> Model for CoreTable<A> {
+    ghost use Rattle.core_memory.specs.Tables.{CoreTable, HasPlaces};
 
-    ghost Value = { Table };
+    ghost Value = { CoreTable };
 
     ghost view = { λ t. record { limits = t.limits; slots = t.slots.items; rows = t.rows.items; pid_bits = t.pid_bits.items; row_bits = t.row_bits.items; epoch = t.epoch; announced = t.announced.items } };
 
     ghost invariant = { λ t. HasPlaces (record { limits = t.limits; slots = t.slots.items; rows = t.rows.items; pid_bits = t.pid_bits.items; row_bits = t.row_bits.items; epoch = t.epoch; announced = t.announced.items }) };
 }
 
-impl<A: Allocator + Copy> Table<A> {
+impl<A: Allocator + Copy> CoreTable<A> {
     /// The memory before the first step; refused for want of memory alone.
-    pub fn open(alloc: A, limits: &Limits) -> Result<Table<A>, AllocError>
+    pub fn open(alloc: A, limits: &Limits) -> Result<CoreTable<A>, AllocError>
         ensures limits { IfOk result (λ table. table.limits ≡ limits.now) }
         ensures opening { IfOk result (λ table. memory_in table ≡ opening limits.now) }
     {
@@ -59,7 +59,7 @@ impl<A: Allocator + Copy> Table<A> {
         let row_bits = free_bits(alloc, limits.rows)?;
         let announced = vec![in alloc; 0; limits.actors as usize]?;
         let rows = opening_rows(alloc, limits.rows)?;
-        Ok(Table {
+        Ok(CoreTable {
             limits: *limits,
             slots,
             rows,
@@ -71,7 +71,7 @@ impl<A: Allocator + Copy> Table<A> {
     }
 }
 
-impl<A: Allocator> Table<A> {
+impl<A: Allocator> CoreTable<A> {
     /// The number in a slot, or 0 where there is no such slot.
     pub fn slot(&self, pid: u16) -> u16
         ensures { result ≡ (memory_in self.now).slots pid }

@@ -2,7 +2,7 @@
 //! is answered, is proved of each trace.
 
 use crate::by_hand::comes_to_rest;
-use crate::numbers::{MOST, Numbers, Place};
+use crate::numbers::{MOST, Numbers, Whereabouts};
 use bw_model::{Answer, Key, Link, Step};
 use core_memory::Entries;
 use deltas::Record;
@@ -63,7 +63,10 @@ impl Accounts {
             let Some(row) = next else {
                 return true;
             };
-            if !self.rows.moves(row, Place::Linked, Place::Limbo) {
+            if !self
+                .rows
+                .moves(row, Whereabouts::Linked, Whereabouts::Limbo)
+            {
                 return false;
             }
             next = self.placed(row).next;
@@ -74,10 +77,14 @@ impl Accounts {
     /// A slot has gone to 0: the page was cleared; or it was never linked, and its row goes back to the actor, as no other has seen it.
     fn empties(&mut self, page: u16, head: u16) -> bool {
         if self.placed(head).link == Link::Remove {
-            self.pids.moves(page, Place::Linked, Place::Limbo) && self.unlink_chain(head)
+            self.pids
+                .moves(page, Whereabouts::Linked, Whereabouts::Limbo)
+                && self.unlink_chain(head)
         } else {
-            self.pids.is_at(page, Place::Spare)
-                && self.rows.moves(head, Place::Linked, Place::Spare)
+            self.pids.is_at(page, Whereabouts::Spare)
+                && self
+                    .rows
+                    .moves(head, Whereabouts::Linked, Whereabouts::Spare)
         }
     }
 
@@ -87,24 +94,34 @@ impl Accounts {
         let ready = self.ready[usize::from(actor % 16)];
         let stands = match placed.link {
             Link::Base => self.unlink_chain(head),
-            Link::Split => self.pids.moves(ready, Place::Spare, Place::Linked),
+            Link::Split => self
+                .pids
+                .moves(ready, Whereabouts::Spare, Whereabouts::Linked),
             _ => true,
         };
         let is_over = placed.link == Link::Base || placed.next == Some(head);
-        stands && is_over && self.rows.moves(row, Place::Spare, Place::Linked)
+        stands
+            && is_over
+            && self
+                .rows
+                .moves(row, Whereabouts::Spare, Whereabouts::Linked)
     }
 
     /// An own page is filled before it is linked.
     fn fills(&mut self, actor: u8, page: u16, row: u16) -> bool {
         self.ready[usize::from(actor % 16)] = page;
-        self.pids.is_at(page, Place::Spare) && self.rows.moves(row, Place::Spare, Place::Linked)
+        self.pids.is_at(page, Whereabouts::Spare)
+            && self
+                .rows
+                .moves(row, Whereabouts::Spare, Whereabouts::Linked)
     }
 
     /// An exchange has won.
     fn exchanges(&mut self, actor: u8, page: u16, old: u16, new: u16) -> bool {
         self.slots[usize::from(page % MOST)] = new;
         if page == 0 {
-            self.pids.moves(new, Place::Spare, Place::Linked)
+            self.pids
+                .moves(new, Whereabouts::Spare, Whereabouts::Linked)
         } else if new == 0 {
             self.empties(page, old)
         } else if old == 0 {
@@ -118,8 +135,8 @@ impl Accounts {
     fn wins(&mut self, actor: u8, step: &Step<Record>) -> bool {
         match step {
             Step::Exchange(page, old, new) => self.exchanges(actor, *page, *old, *new),
-            Step::TakePid(pid) => self.pids.moves(*pid, Place::Free, Place::Spare),
-            Step::TakeRow(row) => self.rows.moves(*row, Place::Free, Place::Spare),
+            Step::TakePid(pid) => self.pids.moves(*pid, Whereabouts::Free, Whereabouts::Spare),
+            Step::TakeRow(row) => self.rows.moves(*row, Whereabouts::Free, Whereabouts::Spare),
             _ => true,
         }
     }
@@ -168,7 +185,7 @@ impl Accounts {
             let Some(row) = next else {
                 return Some(length);
             };
-            if !self.rows.is_at(row, Place::Linked) {
+            if !self.rows.is_at(row, Whereabouts::Linked) {
                 return None;
             }
             next = self.placed(row).next;

@@ -5,7 +5,7 @@ pub(crate) const MOST: u16 = 4096;
 
 /// Where a row or a PID is.
 #[derive(Clone, Copy, PartialEq, Eq)]
-pub(crate) enum Place {
+pub(crate) enum Whereabouts {
     Free,
     /// An actor took it, and has not linked it.
     Spare,
@@ -17,24 +17,24 @@ pub(crate) enum Place {
 /// Each row, or each PID, by its number. 0 is none of them, and counts as linked.
 #[derive(Drop)]
 pub(crate) struct Numbers {
-    places: [Place; MOST as usize],
+    places: [Whereabouts; MOST as usize],
 }
 
 impl Numbers {
     /// Of a tree that opens: 1 is linked, what is above is free.
     pub(crate) fn new() -> Numbers {
-        let mut places = [Place::Free; MOST as usize];
-        places[0] = Place::Linked;
-        places[1] = Place::Linked;
+        let mut places = [Whereabouts::Free; MOST as usize];
+        places[0] = Whereabouts::Linked;
+        places[1] = Whereabouts::Linked;
         Numbers { places }
     }
 
-    pub(crate) fn is_at(&self, number: u16, place: Place) -> bool {
+    pub(crate) fn is_at(&self, number: u16, place: Whereabouts) -> bool {
         self.places[usize::from(number % MOST)] == place
     }
 
     /// Moves a number from one place to another, if it is there.
-    pub(crate) fn moves(&mut self, number: u16, from: Place, to: Place) -> bool {
+    pub(crate) fn moves(&mut self, number: u16, from: Whereabouts, to: Whereabouts) -> bool {
         let place = &mut self.places[usize::from(number % MOST)];
         let is_there = *place == from;
         if is_there {
@@ -48,7 +48,7 @@ impl Numbers {
         for bit in 0..64u16 {
             let number = u16::from(word).wrapping_mul(64).wrapping_add(bit);
             let is_freed = bits >> (u32::from(bit) % 64) & 1 == 1;
-            if is_freed && !self.moves(number, Place::Limbo, Place::Free) {
+            if is_freed && !self.moves(number, Whereabouts::Limbo, Whereabouts::Free) {
                 return false;
             }
         }
@@ -60,8 +60,8 @@ impl Numbers {
         let (mut linked, mut limbo) = (0u32, 0u32);
         for place in &self.places {
             match place {
-                Place::Linked => linked = linked.wrapping_add(1),
-                Place::Limbo => limbo = limbo.wrapping_add(1),
+                Whereabouts::Linked => linked = linked.wrapping_add(1),
+                Whereabouts::Limbo => limbo = limbo.wrapping_add(1),
                 _ => {}
             }
         }

@@ -196,7 +196,7 @@ impl Change {
         ensures same { IsSame self.old self.new }
     {
         match self.state {
-            State::Taking(taking) => self.take(spares, taking, told),
+            State::Taking(taking) => self.go_on_taking(spares, taking, told),
             State::Base => self.go(State::Ready),
             State::Ready => {
                 let state = after_ready(&self.plan);
@@ -210,7 +210,7 @@ impl Change {
     }
 
     /// Goes on with a taking; what was taken is a spare.
-    fn take(&mut self, spares: &mut Spares, taking: Taking, told: Told) -> Option<End>
+    fn go_on_taking(&mut self, spares: &mut Spares, taking: Taking, told: Told) -> Option<End>
         requires state { self.old.state ≡ State.Taking taking }
         requires sound { IsSoundChange self.old spares.old }
         requires told { FitsChange self.old spares.old (answer_of told) }

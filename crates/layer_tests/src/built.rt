@@ -42,7 +42,7 @@ pub(crate) fn page<R: Abort + AllocGlobal>(
 {
     let mut part = rows(rt, deltas, base);
     let mut page = PageInHand::new(rt.alloc()).expect(rt, "memory for a page");
-    page.take(pid, head, &mut part);
+    page.receive(pid, head, &mut part);
     page
 }
 
@@ -77,5 +77,5 @@ pub(crate) fn grow<R: Abort + AllocGlobal>(rt: &R, page: &mut PageInHand, newest
     row.write(&newest);
     part.push(&mut row);
     copy_all(&mut part, &mut row, page.chain().as_slice());
-    page.take(page.pid(), 7, &mut part);
+    page.receive(page.pid(), 7, &mut part);
 }

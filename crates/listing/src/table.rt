@@ -1,11 +1,11 @@
 //! A table keeps a memory.
 
 use crate::rows::Rows;
-use core_memory::Table;
+use core_memory::CoreTable;
 use deltas::Record;
 use std::alloc::Allocator;
 
-impl<A: Allocator> Rows for Table<A> {
+impl<A: Allocator> Rows for CoreTable<A> {
     ghost use Rattle.std.specs.Prelude.{◌≡◌};
     ghost use Rattle.core_memory.specs.Tables.{memory_in};
 

@@ -187,7 +187,7 @@ impl<A: Allocator> Descent<A> {
                 Seen::On
             }
             None => {
-                self.page.take(pid, head, &mut self.part);
+                self.page.receive(pid, head, &mut self.part);
                 Seen::Whole
             }
         }

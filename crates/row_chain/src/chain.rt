@@ -56,8 +56,8 @@ impl<A: Allocator + Copy> Chain<A> {
 }
 
 impl<A: Allocator> Chain<A> {
-    /// Takes what was read as a page's whole chain, and gives the chain that it was: the two change hands, and no row is moved.
-    pub fn take(&mut self, part: &mut ChainPart<A>)
+    /// Receives what was read as a page's whole chain, and gives the chain that it was: the two change hands, and no row is moved.
+    pub fn receive(&mut self, part: &mut ChainPart<A>)
         requires { IsPageChain part.old }
         ensures chain { self.new ≡ part.old }
         ensures part { part.new ≡ self.old }

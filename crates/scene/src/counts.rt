@@ -3,11 +3,11 @@ ghost use Rattle.std.specs.Prelude.{◌≡◌};
 ghost use Rattle.core_memory.specs.Tables.{memory_in};
 ghost use Rattle.scene.specs.Counts.{how_many};
 
-use core_memory::Table;
+use core_memory::CoreTable;
 use std::alloc::Allocator;
 
 /// How many PIDs are free.
-pub fn free_pids<A: Allocator>(table: &Table<A>, pids: u64) -> u64
+pub fn free_pids<A: Allocator>(table: &CoreTable<A>, pids: u64) -> u64
     requires { pids ≡ table.now.limits.pids }
     ensures { result ≡ how_many (memory_in table.now).free_pids pids }
 {
@@ -21,7 +21,7 @@ pub fn free_pids<A: Allocator>(table: &Table<A>, pids: u64) -> u64
 }
 
 /// How many rows are free.
-pub fn free_rows<A: Allocator>(table: &Table<A>, rows: u64) -> u64
+pub fn free_rows<A: Allocator>(table: &CoreTable<A>, rows: u64) -> u64
     requires { rows ≡ table.now.limits.rows }
     ensures { result ≡ how_many (memory_in table.now).free_rows rows }
 {

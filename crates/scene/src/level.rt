@@ -6,7 +6,7 @@ ghost use Rattle.tree_law.specs.LevelPages.{HasPagesOn};
 
 use crate::page::{ScenePage, page_at};
 use bw_model::Limits;
-use core_memory::Table;
+use core_memory::CoreTable;
 use std::alloc::{AllocError, Allocator, Global};
 use std::marker::Model;
 
@@ -48,7 +48,7 @@ impl<A: Allocator> Level<A> {
 pub(crate) fn level_from<A: Allocator, B: Allocator + Copy>(
     alloc: B,
     limits: &Limits,
-    table: &Table<A>,
+    table: &CoreTable<A>,
     first: u16,
 ) -> Result<Level<B>, AllocError>
     requires stands { (number : ℕ) × HasPagesOn limits.now (memory_in table.now) number first }

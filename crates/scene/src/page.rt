@@ -8,7 +8,7 @@ ghost use Rattle.listing.specs.Listed.{StandsAt};
 ghost use Rattle.scene.specs.Levels.{low_child};
 
 use base_page::Page;
-use core_memory::Table;
+use core_memory::CoreTable;
 use deltas::Record;
 use listing::{page_of, rows_of};
 use std::alloc::{AllocError, Allocator, Global};
@@ -82,7 +82,7 @@ impl<A: Allocator> ScenePage<A> {
 /// A page that stands in a table.
 pub(crate) fn page_at<A: Allocator, B: Allocator>(
     alloc: B,
-    table: &Table<A>,
+    table: &CoreTable<A>,
     pid: u16,
 ) -> Result<ScenePage<B>, AllocError>
     requires there { pid < 4096 }
@@ -98,7 +98,7 @@ pub(crate) fn page_at<A: Allocator, B: Allocator>(
 /// The records of a page's chain, the newest first.
 fn records_at<A: Allocator, B: Allocator>(
     alloc: B,
-    table: &Table<A>,
+    table: &CoreTable<A>,
     pid: u16,
 ) -> Result<Vec<Record, B>, AllocError>
     requires there { pid < 4096 }

@@ -8,7 +8,7 @@ ghost use Rattle.tree_law.specs.LevelPages.{HasAllLevels};
 use crate::counts::{free_pids, free_rows};
 use crate::level::{Level, level_from};
 use bw_model::Limits;
-use core_memory::Table;
+use core_memory::CoreTable;
 use std::alloc::{AllocError, Allocator, Global};
 use std::marker::Model;
 
@@ -38,7 +38,7 @@ impl<A: Allocator + Copy> Scene<A> {
     pub fn of<B: Allocator>(
         alloc: A,
         limits: &Limits,
-        table: &Table<B>,
+        table: &CoreTable<B>,
     ) -> Result<Scene<A>, AllocError>
         requires limits { limits.now ≡ table.now.limits }
         requires stands { HasAllLevels limits.now (memory_in table.now) }
@@ -96,7 +96,7 @@ impl<A: Allocator> Scene<A> {
 fn levels_of<A: Allocator, B: Allocator + Copy>(
     alloc: B,
     limits: &Limits,
-    table: &Table<A>,
+    table: &CoreTable<A>,
 ) -> Result<Vec<Level<B>, B>, AllocError>
     requires { HasAllLevels limits.now (memory_in table.now) }
     ensures { IfOk result (λ levels. AreLevels (memory_in table.now) levels.items) }

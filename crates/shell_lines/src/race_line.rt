@@ -11,7 +11,7 @@ ghost use Rattle.shell_lines.specs.declared.race_line.JobCommand.{JobCommand as 
 use crate::fields::next_field;
 use crate::number::read_number;
 use crate::request::read_command;
-use crate::token::LineError;
+use crate::token::{LineError, needed};
 use bw_model::Command;
 
 /// How many job numbers there are, from 0.
@@ -36,16 +36,10 @@ fn read_job(text: &[u8]) -> Option<u32>
 fn read_job_command(line: &[u8]) -> Result<JobCommand, LineError>
     ensures { GivesJobCommand result (job_command_in (fields_of line.now)) }
 {
-    let Some((number, rest)) = next_field(Some(line)) else {
-        return Err(LineError::Malformed);
-    };
-    let Some(job) = read_job(number) else {
-        return Err(LineError::Malformed);
-    };
-    match read_command(rest) {
-        Ok(command) => Ok(JobCommand { job, command }),
-        Err(error) => Err(error),
-    }
+    let (number, rest) = needed(next_field(Some(line)))?;
+    let job = needed(read_job(number))?;
+    let command = read_command(rest)?;
+    Ok(JobCommand { job, command })
 }
 
 /// Which command of which job a line of a race asks for, by the grammar.

@@ -12,7 +12,7 @@ ghost use Rattle.shell_lines.specs.declared.request.Request.{Request as RequestS
 
 use crate::fields::{next_field, one_field, spells, three_fields, two_fields};
 use crate::number::{read_number, read_seed};
-use crate::token::{LineError, key_of, value_of};
+use crate::token::{LineError, key_of, needed, value_of};
 use bw_model::{Command, Key, Link, Value};
 
 /// Which lines a program takes.
@@ -47,10 +47,7 @@ pub enum Request {
 fn read_key(args: Option<&[u8]>) -> Result<Key, LineError>
     ensures { Gives result (key_in (fields_in (option_copied args.entry))) }
 {
-    match one_field(args) {
-        Some(key) => key_of(key),
-        None => Err(LineError::Malformed),
-    }
+    key_of(needed(one_field(args))?)
 }
 
 // What two parts of a line give together: one outside the grammar comes before one that is too long.
@@ -79,30 +76,24 @@ fn pair_by(key: &[u8], value: &[u8]) -> Result<(Key, Value), LineError>
 fn read_pair(args: Option<&[u8]>) -> Result<(Key, Value), LineError>
     ensures { GivesPair result (pair_in (fields_in (option_copied args.entry))) }
 {
-    match two_fields(args) {
-        Some((key, value)) => pair_by(key, value),
-        None => Err(LineError::Malformed),
-    }
+    let (key, value) = needed(two_fields(args))?;
+    pair_by(key, value)
 }
 
 // A swap of a key, from the expected value to the new one.
 fn swap_by(key: &[u8], expected: &[u8], new: &[u8]) -> Result<Command, LineError>
     ensures { GivesCommand result (swap_said key.now expected.now new.now) }
 {
-    match both(pair_by(key, expected), value_of(new)) {
-        Ok(((key, expected), new)) => Ok(Command::Swap(key, expected, new)),
-        Err(error) => Err(error),
-    }
+    let ((key, expected), new) = both(pair_by(key, expected), value_of(new))?;
+    Ok(Command::Swap(key, expected, new))
 }
 
 #[tactic(auto, unfolding(crate::specs::Reading::swap_in))]
 fn read_swap(args: Option<&[u8]>) -> Result<Command, LineError>
     ensures { GivesCommand result (swap_in (fields_in (option_copied args.entry))) }
 {
-    match three_fields(args) {
-        Some((key, expected, new)) => swap_by(key, expected, new),
-        None => Err(LineError::Malformed),
-    }
+    let (key, expected, new) = needed(three_fields(args))?;
+    swap_by(key, expected, new)
 }
 
 // The command that the fields spell.
@@ -110,9 +101,7 @@ fn read_swap(args: Option<&[u8]>) -> Result<Command, LineError>
 pub fn read_command(fields: Option<&[u8]>) -> Result<Command, LineError>
     ensures { GivesCommand result (command_in (fields_in (option_copied fields.entry))) }
 {
-    let Some((verb, args)) = next_field(fields) else {
-        return Err(LineError::Malformed);
-    };
+    let (verb, args) = needed(next_field(fields))?;
     if spells(verb, "get") {
         return Ok(Command::Get(read_key(args)?));
     }
@@ -143,16 +132,10 @@ pub fn read_command(fields: Option<&[u8]>) -> Result<Command, LineError>
 fn read_begin(args: Option<&[u8]>) -> Result<Request, LineError>
     ensures { GivesRequest result (begin_in (fields_in (option_copied args.entry))) }
 {
-    let Some((actor, rest)) = next_field(args) else {
-        return Err(LineError::Malformed);
-    };
-    let Some(actor) = read_number(actor) else {
-        return Err(LineError::Malformed);
-    };
-    match read_command(rest) {
-        Ok(command) => Ok(Request::Begin(actor, command)),
-        Err(error) => Err(error),
-    }
+    let (actor, rest) = needed(next_field(args))?;
+    let actor = needed(read_number(actor))?;
+    let command = read_command(rest)?;
+    Ok(Request::Begin(actor, command))
 }
 
 // Whether a line may ask for so many turns or draws.
@@ -278,9 +261,7 @@ fn given(request: Option<Request>) -> Result<Request, LineError>
 fn read_woven(line: &[u8]) -> Result<Request, LineError>
     ensures { GivesRequest result (woven_in (fields_of line.now)) }
 {
-    let Some((verb, args)) = next_field(Some(line)) else {
-        return Err(LineError::Malformed);
-    };
+    let (verb, args) = needed(next_field(Some(line)))?;
     if spells(verb, "begin") {
         return read_begin(args);
     }
@@ -306,16 +287,12 @@ fn read_woven(line: &[u8]) -> Result<Request, LineError>
 fn read_script(line: &[u8]) -> Result<Request, LineError>
     ensures { GivesRequest result (script_in (fields_of line.now)) }
 {
-    let Some((verb, args)) = next_field(Some(line)) else {
-        return Err(LineError::Malformed);
-    };
+    let (verb, args) = needed(next_field(Some(line)))?;
     if spells(verb, "list") {
         return given(read_list(args));
     }
-    match read_command(Some(line)) {
-        Ok(command) => Ok(Request::Run(command)),
-        Err(error) => Err(error),
-    }
+    let command = read_command(Some(line))?;
+    Ok(Request::Run(command))
 }
 
 fn read_fields(language: Language, line: &[u8]) -> Result<Request, LineError>

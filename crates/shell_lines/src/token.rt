@@ -2,6 +2,7 @@
 
 ghost use Rattle.std.specs.Prelude.{◌≡◌, ◌<◌, ◌≤◌, ◌↔◌, ℕ, List, IfOk, IfErr, IsErrOf, IsTrue, length};
 ghost use Rattle.std.specs.List.{list_all};
+ghost use Rattle.std.specs.Option.{ok_or};
 ghost use Rattle.std.specs.Result.{result_ok};
 ghost use Rattle.bw_model.specs.Bytes.{longest};
 ghost use Rattle.hex.specs.Hex.{decode_of, IsBytes, is_hex_digit as is_hex_digit_lem};
@@ -18,6 +19,13 @@ pub enum LineError {
     Malformed,
     #[error("a key or a value is too long")]
     TooLong,
+}
+
+// What a line has to have; one without it is outside the grammar.
+pub(crate) fn needed<T: Drop>(part: Option<T>) -> Result<T, LineError>
+    ensures { result ≡ ok_or part LineError.Malformed }
+{
+    part.ok_or(LineError::Malformed)
 }
 
 fn is_word_byte(b: u8) -> bool

@@ -68,8 +68,8 @@ impl<A: Allocator> PageInHand<A> {
         &self.chain
     }
 
-    /// Takes a page that was read whole, and gives the rows of the page that it was.
-    pub fn take(&mut self, pid: u16, head: u16, part: &mut ChainPart<A>)
+    /// Receives a page that was read whole, and gives the rows of the page that it was.
+    pub fn receive(&mut self, pid: u16, head: u16, part: &mut ChainPart<A>)
         requires pid { IsPid pid }
         requires head { IsRow head }
         requires chain { IsPageChain part.old }
@@ -79,6 +79,6 @@ impl<A: Allocator> PageInHand<A> {
         ensures part { part.new ≡ self.old.chain }
     {
         self.name = Name { pid, head };
-        self.chain.take(part);
+        self.chain.receive(part);
     }
 }

@@ -17,7 +17,7 @@ use Rattle.traces.specs.declared.trace.Entry.TheVariants.{Begin, Step}
 use Rattle.traces.specs.declared.trace.Turn.TheVariants as turn
 use Rattle.deltas.specs.Memory.{opening}
 use Rattle.traces.specs.trace.Steps.{IsAnswer, memory_after}
-use Rattle.core_memory.specs.Tables.{Table, memory_in}
+use Rattle.core_memory.specs.Tables.{CoreTable, memory_in}
 use Rattle.traces.specs.trace.Trace.{command_of, commands_after, memory_of}
 use Rattle.traces.specs.discipline.Discipline.{IsAllowed, May}
 use Rattle.traces.specs.discipline.Disciplined.{IsDisciplinedFrom, MayStand}
@@ -86,7 +86,7 @@ stands_push limits before [] last h may = (subst (λ es. MayStand limits es last
 stands_push limits before (entry ∷ entries) last h may = (h.0, stands_push limits (before ++ entry ∷ []) entries last h.1 (subst (λ es. MayStand limits es last) (sym (append_assoc before (entry ∷ []) entries)) may))
 
 module _ (limits : Limits) where
-  pub core_opens : (table : Table) (actors : List Actor) (entries : List Entry) → table.limits ≡ limits → memory_in table ≡ opening limits → length actors ≡ limits.actors
+  pub core_opens : (table : CoreTable) (actors : List Actor) (entries : List Entry) → table.limits ≡ limits → memory_in table ≡ opening limits → length actors ≡ limits.actors
       → ((a : ℕ) (at : Actor) → slice_get actors a ≡ Some at → at ≡ idle_actor limits) → ((limits : Limits) (number : ℕ) (r : Recalled) → IsActor limits number nothing r (idle_actor limits)) → IsState limits [] → IsDirectState limits [] → entries ≡ [] → IsCore limits table actors entries
   core_opens table actors entries same has count each rest state direct none = rw none (record {
     state = state;
@@ -101,7 +101,7 @@ module _ (limits : Limits) where
   })
 
   -- the actor of a turn that isn't refused
-  pub core_begins : (table : Table) (actors : List Actor) (entries : List Entry) (i j : ℕ) (old : Actor) (command : Command) → IsCore limits table actors entries
+  pub core_begins : (table : CoreTable) (actors : List Actor) (entries : List Entry) (i j : ℕ) (old : Actor) (command : Command) → IsCore limits table actors entries
       → (demand : Demand) (v : Core) → record { limits = limits; entries = entries; demand = demand } ≡ v → refusal_of v (turn.Begin i command) ≡ None → j ≡ i → old ≡ get_or actors j old
       → (j < length actors) × IsActor limits i (knows entries i) (recalls entries i) old × (running_command old ≡ None) × (i < limits.actors)
   core_begins table actors entries i j old command core demand v is refusal same at =
@@ -111,30 +111,30 @@ module _ (limits : Limits) where
       (rw same lt, core.each_shows i old found, core.each_running i old found ∙ goes.1, goes.0)
 
   -- there are as many actors as the limits say
-  pub core_there : (table : Table) (actors : List Actor) (entries : List Entry) (i : ℕ) → IsCore limits table actors entries → (demand : Demand) (v : Core) → record { limits = limits; entries = entries; demand = demand } ≡ v
+  pub core_there : (table : CoreTable) (actors : List Actor) (entries : List Entry) (i : ℕ) → IsCore limits table actors entries → (demand : Demand) (v : Core) → record { limits = limits; entries = entries; demand = demand } ≡ v
       → nat_lt i (length actors) ≡ nat_lt i v.limits.actors
   core_there table actors entries i core demand v is = ap (nat_lt i) (core.count ∙ ap (λ (u : Core). u.limits.actors) is)
 
   -- an actor that there is not has no operation
-  pub core_missing : (table : Table) (actors : List Actor) (entries : List Entry) (i : ℕ) → IsCore limits table actors entries → (demand : Demand) (v : Core) → record { limits = limits; entries = entries; demand = demand } ≡ v
+  pub core_missing : (table : CoreTable) (actors : List Actor) (entries : List Entry) (i : ℕ) → IsCore limits table actors entries → (demand : Demand) (v : Core) → record { limits = limits; entries = entries; demand = demand } ≡ v
       → false ≡ nat_lt i (length actors) → None ≡ busy_of v i
   core_missing table actors entries i core demand v is none = rw (← core_there table actors entries i core demand v is, ← none) refl
 
   -- whether an actor that there is has an operation
-  pub core_busy : (table : Table) (actors : List Actor) (entries : List Entry) (i : ℕ) (at : Actor) → IsCore limits table actors entries → (demand : Demand) (v : Core) → record { limits = limits; entries = entries; demand = demand } ≡ v
+  pub core_busy : (table : CoreTable) (actors : List Actor) (entries : List Entry) (i : ℕ) (at : Actor) → IsCore limits table actors entries → (demand : Demand) (v : Core) → record { limits = limits; entries = entries; demand = demand } ≡ v
       → slice_get actors i ≡ Some at → Some (is_some (running_command at)) ≡ busy_of v i
   core_busy table actors entries i at core demand v is found =
       let lt : i < limits.actors = rw (← core.count) (slice_get_below actors i at found) in
       rw (← is, lt-ltb i limits.actors lt, core.each_running i at found) refl
 
   -- an actor that there is keeps what its entries show
-  pub core_seen : (table : Table) (actors : List Actor) (entries : List Entry) (i : ℕ) (at : Actor) → IsCore limits table actors entries → (demand : Demand) (v : Core) → record { limits = limits; entries = entries; demand = demand } ≡ v
+  pub core_seen : (table : CoreTable) (actors : List Actor) (entries : List Entry) (i : ℕ) (at : Actor) → IsCore limits table actors entries → (demand : Demand) (v : Core) → record { limits = limits; entries = entries; demand = demand } ≡ v
       → slice_get actors i ≡ Some at → IsActor v.limits i (knows v.entries i) (recalls v.entries i) at × (running_command at ≡ command_of v.entries i)
   core_seen table actors entries i at core demand v is found =
       subst (λ (seen : Core). IsActor seen.limits i (knows seen.entries i) (recalls seen.entries i) at × (running_command at ≡ command_of seen.entries i)) is (core.each_shows i at found, core.each_running i at found)
 
   -- the actor of a turn that goes on with its operation shows what is known
-  pub core_shown : (table : Table) (actors : List Actor) (entries : List Entry) (i j : ℕ) (old : Actor) → IsCore limits table actors entries
+  pub core_shown : (table : CoreTable) (actors : List Actor) (entries : List Entry) (i j : ℕ) (old : Actor) → IsCore limits table actors entries
       → (demand : Demand) (v : Core) → record { limits = limits; entries = entries; demand = demand } ≡ v → refusal_of v (turn.Step i) ≡ None → j ≡ i → old ≡ get_or actors j old
       → IsActorShown old × (is_some (running_command old) ≡ true)
   core_shown table actors entries i j old core demand v is refusal same at =
@@ -142,7 +142,7 @@ module _ (limits : Limits) where
       let found : slice_get actors i ≡ Some old = get_is actors i old (rw core.count goes.0) (subst (λ k. old ≡ get_or actors k old) same at) in
       ((limits, i, knows entries i, recalls entries i, core.each_shows i old found), ap is_some (core.each_running i old found) ∙ goes.1)
 
-  pub core_asks : RowsAreApart → AnswersFit → (table : Table) (actors : List Actor) (entries : List Entry) (i j : ℕ) (old : Actor) → IsCore limits table actors entries
+  pub core_asks : RowsAreApart → AnswersFit → (table : CoreTable) (actors : List Actor) (entries : List Entry) (i j : ℕ) (old : Actor) → IsCore limits table actors entries
       → (demand : Demand) (v : Core) → record { limits = limits; entries = entries; demand = demand } ≡ v → refusal_of v (turn.Step i) ≡ None → j ≡ i → old ≡ get_or actors j old
       → (i < limits.actors) × (j < length actors) × IsReady limits i (knows entries i) (recalls entries i) (memory_in table) old × (is_some (running_command old) ≡ true) × IsWithinAt table i (wanted_by old.running)
   core_asks apart fit table actors entries i j old core demand v is refusal same at =
@@ -158,7 +158,7 @@ module _ (limits : Limits) where
       )
 
   -- the step that the actor of a turn wants
-  pub core_wanted : (table : Table) (actors : List Actor) (entries : List Entry) (i j : ℕ) (old : Actor) (room : ℕ) → IsCore limits table actors entries
+  pub core_wanted : (table : CoreTable) (actors : List Actor) (entries : List Entry) (i j : ℕ) (old : Actor) (room : ℕ) → IsCore limits table actors entries
       → (v : Core) → record { limits = limits; entries = entries; demand = record { room = room; wanted = wanted_in actors } } ≡ v → refusal_of v (turn.Step i) ≡ None → j ≡ i → old ≡ get_or actors j old
       → (slice_get actors i ≡ Some old) × (slice_get v.demand.wanted i ≡ Some (wanted_by old.running))
   core_wanted table actors entries i j old room core v is refusal same at =
@@ -177,25 +177,25 @@ module _ (limits : Limits) where
       ∙ sym (slice_get-map (λ (at : Actor). wanted_by at.running) actors other)
       ∙ ap (λ (u : Core). slice_get u.demand.wanted other) is
 
-  pub core_leaves : (table : Table) (actors : List Actor) (entries : List Entry) (i j : ℕ) (old : Actor) (room : ℕ) → IsCore limits table actors entries
+  pub core_leaves : (table : CoreTable) (actors : List Actor) (entries : List Entry) (i j : ℕ) (old : Actor) (room : ℕ) → IsCore limits table actors entries
       → (v : Core) → record { limits = limits; entries = entries; demand = record { room = room; wanted = wanted_in actors } } ≡ v → refusal_of v (turn.Step i) ≡ None → j ≡ i → old ≡ get_or actors j old
       → wanted_by old.running ≡ Some Leave → LeavesAt v i
   core_leaves table actors entries i j old room core v is refusal same at leaves = (core_wanted table actors entries i j old room core v is refusal same at).1 ∙ ap Some leaves
 
-  pub core_leaving : (table : Table) (actors : List Actor) (entries : List Entry) (i j : ℕ) (old : Actor) (room : ℕ) → IsCore limits table actors entries
+  pub core_leaving : (table : CoreTable) (actors : List Actor) (entries : List Entry) (i j : ℕ) (old : Actor) (room : ℕ) → IsCore limits table actors entries
       → (v : Core) → record { limits = limits; entries = entries; demand = record { room = room; wanted = wanted_in actors } } ≡ v → refusal_of v (turn.Step i) ≡ None → j ≡ i → old ≡ get_or actors j old
       → LeavesAt v i → wanted_by old.running ≡ Some Leave
   core_leaving table actors entries i j old room core v is refusal same at leaves = same_Some (wanted_by old.running) (Some Leave) (sym (core_wanted table actors entries i j old room core v is refusal same at).1 ∙ leaves)
 
   -- a step of which more is kept than an entry has room for may want memory
-  pub core_wants : (table : Table) (actors : List Actor) (entries : List Entry) (i j : ℕ) (old : Actor) (room : ℕ) → IsCore limits table actors entries
+  pub core_wants : (table : CoreTable) (actors : List Actor) (entries : List Entry) (i j : ℕ) (old : Actor) (room : ℕ) → IsCore limits table actors entries
       → (v : Core) → record { limits = limits; entries = entries; demand = record { room = room; wanted = wanted_in actors } } ≡ v → refusal_of v (turn.Step i) ≡ None → j ≡ i → old ≡ get_or actors j old
       → KeepsMore (running_command old) (wanted_by old.running) → WantsMemory v (turn.Step i)
   core_wants table actors entries i j old room core v is refusal same at keeps =
       let (found, wanted) = core_wanted table actors entries i j old room core v is refusal same at in
       inr (wanted_by old.running, wanted, subst (λ c. KeepsMore c (wanted_by old.running)) (core.each_running i old found ∙ ap (λ (u : Core). command_of u.entries i) is) keeps)
 
-  pub core_begun : BeginsKeep IsState → (table : Table) (actors : List Actor) (entries entries' : List Entry) (i j : ℕ) (new : Actor) (command : Command) → IsCore limits table actors entries
+  pub core_begun : BeginsKeep IsState → (table : CoreTable) (actors : List Actor) (entries entries' : List Entry) (i j : ℕ) (new : Actor) (command : Command) → IsCore limits table actors entries
       → (demand : Demand) (v : Core) → record { limits = limits; entries = entries; demand = demand } ≡ v → refusal_of v (turn.Begin i command) ≡ None → j ≡ i
       → IsActor limits i (begun (knows entries i) command) blank new → running_command new ≡ Some command → Grows limits entries (Begin i command) → StaysDirect limits entries (Begin i command) i (steps_due blank new.hand new.running)
       → entries' ≡ entries ++ Begin i command ∷ [] → IsCore limits table (set actors j new) entries'
@@ -229,15 +229,15 @@ module _ (limits : Limits) where
   left_other commands i step answer (Some reply) a other = replaced_other i None commands a other
 
   -- what the step of an actor was
-  pub core_took : RowsAreApart → (table : Table) (actors : List Actor) (entries : List Entry) (i : ℕ) (step : StepOf Record) (answer : Answer Record) → IsCore limits table actors entries → IsAnswer (memory_in table) step answer
+  pub core_took : RowsAreApart → (table : CoreTable) (actors : List Actor) (entries : List Entry) (i : ℕ) (step : StepOf Record) (answer : Answer Record) → IsCore limits table actors entries → IsAnswer (memory_in table) step answer
       → May i (knows entries i) step → Asks (is_placed (memory_of limits entries)) step × IsAnswer (memory_of limits entries) step answer
   core_took apart table actors entries i step answer core answered may = (asks limits entries core.state i apart step may, subst (λ m. IsAnswer m step answer) core.has answered)
 
   -- causes have paid for the actor's steps so far
-  pub core_affords : (table : Table) (actors : List Actor) (entries : List Entry) (i j : ℕ) (old : Actor) → IsCore limits table actors entries → j ≡ i → j < length actors → old ≡ get_or actors j old → Pays limits entries i old
+  pub core_affords : (table : CoreTable) (actors : List Actor) (entries : List Entry) (i j : ℕ) (old : Actor) → IsCore limits table actors entries → j ≡ i → j < length actors → old ≡ get_or actors j old → Pays limits entries i old
   core_affords table actors entries i j old core same lt at = core.each_pays i old (get_is actors i old (rw (sym same) lt) (subst (λ k. old ≡ get_or actors k old) same at))
 
-  pub core_stepped : Steps → (table table' : Table) (actors : List Actor) (entries entries' : List Entry) (i j : ℕ) (old new : Actor) (step : StepOf Record) (answer : Answer Record) (reply : Option Reply) → IsCore limits table actors entries
+  pub core_stepped : Steps → (table table' : CoreTable) (actors : List Actor) (entries entries' : List Entry) (i j : ℕ) (old new : Actor) (step : StepOf Record) (answer : Answer Record) (reply : Option Reply) → IsCore limits table actors entries
       → j ≡ i → j < length actors → old ≡ get_or actors j old → is_some (running_command old) ≡ true → IsAllowed limits i (knows entries i) step reply → IsActor limits i (knows_then (knows entries i) step answer reply) (recall (recalls entries i) step answer) new
       → running_command new ≡ command_left reply (running_command old) → Grows limits entries (Step i step answer reply) → StaysDirect limits entries (Step i step answer reply) i (steps_due (recall (recalls entries i) step answer) new.hand new.running)
       → table'.limits ≡ table.limits → IsAnswer (memory_of limits entries) step answer → memory_in table' ≡ memory_after i step (memory_in table) → entries' ≡ entries ++ Step i step answer reply ∷ [] → IsCore limits table' (set actors j new) entries'

@@ -10,7 +10,7 @@ use Rattle.traces.specs.declared.trace.Entry.{Entry}
 use Rattle.traces.specs.discipline.Discipline.{May}
 use Rattle.traces.specs.discipline.Knowledge.{knows}
 use Rattle.traces.specs.discipline.Recalled.{Recalled}
-use Rattle.core_memory.specs.Tables.{IsWithinTable, Table, memory_in}
+use Rattle.core_memory.specs.Tables.{CoreTable, IsWithinTable, memory_in}
 use Rattle.traces.specs.trace.Trace.{memory_of}
 use Rattle.traces.specs.trace.Within.{IsWithin}
 use Rattle.op_machine.specs.machine.Hands.{Hand}
@@ -64,7 +64,7 @@ module _ (limits : Limits) (entries : List Entry) (state : IsState limits entrie
     served_at fit r hand (Some running) at = served fit running.wanted (may_take r hand running at)
 
     -- the table that has the memory has what the step asks for
-    module _ (apart : RowsAreApart) (table : Table) (same : table.limits ≡ limits) (has : memory_in table ≡ m) (who : a < limits.actors) where
+    module _ (apart : RowsAreApart) (table : CoreTable) (same : table.limits ≡ limits) (has : memory_in table ≡ m) (who : a < limits.actors) where
       within : (step : StepOf Record) → IsWithin limits step → May a (knows entries a) step → IsWithinTable table a step
       within (Slot pid) h may = rw same h
       within (Row row) h may = let stands = (apart limits entries state).placed a row may.1 in subst (λ (o : Option Record). IsSome o) (sym (ap (λ (memory : Memory). memory.rows row) has ∙ stands.1)) refl

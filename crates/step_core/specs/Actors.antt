@@ -11,7 +11,7 @@ use Rattle.traces.specs.discipline.Fitting.{Fits}
 use Rattle.traces.specs.discipline.Knowledge.{Knowledge}
 use Rattle.traces.specs.discipline.Recalled.{Recalled}
 use Rattle.traces.specs.trace.Steps.{IsAnswer}
-use Rattle.core_memory.specs.Tables.{IsWithinTable, Table}
+use Rattle.core_memory.specs.Tables.{CoreTable, IsWithinTable}
 use Rattle.step_core.specs.Turns.{EndsPage}
 
 -- Whatever the memory answers to the step fits what the actor knows.
@@ -41,6 +41,6 @@ abbrev pub NeedsRoom : Actor → Type 0
 NeedsRoom at = IsPageEnd (running_command at) (wanted_by at.running)
 
 -- the table has what the step that is wanted asks for
-abbrev pub IsWithinAt : Table → ℕ → Option (StepOf Record) → Type 0
+abbrev pub IsWithinAt : CoreTable → ℕ → Option (StepOf Record) → Type 0
 IsWithinAt table actor None = Unit {0}
 IsWithinAt table actor (Some wanted) = IsWithinTable table actor wanted

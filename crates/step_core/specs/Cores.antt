@@ -5,7 +5,7 @@ use Rattle.traces.specs.declared.trace.Entry.{Entry}
 use Rattle.traces.specs.discipline.Disciplined.{IsDisciplined}
 use Rattle.traces.specs.discipline.Knowledge.{knows}
 use Rattle.traces.specs.discipline.Recalled.{recalls}
-use Rattle.core_memory.specs.Tables.{Table, memory_in}
+use Rattle.core_memory.specs.Tables.{CoreTable, memory_in}
 use Rattle.traces.specs.trace.Trace.{command_of, memory_of}
 use Rattle.tree_law.specs.Direct.{Accounts, IsDirectState}
 use Rattle.tree_law.specs.State.{IsState}
@@ -18,7 +18,7 @@ Pays limits entries actor at = Accounts limits entries actor (steps_due (recalls
 
 -- The trace is one in which each actor obeyed its discipline, by few steps. The table has the memory after it; each actor
 -- keeps what shows what the trace lets it know and recall, and runs what the trace says that it has not finished.
-pub record IsCore (limits : Limits) (table : Table) (actors : List Actor) (entries : List Entry) : Type 0 where
+pub record IsCore (limits : Limits) (table : CoreTable) (actors : List Actor) (entries : List Entry) : Type 0 where
   pub state : IsState limits entries
   pub direct : IsDirectState limits entries
   pub disciplined : IsDisciplined limits entries

@@ -11,7 +11,7 @@ ghost use Rattle.step_core.specs.Turns.{KeepsMore, link_told};
 
 use crate::link::exchange_link;
 use bw_model::{Answer, Command, Link, Step, Told};
-use core_memory::{BoxedPairs, BoxedReply, SharedRecord, Table, shared_step, step_again};
+use core_memory::{BoxedPairs, BoxedReply, CoreTable, SharedRecord, shared_step, step_again};
 use op_machine::Actor;
 use row_chain::HeldRow;
 use std::alloc::{AllocError, Allocator};
@@ -36,7 +36,7 @@ pub(crate) fn prepare<A: Allocator + Copy>(
     alloc: A,
     actor: &Actor<A>,
     number: u8,
-    memory: &Table<A>,
+    memory: &CoreTable<A>,
 ) -> Result<Ready<A>, AllocError>
     requires shown { IsActorShown actor.now }
     requires running { is_some (running_command actor.now) ≡ true }
@@ -60,7 +60,7 @@ pub(crate) fn prepare<A: Allocator + Copy>(
 pub(crate) fn go_on<A: Allocator>(
     actor: &mut Actor<A>,
     number: u8,
-    memory: &mut Table<A>,
+    memory: &mut CoreTable<A>,
     ready: Ready<A>,
     room: &mut HeldRow<A>,
 ) -> Stepped<A>
@@ -109,7 +109,7 @@ fn tell<A: Allocator>(actor: &mut Actor<A>, answer: &Answer<SharedRecord<A>>, ro
 
 impl<A: Allocator> Stepped<A> {
     /// What the step did, by the memory after it, if it is an exchange that won.
-    pub(crate) fn link(&self, memory: &Table<A>) -> Option<Link>
+    pub(crate) fn link(&self, memory: &CoreTable<A>) -> Option<Link>
         ensures { result ≡ link_told (memory_in memory.now) self.now.step self.now.answer }
     {
         match (&self.step, &self.answer) {
@@ -140,7 +140,7 @@ pub(crate) fn room<A: Allocator>(
 pub(crate) fn leave<A: Allocator>(
     actor: &mut Actor<A>,
     number: u8,
-    memory: &mut Table<A>,
+    memory: &mut CoreTable<A>,
     room: Option<BoxedPairs<A>>,
 ) -> BoxedReply<A>
     requires running { is_some (running_command actor.old) ≡ true }

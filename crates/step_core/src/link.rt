@@ -4,14 +4,14 @@ ghost use Rattle.core_memory.specs.Tables.{memory_in};
 ghost use Rattle.op_machine.specs.theorem.Links.{link_of, link_without};
 
 use bw_model::Link;
-use core_memory::Table;
+use core_memory::CoreTable;
 use deltas::Record;
 use std::alloc::Allocator;
 
 /// What the exchange of the slot from `old` to `new` does where it wins, by the records of the table. Not inlined: no other step needs room for a record.
 #[inline(never)]
 pub(crate) fn exchange_link<A: Allocator>(
-    table: &Table<A>,
+    table: &CoreTable<A>,
     slot: u16,
     old: u16,
     new: u16,

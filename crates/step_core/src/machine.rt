@@ -12,7 +12,7 @@ use crate::actor::{Stepped, go_on, leave, prepare, room};
 use crate::event::{Event, RunError, Trace};
 use crate::lawful_traces::{begins_keep_laws, states_are_lawful, steps_keep_laws};
 use bw_model::{Command, Key, Limits, Link, OpenError, Value};
-use core_memory::{Entries, Table};
+use core_memory::{CoreTable, Entries};
 use listing::{add_pairs, pages_are_listed};
 use op_machine::{Actor, idle_actors_rest};
 use row_chain::HeldRow;
@@ -25,7 +25,7 @@ use tree_law::{entries_grow, leaves_stand, opens, opens_directly};
 pub struct Core<A: Allocator = Global> {
     alloc: A,
     limits: Limits,
-    memory: Table<A>,
+    memory: CoreTable<A>,
     actors: Vec<Actor<A>, A>,
     trace: Entries<A>,
     room: HeldRow<A>,
@@ -77,7 +77,7 @@ impl<A: Allocator + Copy> Core<A> {
         opens_directly();
         idle_actors_rest();
         let room = HeldRow::<A>::new(alloc)?;
-        let memory = Table::<A>::open(alloc, &limits)?;
+        let memory = CoreTable::<A>::open(alloc, &limits)?;
         let mut actors = Vec::with_capacity(alloc, limits.actors as usize)?;
         for _ in 0..limits.actors {
             let Ok(actor) = Actor::<A>::idle(alloc, &limits) else {

@@ -118,8 +118,8 @@ impl Asked {
         1 + (self.drawn >> 20) % 4000
     }
 
-    /// The place among the client's own keys.
-    fn place(self) -> u32 {
+    /// The index among the client's own keys.
+    fn index(self) -> u32 {
         (self.drawn >> 16) % OWN
     }
 }
@@ -136,7 +136,7 @@ impl Client {
 
     pub(crate) fn command(&self, asked: Asked) -> Command {
         let number = if asked.own {
-            self.first().wrapping_add(asked.place())
+            self.first().wrapping_add(asked.index())
         } else {
             FIRST_SHARED + (asked.drawn >> 12) % SHARED
         };
@@ -145,8 +145,8 @@ impl Client {
 
     /// Looks at the reply of a command, and counts it where it is wrong.
     pub(crate) fn learn(&mut self, asked: Asked, reply: &Reply) {
-        let place = asked.place() as usize;
-        if asked.own && !self.expects(asked.kind(), place, asked.new_value(), reply) {
+        let index = asked.index() as usize;
+        if asked.own && !self.expects(asked.kind(), index, asked.new_value(), reply) {
             self.wrong = self.wrong.saturating_add(1);
         }
     }

@@ -8,14 +8,14 @@ ghost use Rattle.traces.specs.trace.Trace.{command_of, memory_of};
 ghost use Rattle.tree_law.specs.LevelPages.{HasAllLevels};
 
 use super::Core;
-use core_memory::Table;
+use core_memory::CoreTable;
 use op_machine::Actor;
 use std::alloc::Allocator;
 use tree_law::levels_stand;
 
 impl<A: Allocator> Core<A> {
     /// The memory after the turns so far, all levels of which stand.
-    pub fn memory(&self) -> &Table<A>
+    pub fn memory(&self) -> &CoreTable<A>
         ensures memory { memory_in result.now ≡ memory_of self.now.limits self.now.entries }
         ensures limits { result.now.limits ≡ self.now.limits }
         ensures levels { HasAllLevels self.now.limits (memory_of self.now.limits self.now.entries) }

@@ -8,8 +8,8 @@ use Rattle.rounds.specs.Descents.{placed_state}
 use Rattle.rounds.proofs.Placed.{completes, continues, is_whole, visiting}
 use Rattle.rounds.proofs.descents.Descent.take_row.Goals as goal
 
-pub take-requires-clause-chain : goal.take-requires-clause-chain
-take-requires-clause-chain g c =
+pub receive-requires-clause-chain : goal.receive-requires-clause-chain
+receive-requires-clause-chain g c =
     let told : IsTold descending (visiting c.self.inside.limits c.in-Row.pid c.self.inside.part (Row c.in-Row.head c.in-Row.row)) (Content c.args.row.now) = rw (← c.self.view_is, c.in-Row.is) at c.requires.told in
     rw c.push.ensures (is_whole c.self.inside.limits c.in-Row.pid c.in-Row.head c.in-Row.row c.self.inside.part c.args.row.now (ap next_row (sym c.row.ensures) ∙ sym c.next-next.ensures ∙ c.in-None.is) told)
 
@@ -21,5 +21,5 @@ pub returns-in-None-clause-responds : goal.returns-in-None-clause-responds
 returns-in-None-clause-responds g c =
     let limits = c.self.inside.limits in
     rw (← c.self.view_is, c.in-Row.is)
-    (completes limits c.in-Row.pid c.in-Row.head c.in-Row.row c.self.inside.part c.args.row.now (record { limits = limits; state = placed_state limits c.self.inside.at c.self.inside.part }) c.take.new.self
-    (ap next_row (sym c.row.ensures) ∙ sym c.next-next.ensures ∙ c.in-None.is) c.take.ensures.pid c.take.ensures.head (c.take.ensures.chain ∙ c.push.ensures))
+    (completes limits c.in-Row.pid c.in-Row.head c.in-Row.row c.self.inside.part c.args.row.now (record { limits = limits; state = placed_state limits c.self.inside.at c.self.inside.part }) c.receive.new.self
+    (ap next_row (sym c.row.ensures) ∙ sym c.next-next.ensures ∙ c.in-None.is) c.receive.ensures.pid c.receive.ensures.head (c.receive.ensures.chain ∙ c.push.ensures))

@@ -2,7 +2,7 @@ use Rattle.std.proofs.Common.{◌∙◌, ap, length, set}
 use Rattle.std.proofs.lemmas.List.{length-replicate, length-set}
 use Rattle.std.proofs.Math.ListN.{replicate}
 use Rattle.core_memory.proofs.Tables.{opening_is}
-use Rattle.core_memory.proofs.table.Table.open.Goals as goal
+use Rattle.core_memory.proofs.table.CoreTable.open.Goals as goal
 
 pub returns-clause-opening : goal.returns-clause-opening
 returns-clause-opening g c =

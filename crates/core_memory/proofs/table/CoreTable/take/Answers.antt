@@ -1,6 +1,6 @@
 use Rattle.std.proofs.Common.{◌<◌, length, refl}
 use Rattle.core_memory.proofs.Tables.{with_pids, with_record, with_rows}
-use Rattle.core_memory.proofs.table.Table.take.Goals as goal
+use Rattle.core_memory.proofs.table.CoreTable.take.Goals as goal
 
 pub returns-in-TakePid-clause-memory : goal.returns-in-TakePid-clause-memory
 returns-in-TakePid-clause-memory g c = rw (c.in-TakePid.is, ← c.self.view_is) (with_pids c.self.inside.limits _ _ _ _ _ _ _ c.clear_bit.ensures.taken)
