@@ -2,7 +2,7 @@
 //! is answered, is proved of each trace.
 
 use crate::by_hand::comes_to_rest;
-use crate::numbers::{MOST, Numbers, Whereabouts};
+use crate::numbers::{MOST, Numbers, Status};
 use bw_model::{Answer, Key, Link, Step};
 use core_memory::Entries;
 use deltas::Record;
@@ -63,10 +63,7 @@ impl Accounts {
             let Some(row) = next else {
                 return true;
             };
-            if !self
-                .rows
-                .moves(row, Whereabouts::Linked, Whereabouts::Limbo)
-            {
+            if !self.rows.moves(row, Status::Linked, Status::Limbo) {
                 return false;
             }
             next = self.placed(row).next;
@@ -77,14 +74,10 @@ impl Accounts {
     /// A slot has gone to 0: the page was cleared; or it was never linked, and its row goes back to the actor, as no other has seen it.
     fn empties(&mut self, page: u16, head: u16) -> bool {
         if self.placed(head).link == Link::Remove {
-            self.pids
-                .moves(page, Whereabouts::Linked, Whereabouts::Limbo)
-                && self.unlink_chain(head)
+            self.pids.moves(page, Status::Linked, Status::Limbo) && self.unlink_chain(head)
         } else {
-            self.pids.is_at(page, Whereabouts::Spare)
-                && self
-                    .rows
-                    .moves(head, Whereabouts::Linked, Whereabouts::Spare)
+            self.pids.is_at(page, Status::Spare)
+                && self.rows.moves(head, Status::Linked, Status::Spare)
         }
     }
 
@@ -94,34 +87,24 @@ impl Accounts {
         let ready = self.ready[usize::from(actor % 16)];
         let stands = match placed.link {
             Link::Base => self.unlink_chain(head),
-            Link::Split => self
-                .pids
-                .moves(ready, Whereabouts::Spare, Whereabouts::Linked),
+            Link::Split => self.pids.moves(ready, Status::Spare, Status::Linked),
             _ => true,
         };
         let is_over = placed.link == Link::Base || placed.next == Some(head);
-        stands
-            && is_over
-            && self
-                .rows
-                .moves(row, Whereabouts::Spare, Whereabouts::Linked)
+        stands && is_over && self.rows.moves(row, Status::Spare, Status::Linked)
     }
 
     /// An own page is filled before it is linked.
     fn fills(&mut self, actor: u8, page: u16, row: u16) -> bool {
         self.ready[usize::from(actor % 16)] = page;
-        self.pids.is_at(page, Whereabouts::Spare)
-            && self
-                .rows
-                .moves(row, Whereabouts::Spare, Whereabouts::Linked)
+        self.pids.is_at(page, Status::Spare) && self.rows.moves(row, Status::Spare, Status::Linked)
     }
 
     /// An exchange has won.
     fn exchanges(&mut self, actor: u8, page: u16, old: u16, new: u16) -> bool {
         self.slots[usize::from(page % MOST)] = new;
         if page == 0 {
-            self.pids
-                .moves(new, Whereabouts::Spare, Whereabouts::Linked)
+            self.pids.moves(new, Status::Spare, Status::Linked)
         } else if new == 0 {
             self.empties(page, old)
         } else if old == 0 {
@@ -135,8 +118,8 @@ impl Accounts {
     fn wins(&mut self, actor: u8, step: &Step<Record>) -> bool {
         match step {
             Step::Exchange(page, old, new) => self.exchanges(actor, *page, *old, *new),
-            Step::TakePid(pid) => self.pids.moves(*pid, Whereabouts::Free, Whereabouts::Spare),
-            Step::TakeRow(row) => self.rows.moves(*row, Whereabouts::Free, Whereabouts::Spare),
+            Step::TakePid(pid) => self.pids.moves(*pid, Status::Free, Status::Spare),
+            Step::TakeRow(row) => self.rows.moves(*row, Status::Free, Status::Spare),
             _ => true,
         }
     }
@@ -185,7 +168,7 @@ impl Accounts {
             let Some(row) = next else {
                 return Some(length);
             };
-            if !self.rows.is_at(row, Whereabouts::Linked) {
+            if !self.rows.is_at(row, Status::Linked) {
                 return None;
             }
             next = self.placed(row).next;

@@ -3,9 +3,9 @@
 /// More rows than the trees of these tests have, and more PIDs.
 pub(crate) const MOST: u16 = 4096;
 
-/// Where a row or a PID is.
+/// What is true of a row or a PID.
 #[derive(Clone, Copy, PartialEq, Eq)]
-pub(crate) enum Whereabouts {
+pub(crate) enum Status {
     Free,
     /// An actor took it, and has not linked it.
     Spare,
@@ -17,28 +17,28 @@ pub(crate) enum Whereabouts {
 /// Each row, or each PID, by its number. 0 is none of them, and counts as linked.
 #[derive(Drop)]
 pub(crate) struct Numbers {
-    places: [Whereabouts; MOST as usize],
+    statuses: [Status; MOST as usize],
 }
 
 impl Numbers {
     /// Of a tree that opens: 1 is linked, what is above is free.
     pub(crate) fn new() -> Numbers {
-        let mut places = [Whereabouts::Free; MOST as usize];
-        places[0] = Whereabouts::Linked;
-        places[1] = Whereabouts::Linked;
-        Numbers { places }
+        let mut statuses = [Status::Free; MOST as usize];
+        statuses[0] = Status::Linked;
+        statuses[1] = Status::Linked;
+        Numbers { statuses }
     }
 
-    pub(crate) fn is_at(&self, number: u16, place: Whereabouts) -> bool {
-        self.places[usize::from(number % MOST)] == place
+    pub(crate) fn is_at(&self, number: u16, status: Status) -> bool {
+        self.statuses[usize::from(number % MOST)] == status
     }
 
-    /// Moves a number from one place to another, if it is there.
-    pub(crate) fn moves(&mut self, number: u16, from: Whereabouts, to: Whereabouts) -> bool {
-        let place = &mut self.places[usize::from(number % MOST)];
-        let is_there = *place == from;
+    /// Moves a number from one status to another, if it has the first.
+    pub(crate) fn moves(&mut self, number: u16, from: Status, to: Status) -> bool {
+        let status = &mut self.statuses[usize::from(number % MOST)];
+        let is_there = *status == from;
         if is_there {
-            *place = to;
+            *status = to;
         }
         is_there
     }
@@ -48,7 +48,7 @@ impl Numbers {
         for bit in 0..64u16 {
             let number = u16::from(word).wrapping_mul(64).wrapping_add(bit);
             let is_freed = bits >> (u32::from(bit) % 64) & 1 == 1;
-            if is_freed && !self.moves(number, Whereabouts::Limbo, Whereabouts::Free) {
+            if is_freed && !self.moves(number, Status::Limbo, Status::Free) {
                 return false;
             }
         }
@@ -58,10 +58,10 @@ impl Numbers {
     /// How many are linked, without 0, and how many are in limbo.
     pub(crate) fn linked_and_in_limbo(&self) -> (u32, u32) {
         let (mut linked, mut limbo) = (0u32, 0u32);
-        for place in &self.places {
-            match place {
-                Whereabouts::Linked => linked = linked.wrapping_add(1),
-                Whereabouts::Limbo => limbo = limbo.wrapping_add(1),
+        for status in &self.statuses {
+            match status {
+                Status::Linked => linked = linked.wrapping_add(1),
+                Status::Limbo => limbo = limbo.wrapping_add(1),
                 _ => {}
             }
         }

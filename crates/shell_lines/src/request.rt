@@ -251,10 +251,7 @@ fn given(request: Option<Request>) -> Result<Request, LineError>
     requires { IfSome request IsShortRequest }
     ensures { GivesRequest result request }
 {
-    match request {
-        Some(request) => Ok(request),
-        None => Err(LineError::Malformed),
-    }
+    needed(request)
 }
 
 #[tactic(auto, unfolding(crate::specs::Reading::woven_in))]
