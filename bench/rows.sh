@@ -1,6 +1,6 @@
 #!/bin/sh
 # How much processor time it takes to read a row of words as a record, to find a key in a chain, and to count its items: bench/rows.sh [TIMES]
-# The rows are a put, and a full leaf of 24 items with keys and values of 4 and of 32 bytes; the chain is one of 8 deltas over a leaf of
+# The rows are a put, and a full leaf of 24 items with keys and values of 4 and of 64 bytes; the chain is one of 8 deltas over a leaf of
 # 15 items, and is searched by the walk and by the page that it makes. The program is proved and built first.
 set -eu
 top=$(CDPATH='' cd -- "$(dirname -- "$0")/.." && pwd)

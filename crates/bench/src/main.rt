@@ -1,14 +1,17 @@
-//! Does one thing again and again, as often as the command line says.
+//! Does one thing again and again, as often as the command line says: a program for bench/rows.sh and bench/tree.sh.
 //!
-//! `bench WHAT TIMES`: where WHAT is `put`, `short` or `long` it reads a row of words as a record: a put, or a leaf of 24 items whose keys and
-//! values have 4 or 64 bytes. Where it is `find` or `page` it searches a key in a chain of 8 deltas over a leaf of 15 items: by the walk, or
-//! by the page that the chain makes. Where it is `count` it counts the items of that chain. It prints how often that succeeded; bench/rows.sh times it.
+//! Look first at `What` (worker). Called by nobody but those scripts; it has no contract, and no claim rests on it.
 //!
-//! `bench WHAT SIZE THREADS OPERATIONS BYTES`: it opens a tree and inserts SIZE keys of so many bytes, 16 at least, by one seat; that is all where WHAT is `load`. Where it is
-//! `reads` or `half`, each of so many threads then does so many operations on drawn keys: lookups, or upserts and lookups by turns. Where it
-//! is `steps`, they do lookups, and count their steps. Where it is `rows` or `ways`, there is no tree: an operation loads the words of SIZE rows,
-//! drawn ones, or those of a way over five levels. It prints how many operations succeeded or steps were taken by what came last,
-//! and on standard error how many nanoseconds that took. bench/tree.sh runs it.
+//! `bench WHAT TIMES`: where WHAT is `put`, `short` or `long` it reads a row of words as a record: a put, or a leaf of 24 items whose
+//! keys and values have 4 or 64 bytes. Where it is `find` or `page` it searches a key in a chain of 8 deltas over a leaf of 15 items: by
+//! the walk, or by the page that the chain makes. Where it is `count` it counts the items of that chain. It prints how often that
+//! succeeded; bench/rows.sh times it.
+//!
+//! `bench WHAT SIZE THREADS OPERATIONS BYTES`: it opens a tree and inserts SIZE keys of so many bytes, 16 at least, by one seat; that is
+//! all where WHAT is `load`. Where it is `reads` or `half`, each of so many threads then does so many operations on drawn keys: lookups,
+//! or upserts and lookups by turns. Where it is `steps`, they do lookups, and count their steps. Where it is `rows` or `ways`, there is
+//! no tree: an operation loads the words of SIZE rows, drawn ones, or those of a way over five levels. It prints how many operations
+//! succeeded or steps were taken by what came last, and on standard error how many nanoseconds that took. bench/tree.sh runs it.
 #![tactic(auto)]
 
 mod amounts;

@@ -66,7 +66,7 @@ fn in_threads<R: Threads + Clock + Sync>(
         return None;
     };
     let start = Instant::now(rt).ok()?;
-    let workers = work_in_threads(rt, tree, seats, workers)?;
+    let workers = work_in_threads(rt, tree, seats, workers).ok()?;
     let time = start.elapsed(rt).ok()?;
     let all = workers.iter();
     let count = all.fold(0u64, |sum, worker| sum.saturating_add(worker.done));

@@ -1,4 +1,5 @@
 //! What a thread does with its seat.
+ghost use Rattle.bw_tree.specs.Seats.{IsSame};
 ghost use Rattle.bw_tree.specs.Trees.{IsSeatOf};
 
 use crate::amounts::Scale;
@@ -104,10 +105,10 @@ impl Work for Worker {
 /// Whether a command finds what it is about: an insert no value, a lookup or an upsert one.
 fn succeeds(tree: &Tree, seat: &mut BwSeat, command: Command) -> bool
     requires own { IsSeatOf tree.now seat.old }
-    ensures own { IsSeatOf tree.now seat.new }
+    ensures same { IsSame seat.old seat.new }
 {
     match reply(tree, seat, command) {
-        Some(Reply::Inserted | Reply::Value(_) | Reply::Replaced(_)) => true,
+        Ok(Reply::Inserted | Reply::Value(_) | Reply::Replaced(_)) => true,
         _ => false,
     }
 }
@@ -115,7 +116,7 @@ fn succeeds(tree: &Tree, seat: &mut BwSeat, command: Command) -> bool
 /// How many steps a command takes.
 fn steps(tree: &Tree, seat: &mut BwSeat, command: Command) -> u64
     requires own { IsSeatOf tree.now seat.old }
-    ensures own { IsSeatOf tree.now seat.new }
+    ensures same { IsSame seat.old seat.new }
 {
     let mut last = called(tree, seat, command, 1);
     for step in 1..MOST_STEPS {

@@ -1,5 +1,11 @@
-//! Keys and values, commands and replies, the limits of a tree, and the steps that an operation
-//! takes over the shared memory.
+//! The map that a tree is: keys and values, commands and replies, updates and logs; and the steps that an operation takes over the shared
+//! memory, with their answers.
+//!
+//! Look first at `Command`: its reply and its update by the value of its key (specs/Replies), which is all that the theorem says of a
+//! map. `Step` has each kind of atomic step, `Answer` and `Told` what one answers. `Schedule` draws actors from a seed.
+//!
+//! Called by nearly every crate. It passes the limits of `tree_limits` on. It knows no page, no record and no memory: a step is generic
+//! over what a row has.
 #![tactic(auto)]
 
 mod command;

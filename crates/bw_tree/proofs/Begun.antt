@@ -138,6 +138,7 @@ module _ (laws : HaveLaws) (limits : Limits) (a : ℕ) (seen : List Entry) (now 
         extends = extends_self a seen';
         answered = subst (λ m. IsAnswer m asked told) (sym (same_memory took.run)) took.answered;
         grown = took.grown ∙ without_begin seen' a asked told None;
+        begins = took.begins;
         kept = took.kept;
       }
 

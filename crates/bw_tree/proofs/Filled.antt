@@ -22,10 +22,11 @@ use Rattle.op_machine.specs.theorem.Points.{HasPoints, log_at, log_of}
 use Rattle.slot_rule.specs.Views.{dealt, dealt_from, other_parts}
 use Rattle.tree_law.specs.Own.{OwnLasts}
 use Rattle.bw_tree.specs.Calls.{calls_along, calls_of}
-use Rattle.bw_tree.specs.Loaded.{AreAt, AreLoaded, HaveUpserted, KeysAscend, upsert_of}
+use Rattle.bw_tree.specs.Loaded.{AreAt, AreLoaded, HaveUpserted, IsStopped, IsStoppedAt, KeysAscend, upsert_of}
 use Rattle.bw_tree.specs.Runs.{IsOneHistory}
 use Rattle.bw_tree.specs.Seats.{Seat}
-use Rattle.bw_tree.specs.Trees.{Tree}
+use Rattle.bw_tree.specs.Trees.{Tree, fresh_seat}
+use Rattle.bw_tree.specs.declared.called.Called.{Called}
 use Rattle.bw_tree.proofs.Alone.{Blocks, absent, all_own, are_ours, in_blocks, AreOurs}
 use Rattle.bw_tree.proofs.Ascending.{Pair, lists, sets_of, unset_before}
 use Rattle.bw_tree.proofs.Gathering.{AllExtend}
@@ -159,4 +160,19 @@ are_loaded own tree run seats pairs history all ascend seen extends idle upserte
       calls = all_set tree.limits run history all pairs ascend first done;
       others = others_none tree.limits run history all;
       listing = listed tree.limits run history all pairs ascend first done;
+    }
+
+-- where the load stopped, the others have no entry either
+pub is_stopped : (tree : Tree) (run : List Entry) (pairs : List Pair) (budget place : ℕ) (result : Called) (seat : Seat) → IsOneHistory tree.limits run → AllExtend run (other_parts (dealt tree.limits)) → Extends 0 seat.seen run
+    → IsStoppedAt (fresh_seat tree 0) pairs budget place result seat → IsStopped tree.limits pairs budget result
+is_stopped tree run pairs budget place result seat history all extends stopped =
+    let same : run ≡ seat.seen = nothing_new tree.limits run history all seat.seen extends in
+    record {
+      tree = tree;
+      own = refl;
+      seat = seat;
+      place = place;
+      stopped = stopped;
+      others = λ actor other. subst (λ es. own_entries actor es ≡ []) same (others_none tree.limits run history all actor other);
+      history = subst (IsOneHistory tree.limits) same history;
     }

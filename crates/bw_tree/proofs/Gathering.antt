@@ -7,9 +7,9 @@ use Rattle.traces.specs.discipline.Disciplined.{Extends}
 use Rattle.slot_rule.specs.declared.view.Part.{Part}
 use Rattle.slot_rule.specs.declared.view.Reach.TheVariants.{Idle}
 use Rattle.slot_rule.specs.Running.{Each, ExtendsFor}
-use Rattle.slot_rule.specs.Views.{HasPart, SitsAt, Looked, Mine, alone, first_part, other_parts, part, refreshed, seen_of}
+use Rattle.slot_rule.specs.Views.{HasPart, IsRefreshed, SitsAt, Mine, alone, first_part, other_parts, part, refreshed, seen_of}
 use Rattle.tree_law.specs.Own.{OwnLasts}
-use Rattle.bw_tree.specs.Runs.{IsLawfulRun}
+use Rattle.bw_tree.specs.Runs.{IsLawfulRun, IsSeenRun}
 use Rattle.bw_tree.specs.Seats.{IsSeat}
 use Rattle.bw_tree.proofs.Meeting.{seat_extends}
 
@@ -24,12 +24,12 @@ module _ (limits : Limits) (a : ℕ) (one other joined : Mine) (at : SitsAt limi
   pub some_part : HasPart limits joined.0
   some_part = (part limits a (seen_of one) Idle, other.0, ap (λ (m : Mine). m.0) both_is, refl)
 
-  module _ (looked left right : Mine) (saw : Looked (IsLawfulRun limits) joined looked) (first : left ≡ (first_part looked.0, looked.1)) (others : right ≡ (other_parts looked.0, [])) where
-    looked_is : looked ≡ (part limits a saw.run Idle ∷ map (refreshed saw.run) other.0, [])
-    looked_is = saw.saw ∙ ap (λ (m : Mine). (map (refreshed saw.run) m.0, m.1)) both_is
+  module _ (later left right : Mine) (saw : IsRefreshed (IsLawfulRun limits) joined later) (first : left ≡ (first_part later.0, later.1)) (others : right ≡ (other_parts later.0, [])) where
+    refreshed_is : later ≡ (part limits a saw.run Idle ∷ map (refreshed saw.run) other.0, [])
+    refreshed_is = saw.saw ∙ ap (λ (m : Mine). (map (refreshed saw.run) m.0, m.1)) both_is
 
     left_is : left ≡ (alone limits a saw.run Idle, [])
-    left_is = first ∙ ap (λ (m : Mine). (first_part m.0, m.1)) looked_is
+    left_is = first ∙ ap (λ (m : Mine). (first_part m.0, m.1)) refreshed_is
 
     left_saw : seen_of left ≡ saw.run
     left_saw = ap seen_of left_is
@@ -47,10 +47,13 @@ module _ (limits : Limits) (a : ℕ) (one other joined : Mine) (at : SitsAt limi
     others_extend = subst (λ run. AllExtend run other.0) (sym left_saw) all_extend.1
 
     pub others_are : right ≡ (map (refreshed (seen_of left)) other.0, [])
-    others_are = others ∙ ap (λ (m : Mine). (other_parts m.0, [])) looked_is ∙ ap (λ run. (map (refreshed run) other.0, [])) (sym left_saw)
+    others_are = others ∙ ap (λ (m : Mine). (other_parts m.0, [])) refreshed_is ∙ ap (λ run. (map (refreshed run) other.0, [])) (sym left_saw)
 
-    pub first_lawful : IsLawfulRun limits (seen_of left)
-    first_lawful = subst (IsLawfulRun limits) (sym left_saw) saw.legal
+    saw_run : IsSeenRun limits saw.run
+    saw_run = record { lawful = saw.legal; begins = saw.begins }
+
+    pub first_run : IsSeenRun limits (seen_of left)
+    first_run = subst (IsSeenRun limits) (sym left_saw) saw_run
 
     pub first_seat : OwnLasts → (actor : Actor) → IsSeat limits a one actor → IsSeat limits a left actor
-    first_seat own actor seat = seat_extends own limits a one left saw.run actor seat saw.legal all_extend.0 left_at left_saw
+    first_seat own actor seat = seat_extends own limits a one left saw.run actor seat saw_run all_extend.0 left_at left_saw

@@ -13,7 +13,7 @@ use Rattle.slot_rule.specs.declared.view.Reach.TheVariants.{Idle}
 use Rattle.slot_rule.specs.Running.{Each, Running}
 use Rattle.slot_rule.specs.Views.{part}
 use Rattle.bw_tree.specs.Closed.{KeepMemory}
-use Rattle.bw_tree.specs.Runs.{IsLawfulRun, IsOneHistory}
+use Rattle.bw_tree.specs.Runs.{IsLawfulRun, IsOneHistory, IsSeenRun}
 use Rattle.bw_tree.specs.Seats.{Seat}
 use Rattle.bw_tree.specs.Trees.{AreClosed, HasPartsOf}
 
@@ -37,11 +37,11 @@ module _ (limits key : Limits) (own : key ≡ limits) (spells : (limits : Limits
   pub keeps : (run : List Entry) × IsLawfulRun limits run × KeepMemory words (memory_of limits run)
   keeps = (left.run, left.legal, record { limits = limits; are = left.are; kept = left.kept })
 
-  pub closes : ((limits : Limits) (run : List Entry) → IsLawfulRun limits run → IsOneHistory limits run) → (pairs : List (List ℕ × List ℕ))
+  pub closes : ((limits : Limits) (run : List Entry) → IsSeenRun limits run → IsOneHistory limits run) → (pairs : List (List ℕ × List ℕ))
       → ((run : List Entry) → IsLawfulRun limits run → KeepMemory words (memory_of limits run) → IsListing limits run pairs) → AreClosed limits seats pairs
   closes history pairs lists = record {
     run = left.run;
-    history = history limits left.run left.legal;
+    history = history limits left.run (record { lawful = left.legal; begins = left.begins });
     extends = λ n seat at. let (m, there) = has.each n seat at in each_get (λ p. Extends p.actor p.seen left.run) parts m (part limits seat.actor seat.seen Idle) left.extends there;
     listing = lists left.run left.legal (record { limits = limits; are = left.are; kept = left.kept });
   }

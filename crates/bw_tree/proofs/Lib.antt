@@ -13,6 +13,6 @@ mod Ascending
 mod Alone
 mod Logged
 mod Filled
-mod Filling
+mod Upserting
 mod Kept
 mod Leaving

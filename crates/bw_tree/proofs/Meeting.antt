@@ -10,11 +10,11 @@ use Rattle.traces.specs.discipline.Recalled.{recalls}
 use Rattle.slot_rule.specs.declared.view.Part.{Part}
 use Rattle.slot_rule.specs.declared.view.Reach.{Reach}
 use Rattle.slot_rule.specs.declared.view.Reach.TheVariants.{Idle, Noted}
-use Rattle.slot_rule.specs.Running.{Each, ExtendsFor}
-use Rattle.slot_rule.specs.Views.{HasPart, SitsAt, Looked, Mine, alone, first_part, other_parts, part, refreshed, seen_of}
+use Rattle.slot_rule.specs.Running.{BeginWithSteps, Each, ExtendsFor}
+use Rattle.slot_rule.specs.Views.{HasPart, IsRefreshed, SitsAt, Mine, alone, first_part, other_parts, part, refreshed, seen_of}
 use Rattle.tree_law.specs.Direct.{Accounts}
 use Rattle.tree_law.specs.Own.{OwnLasts}
-use Rattle.bw_tree.specs.Runs.{IsLawfulRun, StartsWith}
+use Rattle.bw_tree.specs.Runs.{IsLawfulRun, IsSeenRun, StartsWith}
 use Rattle.bw_tree.specs.Seats.{IsSeat, IsSeated}
 
 -- what an actor keeps shows the same of a run that others have gone on with
@@ -28,12 +28,13 @@ seated_extends own limits number seen run at seated legal extends =
       pays = subst (λ r. Accounts limits run number (steps_due r at.hand at.running)) (sym lasts.recalled) (lasts.affords (steps_due (recalls seen number) at.hand at.running) seated.pays);
     }
 
-pub seat_extends : OwnLasts → (limits : Limits) (number : ℕ) (me me' : Mine) (run : List Entry) (at : Actor) → IsSeat limits number me at → IsLawfulRun limits run → Extends number (seen_of me) run → SitsAt limits number Idle me' → seen_of me' ≡ run
+pub seat_extends : OwnLasts → (limits : Limits) (number : ℕ) (me me' : Mine) (run : List Entry) (at : Actor) → IsSeat limits number me at → IsSeenRun limits run → Extends number (seen_of me) run → SitsAt limits number Idle me' → seen_of me' ≡ run
     → IsSeat limits number me' at
-seat_extends own limits number me me' run at seat legal extends place saw = record {
+seat_extends own limits number me me' run at seat is extends place saw = record {
   there = seat.there;
   place = place;
-  seated = subst (λ seen. IsSeated limits number seen at) (sym saw) (seated_extends own limits number (seen_of me) run at seat.seated legal extends);
+  begins = subst BeginWithSteps (sym saw) is.begins;
+  seated = subst (λ seen. IsSeated limits number seen at) (sym saw) (seated_extends own limits number (seen_of me) run at seat.seated is.lawful extends);
 }
 
 module _ (limits : Limits) (a b : ℕ) (reach : Reach) (one other joined : Mine) (at : SitsAt limits a Idle one) (at_other : SitsAt limits b reach other) (both : joined ≡ (one.0 ++ other.0, one.1)) where
@@ -45,15 +46,15 @@ module _ (limits : Limits) (a b : ℕ) (reach : Reach) (one other joined : Mine)
   pub has_part : HasPart limits joined.0
   has_part = (part limits a (seen_of one) Idle, alone limits b (seen_of other) reach, ap (λ (m : Mine). m.0) both_is, refl)
 
-  module _ (looked left right : Mine) (saw : Looked (IsLawfulRun limits) joined looked) (first : left ≡ (first_part looked.0, looked.1)) (others : right ≡ (other_parts looked.0, [])) where
-    looked_is : looked ≡ (part limits a saw.run Idle ∷ part limits b saw.run reach ∷ [], [])
-    looked_is = saw.saw ∙ ap (λ (m : Mine). (map (refreshed saw.run) m.0, m.1)) both_is
+  module _ (later left right : Mine) (saw : IsRefreshed (IsLawfulRun limits) joined later) (first : left ≡ (first_part later.0, later.1)) (others : right ≡ (other_parts later.0, [])) where
+    refreshed_is : later ≡ (part limits a saw.run Idle ∷ part limits b saw.run reach ∷ [], [])
+    refreshed_is = saw.saw ∙ ap (λ (m : Mine). (map (refreshed saw.run) m.0, m.1)) both_is
 
     left_is : left ≡ (alone limits a saw.run Idle, [])
-    left_is = first ∙ ap (λ (m : Mine). (first_part m.0, m.1)) looked_is
+    left_is = first ∙ ap (λ (m : Mine). (first_part m.0, m.1)) refreshed_is
 
     right_is : right ≡ (alone limits b saw.run reach, [])
-    right_is = others ∙ ap (λ (m : Mine). (other_parts m.0, [])) looked_is
+    right_is = others ∙ ap (λ (m : Mine). (other_parts m.0, [])) refreshed_is
 
     left_saw : seen_of left ≡ saw.run
     left_saw = ap seen_of left_is
@@ -79,17 +80,20 @@ module _ (limits : Limits) (a b : ℕ) (reach : Reach) (one other joined : Mine)
     pub left_starts : reach ≡ Noted → StartsWith (seen_of left) (seen_of other)
     left_starts is = subst (λ run. StartsWith run (seen_of other)) (sym left_saw) (subst (λ r. ExtendsFor r b (seen_of other) saw.run) is both_extend.1.0)
 
-    pub left_lawful : IsLawfulRun limits (seen_of left)
-    left_lawful = subst (IsLawfulRun limits) (sym left_saw) saw.legal
+    saw_run : IsSeenRun limits saw.run
+    saw_run = record { lawful = saw.legal; begins = saw.begins }
 
-    pub right_lawful : IsLawfulRun limits (seen_of right)
-    right_lawful = subst (IsLawfulRun limits) (sym right_saw) saw.legal
+    pub left_run : IsSeenRun limits (seen_of left)
+    left_run = subst (IsSeenRun limits) (sym left_saw) saw_run
+
+    pub right_run : IsSeenRun limits (seen_of right)
+    right_run = subst (IsSeenRun limits) (sym right_saw) saw_run
 
     pub left_seat : OwnLasts → (actor : Actor) → IsSeat limits a one actor → IsSeat limits a left actor
-    left_seat own actor seat = seat_extends own limits a one left saw.run actor seat saw.legal both_extend.0 left_at left_saw
+    left_seat own actor seat = seat_extends own limits a one left saw.run actor seat saw_run both_extend.0 left_at left_saw
 
     pub right_seat : OwnLasts → (actor : Actor) → reach ≡ Idle → IsSeat limits b other actor → IsSeat limits b right actor
-    right_seat own actor is seat = seat_extends own limits b other right saw.run actor seat saw.legal (subst (λ r. ExtendsFor r b (seen_of other) saw.run) is both_extend.1.0) (subst (λ r. SitsAt limits b r right) is right_at) right_saw
+    right_seat own actor is seat = seat_extends own limits b other right saw.run actor seat saw_run (subst (λ r. ExtendsFor r b (seen_of other) saw.run) is both_extend.1.0) (subst (λ r. SitsAt limits b r right) is right_at) right_saw
 
     pub saw_one : seen_of right ≡ seen_of left
     saw_one = right_saw ∙ sym left_saw

@@ -18,7 +18,7 @@ use Rattle.slot_rule.specs.Views.{Mine, alone, dealt, dealt_from, first_part, ot
 use Rattle.tree_law.specs.Own.{OwnLasts}
 use Rattle.tree_words.specs.Opening.{opening_words}
 use Rattle.bw_tree.specs.Loaded.{AreAt, seat_at}
-use Rattle.bw_tree.specs.Runs.{IsLawfulRun}
+use Rattle.bw_tree.specs.Runs.{IsLawfulRun, IsSeenRun}
 use Rattle.bw_tree.specs.Seats.{IsSeat, Seat}
 use Rattle.bw_tree.specs.Trees.{AreFresh, IsSeatOf, IsTreeTable, Tree}
 use Rattle.bw_tree.proofs.Gathering.{AllExtend}
@@ -35,6 +35,7 @@ fresh_idle limits number me rest legal there is =
     record {
       there = there;
       place = refl;
+      begins = tt;
       seated = record { lawful = legal; shows = rest limits number blank; runs = refl; pays = λ operation last own. cc };
     }
 
@@ -42,12 +43,12 @@ pub fresh : (limits : Limits) (number : ℕ) (me : Mine) (actor : Actor) → Idl
 fresh limits number me actor rest legal there is idle = subst (IsSeat limits number me) (sym idle) (fresh_idle limits number me rest legal there is)
 
 -- the same once it has seen steps of others
-pub fresh_then : OwnLasts → (limits : Limits) (number : ℕ) (run : List Entry) (me : Mine) (actor : Actor) → IdleRest → IsLawfulRun limits [] → IsLawfulRun limits run → Extends number [] run → number < limits.actors
+pub fresh_then : OwnLasts → (limits : Limits) (number : ℕ) (run : List Entry) (me : Mine) (actor : Actor) → IdleRest → IsLawfulRun limits [] → IsSeenRun limits run → Extends number [] run → number < limits.actors
     → me ≡ (alone limits number run Idle, []) → actor ≡ idle_actor limits → IsSeat limits number me actor
-fresh_then own limits number run me actor rest empty legal extends there is idle =
+fresh_then own limits number run me actor rest empty run_is extends there is idle =
     let saw : seen_of me ≡ run = ap seen_of is in
     let place : me ≡ (alone limits number (seen_of me) Idle, []) = subst (λ seen. me ≡ (alone limits number seen Idle, [])) (sym saw) is in
-    seat_extends own limits number (alone limits number [] Idle, []) me run actor (fresh limits number (alone limits number [] Idle, []) actor rest empty there refl idle) legal extends place saw
+    seat_extends own limits number (alone limits number [] Idle, []) me run actor (fresh limits number (alone limits number [] Idle, []) actor rest empty there refl idle) run_is extends place saw
 
 pub is_tree : (limits key : Limits) (table : TableId) (words : List ℕ) → table.words ≡ length words → table.slots ≡ 0 → key ≡ limits → words ≡ opening_words limits
     → Running limits (IsLawfulRun limits) (opening (opening_words limits) [] (dealt limits)) → IsTreeTable limits key table

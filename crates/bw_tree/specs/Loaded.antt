@@ -1,5 +1,5 @@
--- Trees that are opened with the pairs of another.
-use Rattle.std.specs.Prelude.{◌≡◌, ◌≢◌, ◌<◌, ℕ, List, [], ◌∷◌, map, take, length, Option, Some, None, slice_get, ⊤}
+-- Pairs that a seat loads, and trees that are opened with the pairs of another.
+use Rattle.std.specs.Prelude.{◌≡◌, ◌≢◌, ◌<◌, ℕ, List, [], ◌∷◌, ◌++◌, map, take, length, Option, Some, None, slice_get, ⊤}
 use Rattle.std.specs.List.Sorted.{IsStrictlySortedBy}
 use Rattle.bw_model.specs.Bytes.{key_cmp}
 use Rattle.bw_model.specs.declared.command.Command.{Command}
@@ -12,13 +12,15 @@ use Rattle.traces.specs.discipline.Disciplined.{own_entries}
 use Rattle.traces.specs.trace.Trace.{command_of}
 use Rattle.listing.specs.Listed.{IsListing}
 use Rattle.bw_tree.specs.Calls.{IsCalled, calls_in, calls_of}
-use Rattle.bw_tree.specs.Runs.{IsOneHistory}
-use Rattle.bw_tree.specs.Seats.{IsSame, Seat}
-use Rattle.bw_tree.specs.Trees.{Tree}
+use Rattle.bw_tree.specs.Runs.{IsOneHistory, StartsWith}
+use Rattle.bw_tree.specs.Seats.{IsSame, Seat, unfinished_command}
+use Rattle.bw_tree.specs.Trees.{Tree, fresh_seat}
 use Rattle.bw_tree.specs.declared.called.Called.{Called}
 use Rattle.bw_tree.specs.declared.called.Called.TheVariants as called
 use Rattle.bw_tree.specs.declared.called.LoadError.{LoadError}
 use Rattle.bw_tree.specs.declared.called.LoadError.TheVariants as refusal
+use Rattle.bw_tree.specs.declared.called.LoadStop.{LoadStop}
+use Rattle.bw_tree.specs.declared.called.LoadStop.TheVariants as stop
 
 -- The keys ascend, and no two are the same.
 abbrev pub KeysAscend : List (List ℕ × List ℕ) → Type 0
@@ -31,6 +33,29 @@ upsert_of pair = Upsert pair.0 pair.1
 abbrev pub HaveUpserted : List (List ℕ × List ℕ) → List (Command × Option Reply) → Type 0
 HaveUpserted [] calls = calls ≡ []
 HaveUpserted (pair ∷ pairs) calls = (given : Reply) × (rest : List (Command × Option Reply)) × (calls ≡ (upsert_of pair, Some given) ∷ rest) × (given ≢ reply.Full) × HaveUpserted pairs rest
+
+-- The seat has upserted the pairs: what it has seen goes on from what it had seen, its calls are those before and then these, and none
+-- is unfinished.
+pub record HasLoaded (old : Seat) (pairs : List (List ℕ × List ℕ)) (new : Seat) : Type 0 where
+  pub grows : StartsWith new.seen old.seen
+  pub made : List (Command × Option Reply)
+  pub upserted : HaveUpserted pairs made
+  pub calls : calls_in new ≡ calls_in old ++ made
+  pub idle : unfinished_command new ≡ None
+
+-- The seat has upserted the pairs before the one at this place, and then its last call, which upserts this one, with the budget, came to
+-- this.
+pub record IsStoppedAt (old : Seat) (pairs : List (List ℕ × List ℕ)) (budget place : ℕ) (result : Called) (new : Seat) : Type 0 where
+  pub pair : List ℕ × List ℕ
+  pub at : slice_get pairs place ≡ Some pair
+  pub before : Seat
+  pub same : IsSame before new
+  pub loaded : HasLoaded old (take place pairs) before
+  pub call : IsCalled before (upsert_of pair) budget result new
+
+abbrev pub HasStopped : Seat → List (List ℕ × List ℕ) → ℕ → LoadStop → Seat → Type 0
+HasStopped old pairs budget (stop.Full place) new = IsStoppedAt old pairs budget place (called.Done reply.Full) new
+HasStopped old pairs budget (stop.Spent place) new = IsStoppedAt old pairs budget place called.Spent new
 
 -- a seat of the tree that has seen the run
 abbrev pub seat_at : Tree → List Entry → ℕ → Seat
@@ -52,29 +77,25 @@ pub record AreLoaded (tree : Tree) (seats : List Seat) (pairs : List (List ℕ �
   pub others : (actor : ℕ) → actor ≢ 0 → own_entries actor run ≡ []
   pub listing : IsListing tree.limits run pairs
 
--- A seat of actor 0 upserted the pairs before one of them, and the same seat's call that upserts this one, with the budget, came to this.
+-- A tree of these limits was opened, in which no actor but the first had an operation: its seat upserted the pairs before one of them,
+-- and the call that upserts this one, with the budget, came to this.
 pub record IsStopped (limits : Limits) (pairs : List (List ℕ × List ℕ)) (budget : ℕ) (result : Called) : Type 0 where
-  pub old : Seat
-  pub new : Seat
+  pub tree : Tree
+  pub own : tree.limits ≡ limits
+  pub seat : Seat
   pub place : ℕ
-  pub pair : List ℕ × List ℕ
-  pub at : slice_get pairs place ≡ Some pair
-  pub actor : old.actor ≡ 0
-  pub same : IsSame old new
-  pub before : HaveUpserted (take place pairs) (calls_in old)
-  pub call : IsCalled old (upsert_of pair) budget result new
-  pub history : IsOneHistory limits new.seen
+  pub stopped : IsStoppedAt (fresh_seat tree 0) pairs budget place result seat
+  pub others : (actor : ℕ) → actor ≢ 0 → own_entries actor seat.seen ≡ []
+  pub history : IsOneHistory limits seat.seen
 
 -- A load goes on after a call that is done, with a reply other than Full.
 abbrev pub GoesOnAfter : Called → Type 0
 GoesOnAfter result = (given : Reply) × (result ≡ called.Done given) × (given ≢ reply.Full)
 
--- A call that replied Full, or was spent, ends a load, with the refusal that says so.
-abbrev pub CallsOff : Called → LoadError → Type 0
-CallsOff result refusal.Order = ⊥
-CallsOff result refusal.Memory = ⊥
-CallsOff result refusal.Full = result ≡ called.Done reply.Full
-CallsOff result refusal.Spent = result ≡ called.Spent
+-- A call that replied Full, or was spent, ends a load there, with the stop that says so.
+abbrev pub CallsOff : Called → ℕ → LoadStop → Type 0
+CallsOff result at (stop.Full place) = (place ≡ at) × (result ≡ called.Done reply.Full)
+CallsOff result at (stop.Spent place) = (place ≡ at) × (result ≡ called.Spent)
 
 -- what justifies a refusal of a list in order: for Memory nothing
 abbrev pub IsLoadStop : Limits → List (List ℕ × List ℕ) → ℕ → LoadError → Type 0

@@ -10,6 +10,7 @@ use Rattle.traces.specs.discipline.Knowledge.{knows}
 use Rattle.traces.specs.discipline.Recalled.{recalls}
 use Rattle.traces.specs.trace.Trace.{command_of}
 use Rattle.slot_rule.specs.declared.view.Reach.TheVariants.{Idle}
+use Rattle.slot_rule.specs.Running.{BeginWithSteps}
 use Rattle.slot_rule.specs.Views.{SitsAt, Mine, seen_of}
 use Rattle.tree_law.specs.Direct.{Accounts}
 use Rattle.bw_tree.specs.Runs.{IsLawfulRun}
@@ -37,6 +38,7 @@ pub record IsSeated (limits : Limits) (number : ℕ) (seen : List Entry) (at : A
 pub record IsSeat (limits : Limits) (number : ℕ) (me : Mine) (at : Actor) : Type 0 where
   pub there : number < limits.actors
   pub place : SitsAt limits number Idle me
+  pub begins : BeginWithSteps (seen_of me)
   pub seated : IsSeated limits number (seen_of me) at
 
 -- the same seat, which may have seen more

@@ -29,6 +29,17 @@ pub enum CloseRefusal {
     Memory,
 }
 
+/// Why a load stopped, and at which place of its list.
+#[derive(Clone, Copy, Debug, PartialEq, Eq, Error)]
+pub enum LoadStop {
+    /// Its upsert found no free row or PID.
+    #[error("the tree is full at pair {0}")]
+    Full(usize),
+    /// Its upsert has spent its budget.
+    #[error("the upsert of pair {0} was spent")]
+    Spent(usize),
+}
+
 /// Why a tree wasn't opened with pairs.
 #[derive(Clone, Copy, Debug, PartialEq, Eq, Error)]
 pub enum LoadError {

@@ -81,7 +81,7 @@ fn refused<A: Allocator>(
 }
 
 /// Whether no seat has an unfinished operation.
-fn are_idle<A: Allocator>(seats: &[BwSeat<A>]) -> bool
+pub fn are_idle<A: Allocator>(seats: &[BwSeat<A>]) -> bool
     ensures { MatchBool result (HasBusy seats.now → ⊥) (HasBusy seats.now) }
 {
     for seat in seats {

@@ -15,7 +15,7 @@ use atomic_table::Table;
 use bw_model::Limits;
 use op_machine::{Actor, idle_actors_rest};
 use row_chain::HeldRow;
-use slot_rule::{TableSeat, cut, join, look, opening_keeps};
+use slot_rule::{TableSeat, cut, join, opening_keeps, refresh};
 use std::alloc::{AllocError, Allocator};
 use std::mem::replace;
 use tree_law::own_lasts;
@@ -71,7 +71,7 @@ pub(crate) fn gathered<A: Allocator>(
     own_lasts();
     let words = &tree.table.shared;
     join(words, &mut seat.place, others, &tree.limits);
-    look(words, &mut seat.place, &tree.limits);
+    refresh(words, &mut seat.place, &tree.limits);
     cut(words, &mut seat.place, &tree.limits)
 }
 

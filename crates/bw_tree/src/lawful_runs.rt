@@ -2,7 +2,7 @@
 ghost use Rattle.std.specs.Prelude.{List, []};
 ghost use Rattle.tree_limits.specs.declared.limits.Limits.{Limits};
 ghost use Rattle.bw_tree.specs.SeatLaws.{HaveLaws};
-ghost use Rattle.bw_tree.specs.Runs.{IsLawfulRun, IsOneHistory};
+ghost use Rattle.bw_tree.specs.Runs.{IsLawfulRun, IsOneHistory, IsSeenRun};
 ghost use Rattle.traces.specs.declared.trace.Entry.{Entry};
 ghost use Rattle.slot_rule.specs.Running.{KeepsRowsApart};
 
@@ -39,9 +39,9 @@ pub(crate) fn runs_keep_rows_apart()
     rows_are_apart();
 }
 
-/// A lawful run is one history.
+/// A run that a seat has seen is one history.
 pub(crate) fn runs_are_one_history()
-    ensures { (limits : Limits) (run : List Entry) → IsLawfulRun limits run → IsOneHistory limits run }
+    ensures { (limits : Limits) (run : List Entry) → IsSeenRun limits run → IsOneHistory limits run }
 {
     is_one_map();
     keeps_phases();

@@ -1,8 +1,14 @@
 //! The running tree: threads call it, each with a seat of its own, over the same theorem.
 //!
-//! A `Tree` is shared by reference; a `BwSeat` is one thread's, and stands for one actor. A call runs the operation that a core would
-//! run too (op_machine), one atomic operation on the tree's words a step, and takes no lock and no memory. What a call ensures is
-//! said of the run that its seat has seen: one history of all actors' steps up to the seat's own last one (specs/Runs, specs/Calls).
+//! Look first at `Tree` (tree.rt), then at `BwSeat` (seat.rt).
+//!
+//! A `Tree` is shared by reference; a `BwSeat` is one thread's, and stands for one actor. A call runs the operation that a core would run
+//! too (`op_machine`), one atomic operation on the tree's words a step (`slot_rule`), and takes no lock and no memory. What a call
+//! ensures is said of the run that its seat has seen: one history of all actors' steps up to the seat's own last one (specs/Runs,
+//! specs/Calls).
+//!
+//! Called by `seats`, `workers` and `walks`, and by who embeds a tree (docs/GUIDE.md). docs/LOOKUP.md goes through one call. It knows no
+//! thread and no channel: who has a seat steps for its actor.
 #![tactic(auto)]
 
 mod call_laws;
@@ -11,6 +17,7 @@ mod closed;
 mod closing;
 mod dealing;
 mod examples;
+mod filling;
 mod lawful_runs;
 mod loading;
 mod note;
@@ -21,9 +28,10 @@ mod taking;
 mod tree;
 
 pub use call_laws::resumed_calls_are_calls;
-pub use called::{Called, CloseError, CloseRefusal, LoadError};
+pub use called::{Called, CloseError, CloseRefusal, LoadError, LoadStop};
+pub use closing::are_idle;
 pub use examples::{entries_tell_calls, last_call_is_answered};
-pub use loading::LOAD_BUDGET;
+pub use filling::LOAD_BUDGET;
 pub use note::Note;
 pub use seat::BwSeat;
 pub use tree::Tree;

@@ -1,27 +1,23 @@
 //! A tree is opened with pairs, as those of a closed tree.
-ghost use Rattle.std.specs.Prelude.{◌≡◌, ◌↔◌, [], None, IfErr, IfOk, IsErrOf, MatchBool, MatchOption};
+ghost use Rattle.std.specs.Prelude.{◌≡◌, ◌↔◌, [], IfErr, IfOk, IsErrOf, MatchBool};
 ghost use Rattle.bw_model.specs.declared.command.Reply.TheVariants as reply;
-ghost use Rattle.bw_tree.specs.Calls.{calls_in};
-ghost use Rattle.bw_tree.specs.Loaded.{AreLoaded, CallsOff, GoesOnAfter, HaveUpserted, IsLoadStop, IsStopped, KeysAscend};
-ghost use Rattle.bw_tree.specs.Seats.{IsSame, unfinished_command};
-ghost use Rattle.bw_tree.specs.Trees.{IsSeatOf, fresh_seat};
+ghost use Rattle.bw_tree.specs.Loaded.{AreLoaded, IsLoadStop, IsStopped, KeysAscend};
+ghost use Rattle.bw_tree.specs.Trees.{fresh_seat};
 ghost use Rattle.slot_rule.specs.Views.{dealt, other_parts};
 
-use crate::called::{Called, LoadError};
+use crate::called::{Called, LoadError, LoadStop};
 use crate::dealing::{begun, dealt_out, gathered};
+use crate::filling::LOAD_BUDGET;
 use crate::seat::BwSeat;
 use crate::tree::Tree;
-use bw_model::{Command, Key, Limits, Reply, Value};
+use bw_model::{Key, Limits, Value};
 use slot_rule::TableSeat;
 use std::alloc::Allocator;
 use tree_law::own_lasts;
 
-/// How many steps the upsert of a pair may take.
-pub const LOAD_BUDGET: u32 = 65_536;
-
 impl<A: Allocator + Copy> Tree<A> {
-    /// A tree with these pairs, as those of a closed tree, and a seat for each actor, in order: seat 0 upserts the pairs, each within
-    /// `LOAD_BUDGET` steps. A refusal leaves no tree. Memory is taken as by `open`, and for no pair.
+    /// A tree with these pairs, as those of a closed tree, and a seat for each actor, in order: seat 0 loads the pairs, as by `load`. A
+    /// refusal leaves no tree. Memory is taken as by `open`, and for no pair.
     pub fn open_from(
         alloc: A,
         limits: Limits,
@@ -58,41 +54,7 @@ fn keys_ascend(pairs: &[(Key, Value)]) -> bool
     true
 }
 
-/// Upserts the pairs in order, until one is refused.
-fn fill<A: Allocator>(
-    tree: &Tree<A>,
-    seat: &mut BwSeat<A>,
-    pairs: &[(Key, Value)],
-) -> Result<(), LoadError>
-    requires own { IsSeatOf tree.now seat.old }
-    requires fresh { seat.old ≡ fresh_seat tree.now 0 }
-    ensures same { IsSame seat.old seat.new }
-    ensures idle { IfOk result (λ _. unfinished_command seat.new ≡ None) }
-    ensures upserted { IfOk result (λ _. HaveUpserted pairs.now (calls_in seat.new)) }
-    ensures err { IfErr result (IsLoadStop tree.now.limits pairs.now LOAD_BUDGET) }
-{
-    for pair in pairs {
-        let command = Command::Upsert(pair.0.copied(), pair.1.copied());
-        let called = tree.call(seat, command, LOAD_BUDGET);
-        if let Some(refusal) = refusal_of(&called) {
-            return Err(refusal);
-        }
-    }
-    Ok(())
-}
-
-/// Why a load ends with a call that came to this, if it does. That a key had a value can't be: the keys ascend.
-fn refusal_of(called: &Called) -> Option<LoadError>
-    ensures { MatchOption result (GoesOnAfter called.now) (CallsOff called.now) }
-{
-    match called {
-        Called::Done(Reply::Full) => Some(LoadError::Full),
-        Called::Done(_) => None,
-        Called::Spent => Some(LoadError::Spent),
-    }
-}
-
-/// Upserts the pairs on the first seat, and deals all seats.
+/// Loads the pairs on the first seat, and deals all seats.
 fn loaded<A: Allocator + Copy>(
     alloc: A,
     tree: &Tree<A>,
@@ -109,8 +71,13 @@ fn loaded<A: Allocator + Copy>(
 {
     own_lasts();
     let mut first = first;
-    fill(tree, &mut first, pairs)?;
+    let load = tree.load(&mut first, pairs);
     let others = gathered(tree, &mut first, others);
+    match load {
+        Err(LoadStop::Full(_)) => return Err(LoadError::Full),
+        Err(LoadStop::Spent(_)) => return Err(LoadError::Spent),
+        Ok(()) => {}
+    }
     match dealt_out(alloc, tree, first, others) {
         Ok(seats) => Ok(seats),
         Err(_) => Err(LoadError::Memory),

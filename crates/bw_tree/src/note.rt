@@ -8,7 +8,7 @@ use crate::lawful_runs::runs_are_one_history;
 use crate::seat::BwSeat;
 use crate::tree::Tree;
 use bw_model::Limits;
-use slot_rule::{TableSeat, cut, join, look, note};
+use slot_rule::{TableSeat, cut, join, note, refresh};
 use std::alloc::Allocator;
 use std::marker::Model;
 use tree_law::own_lasts;
@@ -55,7 +55,7 @@ impl<A: Allocator> Tree<A> {
         own_lasts();
         let words = &self.table.shared;
         join(words, &mut seat.place, note.place, &self.limits);
-        look(words, &mut seat.place, &self.limits);
+        refresh(words, &mut seat.place, &self.limits);
         cut(words, &mut seat.place, &self.limits);
     }
 }

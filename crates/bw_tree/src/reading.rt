@@ -14,7 +14,7 @@ use crate::lawful_runs::{TreeWords, runs_keep_rows_apart};
 use bw_model::Limits;
 use row_chain::HeldRow;
 use row_search::Row;
-use slot_rule::{TableSeat, read_row};
+use slot_rule::{TableSeat, read_used};
 use std::alloc::Allocator;
 
 /// Reads the record of a row that the seat's actor may read into a row on the heap, over the one that stood there.
@@ -59,5 +59,5 @@ fn read_words(
     ensures took { Took IsLawfulRun limits.now number (seen_of place.old.me) None (step.Row row) (Content to.new) None (seen_of place.new.me) }
 {
     runs_keep_rows_apart();
-    read_row(words, place, limits, number, row, &mut to.words);
+    read_used(words, place, limits, number, row, &mut to.words);
 }

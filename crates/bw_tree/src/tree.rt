@@ -10,7 +10,7 @@ use crate::lawful_runs::{TreeLaw, runs_are_one_history};
 use crate::seat::BwSeat;
 use atomic_table::Table;
 use bw_model::{Command, Limits};
-use slot_rule::{Rule, View, blank, cut, join, look};
+use slot_rule::{Rule, View, blank, cut, join, refresh};
 use std::alloc::{Allocator, Global};
 use std::marker::Model;
 use std::mem::replace;
@@ -77,7 +77,7 @@ impl<A: Allocator> Tree<A> {
         let words = &self.table.shared;
         let others = replace(&mut other.place, blank(words));
         join(words, &mut one.place, others, &self.limits);
-        look(words, &mut one.place, &self.limits);
+        refresh(words, &mut one.place, &self.limits);
         other.place = cut(words, &mut one.place, &self.limits);
     }
 }

@@ -1,4 +1,10 @@
 //! What one process keeps of the memory that its actors share, and of what they did: a table, and entries.
+//!
+//! Look first at `CoreTable`: it answers a step and takes it, as specs of `traces` say. `Entries` is the trace, with room that is asked
+//! for before a turn; `SharedRecord` is a record with several owners, so that what was placed and what was read is kept once.
+//!
+//! Called by `step_core`; `scene` and `listing` read a table. It knows no operation and no law: whether a step may be taken is not asked
+//! here.
 #![tactic(auto)]
 
 mod entries;

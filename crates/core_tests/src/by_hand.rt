@@ -5,6 +5,9 @@ use std::alloc::Allocator;
 use step_core::{Core, Event};
 use traces::Turn;
 
+/// More steps than an operation takes where the others stand: one that removes pages of several levels takes some thousand.
+const MOST_STEPS: u32 = 4096;
+
 /// Lets a core go. A function in which a core is dropped costs the proof two seconds more than one that hands it to this.
 pub(crate) fn let_go<A: Allocator>(_core: Core<A>) {}
 
@@ -38,7 +41,7 @@ pub(crate) fn stepped(core: &mut Core, actor: u8, times: u32, link: Link) -> Opt
 
 /// Whether an exchange of the actor with this link wins before its operation is done.
 pub(crate) fn until(core: &mut Core, actor: u8, link: Link) -> bool {
-    for _ in 0..1000u32 {
+    for _ in 0..MOST_STEPS {
         match core.step_on(actor) {
             Some(made) => {
                 if made == Some(link) {
@@ -61,7 +64,7 @@ pub(crate) fn end(core: &mut Core, actor: u8) -> Option<Reply> {
 
 /// The reply of the operation that an actor has, after as many steps as it takes.
 pub(crate) fn finish(core: &mut Core, actor: u8) -> Option<Reply> {
-    for _ in 0..1000u32 {
+    for _ in 0..MOST_STEPS {
         if core.step_on(actor).is_none() {
             return end(core, actor);
         }

@@ -46,7 +46,7 @@ fn turn_of(entry: Entry) -> Turn {
 }
 
 /// Adds the turns of a trace; says whether there was memory.
-fn adds_turns(turns: &mut Vec<Turn>, entries: &Entries) -> bool {
+pub(crate) fn adds_turns(turns: &mut Vec<Turn>, entries: &Entries) -> bool {
     for place in 0..entries.len() {
         let Some(entry) = entries.entry(place) else {
             return false;

@@ -1,4 +1,9 @@
 //! What runs of a core are to do, and what it does where memory is refused: tests alone, over its public calls.
+//!
+//! Look first at `scripts`, whose lines say what actors do, and at `schedules`, which draws their order. `plain_map` is the map beside
+//! which replies are looked at, `stops` stops each operation after each of its steps, and `refusals` refuses each allocation in turn.
+//!
+//! Called by nobody, and apart from `step_core`, which would be proved twice with its tests.
 #![tactic(auto)]
 
 #[cfg(test)]
@@ -6,7 +11,13 @@ mod accounts;
 #[cfg(test)]
 mod by_hand;
 #[cfg(test)]
+mod drawn_levels;
+#[cfg(test)]
+mod four_levels;
+#[cfg(test)]
 mod index_removals;
+#[cfg(test)]
+mod named;
 #[cfg(test)]
 mod numbered;
 #[cfg(test)]
@@ -15,6 +26,8 @@ mod numbers;
 mod plain_map;
 #[cfg(test)]
 mod refusals;
+#[cfg(test)]
+mod refused_help;
 #[cfg(test)]
 mod removal_neighbours;
 #[cfg(test)]
@@ -30,12 +43,22 @@ mod schedules;
 #[cfg(test)]
 mod scripts;
 #[cfg(test)]
+mod standing;
+#[cfg(test)]
 mod stops;
 #[cfg(test)]
 mod swaps;
 #[cfg(test)]
 mod sweeps;
 #[cfg(test)]
+mod tally;
+#[cfg(test)]
 mod tides;
 #[cfg(test)]
+mod walk_ways;
+#[cfg(test)]
 mod walks;
+#[cfg(test)]
+mod windows;
+#[cfg(test)]
+mod worded;

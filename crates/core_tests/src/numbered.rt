@@ -2,9 +2,18 @@
 
 use bw_model::{Command, Key, Pairs, Reply, Value};
 
-/// Two bytes that stand for a number; those of the numbers below 1,024 are in their order.
+/// As many numbers' keys are in the order of the numbers.
+pub(crate) const KEYS: u32 = DIGITS * DIGITS;
+
+/// How many values a byte of a key has.
+const DIGITS: u32 = 128;
+
+/// Two bytes that stand for a number.
 fn bytes(number: u32) -> [u8; 2] {
-    [b'A' + (number / 32 % 32) as u8, b'A' + (number % 32) as u8]
+    [
+        b'A' + (number / DIGITS % DIGITS) as u8,
+        b'A' + (number % DIGITS) as u8,
+    ]
 }
 
 pub(crate) fn key(number: u32) -> Key {
@@ -45,7 +54,7 @@ pub(crate) fn number_of(key: &Key) -> Option<u32> {
     match key.as_slice() {
         [high, low] => {
             let high = u32::from(high.wrapping_sub(b'A'));
-            Some(high * 32 + u32::from(low.wrapping_sub(b'A')))
+            Some(high * DIGITS + u32::from(low.wrapping_sub(b'A')))
         }
         _ => None,
     }

@@ -1,7 +1,7 @@
 //! Where each row, or each PID, is.
 
 /// More rows than the trees of these tests have, and more PIDs.
-pub(crate) const MOST: u16 = 4096;
+pub(crate) const MOST: u16 = 16384;
 
 /// What is true of a row or a PID.
 #[derive(Clone, Copy, PartialEq, Eq)]

@@ -1,6 +1,6 @@
 //! A plain map of numbers to numbers, with its past: what it had at each moment.
 
-use crate::numbered::{is_pair, number_of};
+use crate::numbered::{KEYS, is_pair, number_of};
 use bw_model::{Key, Pairs, Value};
 use std::alloc::{AllocError, Global};
 
@@ -10,7 +10,7 @@ pub(crate) const VALUES: u32 = 8;
 /// No value, where numbers stand for values.
 pub(crate) const ABSENT: u32 = VALUES;
 
-/// The values of the numbers below 1,024, and each change that there was: the number, and its value before.
+/// The values of the numbers of keys, and each change that there was: the number, and its value before.
 #[derive(Drop)]
 pub(crate) struct PlainMap {
     values: Vec<u32>,
@@ -55,7 +55,7 @@ impl PlainMap {
     /// No values.
     pub(crate) fn new(alloc: Global) -> Result<PlainMap, AllocError> {
         Ok(PlainMap {
-            values: vec![in alloc; ABSENT; 1024]?,
+            values: vec![in alloc; ABSENT; KEYS as usize]?,
             changes: Vec::new(alloc),
         })
     }
@@ -81,7 +81,7 @@ impl PlainMap {
 
     /// Whether these are all pairs.
     pub(crate) fn has(&self, pairs: &[(Key, Value)]) -> bool {
-        has_page(self.values.as_slice(), 0, 1024, pairs)
+        has_page(self.values.as_slice(), 0, KEYS, pairs)
     }
 
     /// Whether these were the pairs from a number up to the next key, at one of the moments since.
@@ -93,7 +93,7 @@ impl PlainMap {
         next: Option<&Key>,
     ) -> Result<bool, AllocError> {
         let end = match next {
-            None => 1024,
+            None => KEYS,
             Some(key) => number_of(key).unwrap_or(0),
         };
         let mut values = self.values.clone()?;

@@ -24,7 +24,7 @@ fn draw(rng: &mut Pcg32, count: u32) -> u32 {
 
 /// What a command does.
 #[derive(Clone, Copy, PartialEq, Eq)]
-enum Kind {
+pub(crate) enum Kind {
     Get,
     Insert,
     Upsert,
@@ -36,18 +36,20 @@ enum Kind {
 
 /// Which commands there are.
 #[derive(Clone, Copy)]
-enum Mix {
+pub(crate) enum Mix {
     /// The four commands on one value, each as often as the others.
     Four,
     /// One delete, and two each of the three others.
     FewDeletes,
+    /// Five deletes, a lookup and an insert.
+    ManyDeletes,
     /// All seven commands, each as often as the others.
     Seven,
     /// The same, where a swap expects the value that its key has when it is asked, if it has one.
     Swaps,
 }
 
-const KINDS: [Kind; 7] = [
+pub(crate) const KINDS: [Kind; 7] = [
     Kind::Get,
     Kind::Insert,
     Kind::Upsert,
@@ -60,12 +62,16 @@ const KINDS: [Kind; 7] = [
 /// The places of one delete, and two each of the three others.
 const FEW_DELETES: [u32; 7] = [0, 1, 2, 3, 0, 1, 2];
 
+/// The places of five deletes, a lookup and an insert.
+const MANY_DELETES: [u32; 7] = [0, 1, 3, 3, 3, 3, 3];
+
 impl Mix {
     /// One of the commands.
     fn drawn(self, rng: &mut Pcg32) -> Kind {
         let place = match self {
             Mix::Four => draw(rng, 4),
             Mix::FewDeletes => FEW_DELETES[draw(rng, 7) as usize % 7],
+            Mix::ManyDeletes => MANY_DELETES[draw(rng, 7) as usize % 7],
             Mix::Seven | Mix::Swaps => draw(rng, 7),
         };
         KINDS[place as usize % 7]
@@ -74,7 +80,7 @@ impl Mix {
 
 /// What an actor was asked: the kind of the command, its key, its value and the one that it expects by their numbers.
 #[derive(Clone, Copy)]
-struct Asked {
+pub(crate) struct Asked {
     kind: Kind,
     key: u32,
     value: u32,
@@ -101,11 +107,11 @@ impl Asked {
         }
     }
 
-    /// A command that is drawn.
-    fn drawn(rng: &mut Pcg32, schedule: &Schedule) -> Asked {
+    /// A command of a kind, on one of so many keys, which is drawn with its values.
+    pub(crate) fn drawn(kind: Kind, rng: &mut Pcg32, keys: u32) -> Asked {
         Asked {
-            kind: schedule.mix.drawn(rng),
-            key: draw(rng, schedule.keys),
+            kind,
+            key: draw(rng, keys),
             value: draw(rng, VALUES),
             expected: draw(rng, VALUES),
             since: 0,
@@ -188,8 +194,8 @@ struct Seen {
 
 /// The plain map, by the numbers of keys and values; what each actor was asked last; and what was seen so far.
 #[derive(Drop)]
-struct Twin {
-    map: PlainMap,
+pub(crate) struct Twin {
+    pub(crate) map: PlainMap,
     asked: Vec<Asked>,
     seen: Seen,
 }
@@ -202,7 +208,7 @@ const NOTHING: Seen = Seen {
 };
 
 impl Twin {
-    fn new(alloc: Global) -> Result<Twin, AllocError> {
+    pub(crate) fn new(alloc: Global) -> Result<Twin, AllocError> {
         Ok(Twin {
             map: PlainMap::new(alloc)?,
             asked: vec![in alloc; Asked::idle(); 16]?,
@@ -287,32 +293,47 @@ impl Twin {
 
 /// How many actors take how many turns, with commands of which kinds over how many keys.
 #[derive(Clone, Copy)]
-struct Schedule {
-    seed: u64,
-    actors: u32,
-    turns: u32,
-    mix: Mix,
-    keys: u32,
+pub(crate) struct Schedule {
+    pub(crate) seed: u64,
+    pub(crate) actors: u32,
+    pub(crate) turns: u32,
+    pub(crate) mix: Mix,
+    pub(crate) keys: u32,
+}
+
+/// Begins what an actor is asked; says whether it may.
+pub(crate) fn asks(core: &mut Core, twin: &mut Twin, actor: u8, mix: Mix, asked: Asked) -> bool {
+    let mut asked = asked;
+    twin.begin(usize::from(actor), mix, &mut asked);
+    core.turn(Turn::Begin(actor, asked.command())).is_ok()
+}
+
+/// Takes an actor's step; says whether it was its operation's last one, and none where what it did can't be, beside the map.
+pub(crate) fn steps(core: &mut Core, twin: &mut Twin, actor: u8) -> Option<bool> {
+    match core.turn(Turn::Step(actor)) {
+        Ok(Event::Stepped(None)) => Some(false),
+        Ok(Event::Stepped(Some(link))) => twin
+            .link(usize::from(actor), link)
+            .is_ok()
+            .then_some(false),
+        Ok(Event::Done(reply)) => twin.may_reply(usize::from(actor), &reply).then_some(true),
+        _ => None,
+    }
 }
 
 /// Takes a turn of an actor that is drawn; says whether what it did may be, beside the map.
 fn turn(core: &mut Core, twin: &mut Twin, rng: &mut Pcg32, schedule: &Schedule) -> bool {
     let actor = (draw(rng, schedule.actors) % 16) as u8;
-    if !core.is_busy(actor) {
-        let mut asked = Asked::drawn(rng, schedule);
-        twin.begin(usize::from(actor), schedule.mix, &mut asked);
-        return core.turn(Turn::Begin(actor, asked.command())).is_ok();
+    if core.is_busy(actor) {
+        return steps(core, twin, actor).is_some();
     }
-    match core.turn(Turn::Step(actor)) {
-        Ok(Event::Stepped(None)) => true,
-        Ok(Event::Stepped(Some(link))) => twin.link(usize::from(actor), link).is_ok(),
-        Ok(Event::Done(reply)) => twin.may_reply(usize::from(actor), &reply),
-        _ => false,
-    }
+    let kind = schedule.mix.drawn(rng);
+    let asked = Asked::drawn(kind, rng, schedule.keys);
+    asks(core, twin, actor, schedule.mix, asked)
 }
 
 /// Takes all turns; says whether each did what it may, and the listing is the map after each hundred.
-fn agrees(alloc: Global, core: &mut Core, twin: &mut Twin, schedule: &Schedule) -> bool {
+pub(crate) fn agrees(alloc: Global, core: &mut Core, twin: &mut Twin, schedule: &Schedule) -> bool {
     let mut rng = Pcg32::seed_from_u64(schedule.seed);
     for number in 1..=schedule.turns {
         if !turn(core, twin, &mut rng, schedule) {

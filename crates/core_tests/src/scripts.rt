@@ -1,6 +1,6 @@
 //! Scripts: lines of what actors do with keys by their numbers, and what each line is to tell.
 
-use crate::by_hand::{begins, end, finish, let_go, replies, steps, until};
+use crate::by_hand::{begins, end, finish, let_go, replies, stepped, steps, until};
 use crate::numbered::{between, insert, is_pair, key, page, value};
 use bw_model::{Command, Key, Limits, Link, Reply, Value};
 use std::alloc::Global;
@@ -71,6 +71,8 @@ pub(crate) enum Line {
     Begins(u8, Ask),
     /// It takes so many steps, which each tell this link, or that there is none.
     Steps(u8, u32, Option<Link>),
+    /// It takes so many steps, whatever these tell, and isn't done by then.
+    Turns(u8, u32),
     /// It takes steps up to the exchange with this link.
     Until(u8, Link),
     /// It takes one step, which tells the reply.
@@ -87,6 +89,8 @@ pub(crate) enum Line {
     InsertsBehind(u8, u32),
     /// It deletes the keys from one number down to another, each with the value of its number.
     Deletes(u8, u32, u32),
+    /// It deletes the keys from one number up to another, each with the value of its number.
+    DeletesUp(u8, u32, u32),
     /// Exactly the keys from one number to another are listed, each with the value of its number.
     ListsAll(u32, u32),
     /// Exactly the keys of these ranges are listed, each with the value of its number, but the tenth with that of another one.
@@ -117,11 +121,26 @@ fn inserts_behind(core: &mut Core, actor: u8, number: u32) -> bool {
     true
 }
 
+/// Whether an actor deletes the key of a number.
+fn deletes_one(core: &mut Core, actor: u8, number: u32) -> bool {
+    let reply = Reply::Deleted(value(number));
+    replies(core, actor, Command::Delete(key(number)), reply)
+}
+
 /// Whether an actor deletes the keys from one number down to another.
 fn deletes(core: &mut Core, actor: u8, last: u32, first: u32) -> bool {
     for number in (first..=last).rev() {
-        let reply = Reply::Deleted(value(number));
-        if !replies(core, actor, Command::Delete(key(number)), reply) {
+        if !deletes_one(core, actor, number) {
+            return false;
+        }
+    }
+    true
+}
+
+/// Whether an actor deletes the keys from one number up to another.
+fn deletes_up(core: &mut Core, actor: u8, first: u32, last: u32) -> bool {
+    for number in first..=last {
+        if !deletes_one(core, actor, number) {
             return false;
         }
     }
@@ -185,6 +204,7 @@ fn holds(alloc: Global, core: &mut Core, line: Line) -> bool {
     match line {
         Line::Begins(actor, ask) => begins(core, actor, ask.command()),
         Line::Steps(actor, count, link) => steps(core, actor, count, link),
+        Line::Turns(actor, count) => stepped(core, actor, count, Link::Put).is_some(),
         Line::Until(actor, link) => until(core, actor, link),
         Line::Ends(actor, say) => is_one_of(end(core, actor), [say; 2]),
         Line::Finishes(actor, say) => is_one_of(finish(core, actor), [say; 2]),
@@ -193,6 +213,7 @@ fn holds(alloc: Global, core: &mut Core, line: Line) -> bool {
         Line::Inserts(actor, first, last) => inserts(core, actor, first, last),
         Line::InsertsBehind(actor, number) => inserts_behind(core, actor, number),
         Line::Deletes(actor, last, first) => deletes(core, actor, last, first),
+        Line::DeletesUp(actor, first, last) => deletes_up(core, actor, first, last),
         Line::ListsAll(first, last) => lists_all(alloc, core, first, last),
         Line::Lists(ranges, tenth) => lists(alloc, core, ranges, tenth),
     }

@@ -97,5 +97,6 @@ module _ (limits : Limits) (k now : Knowledge) (r : Recalled) (removed version :
             past = all_past limits k now r version was_level was_low earlier arrives level low descends_on;
             rooted = arrives.rooted;
             removed = tt;
+            lowest = tt;
             kept = λ other none. absurd none;
           }

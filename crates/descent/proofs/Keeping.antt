@@ -12,7 +12,7 @@ use Rattle.deltas.specs.Records.{next_row}
 use Rattle.traces.specs.chain.Chains.{level_in}
 use Rattle.traces.specs.discipline.Fitting.{Fits, FitsRow}
 use Rattle.traces.specs.discipline.Knowledge.{Knowledge, learn, learn_slot}
-use Rattle.traces.specs.discipline.Recalled.{IsUnread, Recalled, recall}
+use Rattle.traces.specs.discipline.Recalled.{IsUnread, Recalled, is_lower, recall}
 use Rattle.smo.specs.Readings.{IsAfter}
 use Rattle.smo.specs.Versions.{Version}
 use Rattle.descent.specs.Visits.{VisitState, Slot, Row, FindsHead, Completes, Continues, Visit, at, wanted}
@@ -20,6 +20,7 @@ use Rattle.descent.specs.Walks.{HasArrived, IsAmong}
 use Rattle.descent.specs.Courses.{WriteGoal, Seek, Left, Merge, Unterm}
 use Rattle.descent.specs.WriteRounds.{IsLosingTerm, IsMissing, KeepsToWrite, is_cutting, write_way, IsBased, IsLed, IsLeftOf, IsKept, VisitsToWrite, SeeksLeaf}
 use Rattle.descent.proofs.Holding.{before_slot, in_hand_row, in_hand_slot, slot_before}
+use Rattle.descent.proofs.Removals.{not_passed}
 use Rattle.descent.proofs.Seeking.{arrived, seeks_row, seeks_slot}
 use Rattle.descent.proofs.Visiting.{back, row_below, there}
 
@@ -166,7 +167,7 @@ module _ (limits : Limits) (key : List ℕ) (floor : ℕ) (goal : WriteGoal) (pa
           earlier = h.earlier;
           arrives = here;
           passing = h.seeks.passing;
-          fresh = h.seeks.fresh;
+          fresh = λ here. not_passed (is_lower content r.walk) r.walk.passed (h.seeks.fresh here);
           above = IfSome_then parent h.above (λ other i. record {
             kept = kept_row other h.earlier i.kept;
             up = elim here.is_level [ inl none ↦ absurd (some_among other.pid h.earlier i.kept.among none) | inr is ↦ i.up ∙ ap suc (sym is) ];

@@ -4,6 +4,7 @@ pub mod WayLaws
 pub mod Holding
 pub mod Meeting
 pub mod Visiting
+pub mod Removals
 pub mod Walking
 pub mod Seeking
 pub mod Spending

@@ -1,5 +1,5 @@
 -- A reader's way to a key, also by the left of a removed page.
-use Rattle.std.proofs.Common.{◌≡◌, ◌≢◌, ◌<◌, ◌+◌, ◌++◌, ◌-◌, ◌||◌, ◌⊎◌, inl, inr, ℕ, zero, suc, List, [], ◌∷◌, Bool, true, false, Option, None, Some, refl, sym, ap, ◌∙◌, subst, arith}
+use Rattle.std.proofs.Common.{◌≡◌, ◌≢◌, ◌<◌, ◌≤◌, ◌++◌, ◌-◌, ◌||◌, ◌⊎◌, inl, inr, ℕ, zero, suc, List, [], ◌∷◌, Bool, true, false, Option, None, Some, refl, sym, ap, ◌∙◌, subst, arith}
 use Rattle.std.specs.Prelude.{IsFalse, IsTrue, IfSome, ⊤}
 use Rattle.tree_limits.specs.declared.limits.Limits.{Limits}
 use Rattle.bw_model.specs.declared.step.Step.TheVariants as step
@@ -11,18 +11,19 @@ use Rattle.deltas.specs.declared.record.Record.{Record}
 use Rattle.traces.specs.chain.Chains.{is_removed, level_in, low_in}
 use Rattle.traces.specs.discipline.Fitting.{Fits, FitsRow}
 use Rattle.traces.specs.discipline.Knowledge.{Knowledge, learn}
-use Rattle.traces.specs.discipline.Recalled.{Recalled, recall}
+use Rattle.traces.specs.discipline.Recalled.{Recalled, is_lower, recall}
 use Rattle.smo.specs.Readings.{IsAfter}
 use Rattle.smo.specs.Versions.{Version}
 use Rattle.descent.specs.ReadGoals.{ReadGoal, Seek, Left, Beyond}
 use Rattle.descent.specs.ReadLegs.{Leg, Down, Round, Past, below, has_met}
 use Rattle.descent.specs.Visits.{Slot, Row, FindsHead, Completes, Continues, Visit, at, to_page, wanted}
 use Rattle.descent.specs.Versions.{IsInHand}
-use Rattle.descent.specs.Walks.{HasArrived}
+use Rattle.descent.specs.Walks.{HasArrived, IsUnder}
 use Rattle.descent.specs.Ways.{LeadsDown, LeadsRight, NamesAt, reaches, precedes}
 use Rattle.descent.specs.ReadRounds.{BeginsToRead, IsAbove, IsGoneAt, IsOn, VisitsToRead, KeepsToRead, SaysAside, goes_beyond, read_way}
 use Rattle.descent.proofs.Holding.{before_slot, in_hand_row, in_hand_slot}
 use Rattle.descent.proofs.PageLaws.{above_empty}
+use Rattle.descent.proofs.Removals.{not_passed, round_row, round_slot, under_row, under_slot}
 use Rattle.descent.proofs.Seeking.{arrived_next, hand, seeks_next, seeks_on, seeks_root}
 use Rattle.descent.proofs.Visiting.{back, there}
 use Rattle.descent.proofs.Walking.{is_new, not_itself, told_of, trans}
@@ -54,10 +55,10 @@ pub record IsOver (limits : Limits) (k now : Knowledge) (goal : ReadGoal) (pid l
   pub was : IsInHand limits k above
   pub above_is : IsAbove limits now goal pid level earlier above
 
-abbrev pub WasOn : Limits → Knowledge → Knowledge → Recalled → ReadGoal → ℕ → ℕ → List ℕ → Leg → Type 0
-WasOn limits k now r goal pid level earlier (Down above) = (r.walk.passed ≡ false) × IfSome above (IsOver limits k now goal pid level earlier)
-WasOn limits k now r goal pid level earlier (Round removed) = ⊥
-WasOn limits k now r goal pid level earlier Past = r.walk.passed ≡ true
+abbrev pub WasOn : Limits → Knowledge → Knowledge → Recalled → ReadGoal → Version → ℕ → List ℕ → Leg → Type 0
+WasOn limits k now r goal version level earlier (Down above) = (r.walk.passed ≡ false) × IfSome above (IsOver limits k now goal version.pid level earlier)
+WasOn limits k now r goal version level earlier (Round removed) = (r.walk.removed ≡ true) × (r.walk.passed ≡ true → level_in removed.chain ≤ r.walk.level)
+WasOn limits k now r goal version level earlier (Past above) = ((earlier ≢ []) × (r.walk.removed ≡ true) × (r.walk.passed ≡ true → IsUnder above level r.walk.level version.chain)) × IfSome above (IsOver limits k now goal version.pid level earlier)
 
 -- A page was read whole, on the way of the goal.
 pub record HasReached (limits : Limits) (key : List ℕ) (goal : ReadGoal) (leg : Leg) (k now : Knowledge) (r : Recalled) (version : Version) : Type 0 where
@@ -67,7 +68,7 @@ pub record HasReached (limits : Limits) (key : List ℕ) (goal : ReadGoal) (leg 
   pub arrives : HasArrived limits k now r version level low earlier
   pub passing : IsTrue (read_way goal key low)
   pub passed : Passed limits key k now version goal
-  pub leg_was : WasOn limits k now r goal version.pid level earlier leg
+  pub leg_was : WasOn limits k now r goal version level earlier leg
 
 -- the one of two keys that is below the other on a way is on the way
 pub before_on : (goal : ReadGoal) (key low high : List ℕ) → IsTrue (is_below low high) → IsTrue (read_way goal key high) → IsTrue (read_way goal key low)
@@ -118,9 +119,9 @@ module _ (limits : Limits) (key : List ℕ) (k : Knowledge) (r : Recalled) where
     }
     keeps_slot row some linked Beyond h = tt
 
-    met_slot : (pid row : ℕ) (met : Bool) → 0 < pid → r.walk.removed ≡ met → (recall r (step.Slot pid) (answer.Number row)).walk.passed ≡ met
-    met_slot zero row met some is = absurd (omega (arith, some))
-    met_slot (suc pid) row met some is = is
+    met_slot : (pid row : ℕ) → 0 < pid → r.walk.removed ≡ false → (recall r (step.Slot pid) (answer.Number row)).walk.passed ≡ false
+    met_slot zero row some is = absurd (omega (arith, some))
+    met_slot (suc pid) row some is = is
 
     above_slot : (row level : ℕ) (earlier : List ℕ) (goal : ReadGoal) (above : Option Version) → IfSome above (IsAbove limits k goal visit.pid level earlier) → IfSome above (IsAbove limits (learn k (step.Slot visit.pid) (answer.Number row)) goal visit.pid level earlier)
     above_slot row level earlier goal None h = tt
@@ -128,9 +129,9 @@ module _ (limits : Limits) (key : List ℕ) (k : Knowledge) (r : Recalled) where
 
     on_slot : (row level : ℕ) (earlier : List ℕ) → 0 < visit.pid → (goal : ReadGoal) (leg : Leg) → IsOn limits k r goal (at visit Slot) level earlier leg
         → IsOn limits (learn k (step.Slot visit.pid) (answer.Number row)) (recall r (step.Slot visit.pid) (answer.Number row)) goal (record visit { part = []; state = Row row row }) level earlier leg
-    on_slot row level earlier some goal (Down above) h = (met_slot visit.pid row false some h.0, above_slot row level earlier goal above h.1)
-    on_slot row level earlier some goal (Round removed) h = absurd h
-    on_slot row level earlier some goal Past h = met_slot visit.pid row true some h
+    on_slot row level earlier some goal (Down above) h = (met_slot visit.pid row some h.0, above_slot row level earlier goal above h.1)
+    on_slot row level earlier some goal (Round removed) h = round_slot r row visit.pid removed some h
+    on_slot row level earlier some goal (Past above) h = (under_slot r row visit.pid above level earlier some h.0, above_slot row level earlier goal above h.1)
 
     module _ (row : ℕ) (content : Record) (fits : FitsRow limits k row content) where
       abbrev now : Knowledge
@@ -154,17 +155,19 @@ module _ (limits : Limits) (key : List ℕ) (k : Knowledge) (r : Recalled) where
 
       on_row : (head under level : ℕ) (earlier : List ℕ) (goal : ReadGoal) (leg : Leg) → IsOn limits k r goal (at visit (Row head row)) level earlier leg
           → IsOn limits now (recall r (step.Row row) (answer.Content content)) goal (record visit { part = visit.part ++ content ∷ []; state = Row head under }) level earlier leg
-      on_row head under level earlier goal (Down None) h = h
-      on_row head under level earlier goal (Down (Some above)) h = (h.0, above_row level earlier goal above h.1)
-      on_row head under level earlier goal (Round removed) h = absurd h
-      on_row head under level earlier goal Past h = h
+      on_row head under level earlier goal (Down None) h = (not_passed (is_lower content r.walk) r.walk.passed h.0, tt)
+      on_row head under level earlier goal (Down (Some above)) h = (not_passed (is_lower content r.walk) r.walk.passed h.0, above_row level earlier goal above h.1)
+      on_row head under level earlier goal (Round removed) h = round_row removed r.walk content head row under h
+      on_row head under level earlier goal (Past None) h = (under_row None level earlier r.walk visit.part content head row under h.0, tt)
+      on_row head under level earlier goal (Past (Some above)) h = (under_row (Some above) level earlier r.walk visit.part content head row under h.0, above_row level earlier goal above h.1)
 
-      was_row : (version : Version) → version.pid ≡ visit.pid → (head level : ℕ) (earlier : List ℕ) (goal : ReadGoal) (leg : Leg) → IsOn limits k r goal (at visit (Row head row)) level earlier leg
-          → WasOn limits k now (recall r (step.Row row) (answer.Content content)) goal version.pid level earlier leg
-      was_row version pid head level earlier goal (Down None) h = h
-      was_row version pid head level earlier goal (Down (Some above)) h = (h.0, record { was = h.1.in_hand; above_is = rw pid (above_row level earlier goal above h.1) })
-      was_row version pid head level earlier goal (Round removed) h = absurd h
-      was_row version pid head level earlier goal Past h = h
+      was_row : (version : Version) → version.pid ≡ visit.pid → version.chain ≡ visit.part ++ content ∷ [] → (head level : ℕ) (earlier : List ℕ) (goal : ReadGoal) (leg : Leg) → IsOn limits k r goal (at visit (Row head row)) level earlier leg
+          → WasOn limits k now (recall r (step.Row row) (answer.Content content)) goal version level earlier leg
+      was_row version pid made head level earlier goal (Down None) h = (not_passed (is_lower content r.walk) r.walk.passed h.0, tt)
+      was_row version pid made head level earlier goal (Down (Some above)) h = (not_passed (is_lower content r.walk) r.walk.passed h.0, record { was = h.1.in_hand; above_is = rw pid (above_row level earlier goal above h.1) })
+      was_row version pid made head level earlier goal (Round removed) h = round_row removed r.walk content head row 0 h
+      was_row version pid made head level earlier goal (Past None) h = (under_row None level earlier r.walk visit.part content head row 0 h.0, tt)
+      was_row version pid made head level earlier goal (Past (Some above)) h = (rw made (under_row (Some above) level earlier r.walk visit.part content head row 0 h.0), record { was = h.1.in_hand; above_is = rw pid (above_row level earlier goal above h.1) })
 
 -- the same by what a visit makes of an answer
 module _ (limits : Limits) (key : List ℕ) (goal : ReadGoal) (leg : Leg) (k : Knowledge) (r : Recalled) (visit : Visit) (told : Answer Record) (h : VisitsToRead limits key goal leg k r visit) (f : Fits limits k (wanted visit) told) where
@@ -220,10 +223,10 @@ module _ (limits : Limits) (key : List ℕ) (goal : ReadGoal) (leg : Leg) (k : K
         back visit (λ v x. Passed limits key k (learn k (wanted v) x) version other) (Row version.head b.row) (answer.Content b.content) told b.asked b.is
         (passed_row limits key k r visit b.row b.content fits version b.pid version.head other (there visit (KeepsAt other) (Row version.head b.row) (answer.Content b.content) told b.asked b.is keeps))
 
-    was_next : WasOn limits k (learn k (wanted visit) told) (recall r (wanted visit) told) goal version.pid h.level h.earlier leg
+    was_next : WasOn limits k (learn k (wanted visit) told) (recall r (wanted visit) told) goal version h.level h.earlier leg
     was_next =
-        back visit (λ v x. WasOn limits k (learn k (wanted v) x) (recall r (wanted v) x) goal version.pid h.level h.earlier leg) (Row version.head b.row) (answer.Content b.content) told b.asked b.is
-        (was_row limits key k r visit b.row b.content fits version b.pid version.head h.level h.earlier goal leg (there visit OnAt (Row version.head b.row) (answer.Content b.content) told b.asked b.is h.leg_is))
+        back visit (λ v x. WasOn limits k (learn k (wanted v) x) (recall r (wanted v) x) goal version h.level h.earlier leg) (Row version.head b.row) (answer.Content b.content) told b.asked b.is
+        (was_row limits key k r visit b.row b.content fits version b.pid b.chain version.head h.level h.earlier goal leg (there visit OnAt (Row version.head b.row) (answer.Content b.content) told b.asked b.is h.leg_is))
 
     pub reached_next : HasReached limits key goal leg k (learn k (wanted visit) told) (recall r (wanted visit) told) version
     reached_next = record {
@@ -255,17 +258,30 @@ module _ (limits : Limits) (key : List ℕ) (goal : ReadGoal) (leg : Leg) (k now
 
   -- whether a removed index page was met
 
-  fresh_on : (other : Leg) → WasOn limits k now r goal version.pid h.level h.earlier other → IsFalse (has_met other || goes_beyond goal) → r.walk.passed ≡ false
+  fresh_on : (other : Leg) → WasOn limits k now r goal version h.level h.earlier other → IsFalse (has_met other || goes_beyond goal) → r.walk.passed ≡ false
   fresh_on (Down above) on here = on.0
-  fresh_on (Round removed) on here = absurd on
-  fresh_on Past on here = cc
+  fresh_on (Round removed) on here = cc
+  fresh_on (Past above) on here = cc
 
-  pub met_on : (met : Bool) → is_removed chain ≡ false → r.walk.passed ≡ met → r.walk.removed ≡ met
-  met_on met alive is = h.arrives.removed ∙ ap (λ (p : Bool). p || is_removed chain) is ∙ plain met
+  pub met_none : is_removed chain ≡ false → r.walk.passed ≡ false → r.walk.removed ≡ false
+  met_none alive is = h.arrives.removed ∙ ap (λ (p : Bool). p || is_removed chain) is ∙ alive
+
+  -- beyond a removed page, at one that isn't removed, no further removal was read
+  pub met_still : is_removed chain ≡ false → r.walk.removed ≡ true → r.walk.passed ≡ true
+  met_still alive is = by_test r.walk.passed refl
     where
-      plain : (b : Bool) → (b || is_removed chain) ≡ b
-      plain true = refl
-      plain false = alive
+      by_test : (p : Bool) → r.walk.passed ≡ p → p ≡ true
+      by_test true e = refl
+      by_test false e = let clash : true ≡ false = sym is ∙ met_none alive e in cc
+
+  -- the page's level is the one that was expected, where another one was visited before it
+  pub of_level : h.earlier ≢ [] → level_in chain ≡ h.level
+  of_level some = elim h.arrives.is_level [ inl first ↦ absurd (some first) | inr is ↦ is ]
+
+  -- it is at most the last removal's
+  pub most_under : (above : Option Version) → is_removed chain ≡ false → WasOn limits k now r goal version h.level h.earlier (Past above) → level_in chain ≤ r.walk.level
+  most_under None alive on = let is = of_level on.0.0 in let most = on.0.2 (met_still alive on.0.1) in omega (arith, is, most)
+  most_under (Some above) alive on = let is = of_level on.0.0 in let less = (on.0.2 (met_still alive on.0.1)).0 in omega (arith, is, less)
 
   -- where the page isn't removed
   module _ (alive : is_removed chain ≡ false) where
@@ -297,11 +313,15 @@ module _ (limits : Limits) (key : List ℕ) (goal : ReadGoal) (leg : Leg) (k now
           says = over.above_is.says;
         }
 
-    leg_right : (pid : ℕ) (low : List ℕ) → NamesAt chain pid (level_in chain) low → (other : Leg) → WasOn limits k now r goal version.pid h.level h.earlier other → IsOn limits now r goal (to_page limits pid) (level_in chain) (version.pid ∷ h.earlier) other
-    leg_right pid low names (Down None) on = (met_on false alive on.0, tt)
-    leg_right pid low names (Down (Some above)) on = (met_on false alive on.0, above_on pid low names above on.1)
-    leg_right pid low names (Round removed) on = absurd on
-    leg_right pid low names Past on = met_on true alive on
+    leg_right : (pid : ℕ) (low : List ℕ) → NamesAt chain pid (level_in chain) low → (other : Leg) → WasOn limits k now r goal version h.level h.earlier other → IsOn limits now r goal (to_page limits pid) (level_in chain) (version.pid ∷ h.earlier) other
+    leg_right pid low names (Down None) on = (met_none alive on.0, tt)
+    leg_right pid low names (Down (Some above)) on = (met_none alive on.0, above_on pid low names above on.1)
+    leg_right pid low names (Round removed) on = (on.0, on.1 (met_still alive on.0))
+    leg_right pid low names (Past None) on = (((λ e. cc), on.0.1, most_under None alive on), tt)
+    leg_right pid low names (Past (Some above)) on =
+        let is = of_level on.0.0 in
+        let less = (on.0.2 (met_still alive on.0.1)).0 in
+        (((λ e. cc), on.0.1, (omega (arith, is, less), tt)), above_on pid low names above on.1)
 
     pub goes_right : (pid : ℕ) → LeadsRight (read_way goal key) chain pid → VisitsToRead limits key goal leg now r (to_page limits pid)
     goes_right pid leads =
@@ -320,26 +340,29 @@ module _ (limits : Limits) (key : List ℕ) (goal : ReadGoal) (leg : Leg) (k now
     says_aside (Left removed) by = h.arrives.arrives.whole.names alive removed.pid removed.head removed.chain by.was.seen.head by.was.seen.read
     says_aside Beyond by = tt
 
-    leg_down : (pid level : ℕ) (low : List ℕ) → level_in chain ≡ suc level → NamesAt chain pid level low → (other : Leg) → WasOn limits k now r goal version.pid h.level h.earlier other
-        → IsOn limits now r goal (to_page limits pid) level (version.pid ∷ h.earlier) (below version other)
-    leg_down pid level low up names (Down above) on = (
-      met_on false alive on.0,
-      record {
-        in_hand = hand limits k now r version h.level h.low h.earlier h.arrives;
-        alive = alive;
-        among = inl refl;
-        up = up;
-        apart = λ e. (is_new limits k now r version h.level h.low h.earlier h.arrives pid level low names alive).0 (sym e);
-        says = says_aside goal h.passed;
-      },
-    )
-    leg_down pid level low up names (Round removed) on = absurd on
-    leg_down pid level low up names Past on = met_on true alive on
+    -- the page above the next one is this one
+    pub above_here : (pid level : ℕ) (low : List ℕ) → level_in chain ≡ suc level → NamesAt chain pid level low → (other : ReadGoal) → Passed limits key k now version other → IsAbove limits now other pid level (version.pid ∷ h.earlier) version
+    above_here pid level low up names other by = record {
+      in_hand = hand limits k now r version h.level h.low h.earlier h.arrives;
+      alive = alive;
+      among = inl refl;
+      up = up;
+      apart = λ e. (is_new limits k now r version h.level h.low h.earlier h.arrives pid level low names alive).0 (sym e);
+      says = says_aside other by;
+    }
 
-    met_below : (other : Leg) → WasOn limits k now r goal version.pid h.level h.earlier other → has_met (below version other) ≡ has_met other
-    met_below (Down above) on = refl
-    met_below (Round removed) on = absurd on
-    met_below Past on = refl
+    leg_down : (pid level : ℕ) (low : List ℕ) → level_in chain ≡ suc level → NamesAt chain pid level low → (other : Leg) → WasOn limits k now r goal version h.level h.earlier other
+        → IsOn limits now r goal (to_page limits pid) level (version.pid ∷ h.earlier) (below version other)
+    leg_down pid level low up names (Down above) on = (met_none alive on.0, above_here pid level low up names goal h.passed)
+    leg_down pid level low up names (Round removed) on = (on.0, on.1 (met_still alive on.0))
+    leg_down pid level low up names (Past above) on =
+        let most = most_under above alive on in
+        (((λ e. cc), on.0.1, (omega (arith, up, most), tt)), above_here pid level low up names goal h.passed)
+
+    met_below : (other : Leg) → has_met (below version other) ≡ has_met other
+    met_below (Down above) = refl
+    met_below (Round removed) = refl
+    met_below (Past above) = refl
 
     pub goes_down : (pid : ℕ) → 0 < level_in chain → LeadsDown (read_way goal key) chain pid → VisitsToRead limits key goal (below version leg) now r (to_page limits pid)
     goes_down pid index leads =
@@ -348,7 +371,7 @@ module _ (limits : Limits) (key : List ℕ) (goal : ReadGoal) (leg : Leg) (k now
           level = level_in chain - 1;
           low = leads.low;
           earlier = version.pid ∷ h.earlier;
-          seeks = rw (met_below leg h.leg_was) (seeks_on limits k now r version h.level h.low h.earlier h.arrives (read_way goal key) (has_met leg || goes_beyond goal) pid (level_in chain - 1) leads.low names alive leads.greatest.passing (fresh_on leg h.leg_was));
+          seeks = rw (met_below leg) (seeks_on limits k now r version h.level h.low h.earlier h.arrives (read_way goal key) (has_met leg || goes_beyond goal) pid (level_in chain - 1) leads.low names alive leads.greatest.passing (fresh_on leg h.leg_was));
           keeps = keeps_on pid (level_in chain - 1) leads.low names goal leads.greatest.passing h.passed;
           leg_is = leg_down pid (level_in chain - 1) leads.low (omega (arith, index)) names leg h.leg_was;
         }

@@ -1,8 +1,8 @@
 -- What an answer leaves a reader's round.
-use Rattle.std.proofs.Common.{ap, ◌≡◌, ◌<◌, ◌+◌, ◌||◌, ◌⊎◌, inl, inr, ℕ, List, [], Bool, true, false, Option, Some, None, refl, subst, arith}
+use Rattle.std.proofs.Common.{ap, ◌≡◌, ◌<◌, ◌+◌, ◌||◌, ◌⊎◌, inl, inr, ℕ, List, [], Bool, true, false, Option, Some, None, refl, sym, ◌∙◌, subst, arith}
+use Rattle.std.specs.Prelude.{IfSome}
 use Rattle.tree_limits.specs.declared.limits.Limits.{Limits}
 use Rattle.bw_model.specs.declared.step.Answer.{Answer}
-use Rattle.bw_model.specs.declared.step.Answer.TheVariants as answer
 use Rattle.deltas.specs.declared.record.Record.{Record}
 use Rattle.traces.specs.chain.Chains.{is_removed, low_in}
 use Rattle.traces.specs.discipline.Fitting.{Fits}
@@ -10,51 +10,56 @@ use Rattle.traces.specs.discipline.Knowledge.{Knowledge, learn}
 use Rattle.traces.specs.discipline.Recalled.{Recalled, recall}
 use Rattle.smo.specs.Versions.{Version}
 use Rattle.descent.specs.ReadGoals.{ReadGoal, Seek, Left, Beyond}
-use Rattle.descent.specs.ReadLegs.{Leg, Down, Round, Past, IsPlain, below, has_met, level_on}
+use Rattle.descent.specs.ReadLegs.{Leg, Down, Round, Past, IsPlain, above_of, below, has_met, level_on}
 use Rattle.descent.specs.ReadEnds.{ReadEnd, Again, Removed, Leaf, Beside}
 use Rattle.descent.specs.Descents.{WayState, Root, Page, Finds, Shows as WayShows}
 use Rattle.descent.specs.Visits.{Sight, Slot, Row, Empty, Whole}
-use Rattle.descent.specs.ReadRounds.{BeginsToRead, CanMeetLeg, CanPass, EndsRead, IsAtLevel, IsLeftLeaf, VisitsToRead, MissesRead, ReadRound, SeeksKey, Shows, ShowsVisit, Spends, TreatsRead, at, goes_beyond, read_round_kept, wanted, read_way, way_on, reading}
+use Rattle.descent.specs.ReadRounds.{BeginsToRead, CanMeetLeg, CanPass, EndsRead, HasChildren, IsAtLevel, IsAtMergedPage, IsLeftLeaf, VisitsToRead, MissesRead, ReadRound, SeeksKey, Shows, ShowsVisit, Spends, TreatsRead, at, goes_beyond, read_round_kept, wanted, read_way, way_on, reading}
 use Rattle.descent.specs.Machines.{IsTold}
 use Rattle.descent.specs.Rounds.{CanSee, Follows, Responds, Sees, machine}
 use Rattle.descent.specs.Visits as page
-use Rattle.descent.specs.Walks.{HasMet, IsReached, IsSeeking, left_at, left_in, with_walk}
+use Rattle.descent.specs.Walks.{IsReached, IsRoundLast, IsSeeking, IsUnderLast, left_at, left_in, with_walk}
 use Rattle.descent.specs.Ways.{EndsHere, StaysLeft, precedes, reaches}
 use Rattle.descent.proofs.Passing.{HasReached, IsOver, at_or_below, begins, goes_down, goes_right, keeps_next, passed_next, reached_next, visits_next}
-use Rattle.descent.proofs.Rounding.{HasNeared, goes_nearer, goes_on, goes_round, goes_through, is_beside, is_merged, past_leaf, past_merged, within_beside}
+use Rattle.descent.proofs.Rounding.{HasNeared, goes_down_merged, goes_nearer, goes_right_merged, goes_round, goes_through, is_beside, is_merged, past_leaf, past_merged, unpassed, within_beside}
 use Rattle.descent.proofs.Seeking.{is_gone, living, reached}
 use Rattle.descent.proofs.Responding.{by_step}
-use Rattle.descent.proofs.Spending.{left_empty, left_gone, left_kept, left_on, left_removed, left_round, left_some, spent_empty, spent_on, still}
-use Rattle.descent.proofs.Visiting.{there}
+use Rattle.descent.proofs.Spending.{base_passed, left_empty, left_gone, left_kept, left_on, left_removed, left_round, left_some, spent_empty, spent_on, still}
 use Rattle.descent.proofs.WayLaws.{covers_here}
 
 -- by the leg of a round: a page was read whole
 abbrev HasRead : Limits → List ℕ → ReadGoal → Leg → Knowledge → Knowledge → Recalled → Version → Type 0
 HasRead limits key goal (Down above) k now r version = HasReached limits key goal (Down above) k now r version
 HasRead limits key goal (Round removed) k now r version = HasNeared limits key goal removed k now r version
-HasRead limits key goal Past k now r version = HasReached limits key goal Past k now r version
+HasRead limits key goal (Past above) k now r version = HasReached limits key goal (Past above) k now r version
 
 -- a round that isn't on its way round a page
 
 plain_below : (version : Version) (leg : Leg) → IsPlain leg → IsPlain (below version leg)
 plain_below version (Down above) plain = tt
 plain_below version (Round removed) plain = absurd plain
-plain_below version Past plain = tt
+plain_below version (Past above) plain = tt
 
 plain_level : (leg : Leg) → IsPlain leg → IsPlain (level_on leg)
 plain_level (Down above) plain = tt
 plain_level (Round removed) plain = absurd plain
-plain_level Past plain = tt
+plain_level (Past above) plain = tt
 
 shows_plain : (limits : Limits) (key : List ℕ) (goal : ReadGoal) (k : Knowledge) (r : Recalled) (visit : page.Visit) (leg : Leg) → IsPlain leg → VisitsToRead limits key goal leg k r visit → ShowsVisit limits key goal leg k r visit
 shows_plain limits key goal k r visit (Down above) plain h = h
 shows_plain limits key goal k r visit (Round removed) plain h = absurd plain
-shows_plain limits key goal k r visit Past plain h = h
+shows_plain limits key goal k r visit (Past above) plain h = h
 
 read_plain : (limits : Limits) (key : List ℕ) (goal : ReadGoal) (k now : Knowledge) (r : Recalled) (version : Version) (leg : Leg) → IsPlain leg → HasRead limits key goal leg k now r version → HasReached limits key goal leg k now r version
 read_plain limits key goal k now r version (Down above) plain h = h
 read_plain limits key goal k now r version (Round removed) plain h = absurd plain
-read_plain limits key goal k now r version Past plain h = h
+read_plain limits key goal k now r version (Past above) plain h = h
+
+-- so is a round that has a page above
+plain_above : (leg : Leg) (above : Version) → above_of leg ≡ Some above → IsPlain leg
+plain_above (Down page) above e = tt
+plain_above (Round removed) above e = cc
+plain_above (Past page) above e = tt
 
 -- what follows once a page was read whole
 abbrev After : ReadRound → Knowledge → Recalled → ReadRound → Option ReadEnd → Type 0
@@ -81,10 +86,11 @@ module _ (old : ReadRound) (k now : Knowledge) (r : Recalled) (version : Version
     | inr (inl down) ↦ rw down.goes (shows old.goal (below version old.leg) down.next (plain_below version old.leg down.plain) (goes_down old.limits old.key old.goal old.leg k now r version (at_goal old.goal refl down.plain) down.alive down.next down.index down.leads))
     | inr (inr (inl beyond)) ↦ rw beyond.goes (shows Beyond (level_on old.leg) beyond.next (plain_level old.leg beyond.left.plain) (past_leaf old.limits old.key beyond.removed old.leg k now r version (at_goal (Left beyond.removed) beyond.left.goal beyond.left.plain) beyond.left.alive beyond.beside beyond.next beyond.leads))
     | inr (inr (inr (inl past))) ↦ rw past.goes (shows Beyond (level_on old.leg) past.next (plain_level old.leg past.left.plain) (past_merged old.limits old.key past.removed old.leg k now r version (at_goal (Left past.removed) past.left.goal past.left.plain) past.left.alive past.next past.leads))
-    | inr (inr (inr (inr (inl round)))) ↦ rw round.goes (goes_round old.limits old.key old.goal round.above k now r version (at_leg (Down (Some round.above)) round.is_above) round.gone round.next round.leads round.index)
+    | inr (inr (inr (inr (inl round)))) ↦ rw round.goes (goes_round old.limits old.key old.goal old.leg round.above round.is_above k now r version (at_goal old.goal refl (plain_above old.leg round.above round.is_above)) round.gone round.next round.leads round.index)
     | inr (inr (inr (inr (inr (inl nearer))))) ↦ rw (nearer.goes, nearer.left.leg) (goes_nearer old.limits old.key old.goal nearer.removed k now r version (neared nearer.removed nearer.left) nearer.left.alive nearer.next nearer.leads)
     | inr (inr (inr (inr (inr (inr (inl through)))))) ↦ rw through.goes (goes_through old.limits old.key old.goal through.removed k now r version (neared through.removed through.left) through.left.alive through.beside through.next through.leads)
-    | inr (inr (inr (inr (inr (inr (inr on)))))) ↦ rw on.goes (goes_on old.limits old.key old.goal on.removed k now r version (neared on.removed on.left) on.left.alive on.next on.leads)
+    | inr (inr (inr (inr (inr (inr (inr (inl right))))))) ↦ rw right.goes (goes_right_merged old.limits old.key old.goal right.removed k now r version (neared right.removed right.there.left) right.there.left.alive right.there.left.same right.next right.leads)
+    | inr (inr (inr (inr (inr (inr (inr (inr down))))))) ↦ rw down.goes (goes_down_merged old.limits old.key old.goal down.removed k now r version (neared down.removed down.there.left) down.there.left.alive down.there.left.same down.next down.index down.leads)
   ]
   treated new (Some Again) t = tt
   treated new (Some (Removed removed)) t =
@@ -124,35 +130,43 @@ record IsSought (limits : Limits) (k : Knowledge) (r : Recalled) (visit : page.V
 sought : (limits : Limits) (key : List ℕ) (goal : ReadGoal) (k : Knowledge) (r : Recalled) (visit : page.Visit) (leg : Leg) → ShowsVisit limits key goal leg k r visit → IsSought limits k r visit
 sought limits key goal k r visit (Down above) h = record { way = read_way goal key; beyond = has_met (Down above) || goes_beyond goal; level = h.level; low = h.low; earlier = h.earlier; seeks = h.seeks }
 sought limits key goal k r visit (Round removed) h = record { way = read_way (Left removed) key; beyond = true; level = h.nears.level; low = h.nears.low; earlier = h.nears.earlier; seeks = h.nears.seeks }
-sought limits key goal k r visit Past h = record { way = read_way goal key; beyond = true; level = h.level; low = h.low; earlier = h.earlier; seeks = h.seeks }
+sought limits key goal k r visit (Past above) h = record { way = read_way goal key; beyond = true; level = h.level; low = h.low; earlier = h.earlier; seeks = h.seeks }
 
--- whether a removed index page was met before it
-met_before : (limits : Limits) (key : List ℕ) (goal : ReadGoal) (k : Knowledge) (r : Recalled) (visit : page.Visit) (leg : Leg) → ShowsVisit limits key goal leg k r visit → HasMet (has_met leg) r.walk visit.state
-met_before limits key goal k r visit (Down above) h = h.leg_is.0
-met_before limits key goal k r visit (Round removed) h = h.nears.leg_is
-met_before limits key goal k r visit Past h = h.leg_is
+-- a removed index page was met before it
+met_before : (limits : Limits) (key : List ℕ) (goal : ReadGoal) (k : Knowledge) (r : Recalled) (visit : page.Visit) (leg : Leg) → ShowsVisit limits key goal leg k r visit → has_met leg ≡ true → r.walk.removed ≡ true
+met_before limits key goal k r visit (Down above) h e = cc
+met_before limits key goal k r visit (Round removed) h e = by_state visit.state h.nears.leg_is
+  where
+    by_state : (state : page.VisitState) → IsRoundLast removed r.walk state → r.walk.removed ≡ true
+    by_state Slot is = is.0
+    by_state (Row head row) is = is.0
+met_before limits key goal k r visit (Past above) h e = by_state visit.state h.leg_is.0
+  where
+    by_state : (state : page.VisitState) → IsUnderLast above h.level h.earlier r.walk visit.part state → r.walk.removed ≡ true
+    by_state Slot is = is.1
+    by_state (Row head row) is = is.1
 
 -- by what a visit makes of an answer
 module _ (limits : Limits) (key : List ℕ) (goal : ReadGoal) (k : Knowledge) (r : Recalled) (visit : page.Visit) (told : Answer Record) (f : Fits limits k (page.wanted visit) told) where
   on_visit : (leg : Leg) → ShowsVisit limits key goal leg k r visit → (new : page.Visit) → page.FindsHead visit told new ⊎ page.Continues visit told new → ShowsVisit limits key goal leg (learn k (page.wanted visit) told) (recall r (page.wanted visit) told) new
   on_visit (Down above) h new moves = visits_next limits key goal (Down above) k r visit told h f new moves
   on_visit (Round removed) h new moves = record {
-    nears = visits_next limits key (Left removed) Past k r visit told h.nears f new moves;
-    keeps = keeps_next limits key (Left removed) Past k r visit told h.nears f goal h.keeps new moves;
+    nears = visits_next limits key (Left removed) (Round removed) k r visit told h.nears f new moves;
+    keeps = keeps_next limits key (Left removed) (Round removed) k r visit told h.nears f goal h.keeps new moves;
     index = h.index;
     reached = h.reached;
   }
-  on_visit Past h new moves = visits_next limits key goal Past k r visit told h f new moves
+  on_visit (Past above) h new moves = visits_next limits key goal (Past above) k r visit told h f new moves
 
   whole : (leg : Leg) → ShowsVisit limits key goal leg k r visit → (version : Version) → page.Completes visit told version → HasRead limits key goal leg k (learn k (page.wanted visit) told) (recall r (page.wanted visit) told) version
   whole (Down above) h version b = reached_next limits key goal (Down above) k r visit told h f version b
   whole (Round removed) h version b = record {
-    nears = reached_next limits key (Left removed) Past k r visit told h.nears f version b;
-    passed = passed_next limits key (Left removed) Past k r visit told h.nears f version b goal h.keeps;
+    nears = reached_next limits key (Left removed) (Round removed) k r visit told h.nears f version b;
+    passed = passed_next limits key (Left removed) (Round removed) k r visit told h.nears f version b goal h.keeps;
     index = h.index;
     reached = h.reached;
   }
-  whole Past h version b = reached_next limits key goal Past k r visit told h f version b
+  whole (Past above) h version b = reached_next limits key goal (Past above) k r visit told h f version b
 
 module _ (old new : ReadRound) (told : Answer Record) (visit : page.Visit) where
   abbrev here : ReadRound
@@ -184,17 +198,21 @@ module _ (old new : ReadRound) (told : Answer Record) (visit : page.Visit) where
     missed b Beyond (Down above) at = let some = left_empty reserve old.limits (reaches old.key) true k r visit at.level at.low at.earlier told at.seeks f b in omega (arith, some)
     missed b goal (Round removed) at =
         let s = at.nears in
-        missed_with (left_gone reserve old.limits (precedes (low_in removed.chain)) true k r visit s.level s.low s.earlier told s.seeks f b (there visit (λ v x. HasMet true r.walk v.state) Slot (answer.Number 0) told b.asked b.is s.leg_is)) goal
-    missed b goal Past at =
-        missed_with (left_gone reserve old.limits (read_way goal old.key) true k r visit at.level at.low at.earlier told at.seeks f b (there visit (λ v x. HasMet true r.walk v.state) Slot (answer.Number 0) told b.asked b.is at.leg_is)) goal
+        missed_with (left_gone reserve old.limits (precedes (low_in removed.chain)) true k r visit s.level s.low s.earlier told s.seeks f b (met_before old.limits old.key goal k r visit (Round removed) at refl)) goal
+    missed b goal (Past above) at =
+        missed_with (left_gone reserve old.limits (read_way goal old.key) true k r visit at.level at.low at.earlier told at.seeks f b (met_before old.limits old.key goal k r visit (Past above) at refl)) goal
 
     -- a page was read whole
     module _ (version : Version) (b : page.Completes visit told version) where
       s : IsSought old.limits k r visit
       s = sought old.limits old.key old.goal k r visit old.leg h
 
-      met_is : (met : Bool) → has_met old.leg ≡ met → r.walk.passed ≡ met
-      met_is met e = there visit (λ v x. HasMet met r.walk v.state) (Row version.head b.row) (answer.Content b.content) told b.asked b.is (subst (λ (m : Bool). HasMet m r.walk visit.state) e (met_before old.limits old.key old.goal k r visit old.leg h))
+      -- the removal was a cause, where the page above it is kept
+      unpassed_at : is_removed version.chain ≡ true → (above : Version) → above_of old.leg ≡ Some above → r.walk.passed ≡ false
+      unpassed_at gone above e =
+          sym (base_passed reserve old.limits s.way s.beyond k r visit s.level s.low s.earlier told s.seeks f version b)
+          ∙ unpassed old.limits old.key old.goal old.leg above e k (learn k (page.wanted visit) told) (recall r (page.wanted visit) told) version
+          (read_plain old.limits old.key old.goal k (learn k (page.wanted visit) told) (recall r (page.wanted visit) told) version old.leg (plain_above old.leg above e) (whole old.limits old.key old.goal k r visit told f old.leg h version b)) gone
 
       less : is_removed version.chain ≡ false → left_at reserve (recall r (page.wanted visit) told).walk [] Slot < left_in reserve r visit
       less = left_on reserve old.limits s.way s.beyond k r visit s.level s.low s.earlier told s.seeks f version b
@@ -202,8 +220,8 @@ module _ (old new : ReadRound) (told : Answer Record) (visit : page.Visit) where
       more : is_removed version.chain ≡ false → (goal : ReadGoal) → old.goal ≡ goal → left_at reserve (recall r (page.wanted visit) told).walk [] Slot + read_round_kept kept goal < left_in reserve r visit + read_round_kept kept old.goal
       more alive goal e = let l = less alive in rw e (omega (arith, l))
 
-      gone_on : is_removed version.chain ≡ true → has_met old.leg ≡ false → left_at reserve (recall r (page.wanted visit) told).walk [] Slot + read_round_kept kept old.goal < left_in reserve r visit + read_round_kept kept old.goal
-      gone_on gone e = let l = left_round reserve old.limits s.way s.beyond k r visit s.level s.low s.earlier told s.seeks f version b gone (met_is false e) in omega (arith, l)
+      gone_on : is_removed version.chain ≡ true → (above : Version) → above_of old.leg ≡ Some above → left_at reserve (recall r (page.wanted visit) told).walk [] Slot + read_round_kept kept old.goal < left_in reserve r visit + read_round_kept kept old.goal
+      gone_on gone above e = let l = left_round reserve old.limits s.way s.beyond k r visit s.level s.low s.earlier told s.seeks f version b gone (unpassed_at gone above e) in omega (arith, l)
 
       reserved : is_removed version.chain ≡ true → reserve < left_in reserve r visit
       reserved = left_removed reserve old.limits s.way s.beyond k r visit s.level s.low s.earlier told s.seeks f version b
@@ -214,14 +232,15 @@ module _ (old new : ReadRound) (told : Answer Record) (visit : page.Visit) where
         | inr (inl down) ↦ rw down.goes (inl (more down.alive old.goal refl))
         | inr (inr (inl beyond)) ↦ rw beyond.goes (inl (more beyond.left.alive (Left beyond.removed) beyond.left.goal))
         | inr (inr (inr (inl past))) ↦ rw past.goes (inl (more past.left.alive (Left past.removed) past.left.goal))
-        | inr (inr (inr (inr (inl round)))) ↦ rw round.goes (inl (gone_on round.gone (ap has_met round.is_above)))
+        | inr (inr (inr (inr (inl round)))) ↦ rw round.goes (inl (gone_on round.gone round.above round.is_above))
         | inr (inr (inr (inr (inr (inl nearer))))) ↦ rw nearer.goes (inl (more nearer.left.alive old.goal refl))
         | inr (inr (inr (inr (inr (inr (inl through)))))) ↦ rw through.goes (inl (more through.left.alive old.goal refl))
-        | inr (inr (inr (inr (inr (inr (inr on)))))) ↦ rw on.goes (inl (more on.left.alive old.goal refl))
+        | inr (inr (inr (inr (inr (inr (inr (inl right))))))) ↦ rw right.goes (inl (more right.there.left.alive old.goal refl))
+        | inr (inr (inr (inr (inr (inr (inr (inr down))))))) ↦ rw down.goes (inl (more down.there.left.alive old.goal refl))
       ]
       by_result (Some Again) t = elim t [
         | inl lost ↦ missed_with (reserved lost.gone) old.goal
-        | inr off ↦ missed_with (left_kept reserve old.limits s.way s.beyond k r visit s.level s.low s.earlier told s.seeks f version b (met_is true (ap has_met off.leg))) old.goal
+        | inr off ↦ missed_with (left_kept reserve old.limits s.way s.beyond k r visit s.level s.low s.earlier told s.seeks f version b (met_before old.limits old.key old.goal k r visit old.leg h (ap has_met off.leg))) old.goal
       ]
       by_result (Some (Removed removed)) t = let some = reserved t.gone in omega (arith, some)
       by_result (Some (Leaf leaf)) t = let some = left_some reserve old.limits s.way s.beyond k r visit s.level s.low s.earlier told s.seeks f version b in omega (arith, some)
@@ -267,20 +286,25 @@ can_pass limits key leg k now r version Seek d = tt
 can_pass limits key leg k now r version (Left removed) d = λ alive beside next is. within_beside limits key removed leg k now r version d alive beside next (inl is)
 can_pass limits key leg k now r version Beyond d = tt
 
+-- the page above names pages that there may be
+has_children : (limits : Limits) (k now : Knowledge) (goal : ReadGoal) (pid level : ℕ) (earlier : List ℕ) (above : Option Version) → IfSome above (IsOver limits k now goal pid level earlier) → IfSome above (HasChildren limits)
+has_children limits k now goal pid level earlier None over = tt
+has_children limits k now goal pid level earlier (Some above) over = let up = over.above_is.up in record { index = omega (arith, up); names = over.above_is.in_hand.sound.names over.above_is.alive }
+
 can_meet : (limits : Limits) (key : List ℕ) (goal : ReadGoal) (k now : Knowledge) (r : Recalled) (version : Version) (leg : Leg) → HasRead limits key goal leg k now r version → IsReached limits (way_on leg goal key) version × CanMeetLeg limits (read_way goal key) goal version leg
-can_meet limits key goal k now r version (Down None) d = (reached limits k now r version d.level d.low d.earlier d.arrives (read_way goal key) d.passing, (can_pass limits key (Down None) k now r version goal d, tt))
-can_meet limits key goal k now r version (Down (Some above)) d =
-    let over : IsOver limits k now goal version.pid d.level d.earlier above = d.leg_was.1 in
-    let up = over.above_is.up in (
-      reached limits k now r version d.level d.low d.earlier d.arrives (read_way goal key) d.passing,
-      (can_pass limits key (Down (Some above)) k now r version goal d, record { index = omega (arith, up); names = over.above_is.in_hand.sound.names over.above_is.alive }),
-    )
+can_meet limits key goal k now r version (Down above) d = (
+  reached limits k now r version d.level d.low d.earlier d.arrives (read_way goal key) d.passing,
+  (can_pass limits key (Down above) k now r version goal d, has_children limits k now goal version.pid d.level d.earlier above d.leg_was.1),
+)
 can_meet limits key goal k now r version (Round removed) d =
     let n = d.nears in (
       reached limits k now r version n.level n.low n.earlier n.arrives (read_way (Left removed) key) n.passing,
-      record { index = d.index; reached = d.reached; names = λ alive beside next named. within_beside limits key removed Past k now r version n alive beside next (inr named) },
+      record { index = d.index; reached = d.reached; names = λ alive beside next named. within_beside limits key removed (Round removed) k now r version n alive beside next named },
     )
-can_meet limits key goal k now r version Past d = (reached limits k now r version d.level d.low d.earlier d.arrives (read_way goal key) d.passing, can_pass limits key Past k now r version goal d)
+can_meet limits key goal k now r version (Past above) d = (
+  reached limits k now r version d.level d.low d.earlier d.arrives (read_way goal key) d.passing,
+  (can_pass limits key (Past above) k now r version goal d, has_children limits k now goal version.pid d.level d.earlier above d.leg_was.1),
+)
 
 pub can_see : (old : ReadRound) (other : WayState) (told : Answer Record) (sight : Sight) → Finds (reading.way old) told sight → IsTold (machine reading) old told → CanSee reading (at old other) sight
 can_see old other told Empty b t = tt
@@ -299,6 +323,9 @@ left_as old state other version removed t = record { plain = t.plain; goal = t.g
 level_as : (old : ReadRound) (state other : WayState) (version removed : Version) → IsAtLevel (at old other) version removed → IsAtLevel (at old state) version removed
 level_as old state other version removed t = record { leg = t.leg; alive = t.alive; same = t.same }
 
+merged_as : (old : ReadRound) (state other : WayState) (version removed : Version) → IsAtMergedPage (at old other) version removed → IsAtMergedPage (at old state) version removed
+merged_as old state other version removed t = record { left = level_as old state other version removed t.left; stays = t.stays; merged = t.merged }
+
 pub treats_as : (old new : ReadRound) (state other : WayState) (version : Version) (result : Option ReadEnd) → TreatsRead (at old other) version new result → TreatsRead (at old state) version new result
 treats_as old new state other version None t = elim t [
   | inl right ↦ inl (record { plain = right.plain; alive = right.alive; next = right.next; leads = right.leads; goes = right.goes })
@@ -316,7 +343,16 @@ treats_as old new state other version None t = elim t [
     leads = through.leads;
     goes = through.goes;
   })))))))
-  | inr (inr (inr (inr (inr (inr (inr on)))))) ↦ inr (inr (inr (inr (inr (inr (inr (record { removed = on.removed; left = level_as old state other version on.removed on.left; stays = on.stays; merged = on.merged; next = on.next; leads = on.leads; goes = on.goes })))))))
+  | inr (inr (inr (inr (inr (inr (inr (inl right))))))) ↦ inr (inr (inr (inr (inr (inr (inr (inl (record { removed = right.removed; there = merged_as old state other version right.removed right.there; next = right.next; leads = right.leads; goes = right.goes }))))))))
+  | inr (inr (inr (inr (inr (inr (inr (inr down))))))) ↦ inr (inr (inr (inr (inr (inr (inr (inr (record {
+    removed = down.removed;
+    there = merged_as old state other version down.removed down.there;
+    ends = down.ends;
+    index = down.index;
+    next = down.next;
+    leads = down.leads;
+    goes = down.goes;
+  }))))))))
 ]
 treats_as old new state other version (Some Again) t = elim t [
   | inl lost ↦ inl (record { gone = lost.gone; index = lost.index; lacks = lost.lacks })

@@ -1,6 +1,7 @@
 -- A reader's way by the left of a removed page: beside a removed leaf, and round a removed index page.
-use Rattle.std.proofs.Common.{◌≡◌, ◌<◌, ◌-◌, ◌||◌, ◌⊎◌, inl, inr, ℕ, List, [], ◌∷◌, true, false, Some, refl, sym, ◌∙◌, subst, arith}
-use Rattle.std.specs.Prelude.{IsTrue}
+use Rattle.std.proofs.Common.{◌≡◌, ◌≢◌, ◌<◌, ◌≤◌, ◌-◌, ◌||◌, ◌⊎◌, inl, inr, ℕ, List, [], ◌∷◌, Bool, true, false, Option, None, Some, refl, sym, ◌∙◌, subst, arith}
+use Rattle.std.specs.Prelude.{IfSome, IsTrue}
+use Rattle.std.proofs.lemmas.Option.{same_Some}
 use Rattle.tree_limits.specs.declared.limits.Limits.{Limits}
 use Rattle.bw_model.specs.Bytes.{is_below}
 use Rattle.deltas.specs.declared.record.Record.{Record}
@@ -11,12 +12,14 @@ use Rattle.traces.specs.discipline.Knowledge.{Knowledge}
 use Rattle.traces.specs.discipline.Recalled.{Recalled, trail}
 use Rattle.smo.specs.Versions.{Version}
 use Rattle.descent.specs.ReadGoals.{ReadGoal, Seek, Left, Beyond}
-use Rattle.descent.specs.ReadLegs.{Leg, Down, Round, Past, has_met, level_on}
-use Rattle.descent.specs.ReadRounds.{IsAliveLeaf, IsBesideLeaf, IsGoingRound, IsOn, VisitsToRead, KeepsToRead, goes_beyond, left_of, read_way}
+use Rattle.descent.specs.ReadLegs.{Leg, Down, Round, Past, above_of, has_met, level_on}
+use Rattle.descent.specs.ReadRounds.{IsAbove, IsAliveLeaf, IsBesideLeaf, IsGoingRound, IsOn, VisitsToRead, KeepsToRead, goes_beyond, left_of, read_way}
 use Rattle.descent.specs.Visits.{to_page}
+use Rattle.descent.specs.Walks.{AreRemovalsAbove, IsUnder}
 use Rattle.descent.specs.Ways.{LeadsDown, LeadsOn, LeadsRight, NamesAt, StaysLeft, reaches}
 use Rattle.descent.proofs.Beside.{IsBesideGone, beside_on, says, says_before, within}
-use Rattle.descent.proofs.Passing.{HasReached, IsBy, IsOver, Passed, WasOn, at_or_below, before_on, goes_right, is_on_way, keeps_on, met_on}
+use Rattle.descent.proofs.Passing.{HasReached, IsBy, IsOver, Passed, WasOn, above_here, at_or_below, before_on, goes_right, is_on_way, keeps_on, met_none, met_still, most_under, of_level}
+use Rattle.descent.proofs.Removals.{removal_above}
 use Rattle.descent.proofs.Seeking.{is_gone, living, seeks_on}
 use Rattle.descent.proofs.Walking.{not_itself, told_of, trans}
 use Rattle.descent.proofs.WayLaws.{covers_here, down_names, named_of, named_within, right_names}
@@ -25,7 +28,7 @@ use Rattle.descent.proofs.WayLaws.{covers_here, down_names, named_of, named_with
 beyond_any : (leg : Leg) → (has_met leg || true) ≡ true
 beyond_any (Down above) = refl
 beyond_any (Round removed) = refl
-beyond_any Past = refl
+beyond_any (Past above) = refl
 
 -- beside the removed page
 module _ (limits : Limits) (key : List ℕ) (removed : Version) (leg : Leg) (k now : Knowledge) (r : Recalled) (version : Version) (h : HasReached limits key (Left removed) leg k now r version) (alive : is_removed version.chain ≡ false) where
@@ -38,10 +41,10 @@ module _ (limits : Limits) (key : List ℕ) (removed : Version) (leg : Leg) (k n
   left : IsTrue (is_below (low_in here) (low_in removed.chain))
   left = is_on_way limits key (Left removed) leg k now r version h
 
-  level_leg : (target : ReadGoal) (pid level : ℕ) (earlier : List ℕ) (other : Leg) → WasOn limits k now r (Left removed) version.pid h.level h.earlier other → IsOn limits now r target (to_page limits pid) level earlier (level_on other)
-  level_leg target pid level earlier (Down above) on = (met_on limits key (Left removed) leg k now r version h false alive on.0, tt)
-  level_leg target pid level earlier (Round removed) on = absurd on
-  level_leg target pid level earlier Past on = met_on limits key (Left removed) leg k now r version h true alive on
+  level_leg : (target : ReadGoal) (pid level : ℕ) (earlier : List ℕ) (other : Leg) → level ≤ level_in here → earlier ≢ [] → WasOn limits k now r (Left removed) version h.level h.earlier other → IsOn limits now r target (to_page limits pid) level earlier (level_on other)
+  level_leg target pid level earlier (Down above) most some on = (met_none limits key (Left removed) leg k now r version h alive on.0, tt)
+  level_leg target pid level earlier (Round other) most some on = (on.0, on.1 (met_still limits key (Left removed) leg k now r version h alive on.0))
+  level_leg target pid level earlier (Past above) most some on = let last = most_under limits key (Left removed) leg k now r version h above alive on in ((some, on.0.1, omega (arith, most, last)), tt)
 
   -- it has been merged, and the round goes on at its left page's right
   pub past_merged : (pid : ℕ) → LeadsRight (reaches key) here pid → VisitsToRead limits key Beyond (level_on leg) now r (to_page limits pid)
@@ -51,7 +54,7 @@ module _ (limits : Limits) (key : List ℕ) (removed : Version) (leg : Leg) (k n
     earlier = version.pid ∷ h.earlier;
     seeks = rw (beyond_any (level_on leg)) (seeks_on limits k now r version h.level h.low h.earlier h.arrives (reaches key) true pid (level_in here) on.low (right_names (reaches key) here pid on) alive on.on_way (λ here. absurd cc));
     keeps = tt;
-    leg_is = level_leg Beyond pid (level_in here) (version.pid ∷ h.earlier) leg h.leg_was;
+    leg_is = level_leg Beyond pid (level_in here) (version.pid ∷ h.earlier) leg (omega arith) (λ e. cc) h.leg_was;
   }
 
   module _ (beside : right_in here ≡ Some removed.pid) where
@@ -85,7 +88,7 @@ module _ (limits : Limits) (key : List ℕ) (removed : Version) (leg : Leg) (k n
     -- at the right of a removed leaf
     pub past_leaf : (pid : ℕ) → LeadsRight (reaches key) removed.chain pid → VisitsToRead limits key Beyond (level_on leg) now r (to_page limits pid)
     past_leaf pid on =
-        past_removed Beyond (level_on leg) pid (level_in removed.chain) on.low (right_names (reaches key) removed.chain pid on) on.on_way (beyond_any (level_on leg)) tt (level_leg Beyond pid (level_in removed.chain) (version.pid ∷ h.earlier) leg h.leg_was)
+        past_removed Beyond (level_on leg) pid (level_in removed.chain) on.low (right_names (reaches key) removed.chain pid on) on.on_way (beyond_any (level_on leg)) tt (level_leg Beyond pid (level_in removed.chain) (version.pid ∷ h.earlier) leg (let same = says_here.0 in omega (arith, same)) (λ e. cc) h.leg_was)
 
     -- a page that is kept aside isn't one that the removed page names on the way to it
     pub keeps_past : (target : ReadGoal) → Passed limits key k now version target → (pid level : ℕ) (low : List ℕ) → NamesAt removed.chain pid level low → IsTrue (read_way target key low) → KeepsToRead limits key now (to_page limits pid) target
@@ -118,19 +121,43 @@ module _ (limits : Limits) (key : List ℕ) (removed : Version) (leg : Leg) (k n
   }
 
 -- at a removed index page, whose page above is kept
-module _ (limits : Limits) (key : List ℕ) (goal : ReadGoal) (above : Version) (k now : Knowledge) (r : Recalled) (version : Version) (h : HasReached limits key goal (Down (Some above)) k now r version) (gone : is_removed version.chain ≡ true) where
+module _ (limits : Limits) (key : List ℕ) (goal : ReadGoal) (leg : Leg) (above : Version) (is_above : above_of leg ≡ Some above) (k now : Knowledge) (r : Recalled) (version : Version) (h : HasReached limits key goal leg k now r version) (gone : is_removed version.chain ≡ true) where
+  abbrev Overs : Type 0
+  Overs = (r.walk.passed ≡ false) × IsOver limits k now goal version.pid h.level h.earlier above
+
+  -- below a page above that was read after the last removal, a further one is a cause
+  lower : (h.earlier ≢ []) × (r.walk.removed ≡ true) × (r.walk.passed ≡ true → (h.level < r.walk.level) × AreRemovalsAbove h.level version.chain) → r.walk.passed ≡ false
+  lower on = by_test r.walk.passed refl
+    where
+      by_test : (p : Bool) → r.walk.passed ≡ p → p ≡ false
+      by_test false e = refl
+      by_test true e =
+          let is = of_level limits key goal leg k now r version h on.0 in
+          let above_it = removal_above version.chain h.level h.arrives.arrives.in_hand.sound.is_chain.fitted gone (on.2 e).1 in
+          absurd (omega (arith, is, above_it))
+
+  overs : (other : Leg) → above_of other ≡ Some above → WasOn limits k now r goal version h.level h.earlier other → Overs
+  overs (Down None) e on = cc
+  overs (Down (Some page)) e on = let same : page ≡ above = same_Some _ _ e in rw (← same) on
+  overs (Round removed) e on = cc
+  overs (Past None) e on = cc
+  overs (Past (Some page)) e on = let same : page ≡ above = same_Some _ _ e in rw (← same) (lower on.0, on.1)
+
   over : IsOver limits k now goal version.pid h.level h.earlier above
-  over = h.leg_was.1
+  over = (overs leg is_above h.leg_was).1
+
+  pub unpassed : r.walk.passed ≡ false
+  unpassed = (overs leg is_above h.leg_was).0
 
   pub above_index : 0 < level_in above.chain
   above_index = let up = over.above_is.up in omega (arith, up)
 
   met : r.walk.removed ≡ true
-  met = h.arrives.removed ∙ rw (gone, h.leg_was.0) refl
+  met = h.arrives.removed ∙ rw (gone, unpassed) refl
 
   -- the pages that were read before it don't count any more
   none_counts : trail r.walk ≡ []
-  none_counts = rw (met, h.leg_was.0) refl
+  none_counts = rw (met, unpassed) refl
 
   module _ (pid : ℕ) (leads : LeadsDown (left_of version) above.chain pid) where
     abbrev level : ℕ
@@ -163,7 +190,7 @@ module _ (limits : Limits) (key : List ℕ) (goal : ReadGoal) (above : Version) 
     keeps_aside (Left removed) is =
         let by : IsBy limits key k now version removed = rw is at h.passed in
         let says_of : SaysOf above.chain removed.pid removed.chain = rw is at over.above_is.says in
-        let on_way : IsTrue (is_below (low_in version.chain) (low_in removed.chain)) = rw is at (is_on_way limits key goal (Down (Some above)) k now r version h) in
+        let on_way : IsTrue (is_below (low_in version.chain) (low_in removed.chain)) = rw is at (is_on_way limits key goal leg k now r version h) in
         record {
           gone = by.gone;
           apart = λ e.
@@ -174,7 +201,11 @@ module _ (limits : Limits) (key : List ℕ) (goal : ReadGoal) (above : Version) 
         }
     keeps_aside Beyond is = tt
 
-    nears : VisitsToRead limits key (Left version) Past now r (to_page limits pid)
+    -- the removed page is of the level of the last removal
+    last : level_in version.chain ≤ r.walk.level
+    last = let is = h.arrives.lowest met unpassed in omega (arith, is)
+
+    nears : VisitsToRead limits key (Left version) (Round version) now r (to_page limits pid)
     nears = record {
       level = level;
       low = leads.low;
@@ -202,6 +233,7 @@ module _ (limits : Limits) (key : List ℕ) (goal : ReadGoal) (above : Version) 
           past = tt;
           rooted = h.arrives.rooted;
           removed = tt;
+          lowest = tt;
           kept = λ other none. absurd none;
         };
         passing = leads.greatest.passing;
@@ -209,19 +241,19 @@ module _ (limits : Limits) (key : List ℕ) (goal : ReadGoal) (above : Version) 
         fresh = λ here. absurd cc;
       };
       keeps = record {
-        gone = record { page = is_gone limits k now r version h.level h.low h.earlier h.arrives gone; reached = at_or_below limits key goal (Down (Some above)) k now r version h };
+        gone = record { page = is_gone limits k now r version h.level h.low h.earlier h.arrives gone; reached = at_or_below limits key goal leg k now r version h };
         apart = not_removed;
         after = tt;
       };
-      leg_is = met;
+      leg_is = (met, last);
     }
 
     pub goes_round : 0 < level_in version.chain → IsGoingRound limits key goal version now r (to_page limits pid)
-    goes_round index = record { nears = nears; keeps = keeps_aside goal refl; index = index; reached = is_on_way limits key goal (Down (Some above)) k now r version h }
+    goes_round index = record { nears = nears; keeps = keeps_aside goal refl; index = index; reached = is_on_way limits key goal leg k now r version h }
 
 -- A page was read whole on the way to the left of a removed index page.
 pub record HasNeared (limits : Limits) (key : List ℕ) (goal : ReadGoal) (removed : Version) (k now : Knowledge) (r : Recalled) (version : Version) : Type 0 where
-  pub nears : HasReached limits key (Left removed) Past k now r version
+  pub nears : HasReached limits key (Left removed) (Round removed) k now r version
   pub passed : Passed limits key k now version goal
   pub index : 0 < level_in removed.chain
   pub reached : IsTrue (read_way goal key (low_in removed.chain))
@@ -230,42 +262,57 @@ module _ (limits : Limits) (key : List ℕ) (goal : ReadGoal) (removed : Version
   abbrev there : List Record
   there = version.chain
 
-  h : HasReached limits key (Left removed) Past k now r version
+  h : HasReached limits key (Left removed) (Round removed) k now r version
   h = d.nears
 
-  met_still : r.walk.removed ≡ true
-  met_still = met_on limits key (Left removed) Past k now r version h true alive h.leg_was
+  met_removed : r.walk.removed ≡ true
+  met_removed = h.leg_was.0
+
+  -- the removed page is of the level of the last removal at most
+  last_removed : level_in removed.chain ≤ r.walk.level
+  last_removed = h.leg_was.1 (met_still limits key (Left removed) (Round removed) k now r version h alive met_removed)
 
   -- the way round it goes on to the page's right
   pub goes_nearer : (pid : ℕ) → LeadsRight (left_of removed) there pid → IsGoingRound limits key goal removed now r (to_page limits pid)
   goes_nearer pid leads = record {
-    nears = goes_right limits key (Left removed) Past k now r version h alive pid leads;
-    keeps = keeps_on limits key (Left removed) Past k now r version h alive pid (level_in there) leads.low (right_names (left_of removed) there pid leads) goal (before_on goal key leads.low (low_in removed.chain) leads.on_way d.reached) d.passed;
+    nears = goes_right limits key (Left removed) (Round removed) k now r version h alive pid leads;
+    keeps = keeps_on limits key (Left removed) (Round removed) k now r version h alive pid (level_in there) leads.low (right_names (left_of removed) there pid leads) goal (before_on goal key leads.low (low_in removed.chain) leads.on_way d.reached) d.passed;
     index = d.index;
     reached = d.reached;
   }
 
-  -- the round goes down from the removed page, which is the page's right
-  pub goes_through : right_in there ≡ Some removed.pid → (pid : ℕ) → LeadsDown (read_way goal key) removed.chain pid → VisitsToRead limits key goal Past now r (to_page limits pid)
-  goes_through beside pid leads =
-      let names = down_names (read_way goal key) removed.chain pid d.index leads in
-      past_removed limits key removed Past k now r version h alive beside goal Past pid (level_in removed.chain - 1) leads.low names leads.greatest.passing refl
-      (keeps_past limits key removed Past k now r version h alive beside goal d.passed pid (level_in removed.chain - 1) leads.low names leads.greatest.passing) met_still
+  -- the round goes on from the removed page, which is the page's right
+  module _ (beside : right_in there ≡ Some removed.pid) (pid level : ℕ) (low : List ℕ) (most : level ≤ level_in removed.chain) (names : NamesAt removed.chain pid level low) (passing : IsTrue (read_way goal key low)) where
+    goes_past : VisitsToRead limits key goal (Past None) now r (to_page limits pid)
+    goes_past =
+        past_removed limits key removed (Round removed) k now r version h alive beside goal (Past None) pid level low names passing refl
+        (keeps_past limits key removed (Round removed) k now r version h alive beside goal d.passed pid level low names passing) (((λ e. cc), met_removed, (let last = last_removed in omega (arith, most, last))), tt)
+
+  pub goes_through : right_in there ≡ Some removed.pid → (pid : ℕ) → LeadsOn (read_way goal key) removed.chain pid → VisitsToRead limits key goal (Past None) now r (to_page limits pid)
+  goes_through beside pid leads = elim leads [
+    | inl right ↦ goes_past beside pid (level_in removed.chain) right.low (omega arith) (right_names (read_way goal key) removed.chain pid right) right.on_way
+    | inr down ↦ goes_past beside pid (level_in removed.chain - 1) down.2.low (omega arith) (down_names (read_way goal key) removed.chain pid down.1 down.2) down.2.greatest.passing
+  ]
 
   -- the round goes on from the page, as the removed one was merged
-  module _ (pid level : ℕ) (low : List ℕ) (names : NamesAt there pid level low) (passing : IsTrue (read_way goal key low)) where
-    goes_named : VisitsToRead limits key goal Past now r (to_page limits pid)
-    goes_named = record {
+  module _ (same : level_in there ≡ level_in removed.chain) where
+    goes_named : (to : Option Version) (pid level : ℕ) (low : List ℕ) → NamesAt there pid level low → IsTrue (read_way goal key low) → IsUnder to level r.walk.level [] → IfSome to (IsAbove limits now goal pid level (version.pid ∷ h.earlier))
+        → VisitsToRead limits key goal (Past to) now r (to_page limits pid)
+    goes_named to pid level low names passing under above = record {
       level = level;
       low = low;
       earlier = version.pid ∷ h.earlier;
       seeks = seeks_on limits k now r version h.level h.low h.earlier h.arrives (read_way goal key) true pid level low names alive passing (λ here. absurd cc);
-      keeps = keeps_on limits key (Left removed) Past k now r version h alive pid level low names goal passing d.passed;
-      leg_is = met_still;
+      keeps = keeps_on limits key (Left removed) (Round removed) k now r version h alive pid level low names goal passing d.passed;
+      leg_is = (((λ e. cc), met_removed, under), above);
     }
 
-  pub goes_on : (pid : ℕ) → LeadsOn (read_way goal key) there pid → VisitsToRead limits key goal Past now r (to_page limits pid)
-  goes_on pid leads = elim leads [
-    | inl right ↦ goes_named pid (level_in there) right.low (right_names (read_way goal key) there pid right) right.on_way
-    | inr down ↦ goes_named pid (level_in there - 1) down.2.low (down_names (read_way goal key) there pid down.1 down.2) down.2.greatest.passing
-  ]
+    pub goes_right_merged : (pid : ℕ) → LeadsRight (read_way goal key) there pid → VisitsToRead limits key goal (Past None) now r (to_page limits pid)
+    goes_right_merged pid right = goes_named None pid (level_in there) right.low (right_names (read_way goal key) there pid right) right.on_way (let last = last_removed in omega (arith, same, last)) tt
+
+    pub goes_down_merged : (pid : ℕ) → 0 < level_in there → LeadsDown (read_way goal key) there pid → VisitsToRead limits key goal (Past (Some version)) now r (to_page limits pid)
+    goes_down_merged pid index leads =
+        let names = down_names (read_way goal key) there pid index leads in
+        let last = last_removed in
+        goes_named (Some version) pid (level_in there - 1) leads.low names leads.greatest.passing (omega (arith, same, last, index), tt)
+        (above_here limits key (Left removed) (Round removed) k now r version h alive pid (level_in there - 1) leads.low (omega (arith, index)) names goal d.passed)

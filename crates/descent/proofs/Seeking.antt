@@ -12,13 +12,14 @@ use Rattle.deltas.specs.Records.{next_row}
 use Rattle.traces.specs.chain.Chains.{is_removed}
 use Rattle.traces.specs.discipline.Fitting.{Fits, FitsRow}
 use Rattle.traces.specs.discipline.Knowledge.{Knowledge, learn, learn_slot}
-use Rattle.traces.specs.discipline.Recalled.{Recalled, recall}
+use Rattle.traces.specs.discipline.Recalled.{Recalled, is_lower, recall}
 use Rattle.smo.specs.Versions.{Version}
 use Rattle.descent.specs.Visits.{Slot, Row, FindsHead, Completes, Continues, Visit, at, to_page, wanted}
 use Rattle.descent.specs.Versions.{IsAlive, IsGone, IsInHand}
 use Rattle.descent.specs.Walks.{HasArrived, IsNamedNow, IsReached, IsSeeking}
 use Rattle.descent.specs.Ways.{NamesAt}
 use Rattle.descent.proofs.Meeting.{names_meets}
+use Rattle.descent.proofs.Removals.{not_passed}
 use Rattle.descent.proofs.Visiting.{back, row_below, there}
 use Rattle.descent.proofs.Walking.{on_base, on_row, on_slot, onward, recalled_head}
 
@@ -40,6 +41,7 @@ seeks_root limits way beyond k r pid lowest fits inside = record {
     past = tt;
     rooted = refl;
     removed = tt;
+    lowest = tt;
     kept = λ page none. absurd none;
   };
   passing = lowest;
@@ -82,7 +84,7 @@ module _ (limits : Limits) (way : List ℕ → Bool) (beyond : Bool) (k : Knowle
       on_way = on_row limits k r visit level low earlier row content fits head under more h.on_way;
       passing = h.passing;
       named = λ here. elim (h.named here) [ inl root ↦ inl root | inr met ↦ inr (inr met) ];
-      fresh = h.fresh;
+      fresh = λ here. not_passed (is_lower content r.walk) r.walk.passed (h.fresh here);
     }
 
     -- the page was read whole
@@ -112,7 +114,7 @@ module _ (limits : Limits) (way : List ℕ → Bool) (beyond : Bool) (k : Knowle
   pub fresh_next : (version : Version) → Completes visit told version → IsFalse beyond → (recall r (wanted visit) told).walk.passed ≡ false
   fresh_next version b here =
       back visit (λ v x. (recall r (wanted v) x).walk.passed ≡ false) (Row version.head b.row) (answer.Content b.content) told b.asked b.is
-      ((there visit Seeks (Row version.head b.row) (answer.Content b.content) told b.asked b.is h).fresh here)
+      (not_passed (is_lower b.content r.walk) r.walk.passed ((there visit Seeks (Row version.head b.row) (answer.Content b.content) told b.asked b.is h).fresh here))
 
   pub arrived_next : (version : Version) → Completes visit told version → HasArrived limits k (learn k (wanted visit) told) (recall r (wanted visit) told) version level low earlier
   arrived_next version b =

@@ -12,11 +12,12 @@ use Rattle.deltas.specs.Records.{next_row}
 use Rattle.traces.specs.chain.Chains.{is_removed}
 use Rattle.traces.specs.discipline.Fitting.{Fits, FitsRow}
 use Rattle.traces.specs.discipline.Knowledge.{Knowledge}
-use Rattle.traces.specs.discipline.Recalled.{AnyNames, IsPaid, IsSpentWith, IsUnread, Recalled, Walk, is_removal, recall, trail}
+use Rattle.traces.specs.discipline.Recalled.{AnyNames, IsPaid, IsSpentWith, IsUnread, Recalled, Walk, is_lower, is_removal, recall, trail}
 use Rattle.smo.specs.Versions.{Version}
 use Rattle.descent.specs.Visits.{VisitState, Slot, Row, FindsHead, Completes, Continues, FindsEmpty, Visit, at, wanted}
 use Rattle.descent.specs.Walks.{IsSeeking, left_at, left_in, with_walk}
 use Rattle.descent.proofs.Meeting.{few_pages, removed_push}
+use Rattle.descent.proofs.Removals.{base_is_none, lower_first, paid_lower}
 use Rattle.descent.proofs.Seeking.{arrived}
 use Rattle.descent.proofs.Walking.{trail_on}
 use Rattle.descent.proofs.Visiting.{back, there}
@@ -37,7 +38,7 @@ module _ (reserve : ℕ) (limits : Limits) (way : List ℕ → Bool) (beyond : B
   abbrev full : ℕ
   full = with_walk reserve
 
-  -- at most one removal is read before the round goes on from it, and it is paid
+  -- a removal that is a cause is paid
   reserved : (content : Record) (part : List Record) → (delta : is_removed (part ++ content ∷ []) ≡ (is_removal content || is_removed part))
       → ((if is_removed (part ++ content ∷ []) then full else 0) ≡ (if is_removed part then full else 0)) ⊎ ((is_removal content ≡ true) × (is_removed part ≡ false))
   reserved content part is = by_tests (is_removal content) (is_removed part) refl refl is
@@ -48,24 +49,13 @@ module _ (reserve : ℕ) (limits : Limits) (way : List ℕ → Bool) (beyond : B
       by_tests false true e f g = inl (rw g refl)
       by_tests false false e f g = inl (rw g refl)
 
-  paid_removal : (row : ℕ) (content : Record) → is_removal content ≡ true → r.walk.rooted ≡ true → r.walk.removed ≡ false → IsPaid r (step.Row row) (answer.Content content)
-  paid_removal row (kind.Remove remove) e rooted none = (rooted, none)
-  paid_removal row (kind.Base base) e rooted none = cc
-  paid_removal row (kind.Put put) e rooted none = cc
-  paid_removal row (kind.Delete delete) e rooted none = cc
-  paid_removal row (kind.Split split) e rooted none = cc
-  paid_removal row (kind.Term term) e rooted none = cc
-  paid_removal row (kind.Hold hold) e rooted none = cc
-  paid_removal row (kind.Merge merge) e rooted none = cc
-  paid_removal row (kind.Unterm unterm) e rooted none = cc
-
   at_most : (b : Bool) → (if b then full else 0) ≤ full
   at_most true = omega arith
   at_most false = omega arith
 
   spent_row : (head row : ℕ) (content : Record) (under : ℕ) → FitsRow limits k row content → Seeks (Row head row)
       → IsSpentWith (1 + full) r (step.Row row) (answer.Content content) (left_in reserve r (at visit (Row head row))) (left_in reserve (recall r (step.Row row) (answer.Content content)) (record visit { part = visit.part ++ content ∷ []; state = Row head under }))
-  spent_row head row content under fits h = by_passed r.walk.passed refl
+  spent_row head row content under fits h = by_tests (is_lower content r.walk) r.walk.passed refl refl
     where
       few : length visit.part < 13
       few = fits.short visit.pid head visit.part h.on_way.shows.stands.in_slot h.on_way.shows.stands.seen
@@ -73,21 +63,23 @@ module _ (reserve : ℕ) (limits : Limits) (way : List ℕ → Bool) (beyond : B
       one : length (visit.part ++ content ∷ []) ≡ length visit.part + 1
       one = length-append visit.part (content ∷ [])
 
-      Spent : Bool → Type 0
-      Spent b = IsSpentWith (1 + full) r (step.Row row) (answer.Content content)
-          (14 * (4095 - length r.walk.visited) + (13 - length visit.part) + (if b then reserve else (if is_removed visit.part then full else 0)))
-          (14 * (4095 - length r.walk.visited) + (13 - length (visit.part ++ content ∷ [])) + (if b then reserve else (if is_removed (visit.part ++ content ∷ []) then full else 0)))
+      Spent : Bool → Bool → Type 0
+      Spent had has = IsSpentWith (1 + full) r (step.Row row) (answer.Content content)
+          (14 * (4095 - length r.walk.visited) + (13 - length visit.part) + (if had then reserve else (if is_removed visit.part then full else 0)))
+          (14 * (4095 - length r.walk.visited) + (13 - length (visit.part ++ content ∷ [])) + (if has then reserve else (if is_removed (visit.part ++ content ∷ []) then full else 0)))
 
-      by_passed : (b : Bool) → r.walk.passed ≡ b → Spent r.walk.passed
-      by_passed true e = subst Spent (sym e) (inl (omega (arith, few, one)))
-      by_passed false e =
-          let delta = removed_push k.read.seen visit.part head row content h.on_way.shows.stands.seen in
+      by_tests : (l p : Bool) → is_lower content r.walk ≡ l → r.walk.passed ≡ p → Spent p (if l then false else p)
+      by_tests true p e is =
           let most = at_most (is_removed (visit.part ++ content ∷ [])) in
-          let tells : r.walk.removed ≡ is_removed visit.part = rw e at h.on_way.removed in
-          subst Spent (sym e) (elim (reserved content visit.part delta) [
+          inr (paid_lower r row content e h.on_way.rooted, omega (arith, few, one, most))
+      by_tests false true e is = inl (omega (arith, few, one))
+      by_tests false false e is =
+          let delta = removed_push k.read.seen visit.part head row content h.on_way.shows.stands.seen in
+          let tells : r.walk.removed ≡ is_removed visit.part = rw is at h.on_way.removed in
+          elim (reserved content visit.part delta) [
             | inl same ↦ inl (rw same (omega (arith, few, one)))
-            | inr gone ↦ inr (paid_removal row content gone.0 h.on_way.rooted (tells ∙ gone.1), omega (arith, few, one, most))
-          ])
+            | inr gone ↦ absurd (let clash : true ≡ false = sym (lower_first content r.walk gone.0 (tells ∙ gone.1)) ∙ e in cc)
+          ]
 
   -- a page wasn't there
 
@@ -167,8 +159,18 @@ module _ (reserve : ℕ) (limits : Limits) (way : List ℕ → Bool) (beyond : B
       pub left_some : 0 < left_in reserve r visit
       left_some = let more = more_left in omega (arith, more)
 
-      pub left_kept : r.walk.passed ≡ true → reserve < left_in reserve r visit
-      left_kept passed = let same : kept ≡ reserve = rw passed refl in let more = more_left in omega (arith, more, same)
+      -- the base is no removal
+      pub base_passed : (recall r (wanted visit) told).walk.passed ≡ r.walk.passed
+      base_passed = back visit (λ v x. (recall r (wanted v) x).walk.passed ≡ r.walk.passed) (Row version.head b.row) (answer.Content b.content) told b.asked b.is (rw (base_is_none b.content r.walk b.last) refl)
+
+      -- once a removed page was met, what is reserved is left
+      pub left_kept : r.walk.removed ≡ true → reserve < left_in reserve r visit
+      left_kept gone = by_tests r.walk.passed (is_removed visit.part) refl refl (sym seeks.on_way.removed ∙ gone)
+        where
+          by_tests : (p t : Bool) → r.walk.passed ≡ p → is_removed visit.part ≡ t → (r.walk.passed || is_removed visit.part) ≡ true → reserve < left_in reserve r visit
+          by_tests true t e f g = let same : kept ≡ reserve = rw e refl in let more = more_left in omega (arith, more, same)
+          by_tests false true e f g = let same : kept ≡ full = rw (e, f) refl in let more = more_left in omega (arith, more, same)
+          by_tests false false e f g = let clash : false ≡ true = rw (e, f) at g in absurd cc
 
       -- the round goes on from a page that isn't removed
       pub left_on : is_removed version.chain ≡ false → left_at reserve (recall r (wanted visit) told).walk [] Slot < left_in reserve r visit
@@ -177,11 +179,17 @@ module _ (reserve : ℕ) (limits : Limits) (way : List ℕ → Bool) (beyond : B
           now : Walk
           now = (recall r (step.Row b.row) (answer.Content b.content)).walk
 
+          same_passed : now.passed ≡ r.walk.passed
+          same_passed = rw (base_is_none b.content r.walk b.last) refl
+
+          told_now : now.removed ≡ (now.passed || is_removed version.chain)
+          told_now = (arrived limits way beyond k r visit level low earlier b.row b.content fits_row version b.pid b.chain b.last seeks).removed
+
           tells : now.removed ≡ (r.walk.passed || is_removed version.chain)
-          tells = (arrived limits way beyond k r visit level low earlier b.row b.content fits_row version b.pid b.chain b.last seeks).removed
+          tells = told_now ∙ ap (λ (p : Bool). p || is_removed version.chain) same_passed
 
           all : trail now ≡ r.walk.visited
-          all = trail_on now version.chain tells alive
+          all = trail_on now version.chain told_now alive
 
           by_passed : (p : Bool) → r.walk.passed ≡ p → left_at reserve now [] Slot < left_in reserve r visit
           by_passed true e =
@@ -219,21 +227,24 @@ module _ (reserve : ℕ) (limits : Limits) (way : List ℕ → Bool) (beyond : B
           by_passed true e = let same : kept ≡ reserve = rw e refl in let more = more_left in omega (arith, more, same)
           by_passed false e = let is = part_removed gone in let same : kept ≡ full = rw (e, is) refl in let more = more_left in omega (arith, more, same)
 
-      -- the round goes round a removed page, the first one: the pages that it has read don't count any more
+      -- the round goes round a removed page, whose removal was a cause: the pages that it has read don't count any more
       pub left_round : is_removed version.chain ≡ true → r.walk.passed ≡ false → left_at reserve (recall r (wanted visit) told).walk [] Slot < left_in reserve r visit
       left_round gone first = back visit (λ v x. left_at reserve (recall r (wanted v) x).walk [] Slot < left_in reserve r visit) (Row version.head b.row) (answer.Content b.content) told b.asked b.is here
         where
           now : Walk
           now = (recall r (step.Row b.row) (answer.Content b.content)).walk
 
+          same_passed : now.passed ≡ false
+          same_passed = rw (base_is_none b.content r.walk b.last) first
+
           met : now.removed ≡ true
-          met = (arrived limits way beyond k r visit level low earlier b.row b.content fits_row version b.pid b.chain b.last seeks).removed ∙ rw (first, gone) refl
+          met = (arrived limits way beyond k r visit level low earlier b.row b.content fits_row version b.pid b.chain b.last seeks).removed ∙ rw (same_passed, gone) refl
 
           here : left_at reserve now [] Slot < left_in reserve r visit
           here =
               let is = part_removed gone in
               let same : kept ≡ full = rw (first, is) refl in
-              let none : trail now ≡ [] = rw (met, first) refl in
+              let none : trail now ≡ [] = rw (met, same_passed) refl in
               let all : (if now.removed then reserve else 0) ≡ reserve = rw met refl in
               let more = more_left in
               rw none (omega (arith, more, same, all))

@@ -204,6 +204,7 @@ module _ (old : WriteRound) (k now : Knowledge) (r : Recalled) (version : Versio
             past = all_past old.limits k now r version h.level h.low h.earlier h.arrives (level_in version.chain) old.key (inr (refl, rw h.arrives.is_low left_of));
             rooted = h.arrives.rooted;
             removed = tt;
+            lowest = tt;
             kept = λ other none. absurd none;
           };
           passing = reaches_itself old.key;
@@ -245,7 +246,7 @@ module _ (old : WriteRound) (k now : Knowledge) (r : Recalled) (version : Versio
         seeks = t.tended.seeks;
         page = alive_here t.here.alive;
         above = record { page = alive_of parent over.kept; up = over.up; after = over.after };
-        level = t.tended.level;
+        index = t.tended.index;
         due = t.due;
       })
 

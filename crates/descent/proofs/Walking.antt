@@ -20,7 +20,7 @@ use Rattle.traces.specs.discipline.Discipline.{HasRead}
 use Rattle.traces.specs.chain.Fitted.{IsFitted}
 use Rattle.traces.specs.discipline.Fitting.{FitsRow, IsReadWhole, SaysOf}
 use Rattle.traces.specs.discipline.Knowledge.{Knowledge, learn, learn_slot}
-use Rattle.traces.specs.discipline.Recalled.{IsUnread, Recalled, Walk, is_removal, recall, trail}
+use Rattle.traces.specs.discipline.Recalled.{IsUnread, Recalled, Walk, is_lower, is_removal, recall, trail}
 use Rattle.smo.specs.Versions.{Version}
 use Rattle.descent.specs.Visits.{Slot, Row, Arrives, MayVisit, Visit, at, to_page}
 use Rattle.descent.specs.Versions.{NamesPages}
@@ -29,6 +29,7 @@ use Rattle.descent.specs.Ways.{NamesAt}
 use Rattle.descent.proofs.Holding.{named_row, named_slot, next_read, next_slot, past_row, past_slot, read_more}
 use Rattle.descent.proofs.Meeting.{kept_push, removed_push}
 use Rattle.descent.proofs.PageLaws.{spans}
+use Rattle.descent.proofs.Removals.{level_noted, lower_removes, removal_is_at, told_more}
 use Rattle.descent.proofs.Visiting.{arrives_at, begins_chain, goes_on}
 use Rattle.descent.proofs.WayLaws.{named_within}
 
@@ -73,11 +74,6 @@ told_of naming page chain level low says h = elim h [
 or_false : (b : Bool) → b ≡ (b || false)
 or_false true = refl
 or_false false = refl
-
-or_swap : (a b c : Bool) → (a || (b || c)) ≡ (b || (a || c))
-or_swap true true c = refl
-or_swap true false c = refl
-or_swap false b c = refl
 
 -- where the round has gone on from the last removal that it read, all that it has visited since counts
 settled : (removed passed : Bool) (visited : List ℕ) → removed ≡ (passed || false) → (if removed && not passed then [] else visited) ≡ visited
@@ -138,6 +134,7 @@ module _ (limits : Limits) (k : Knowledge) (r : Recalled) (visit : Visit) (level
     past = past_slot k visit.pid row level low earlier h.distinct.2 h.past;
     rooted = h.rooted;
     removed = or_false r.walk.removed;
+    lowest = λ gone none. let clash : true ≡ false = sym gone ∙ none in cc;
     kept = λ page none. absurd none;
   })
 
@@ -166,7 +163,9 @@ module _ (limits : Limits) (k : Knowledge) (r : Recalled) (visit : Visit) (level
       distinct = h.distinct;
       past = past_row k row content fits.same level low earlier h.past;
       rooted = h.rooted;
-      removed = ap (λ (b : Bool). is_removal content || b) h.removed ∙ or_swap (is_removal content) r.walk.passed (is_removed visit.part) ∙ ap (λ (b : Bool). r.walk.passed || b) (sym (removed_push k.read.seen visit.part head row content h.shows.stands.seen));
+      removed = ap (λ (b : Bool). is_removal content || b) h.removed ∙ told_more (is_removal content) (is_lower content r.walk) r.walk.passed (is_removed visit.part) (lower_removes content r.walk)
+          ∙ ap (λ (b : Bool). (if is_lower content r.walk then false else r.walk.passed) || b) (sym (removed_push k.read.seen visit.part head row content h.shows.stands.seen));
+      lowest = level_noted r.walk visit.part content h.lowest;
       kept = kept_push visit.part r.walk.records content h.kept;
     }
 
@@ -203,8 +202,9 @@ module _ (limits : Limits) (k : Knowledge) (r : Recalled) (visit : Visit) (level
             distinct = rw pid h.distinct;
             past = h.past;
             rooted = h.rooted;
-            removed = ap (λ (b : Bool). is_removal content || b) h.removed ∙ or_swap (is_removal content) r.walk.passed (is_removed visit.part)
-                ∙ ap (λ (b : Bool). r.walk.passed || b) (sym (removed_push k.read.seen visit.part version.head row content h.shows.stands.seen) ∙ ap is_removed (sym made));
+            removed = ap (λ (b : Bool). is_removal content || b) h.removed ∙ told_more (is_removal content) (is_lower content r.walk) r.walk.passed (is_removed visit.part) (lower_removes content r.walk)
+                ∙ ap (λ (b : Bool). (if is_lower content r.walk then false else r.walk.passed) || b) (sym (removed_push k.read.seen visit.part version.head row content h.shows.stands.seen) ∙ ap is_removed (sym made));
+            lowest = λ gone none. removal_is_at version.chain walked.walk.level arrived.in_hand.sound.is_chain.fitted (rw made (level_noted r.walk visit.part content h.lowest gone none));
             kept = rw made (kept_push visit.part r.walk.records content h.kept);
           }
 
@@ -286,6 +286,7 @@ module _ (limits : Limits) (k now : Knowledge) (r : Recalled) (version : Version
     past = all_past limits k now r version was_level was_low earlier h level low on;
     rooted = h.rooted;
     removed = tt;
+    lowest = tt;
     kept = λ other none. absurd none;
   }
 

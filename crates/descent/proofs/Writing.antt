@@ -202,7 +202,7 @@ module _ (old : WriteRound) (state other : WayState) (version : Version) where
   left_as pid h = record { goal = h.goal; here = here_as h.here; fine = h.fine; level = h.level }
 
   tended_as : (parent : Version) → IsTended (at old other) parent version → IsTended (at old state) parent version
-  tended_as parent h = record { tends = h.tends; seeks = h.seeks; above = h.above; level = h.level }
+  tended_as parent h = record { tends = h.tends; seeks = h.seeks; above = h.above; index = h.index }
 
 pub treats_as : (old new : WriteRound) (state other : WayState) (version : Version) (result : Option WriteEnd) → TreatsWrite (at old other) version new result → TreatsWrite (at old state) version new result
 treats_as old new state other version None t = elim t [

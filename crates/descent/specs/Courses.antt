@@ -2,8 +2,8 @@
 use Rattle.std.specs.Prelude.{ℕ, Option, None, Some}
 use Rattle.smo.specs.Versions.{Version}
 
--- To the leaf of the key; to the leaf to the left of this removed page, which begins at the key; to the removed page, which is to
--- come into this leaf; to the removed page, whose term the parent is to lose, as the leaf shows that would have it to its right.
+-- To the leaf of the key; to the page to the left of this removed page, which begins at the key; to the removed page, which is to
+-- come into this left one; to the removed page, whose term the parent is to lose, as the page shows that would have it to its right.
 pub data WriteGoal : Type 0 where
   Seek : WriteGoal
   Left : (pid : ℕ) → WriteGoal
@@ -16,7 +16,7 @@ pub record Course : Type 0 where
   pub parent : Option Version
   pub left : Option Version
 
--- the leaf to the left of this removed page, or the leaf of the key
+-- the page to the left of this removed page, or the leaf of the key
 abbrev pub down_to : Option ℕ → WriteGoal
 down_to None = Seek
 down_to (Some pid) = Left pid

@@ -1,5 +1,4 @@
 -- What is said alike of each machine that wants steps and is told their answers.
-use Rattle.std.specs.Prelude.{ℕ}
 use Rattle.tree_limits.specs.declared.limits.Limits.{Limits}
 use Rattle.bw_model.specs.declared.step.Step.{Step as StepOf}
 use Rattle.bw_model.specs.declared.step.Answer.{Answer}

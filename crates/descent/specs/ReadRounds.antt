@@ -16,10 +16,10 @@ use Rattle.descent.specs.Versions.{IsAlive, IsGone, IsInHand, NamesPages}
 use Rattle.descent.specs.Descents.{left_from, wanted_at, WayState, Root, Page}
 use Rattle.descent.specs.Rounds.{Rounds}
 use Rattle.descent.specs.Visits as page
-use Rattle.descent.specs.Walks.{HasMet, IsAhead, IsAmong, IsReached, IsSeeking, with_walk}
+use Rattle.descent.specs.Walks.{HasMetNone, IsAhead, IsAmong, IsReached, IsRoundLast, IsSeeking, IsUnderLast, with_walk}
 use Rattle.descent.specs.Ways.{EndsHere, LeadsDown, LeadsOn, LeadsRight, StaysLeft, precedes, reaches}
 use Rattle.descent.specs.ReadGoals.{ReadGoal, Seek, Left, Beyond}
-use Rattle.descent.specs.ReadLegs.{Leg, Down, Round, Past, IsPlain, below, has_met, level_on}
+use Rattle.descent.specs.ReadLegs.{Leg, Down, Round, Past, IsPlain, above_of, below, has_met, level_on}
 use Rattle.descent.specs.ReadEnds.{ReadEnd, Again, Removed, Leaf, Beside}
 
 -- the key whose leaf is sought, where the round goes first, on which leg of its way it is, and where it stands
@@ -55,7 +55,7 @@ read_way Beyond key = reaches key
 abbrev pub way_on : Leg → ReadGoal → List ℕ → List ℕ → Bool
 way_on (Down above) goal key = read_way goal key
 way_on (Round removed) goal key = left_of removed
-way_on Past goal key = read_way goal key
+way_on (Past above) goal key = read_way goal key
 
 abbrev pub goes_beyond : ReadGoal → Bool
 goes_beyond Seek = false
@@ -108,11 +108,11 @@ pub record IsAbove (limits : Limits) (k : Knowledge) (goal : ReadGoal) (pid leve
   pub apart : above.pid ≢ pid
   pub says : SaysAside goal above.chain
 
--- by the leg of a round that isn't on its way round a page
+-- by the leg of a round
 abbrev pub IsOn : Limits → Knowledge → Recalled → ReadGoal → page.Visit → ℕ → List ℕ → Leg → Type 0
-IsOn limits k r goal visit level earlier (Down above) = HasMet false r.walk visit.state × IfSome above (IsAbove limits k goal visit.pid level earlier)
-IsOn limits k r goal visit level earlier (Round removed) = ⊥
-IsOn limits k r goal visit level earlier Past = HasMet true r.walk visit.state
+IsOn limits k r goal visit level earlier (Down above) = HasMetNone r.walk visit.state × IfSome above (IsAbove limits k goal visit.pid level earlier)
+IsOn limits k r goal visit level earlier (Round removed) = IsRoundLast removed r.walk visit.state
+IsOn limits k r goal visit level earlier (Past above) = IsUnderLast above level earlier r.walk visit.part visit.state × IfSome above (IsAbove limits k goal visit.pid level earlier)
 
 -- A page is visited on the way of the goal.
 pub record VisitsToRead (limits : Limits) (key : List ℕ) (goal : ReadGoal) (leg : Leg) (k : Knowledge) (r : Recalled) (visit : page.Visit) : Type 0 where
@@ -125,7 +125,7 @@ pub record VisitsToRead (limits : Limits) (key : List ℕ) (goal : ReadGoal) (le
 
 -- A page is visited on the way to the left of a removed index page, which was read in this round on the way of the goal.
 pub record IsGoingRound (limits : Limits) (key : List ℕ) (goal : ReadGoal) (removed : Version) (k : Knowledge) (r : Recalled) (visit : page.Visit) : Type 0 where
-  pub nears : VisitsToRead limits key (Left removed) Past k r visit
+  pub nears : VisitsToRead limits key (Left removed) (Round removed) k r visit
   pub keeps : KeepsToRead limits key k visit goal
   pub index : 0 < level_in removed.chain
   pub reached : IsTrue (read_way goal key (low_in removed.chain))
@@ -134,7 +134,7 @@ pub record IsGoingRound (limits : Limits) (key : List ℕ) (goal : ReadGoal) (re
 abbrev pub ShowsVisit : Limits → List ℕ → ReadGoal → Leg → Knowledge → Recalled → page.Visit → Type 0
 ShowsVisit limits key goal (Down above) k r visit = VisitsToRead limits key goal (Down above) k r visit
 ShowsVisit limits key goal (Round removed) k r visit = IsGoingRound limits key goal removed k r visit
-ShowsVisit limits key goal Past k r visit = VisitsToRead limits key goal Past k r visit
+ShowsVisit limits key goal (Past above) k r visit = VisitsToRead limits key goal (Past above) k r visit
 
 -- by the state of a round
 abbrev pub ShowsState : Limits → List ℕ → ReadGoal → Leg → Knowledge → Recalled → WayState → Type 0
@@ -252,7 +252,7 @@ pub record GoesRound (old : ReadRound) (version : Version) (new : ReadRound) : T
   pub gone : is_removed version.chain ≡ true
   pub index : 0 < level_in version.chain
   pub above : Version
-  pub is_above : old.leg ≡ Down (Some above)
+  pub is_above : above_of old.leg ≡ Some above
   pub next : ℕ
   pub leads : LeadsDown (left_of version) above.chain next
   pub goes : new ≡ going_to next (on (Round version) old)
@@ -262,9 +262,10 @@ abbrev pub LacksLeft : Version → Leg → Type 0
 LacksLeft version (Down None) = ⊤
 LacksLeft version (Down (Some above)) = HasNoChild (content_in above.chain) (left_of version)
 LacksLeft version (Round removed) = ⊥
-LacksLeft version Past = ⊤
+LacksLeft version (Past None) = ⊤
+LacksLeft version (Past (Some above)) = HasNoChild (content_in above.chain) (left_of version)
 
--- The page is a removed index page, to the left of which the round can't go from the page above; or it isn't the first one.
+-- The page is a removed index page, to the left of which the round can't go from the page above, or there is none.
 pub record IsLost (old : ReadRound) (version : Version) : Type 0 where
   pub gone : is_removed version.chain ≡ true
   pub index : 0 < level_in version.chain
@@ -284,25 +285,39 @@ pub record GoesNearer (old : ReadRound) (version : Version) (new : ReadRound) : 
   pub leads : LeadsRight (left_of removed) version.chain next
   pub goes : new ≡ going_to next old
 
--- The removed page is the page's right: the round goes down from what it read of it.
+-- The removed page is the page's right: the round goes on from what it read of it, to its right or down.
 pub record GoesThrough (old : ReadRound) (version : Version) (new : ReadRound) : Type 0 where
   pub removed : Version
   pub left : IsAtLevel old version removed
   pub stays : StaysLeft (left_of removed) version.chain
   pub beside : right_in version.chain ≡ Some removed.pid
   pub next : ℕ
-  pub leads : LeadsDown (read_way old.goal old.key) removed.chain next
-  pub goes : new ≡ going_to next (on Past old)
+  pub leads : LeadsOn (read_way old.goal old.key) removed.chain next
+  pub goes : new ≡ going_to next (on (Past None) old)
 
--- The removed page has been merged, and the round goes on from the page.
-pub record GoesOnMerged (old : ReadRound) (version : Version) (new : ReadRound) : Type 0 where
-  pub removed : Version
+-- The removed page has been merged into the page, or beside it.
+pub record IsAtMergedPage (old : ReadRound) (version removed : Version) : Type 0 where
   pub left : IsAtLevel old version removed
   pub stays : StaysLeft (left_of removed) version.chain
   pub merged : right_in version.chain ≢ Some removed.pid
+
+-- The round goes on from there to the page's right, where the page ends on the way.
+pub record GoesRightMerged (old : ReadRound) (version : Version) (new : ReadRound) : Type 0 where
+  pub removed : Version
+  pub there : IsAtMergedPage old version removed
   pub next : ℕ
-  pub leads : LeadsOn (read_way old.goal old.key) version.chain next
-  pub goes : new ≡ going_to next (on Past old)
+  pub leads : LeadsRight (read_way old.goal old.key) version.chain next
+  pub goes : new ≡ going_to next (on (Past None) old)
+
+-- Or it goes down from the page, which is the page above from then on.
+pub record GoesDownMerged (old : ReadRound) (version : Version) (new : ReadRound) : Type 0 where
+  pub removed : Version
+  pub there : IsAtMergedPage old version removed
+  pub ends : StaysLeft (read_way old.goal old.key) version.chain
+  pub index : 0 < level_in version.chain
+  pub next : ℕ
+  pub leads : LeadsDown (read_way old.goal old.key) version.chain next
+  pub goes : new ≡ going_to next (on (Past (Some version)) old)
 
 -- On the way round a removed page, the page is removed, or of another level.
 pub record IsOffLevel (old : ReadRound) (version : Version) : Type 0 where
@@ -313,7 +328,7 @@ pub record IsOffLevel (old : ReadRound) (version : Version) : Type 0 where
 -- what a round does with a page that was read whole
 abbrev pub TreatsRead : ReadRound → Version → ReadRound → Option ReadEnd → Type 0
 TreatsRead old version new None = GoesRight old version new ⊎ GoesDown old version new ⊎ GoesBeyond old version new ⊎ GoesPast old version new
-    ⊎ GoesRound old version new ⊎ GoesNearer old version new ⊎ GoesThrough old version new ⊎ GoesOnMerged old version new
+    ⊎ GoesRound old version new ⊎ GoesNearer old version new ⊎ GoesThrough old version new ⊎ GoesRightMerged old version new ⊎ GoesDownMerged old version new
 TreatsRead old version new (Some Again) = IsLost old version ⊎ IsOffLevel old version
 TreatsRead old version new (Some (Removed removed)) = IsAtGone old version removed
 TreatsRead old version new (Some (Leaf leaf)) = IsAtEnd old version leaf ⊎ IsAtMerged old version leaf
@@ -334,13 +349,13 @@ pub record HasChildren (limits : Limits) (above : Version) : Type 0 where
 pub record CanGoRound (limits : Limits) (way : List ℕ → Bool) (version removed : Version) : Type 0 where
   pub index : 0 < level_in removed.chain
   pub reached : IsTrue (way (low_in removed.chain))
-  pub names : is_removed version.chain ≡ false → right_in version.chain ≡ Some removed.pid → (next : ℕ) → NamesChild removed.chain next → (0 < next) × (next < limits.pids)
+  pub names : is_removed version.chain ≡ false → right_in version.chain ≡ Some removed.pid → (next : ℕ) → (right_in removed.chain ≡ Some next) ⊎ NamesChild removed.chain next → (0 < next) × (next < limits.pids)
 
 -- by the leg of a round
 abbrev pub CanMeetLeg : Limits → (List ℕ → Bool) → ReadGoal → Version → Leg → Type 0
 CanMeetLeg limits way goal version (Down above) = CanPass limits version goal × IfSome above (HasChildren limits)
 CanMeetLeg limits way goal version (Round removed) = CanGoRound limits way version removed
-CanMeetLeg limits way goal version Past = CanPass limits version goal
+CanMeetLeg limits way goal version (Past above) = CanPass limits version goal × IfSome above (HasChildren limits)
 
 -- The round has reached the page.
 pub record CanTreatRead (round : ReadRound) (version : Version) : Type 0 where

@@ -1,5 +1,5 @@
 -- What is known on the way from page to page.
-use Rattle.std.specs.Prelude.{◌≡◌, ◌≢◌, ◌<◌, ◌+◌, ◌-◌, ◌*◌, ◌⊎◌, ◌||◌, ℕ, List, [], ◌∷◌, length, Bool, Some, true, false, IsTrue, IsFalse, if◌then◌else◌, ⊤}
+use Rattle.std.specs.Prelude.{◌≡◌, ◌≢◌, ◌<◌, ◌≤◌, ◌+◌, ◌-◌, ◌*◌, ◌⊎◌, ◌||◌, ℕ, List, [], ◌∷◌, length, Bool, Option, None, Some, true, false, IsTrue, IsFalse, if◌then◌else◌, ⊤}
 use Rattle.std.specs.List.{AllByRecursion}
 use Rattle.tree_limits.specs.declared.limits.Limits.{Limits}
 use Rattle.bw_model.specs.Bytes.{is_below}
@@ -7,7 +7,7 @@ use Rattle.deltas.specs.declared.record.Record.{Record}
 use Rattle.traces.specs.chain.Chains.{IsChainFrom, is_removed, level_in, low_in}
 use Rattle.traces.specs.discipline.Discipline.{IsBeyond}
 use Rattle.traces.specs.discipline.Knowledge.{Knowledge}
-use Rattle.traces.specs.discipline.Recalled.{AnyNames, IsUnread, Recalled, Walk, trail}
+use Rattle.traces.specs.discipline.Recalled.{AnyNames, IsUnread, Recalled, Walk, is_removal, removal_level, trail}
 use Rattle.smo.specs.Versions.{Version}
 use Rattle.descent.specs.Visits.{VisitState, Slot, Row, Arrives, Shows, Visit}
 use Rattle.descent.specs.Versions.{IsInHand, NamesPages}
@@ -63,15 +63,47 @@ abbrev pub counted : Walk → VisitState → List ℕ
 counted walk Slot = trail walk
 counted walk (Row head row) = walk.visited
 
--- Once the page's slot was read, a removal was read since slot 0 was, where the round has gone on from one, or it is among the deltas.
+-- Once the page's slot was read, a removal was read since slot 0 was, where the round has gone on from the last one that was a cause, or it
+-- is among the deltas.
 abbrev pub TellsRemoved : Walk → List Record → VisitState → Type 0
 TellsRemoved walk part Slot = ⊤
 TellsRemoved walk part (Row head row) = walk.removed ≡ (walk.passed || is_removed part)
 
--- whether a removed page was met before the visited one
-abbrev pub HasMet : Bool → Walk → VisitState → Type 0
-HasMet met walk Slot = walk.removed ≡ met
-HasMet met walk (Row head row) = walk.passed ≡ met
+-- one of the records removes a page of this level
+abbrev pub HasRemovalAt : List Record → ℕ → Type 0
+HasRemovalAt [] level = ⊥
+HasRemovalAt (content ∷ part) level = ((is_removal content ≡ true) × (removal_level content ≡ level)) ⊎ HasRemovalAt part level
+
+-- A removal that was a cause, and from which the round hasn't gone on, is among the deltas.
+abbrev pub TellsLevel : Walk → List Record → VisitState → Type 0
+TellsLevel walk part Slot = ⊤
+TellsLevel walk part (Row head row) = walk.removed ≡ true → walk.passed ≡ false → HasRemovalAt part walk.level
+
+-- no removed page was met before the visited one
+abbrev pub HasMetNone : Walk → VisitState → Type 0
+HasMetNone walk Slot = walk.removed ≡ false
+HasMetNone walk (Row head row) = walk.passed ≡ false
+
+-- each removal among the records is of a higher level
+abbrev pub AreRemovalsAbove : ℕ → List Record → Type 0
+AreRemovalsAbove level part = AllByRecursion (λ content. is_removal content ≡ true → level < removal_level content) part
+
+-- A page is of the level of the last removal that was a cause at most; below a page above, which was read after that one, it is of a
+-- lower one, and none of its records is a removal that was one, either.
+abbrev pub IsUnder : Option Version → ℕ → ℕ → List Record → Type 0
+IsUnder None level last part = level ≤ last
+IsUnder (Some above) level last part = (level < last) × AreRemovalsAbove level part
+
+-- A removed page was met before the visited one, which is under it, unless a further removal was read that is a cause.
+abbrev pub IsUnderLast : Option Version → ℕ → List ℕ → Walk → List Record → VisitState → Type 0
+IsUnderLast above level earlier walk part Slot = (earlier ≢ []) × (walk.removed ≡ true) × IsUnder above level walk.level []
+IsUnderLast above level earlier walk part (Row head row) = (earlier ≢ []) × (walk.removed ≡ true) × (walk.passed ≡ true → IsUnder above level walk.level part)
+
+-- The removed page was met before the visited one, and is of the level of the last removal at most, unless a further one was read that is
+-- a cause.
+abbrev pub IsRoundLast : Version → Walk → VisitState → Type 0
+IsRoundLast removed walk Slot = (walk.removed ≡ true) × (level_in removed.chain ≤ walk.level)
+IsRoundLast removed walk (Row head row) = (walk.removed ≡ true) × (walk.passed ≡ true → level_in removed.chain ≤ walk.level)
 
 -- no record is read before the slot
 abbrev pub HasNoneRead : VisitState → List Record → Type 0
@@ -99,6 +131,7 @@ pub record IsOnWay (limits : Limits) (k : Knowledge) (r : Recalled) (visit : Vis
   pub past : AllByRecursion (IsPast k level low) earlier
   pub rooted : r.walk.rooted ≡ true
   pub removed : TellsRemoved r.walk visit.part visit.state
+  pub lowest : TellsLevel r.walk visit.part visit.state
   pub kept : (page : ℕ) → AnyNames visit.part page → AnyNames r.walk.records page
 
 -- The page was read whole: it is where it was expected, and so on.
@@ -115,6 +148,7 @@ pub record HasArrived (limits : Limits) (k now : Knowledge) (r : Recalled) (vers
   pub past : AllByRecursion (IsPast k level low) earlier
   pub rooted : r.walk.rooted ≡ true
   pub removed : r.walk.removed ≡ (r.walk.passed || is_removed version.chain)
+  pub lowest : r.walk.removed ≡ true → r.walk.passed ≡ false → r.walk.level ≡ level_in version.chain
   pub kept : (page : ℕ) → AnyNames version.chain page → AnyNames r.walk.records page
 
 -- The page is the root, or a record names it that was read since slot 0 was.
@@ -127,7 +161,7 @@ pub record IsSeeking (limits : Limits) (way : List ℕ → Bool) (beyond : Bool)
   pub on_way : IsOnWay limits k r visit level low earlier
   pub passing : IsTrue (way low)
   pub named : IsFalse beyond → IsNamedNow k r visit.pid
-  pub fresh : IsFalse beyond → HasMet false r.walk visit.state
+  pub fresh : IsFalse beyond → HasMetNone r.walk visit.state
 
 -- The page is on the way, and the pages that it names are such as there may be.
 pub record IsReached (limits : Limits) (way : List ℕ → Bool) (version : Version) : Type 0 where

@@ -43,12 +43,12 @@ pub record IsFine (due : ℕ) (version : Version) : Type 0 where
   pub short : ¬ IsLong due version.chain
   pub narrow : ¬ CanSplit version
 
--- The round holds and removes small pages on its way to the leaf of a key, and the page is of level 1, below the parent.
+-- The round holds and removes small pages on its way to the leaf of a key, and the page is an index page, below the parent.
 pub record IsTended (old : WriteRound) (parent version : Version) : Type 0 where
   pub tends : old.tends ≡ true
   pub seeks : old.goal ≡ Seek
   pub above : old.parent ≡ Some parent
-  pub level : level_in version.chain ≡ 1
+  pub index : 0 < level_in version.chain
 
 -- Nothing is due of such a page's removal.
 abbrev pub IsIdleOnWay : WriteRound → Version → Type 0

@@ -35,7 +35,7 @@ use Rattle.descent.specs.Ways.{StaysLeft, passes}
 use Rattle.descent.specs.WriteEnds.{WriteEnd}
 use Rattle.descent.specs.WriteEnds as end
 
--- The key whose leaf is sought, or to whose left the round goes; at how many deltas a leaf is consolidated; whether small pages of level 1
+-- The key whose leaf is sought, or to whose left the round goes; at how many deltas a leaf is consolidated; whether small index pages
 -- are held and removed on the way; the level at which a round to the left ends; where the round goes; the parent of the pages that are
 -- read; the page to whose right the round has gone, until that one was read; where it stands.
 pub record WriteRound : Type 0 where
@@ -72,7 +72,7 @@ level_for (Some pid) floor = floor
 abbrev pub ends_at : WriteGoal → ℕ → ℕ
 ends_at goal floor = level_for (removed_of goal) floor
 
--- whether a goal is the leaf to the left of the key
+-- whether a goal is the page to the left of the key
 abbrev pub goes_left : WriteGoal → Bool
 goes_left Seek = false
 goes_left (Left pid) = true
@@ -270,13 +270,13 @@ pub record IsUntermEnd (round : WriteRound) (k : Knowledge) (r : Recalled) (pare
   pub after : IsAfter k parent left
   pub plan : IsUntermPlan parent left removed unterm
 
--- What is due at a small page of level 1 on the way to the leaf of a key, below the page that was read before it.
+-- What is due at a small index page on the way to the leaf of a key, below the page that was read before it.
 pub record IsTendEnd (round : WriteRound) (k : Knowledge) (r : Recalled) (parent version : Version) (upkeep : Upkeep) : Type 0 where
   pub tends : round.tends ≡ true
   pub seeks : round.goal ≡ Seek
   pub page : IsAlive round.limits k r version
   pub above : IsUpper round.limits k r version parent
-  pub level : level_in version.chain ≡ 1
+  pub index : 0 < level_in version.chain
   pub due : IsUpkeep parent version upkeep
 
 -- what an end says

@@ -1,4 +1,5 @@
 //! A call in pieces: a thread that has other things to do lends each piece a few steps.
+ghost use Rattle.bw_tree.specs.Seats.{IsSame};
 ghost use Rattle.bw_tree.specs.Trees.{IsSeatOf};
 
 use crate::opening::done_alone;
@@ -13,7 +14,7 @@ const MOST_PIECES: u32 = 1 << 16;
 /// Runs a command in pieces of so many steps: its reply, and how many pieces it took. None where the seat isn't idle, or the budget is 0.
 fn in_pieces(tree: &Tree, seat: &mut BwSeat, command: Command, budget: u32) -> Option<(Reply, u32)>
     requires own { IsSeatOf tree.now seat.old }
-    ensures own { IsSeatOf tree.now seat.new }
+    ensures same { IsSame seat.old seat.new }
 {
     let mut last = called(tree, seat, command, budget)?;
     for pieces in 1..=MOST_PIECES {

@@ -1,14 +1,12 @@
 //! Jobs of commands, which the workers of a tree share.
-ghost use Rattle.std.specs.Prelude.{IfSome};
 ghost use Rattle.bw_tree.specs.Trees.{AreSeatsOf};
-ghost use Rattle.workers.specs.Worked.{AreIdle};
 
 use bw_model::{Command, Key, Limits, Reply, Value};
 use bw_tree::{BwSeat, Tree};
 use std::alloc::{AllocError, Global};
 use std::sync::Wait;
 use std::thread::Threads;
-use workers::{Job, JobResult, Ungated, are_ascending, opened, run_jobs};
+use workers::{Job, JobResult, Ungated, are_ascending, are_idle, opened, run_jobs};
 
 /// A job that inserts a key, and looks it up.
 fn job(alloc: Global, number: u32, key: &Key) -> Result<Job, AllocError> {
@@ -27,25 +25,25 @@ fn jobs(alloc: Global) -> Result<Vec<Job>, AllocError> {
     Ok(jobs)
 }
 
-/// The results of jobs, and the seats that ran them.
+/// The results of jobs, if they were run, and the seats.
 fn ran<R: Threads + Wait + Sync>(
     rt: &R,
     alloc: Global,
     tree: &Tree,
     seats: Vec<BwSeat>,
     jobs: Vec<Job>,
-) -> Option<(Vec<JobResult>, Vec<BwSeat>)>
+) -> (Option<Vec<JobResult>>, Vec<BwSeat>)
     requires own { AreSeatsOf tree.now seats.items }
-    requires idle { AreIdle seats.items }
-    ensures own { IfSome result (λ ran. AreSeatsOf tree.now ran.1.items) }
+    ensures own { AreSeatsOf tree.now result.1.items }
 {
-    // the jobs' numbers are to ascend, and some seat has to run them
-    if !are_ascending(jobs.as_slice()) || seats.is_empty() {
-        return None;
+    // the jobs' numbers are to ascend, and some seat has to run them, of which none has an operation
+    if !are_ascending(jobs.as_slice()) || seats.is_empty() || !are_idle(seats.as_slice()) {
+        return (None, seats);
     }
     match run_jobs(rt, alloc, tree, seats, jobs, &Ungated) {
-        Ok(ran) => Some(ran),
-        Err(_) => None,
+        Ok((results, seats)) => (Some(results), seats),
+        // error.refusal says why, and error.results what was replied nevertheless
+        Err(error) => (None, error.seats),
     }
 }
 
@@ -54,22 +52,11 @@ fn done<R: Threads + Wait + Sync>(
     rt: &R,
     alloc: Global,
 ) -> Option<(Vec<JobResult>, Vec<(Key, Value)>)> {
-    let limits = Limits::new(2, 64, 256, 1).ok()?;
+    let limits = Limits::for_keys(2, 1000).ok()?;
     let jobs = jobs(alloc).ok()?;
     let (tree, seats) = opened(alloc, limits).ok()?;
-    let (results, seats) = ran(rt, alloc, &tree, seats, jobs)?;
-    Some(results).zip(tree.close(alloc, seats).ok())
-}
-
-/// Whether each insert found nothing, and each lookup its key.
-fn are_right(results: &[JobResult]) -> bool {
-    let replies = [Reply::Inserted, Reply::Value(Value::default())];
-    for result in results {
-        if result.replies.as_slice() != replies.as_slice() {
-            return false;
-        }
-    }
-    true
+    let (results, seats) = ran(rt, alloc, &tree, seats, jobs);
+    results.zip(tree.close(alloc, seats).ok())
 }
 
 #[test]
@@ -79,5 +66,10 @@ fn two_threads_run_three_jobs(rt: HostRuntime) {
         return;
     };
     assert_eq!(rt; (results.len(), pairs.len()), (3, 3));
-    assert!(rt; are_right(results.as_slice()));
+    let replies = [Reply::Inserted, Reply::Value(Value::default())];
+    assert!(rt;
+        results
+            .iter()
+            .all(|job| job.replies.as_slice() == replies.as_slice())
+    );
 }

@@ -1,4 +1,8 @@
 //! The examples of docs/GUIDE.md, as they stand there: tests alone.
+//!
+//! Each module is one block of that page, which checks/copies compares with it.
+//!
+//! Called by nobody. It uses a tree as a user would, by `workers`, `walks`, `bw_tree` and `bw_model`.
 #![tactic(auto)]
 
 #[cfg(test)]
@@ -19,5 +23,3 @@ mod opening;
 mod ranges;
 #[cfg(test)]
 mod swaps;
-#[cfg(test)]
-mod two_seats;

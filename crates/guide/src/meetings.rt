@@ -1,63 +1,60 @@
-//! Two threads, whose seats meet once both are done.
-ghost use Rattle.bw_tree.specs.Trees.{IsSeatOf};
+//! Threads end, and then one seat's history has what all have done.
+ghost use Rattle.bw_tree.specs.Trees.{AreSeatsOf};
 
-use crate::two_seats::{TwoSeatWork, done_by_two};
-use bw_model::{Command, Key, Reply, Value};
+use bw_model::{Command, Key, Limits, Reply, Value};
 use bw_tree::{BwSeat, Tree};
-use std::sync::Wait;
-use std::test::Fail;
-use std::thread::{Threads, join_mut};
-use workers::reply;
+use std::alloc::Global;
+use std::thread::Threads;
+use workers::{NoReply, Work, gather, opened, reply, take_seat, work_in_threads};
 
-/// Each thread inserts a key of its own, and after the meeting each seat looks up the other one's.
+/// Inserts the key of a number.
 #[derive(Drop)]
-struct Meets {
-    first: Key,
-    second: Key,
+struct Inserts {
+    number: u32,
+    told: Option<Result<Reply, NoReply>>,
 }
 
-/// Whether the key had no value, and has one now.
-fn inserts(tree: &Tree, seat: &mut BwSeat, key: &Key) -> bool
-    requires own { IsSeatOf tree.now seat.old }
-    ensures own { IsSeatOf tree.now seat.new }
-{
-    reply(tree, seat, Command::Insert(key.copied(), Value::default())) == Some(Reply::Inserted)
+/// The key of a number.
+fn key(number: u32) -> Key {
+    Key::from_slice(&number.to_be_bytes()).unwrap_or_default()
 }
 
-/// Whether the key has that value.
-fn finds(tree: &Tree, seat: &mut BwSeat, key: &Key) -> bool
-    requires own { IsSeatOf tree.now seat.old }
-    ensures own { IsSeatOf tree.now seat.new }
-{
-    reply(tree, seat, Command::Get(key.copied())) == Some(Reply::Value(Value::default()))
-}
-
-impl TwoSeatWork for Meets {
-    fn work<R: Threads + Wait + Sync>(
-        &self,
-        rt: &R,
-        tree: &Tree,
-        one: &mut BwSeat,
-        other: &mut BwSeat,
-    ) -> bool {
-        let inserted = join_mut(
-            rt,
-            &mut || inserts(tree, one, &self.first),
-            &mut || inserts(tree, other, &self.second),
-        );
-        // from here on each seat's history has what either has done
-        tree.meet(one, other);
-        let found = finds(tree, one, &self.second);
-        inserted.0 && inserted.1 && found && finds(tree, other, &self.first)
+impl Work for Inserts {
+    fn work(&mut self, tree: &Tree, seat: &mut BwSeat) {
+        let insert = Command::Insert(key(self.number), Value::default());
+        self.told = Some(reply(tree, seat, insert));
     }
 }
 
+/// Whether both keys are found by the last seat, once the seats have met.
+fn are_found(tree: &Tree, seats: &mut Vec<BwSeat>) -> Option<bool>
+    requires own { AreSeatsOf tree.now seats.old.items }
+{
+    if seats.is_empty() {
+        return None;
+    }
+    // from here on the last seat's history has what any of them has done
+    gather(tree, seats);
+    let mut seat = take_seat(tree, seats)?;
+    let first = reply(tree, &mut seat, Command::Get(key(1)));
+    let second = reply(tree, &mut seat, Command::Get(key(2)));
+    let found = Ok(Reply::Value(Value::default()));
+    Some(first == found && second == found)
+}
+
+/// Whether two threads insert a key each, and both are found then.
+fn insert_and_find<R: Threads + Sync>(rt: &R, alloc: Global) -> Option<bool> {
+    let insert = |number| Inserts { number, told: None };
+    let works = vec![in alloc; insert(1), insert(2)].ok()?;
+    let (tree, mut seats) = opened(alloc, Limits::for_keys(2, 1000).ok()?).ok()?;
+    let works = work_in_threads(rt, &tree, &mut seats, works).ok()?;
+    let inserted = works
+        .iter()
+        .all(|work| work.told == Some(Ok(Reply::Inserted)));
+    Some(inserted && are_found(&tree, &mut seats)?)
+}
+
 #[test]
-fn seats_meet_after_their_threads(rt: HostRuntime) -> Result<(), Fail> {
-    let meets = Meets {
-        first: Key::from_slice(b"Bern")?,
-        second: Key::from_slice(b"Oslo")?,
-    };
-    assert!(rt; done_by_two(&rt, rt.alloc(), 256, &meets));
-    Ok(())
+fn seats_meet_after_their_threads(rt: HostRuntime) {
+    assert!(rt; insert_and_find(&rt, rt.alloc()) == Some(true));
 }

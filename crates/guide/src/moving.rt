@@ -1,11 +1,9 @@
 //! A full tree is closed, and its pairs are moved to a larger one.
-ghost use Rattle.bw_tree.specs.Trees.{AreSeatsOf, IsSeatOf};
-
-use crate::opening::lend;
+use crate::opening::Store;
 use bw_model::{Command, Key, Limits, Reply, Value};
 use bw_tree::{BwSeat, Tree};
 use std::alloc::Global;
-use workers::{Work, opened, opened_from, reply};
+use workers::{Work, reply};
 
 /// Inserts the keys of numbers in a row, until one finds no room.
 #[derive(Drop)]
@@ -17,7 +15,7 @@ impl Work for Fills {
     fn work(&mut self, tree: &Tree, seat: &mut BwSeat) {
         for _ in 0..10_000u32 {
             let key = Key::from_slice(&self.next.to_be_bytes()).unwrap_or_default();
-            if reply(tree, seat, Command::Insert(key, Value::default())) != Some(Reply::Inserted) {
+            if reply(tree, seat, Command::Insert(key, Value::default())) != Ok(Reply::Inserted) {
                 return;
             }
             self.next = self.next.saturating_add(1);
@@ -26,42 +24,21 @@ impl Work for Fills {
 }
 
 /// Fills a tree, from the next number on, and closes it: its pairs.
-fn filled(
-    alloc: Global,
-    tree: Tree,
-    seats: Vec<BwSeat>,
-    fills: &mut Fills,
-) -> Option<Vec<(Key, Value)>>
-    requires own { AreSeatsOf tree seats.items }
-{
-    let mut seats = seats;
-    lend(&tree, &mut seats, fills);
-    tree.close(alloc, seats).ok()
-}
-
-/// The pairs that fill a small tree.
-fn filled_anew(alloc: Global, fills: &mut Fills) -> Option<Vec<(Key, Value)>> {
-    let small = Limits::new(1, 64, 64, 1).ok()?;
-    let (tree, seats) = opened(alloc, small).ok()?;
-    filled(alloc, tree, seats, fills)
-}
-
-/// The pairs of a larger tree to which these are moved, and which is filled then.
-fn filled_on(
-    alloc: Global,
-    pairs: &[(Key, Value)],
-    fills: &mut Fills,
-) -> Option<Vec<(Key, Value)>> {
-    let larger = Limits::new(1, 64, 256, 1).ok()?;
-    let (tree, seats) = opened_from(alloc, larger, pairs).ok()?;
-    filled(alloc, tree, seats, fills)
+fn filled(alloc: Global, store: Store, fills: &mut Fills) -> Option<Vec<(Key, Value)>> {
+    let mut store = store;
+    if !store.lend(fills) {
+        return None;
+    }
+    store.close(alloc).ok()
 }
 
 /// How many pairs fill the small tree, and the larger one.
 fn filled_twice(alloc: Global) -> Option<(usize, usize)> {
     let mut fills = Fills { next: 0 };
-    let pairs = filled_anew(alloc, &mut fills)?;
-    let more = filled_on(alloc, pairs.as_slice(), &mut fills)?;
+    let small = Store::open(alloc, Limits::for_keys(1, 100).ok()?)?;
+    let pairs = filled(alloc, small, &mut fills)?;
+    let larger = Store::open_from(alloc, Limits::for_keys(1, 1000).ok()?, pairs.as_slice())?;
+    let more = filled(alloc, larger, &mut fills)?;
     Some((pairs.len(), more.len()))
 }
 

@@ -10,7 +10,7 @@ use std::alloc::Global;
 use std::marker::{Brand, PhantomData};
 use std::sync::Wait;
 use std::thread::{Threads, join_mut};
-use workers::{give_seat, opened, reply, take_seat};
+use workers::{opened, reply, take_seat};
 
 /// How many messages are sent.
 const TIMES: u32 = 300;
@@ -63,7 +63,7 @@ fn finds(tree: &Tree, seat: &mut BwSeat, number: u32) -> bool
     ensures own { IsSeatOf tree.now seat.new }
 {
     match reply(tree, seat, Command::Get(Key::default())) {
-        Some(Reply::Value(value)) => value.as_slice() >= number.to_be_bytes().as_slice(),
+        Ok(Reply::Value(value)) => value.as_slice() >= number.to_be_bytes().as_slice(),
         _ => false,
     }
 }
@@ -117,56 +117,32 @@ fn tell_and_heed<R: Threads + Wait + Sync, T: OfTree + Send>(
     found == TIMES
 }
 
-/// The same with two seats that were taken out of a list, which get them back.
-fn heeded_with<R: Threads + Wait + Sync>(
-    rt: &R,
-    alloc: Global,
-    tree: &Tree,
-    seats: &mut Vec<BwSeat>,
-    one: BwSeat,
-    other: BwSeat,
-) -> bool
-    requires own { AreSeatsOf tree.now seats.old.items }
-    requires one { IsSeatOf tree.now one }
-    requires other { IsSeatOf tree.now other }
-{
-    let (mut one, mut other) = (one, other);
-    let well = tell_and_heed::<R, Brand>(rt, alloc, tree, &mut one, &mut other);
-    let given = give_seat(tree, seats, one).is_ok();
-    give_seat(tree, seats, other).is_ok() && given && well
-}
-
 /// The same with the last two seats of a list.
 fn heeded_by<R: Threads + Wait + Sync>(
     rt: &R,
     alloc: Global,
     tree: &Tree,
     seats: &mut Vec<BwSeat>,
-) -> bool
+) -> Option<bool>
     requires own { AreSeatsOf tree.now seats.old.items }
 {
-    let Some(other) = take_seat(tree, seats) else {
-        return false;
-    };
-    let Some(one) = take_seat(tree, seats) else {
-        let _ = give_seat(tree, seats, other);
-        return false;
-    };
-    heeded_with(rt, alloc, tree, seats, one, other)
+    let mut other = take_seat(tree, seats)?;
+    let mut one = take_seat(tree, seats)?;
+    Some(tell_and_heed::<R, Brand>(rt, alloc, tree, &mut one, &mut other))
 }
 
 /// The same on a new tree.
-fn heeded_on_a_tree<R: Threads + Wait + Sync>(rt: &R, alloc: Global) -> bool {
-    let Ok(limits) = Limits::new(2, 64, 1024, 1) else {
-        return false;
+fn heeded<R: Threads + Wait + Sync>(rt: &R, alloc: Global) -> Option<bool> {
+    let Ok(limits) = Limits::for_keys(2, 1000) else {
+        return None;
     };
     let Ok((tree, mut seats)) = opened(alloc, limits) else {
-        return false;
+        return None;
     };
     heeded_by(rt, alloc, &tree, &mut seats)
 }
 
 #[test]
 fn notes_go_along(rt: HostRuntime) {
-    assert!(rt; heeded_on_a_tree(&rt, rt.alloc()));
+    assert!(rt; heeded(&rt, rt.alloc()) == Some(true));
 }

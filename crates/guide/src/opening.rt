@@ -1,31 +1,74 @@
-//! A tree is opened, used with one seat, and closed.
+//! A struct that owns a tree and its seats: it is opened, lends a seat, and is closed.
 ghost use Rattle.bw_tree.specs.Trees.{AreSeatsOf};
 
 use bw_model::{Command, Key, Limits, Reply, Value};
 use bw_tree::{BwSeat, Tree};
 use std::alloc::Global;
 use std::test::Fail;
-use workers::{Work, give_seat, opened, reply, take_seat};
+use workers::{NoReply, Work, give_seat, opened, opened_from, reply, take_seat};
 
-/// Lends a work the last seat of a list.
-pub(crate) fn lend<W: Work>(tree: &Tree, seats: &mut Vec<BwSeat>, work: &mut W)
-    requires own { AreSeatsOf tree.now seats.old.items }
-    ensures own { AreSeatsOf tree.now seats.new.items }
-{
-    if let Some(mut seat) = take_seat(tree, seats) {
-        work.work(tree, &mut seat);
-        // without memory the seat is lost, and then the tree isn't closed
-        let _ = give_seat(tree, seats, seat);
+/// A tree, and the seats that nobody has just now.
+pub(crate) struct Store {
+    tree: Tree,
+    seats: Vec<BwSeat>,
+    ghost own: { AreSeatsOf tree seats.items },
+}
+
+impl Drop for Store {
+    fn drop(self) {
+        let Store { tree: _, seats: _ } = self;
     }
 }
 
-/// Opens a tree, lends a work its only seat, and closes the tree: its pairs. None where there is no memory.
+impl Store {
+    /// An empty tree. None where there is no memory.
+    pub(crate) fn open(alloc: Global, limits: Limits) -> Option<Store> {
+        let (tree, seats) = opened(alloc, limits).ok()?;
+        Some(Store { tree, seats })
+    }
+
+    /// A tree with pairs. None where there is no memory, or they don't fit.
+    pub(crate) fn open_from(
+        alloc: Global,
+        limits: Limits,
+        pairs: &[(Key, Value)],
+    ) -> Option<Store> {
+        let (tree, seats) = opened_from(alloc, limits, pairs).ok()?;
+        Some(Store { tree, seats })
+    }
+
+    /// Lends a work the last seat. False where nobody has one to lend, or the seat couldn't be put back.
+    pub(crate) fn lend<W: Work>(&mut self, work: &mut W) -> bool {
+        let Some(mut seat) = take_seat(&self.tree, &mut self.seats) else {
+            return false;
+        };
+        work.work(&self.tree, &mut seat);
+        // there is room for it, since it was there before; else it came back as the error
+        give_seat(&self.tree, &mut self.seats, seat).is_ok()
+    }
+
+    /// The pairs of the tree, which ends with it; or the store as it was, to be closed later.
+    pub(crate) fn close(self, alloc: Global) -> Result<Vec<(Key, Value)>, Store> {
+        let Store { tree, seats } = self;
+        match tree.close(alloc, seats) {
+            Ok(pairs) => Ok(pairs),
+            // error.refusal says why: a seat is missing or has an operation, or there is no memory
+            Err(error) => Err(Store {
+                tree: error.tree,
+                seats: error.seats,
+            }),
+        }
+    }
+}
+
+/// Opens a tree with room for a thousand keys, lends a work its seat, and closes it: its pairs.
 pub(crate) fn done_alone<W: Work>(alloc: Global, work: &mut W) -> Option<Vec<(Key, Value)>> {
-    // one actor, 64 PIDs, 256 rows, and the opening epoch
-    let limits = Limits::new(1, 64, 256, 1).ok()?;
-    let (tree, mut seats) = opened(alloc, limits).ok()?;
-    lend(&tree, &mut seats, work);
-    tree.close(alloc, seats).ok()
+    let limits = Limits::for_keys(1, 1000).ok()?;
+    let mut store = Store::open(alloc, limits)?;
+    if !store.lend(work) {
+        return None;
+    }
+    store.close(alloc).ok()
 }
 
 /// Gives a key a value, and looks it up.
@@ -33,15 +76,15 @@ pub(crate) fn done_alone<W: Work>(alloc: Global, work: &mut W) -> Option<Vec<(Ke
 struct Sets {
     key: Key,
     value: Value,
-    set: Option<Reply>,
-    found: Option<Reply>,
+    set: Option<Result<Reply, NoReply>>,
+    found: Option<Result<Reply, NoReply>>,
 }
 
 impl Work for Sets {
     fn work(&mut self, tree: &Tree, seat: &mut BwSeat) {
         let upsert = Command::Upsert(self.key.copied(), self.value.copied());
-        self.set = reply(tree, seat, upsert);
-        self.found = reply(tree, seat, Command::Get(self.key.copied()));
+        self.set = Some(reply(tree, seat, upsert));
+        self.found = Some(reply(tree, seat, Command::Get(self.key.copied())));
     }
 }
 
@@ -59,8 +102,8 @@ fn a_tree_is_opened_and_closed(rt: HostRuntime) -> Result<(), Fail> {
         assert!(rt; false);
         return Ok(());
     };
-    assert!(rt; sets.set == Some(Reply::Set));
-    assert!(rt; sets.found == Some(Reply::Value(value.copied())));
+    assert!(rt; sets.set == Some(Ok(Reply::Set)));
+    assert!(rt; sets.found == Some(Ok(Reply::Value(value.copied()))));
     assert!(rt; pairs.as_slice() == [(key, value)].as_slice());
     Ok(())
 }

@@ -1,4 +1,5 @@
 //! Threads raise a counter, each by swaps that it tries until one wins.
+ghost use Rattle.bw_tree.specs.Seats.{IsSame};
 ghost use Rattle.bw_tree.specs.Trees.{IsSeatOf};
 
 use bw_model::{Command, Key, Limits, Reply, Value};
@@ -30,19 +31,19 @@ fn next(known: &Value) -> Value {
 /// Raises the counter by one: true once a swap has won.
 fn raise(tree: &Tree, seat: &mut BwSeat, counter: &Key) -> bool
     requires own { IsSeatOf tree.now seat.old }
-    ensures own { IsSeatOf tree.now seat.new }
+    ensures same { IsSame seat.old seat.new }
 {
-    let Some(Reply::Value(mut known)) = reply(tree, seat, Command::Get(counter.copied())) else {
+    let Ok(Reply::Value(mut known)) = reply(tree, seat, Command::Get(counter.copied())) else {
         return false;
     };
     for _ in 0..MOST_TRIES {
         let swap = Command::Swap(counter.copied(), known.copied(), next(&known));
         match reply(tree, seat, swap) {
-            Some(Reply::Swapped) => return true,
+            Ok(Reply::Swapped) => return true,
             // another thread was faster: its value comes back
-            Some(Reply::Differs(other)) => known = other,
+            Ok(Reply::Differs(other)) => known = other,
             // nothing was free just now, and nothing was changed
-            Some(Reply::Full) => {}
+            Ok(Reply::Full) => {}
             _ => return false,
         }
     }
@@ -71,11 +72,14 @@ impl Work for Raises {
 fn raised<R: Threads + Sync>(rt: &R, alloc: Global) -> Option<(Vec<Raises>, Vec<(Key, Value)>)> {
     let work = || Raises { raised: 0 };
     let works = vec![in alloc; work(), work(), work(), work()].ok()?;
-    let limits = Limits::new(4, 64, 1024, 1).ok()?;
+    let limits = Limits::for_keys(4, 1000).ok()?;
     let (tree, mut seats) = opened(alloc, limits).ok()?;
-    let works = work_in_threads(rt, &tree, &mut seats, works);
-    // where a seat didn't come back, the tree isn't closed
-    works.zip(tree.close(alloc, seats).ok())
+    let works = match work_in_threads(rt, &tree, &mut seats, works) {
+        Ok(works) => works,
+        // error.refusal says why: there are more works than seats, or there is no memory
+        Err(error) => error.works,
+    };
+    Some(works).zip(tree.close(alloc, seats).ok())
 }
 
 #[test]

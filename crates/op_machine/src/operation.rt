@@ -113,13 +113,6 @@ impl<A: Allocator> Operation<A> {
         self.task.errands()
     }
 
-    /// Whether the leave is the step that it wants, after which it is done.
-    pub fn is_leaving(&self) -> bool
-        ensures { result ≡ is_leaving self.now.state }
-    {
-        self.places.is_leaving()
-    }
-
     /// The step that the operation wants, with the record that is to be placed lent from where it lies.
     pub fn wanted(&self, hand: &Hand<A>) -> Step<&Record>
         requires shown { IsOpShown self.now hand.now }

@@ -18,7 +18,7 @@ ghost use Rattle.descent.specs.ReadGoals as goal;
 ghost use Rattle.installs.specs.Changes.{IsSpellablePlan, IsTarget};
 ghost use Rattle.installs.specs.Spares.{HaveRoom};
 ghost use Rattle.op_machine.specs.machine.Bounded.{few_changes, left_at};
-ghost use Rattle.op_machine.specs.machine.Outcomes.{IsToldAt, UnlinksAfter, changed, has_begun, is_changing, is_leaving};
+ghost use Rattle.op_machine.specs.machine.Outcomes.{IsToldAt, UnlinksAfter, changed, has_begun, is_changing};
 ghost use Rattle.op_machine.specs.machine.Places.{HaveLimits, ReadsOn, WritesOn, ended_with, left_round_of, state_of};
 ghost use Rattle.op_machine.specs.machine.Shows.{FitsLast, MayBegin, MayStep, ShowsState, learn_last, wanted_at};
 ghost use Rattle.op_machine.specs.machine.Tasks.{Task as TaskSeen};
@@ -133,13 +133,6 @@ impl<A: Allocator> Places<A> {
         ensures { result ≡ is_changing (state_of self.now) }
     {
         matches!(self.stand, Stand::Change)
-    }
-
-    /// Whether the last step was asked for.
-    pub(crate) fn is_leaving(&self) -> bool
-        ensures { result ≡ is_leaving (state_of self.now) }
-    {
-        matches!(self.stand, Stand::Leave)
     }
 
     /// Nothing was done yet, on a tree of these limits.

@@ -148,7 +148,7 @@ impl Task {
         }
     }
 
-    /// Whether a round holds and removes small pages of level 1 on its way: that of a deletion or a tidying for its own key does.
+    /// Whether a round holds and removes small index pages on its way: that of a deletion or a tidying for its own key does.
     pub(crate) fn tends(&self) -> bool
         ensures { result ≡ tends_of self.now.errands self.now.command }
     {

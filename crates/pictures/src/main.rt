@@ -1,4 +1,9 @@
 //! The program that draws the trees of docs/pictures: one picture for each part of its input. Between two parts stands an empty line.
+//!
+//! Look at `main`, which is all of it: each part is drawn by `draw` (`drawing`) on a small tree.
+//!
+//! Called by the gate, whose stored run is compared with what it prints; checks/copies compares docs/pictures with that. It knows no more
+//! of a tree than `drawing` says.
 #![tactic(auto)]
 
 use bw_model::Limits;

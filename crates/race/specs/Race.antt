@@ -37,7 +37,8 @@ pub record WereRefused (limits : Limits) (jobs : List Job) (why : JobsRefusal) :
   pub seats : List Seat
   pub limited : tree.limits ≡ limits
   pub opened : AreFresh tree fresh
-  pub stopped : HaveStopped Global jobs why fresh seats
+  pub results : List (JobResult Global)
+  pub stopped : HaveStopped jobs why results fresh seats
 
 -- how the program tells why jobs were refused
 abbrev pub told_as : JobsRefusal → Refusal

@@ -1,4 +1,9 @@
 //! An allocator for tests, which refuses the Nth call.
+//!
+//! Look first at `Refusing`, its one type: it passes calls on to another allocator until so many have come, and refuses the next one.
+//!
+//! Called by the crates of tests, to show what want of memory leaves as it was. The one place with code that is `unsafe`. It knows
+//! nothing of trees.
 #![tactic(auto)]
 
 use std::alloc::{AllocError, Allocator};

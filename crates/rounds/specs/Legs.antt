@@ -3,7 +3,7 @@ use Rattle.std.specs.Prelude.{None, Some, ⊤}
 use Rattle.smo.specs.Versions.{Version}
 use Rattle.descent.specs.ReadLegs as legs
 use Rattle.rounds.specs.declared.leg.On.{On}
-use Rattle.rounds.specs.declared.leg.On.TheVariants.{Top, Below, Round, Past}
+use Rattle.rounds.specs.declared.leg.On.TheVariants.{Top, Below, Round, Past, PastBelow}
 
 -- The leg, and the page that stands in the place, whether it is kept or was before.
 pub record PlacedLeg : Type 0 where
@@ -15,11 +15,13 @@ abbrev pub leg_of : On → Version → legs.Leg
 leg_of Top page = legs.Down None
 leg_of Below page = legs.Down (Some page)
 leg_of Round page = legs.Round page
-leg_of Past page = legs.Past
+leg_of Past page = legs.Past None
+leg_of PastBelow page = legs.Past (Some page)
 
 -- The round keeps no page above, and isn't on its way round a removed page.
 abbrev pub IsPlainWithout : legs.Leg → Type 0
 IsPlainWithout (legs.Down None) = ⊤
 IsPlainWithout (legs.Down (Some above)) = ⊥
 IsPlainWithout (legs.Round removed) = ⊥
-IsPlainWithout legs.Past = ⊤
+IsPlainWithout (legs.Past None) = ⊤
+IsPlainWithout (legs.Past (Some above)) = ⊥

@@ -63,7 +63,8 @@ abbrev pub LeadsLeft : Version → Leg → ℕ → Type 0
 LeadsLeft version (Down None) next = ⊥
 LeadsLeft version (Down (Some above)) next = LeadsDown (rounds.left_of version) above.chain next
 LeadsLeft version (Round removed) next = ⊥
-LeadsLeft version Past next = ⊥
+LeadsLeft version (Past None) next = ⊥
+LeadsLeft version (Past (Some above)) next = LeadsDown (rounds.left_of version) above.chain next
 
 -- The page isn't removed, and is of the removed page's level.
 pub record IsOnLevelOf (version removed : Version) : Type 0 where

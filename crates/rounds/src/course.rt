@@ -72,7 +72,7 @@ impl<A: Allocator + Copy> Course<A> {
 }
 
 impl<A: Allocator> Course<A> {
-    /// Goes down to the leaf to the left of this removed page, or to the leaf of the key, and keeps no page.
+    /// Goes down to the page to the left of this removed page, or to the leaf of the key, and keeps no page.
     pub(crate) fn restart(&mut self, removed: Option<u16>)
         ensures { self.new ≡ record self.old { course = record { goal = down_to removed; parent = None; left = None } } }
     {
@@ -175,7 +175,7 @@ impl<A: Allocator> Course<A> {
     }
 }
 
-/// The aim of a round down to the leaf to the left of this removed page, or to the leaf of the key.
+/// The aim of a round down to the page to the left of this removed page, or to the leaf of the key.
 fn down(removed: Option<u16>) -> Aim
     ensures { (parent left : Version) → write_goal result parent left ≡ down_to removed }
 {

@@ -1,6 +1,6 @@
 //! On which leg of its way a reader's round is, over a place for a page.
 ghost use Rattle.std.specs.Prelude.{◌≡◌, None, Some, IfOk, false, true};
-ghost use Rattle.descent.specs.ReadLegs.{Down, IsPlain, Past, Round, below, level_on};
+ghost use Rattle.descent.specs.ReadLegs.{Down, IsPlain, Past, Round, above_of, below, level_on};
 ghost use Rattle.rounds.specs.Legs.{IsPlainWithout};
 
 use crate::Descent;
@@ -17,8 +17,10 @@ pub(crate) enum On {
     Below,
     /// Round the removed index page that stands in the place.
     Round,
-    /// On from a removed index page.
+    /// On from a removed index page, with no page above since.
     Past,
+    /// On from a removed index page, down from the page above, which stands in the place.
+    PastBelow,
 }
 
 /// The leg on which a round is, with a place for the page above, or for the removed page that the round goes round.
@@ -79,31 +81,34 @@ impl<A: Allocator> Leg<A> {
 
     /// Whether the page above stands in the place.
     pub(crate) fn has_above(&self) -> bool
-        ensures above { result ≡ true → self.now.leg ≡ Down (Some self.now.page) }
+        ensures above { result ≡ true → above_of self.now.leg ≡ Some self.now.page }
         ensures none { result ≡ false → IsPlain self.now.leg → IsPlainWithout self.now.leg }
     {
-        self.on == On::Below
+        matches!(self.on, On::Below | On::PastBelow)
     }
 
-    /// Keeps the page in hand as the page above, from which the round goes down.
+    /// Keeps the page in hand as the page above, from which the round goes down; it is no more on its way round a removed page.
     pub(crate) fn go_below(&mut self, descent: &mut Descent<A>)
-        requires plain { IsPlain self.old.leg }
-        ensures leg { self.new.leg ≡ below descent.old.page self.old.leg }
+        ensures plain { IsPlain self.old.leg → self.new.leg ≡ below descent.old.page self.old.leg }
+        ensures round { self.old.leg ≡ Round self.old.page → self.new.leg ≡ Past (Some descent.old.page) }
         ensures way { descent.new.way ≡ descent.old.way }
     {
-        if self.on != On::Past {
-            self.on = On::Below;
-            descent.swap_page(&mut self.page);
-        }
+        self.on = match self.on {
+            On::Top | On::Below => On::Below,
+            On::Round | On::Past | On::PastBelow => On::PastBelow,
+        };
+        descent.swap_page(&mut self.page);
     }
 
     /// Keeps no page above.
     pub(crate) fn stay_on_level(&mut self)
         ensures { self.new ≡ record self.old { leg = level_on self.old.leg } }
     {
-        if self.on == On::Below {
-            self.on = On::Top;
-        }
+        self.on = match self.on {
+            On::Top | On::Below => On::Top,
+            On::Round => On::Round,
+            On::Past | On::PastBelow => On::Past,
+        };
     }
 
     /// Goes round the page in hand, which is removed.
@@ -115,9 +120,9 @@ impl<A: Allocator> Leg<A> {
         descent.swap_page(&mut self.page);
     }
 
-    /// Goes on from the removed page.
+    /// Goes on from the removed page, with no page above.
     pub(crate) fn pass(&mut self)
-        ensures { self.new ≡ record self.old { leg = Past } }
+        ensures { self.new ≡ record self.old { leg = Past None } }
     {
         self.on = On::Past;
     }

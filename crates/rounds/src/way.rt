@@ -2,7 +2,7 @@
 ghost use Rattle.std.specs.Prelude.{◌≡◌, ◌<◌, IsFalse, IsTrue, MatchOption};
 ghost use Rattle.bw_model.specs.Bytes.{is_below};
 ghost use Rattle.traces.specs.chain.Chains.{high_in, level_in, low_in};
-ghost use Rattle.descent.specs.Ways.{LeadsDown, LeadsRight, StaysLeft, passes};
+ghost use Rattle.descent.specs.Ways.{LeadsDown, LeadsOn, LeadsRight, StaysLeft, passes};
 
 use row_chain::Chain;
 use row_search::KeyWords;
@@ -39,6 +39,18 @@ pub(crate) fn child_on_way<A: Allocator>(chain: &Chain<A>, key: &KeyWords, below
     match chain.child_of(key) {
         Some(child) => child,
         None => unreachable!(),
+    }
+}
+
+/// The page's right, where the page ends on the way; else the child of its greatest term there.
+pub(crate) fn next_on_way<A: Allocator>(chain: &Chain<A>, key: &KeyWords, below: bool) -> u16
+    requires index { 0 < level_in chain.now }
+    requires reached { IsTrue (passes below key.now (low_in chain.now)) }
+    ensures { LeadsOn (passes below key.now) chain.now result }
+{
+    match right_on_way(chain, key, below) {
+        Some(right) => right,
+        None => child_on_way(chain, key, below),
     }
 }
 

@@ -86,8 +86,8 @@ impl<A: Allocator> WriteRound<A> {
         self.descent.reset(limits);
     }
 
-    /// Begins a round to the leaf of a key. A leaf with as many deltas as are due is consolidated; a small page of level 1 is held and
-    /// removed where the round tends such pages.
+    /// Begins a round to the leaf of a key. A leaf with as many deltas as are due is consolidated; a small index page is held and removed
+    /// where the round tends such pages.
     pub fn restart(&mut self, key: &Key, due: usize, tends: bool)
         requires due { 0 < due }
         ensures { self.new ≡ record self.old { round = record { limits = self.old.round.limits; key = key.now; due = due; tends = tends; floor = 0; goal = goal.Seek; parent = None; left = None; state = Root } } }
@@ -329,7 +329,7 @@ impl<A: Allocator> WriteRound<A> {
         None
     }
 
-    /// Ends at a small page of level 1 where it is to be removed or its term to be held; else goes down.
+    /// Ends at a small index page where it is to be removed or its term to be held; else goes down.
     #[inline(never)]
     fn tend(&mut self) -> Option<WriteEnded>
         requires can { CanTreatWrite self.old.round self.old.page }

@@ -1,3 +1,7 @@
+pub mod Behind
 pub mod Fresh
+pub mod Going
 pub mod Pushed
+pub mod Resting
+pub mod Seeing
 pub mod Yielded

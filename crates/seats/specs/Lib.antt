@@ -1,2 +1,4 @@
+pub mod Gathered
 pub mod Idle
 pub mod Replies
+pub mod Works

@@ -1,8 +1,12 @@
 -- What a command comes to on a seat at hand.
-use Rattle.std.specs.Prelude.{◌≡◌, ℕ, IsSome, ◌⊎◌}
+use Rattle.std.specs.Prelude.{◌≡◌, ◌++◌, ◌⊎◌, ℕ, IsSome, List, None, Option}
 use Rattle.bw_model.specs.declared.command.Command.{Command}
-use Rattle.bw_tree.specs.Calls.{IsSpent}
-use Rattle.bw_tree.specs.Seats.{Seat, unfinished_command}
+use Rattle.bw_model.specs.declared.command.Reply.{Reply}
+use Rattle.bw_tree.specs.Calls.{IsSpent, calls_in}
+use Rattle.bw_tree.specs.Runs.{StartsWith}
+use Rattle.bw_tree.specs.Seats.{IsSame, Seat, unfinished_command}
+use Rattle.seats.specs.declared.replies.NoReply.{NoReply}
+use Rattle.seats.specs.declared.replies.NoReply.TheVariants.{Busy, Spent}
 
 -- how many steps a command is given that is to run to its end
 abbrev pub many : ℕ
@@ -12,6 +16,14 @@ many = 65536
 abbrev pub CantBegin : Seat → ℕ → Type 0
 CantBegin seat budget = IsSome (unfinished_command seat) ⊎ (budget ≡ 0)
 
--- There is no reply: the seat has a command, and stays as it is; or all steps are spent.
-abbrev pub HasNoReply : Seat → Command → Seat → Type 0
-HasNoReply old command new = (IsSome (unfinished_command old) × (new ≡ old)) ⊎ IsSpent old command many new
+-- Why there is no reply: the seat has another command, and stays as it is; or all steps are spent, and this command is the seat's.
+abbrev pub HasNoReply : Seat → Command → NoReply → Seat → Type 0
+HasNoReply old command Busy new = IsSome (unfinished_command old) × (new ≡ old)
+HasNoReply old command Spent new = (unfinished_command old ≡ None) × IsSpent old command many new
+
+-- The seat has made these calls, one after another, and is idle again. What it has seen goes on from what it had seen.
+pub record GoesOn (old : Seat) (made : List (Command × Option Reply)) (new : Seat) : Type 0 where
+  pub same : IsSame old new
+  pub grows : StartsWith new.seen old.seen
+  pub calls : calls_in new ≡ calls_in old ++ made
+  pub idle : unfinished_command new ≡ None

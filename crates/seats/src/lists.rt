@@ -1,13 +1,13 @@
 //! Lists of a tree's seats.
-ghost use Rattle.std.specs.Prelude.{◌≡◌, ◌↔◌, ◌++◌, ◌∷◌, [], IfErr, IfOk, IfSome, IsErrOf, None, OnErr, OnOk, option_to_list, vec_len};
+ghost use Rattle.std.specs.Prelude.{◌≡◌, ◌↔◌, ◌++◌, ◌∷◌, [], IfErr, IfOk, IfSome, IsErrOf, MatchBool, None, OnErr, OnOk, option_to_list, vec_len};
 ghost use Rattle.bw_model.specs.declared.command.Reply.TheVariants as reply;
 ghost use Rattle.bw_tree.specs.Loaded.{AreLoaded, IsStopped, KeysAscend};
-ghost use Rattle.bw_tree.specs.Trees.{AreFresh, AreSeatsOf, IsSeatOf};
+ghost use Rattle.bw_tree.specs.Trees.{AreFresh, AreSeatsOf, HasBusy, IsSeatOf};
 ghost use Rattle.seats.specs.Idle.{AreIdle};
 
 use bw_model::{Key, Limits, OpenError, Value};
 use bw_tree::{BwSeat, Called, LOAD_BUDGET, LoadError, Tree};
-use std::alloc::{AllocError, Allocator};
+use std::alloc::Allocator;
 
 /// A tree with a seat for each actor, of which the last one is taken first; refused for want of memory alone.
 pub fn opened<A: Allocator + Copy>(
@@ -53,15 +53,25 @@ pub fn take_seat(tree: &Tree, seats: &mut Vec<BwSeat>) -> Option<BwSeat>
     seats.pop()
 }
 
-/// Adds a seat to a list, as its last; refused for want of memory alone, and then the seat is dropped.
-pub fn give_seat(tree: &Tree, seats: &mut Vec<BwSeat>, seat: BwSeat) -> Result<(), AllocError>
+/// Adds a seat to a list, as its last; hands it back where there is no memory for that.
+pub fn give_seat(tree: &Tree, seats: &mut Vec<BwSeat>, seat: BwSeat) -> Result<(), BwSeat>
     requires own { AreSeatsOf tree.now seats.old.items }
     requires given { IsSeatOf tree.now seat }
     ensures own { AreSeatsOf tree.now seats.new.items }
     ensures ok { OnOk result (seats.new.items ≡ seats.old.items ++ seat ∷ []) }
     ensures err { OnErr result (seats.new.items ≡ seats.old.items) }
+    ensures back { IfErr result (λ refused. refused ≡ seat) }
 {
     let _ = tree;
-    seats.push(seat)?;
-    Ok(())
+    match seats.push(seat) {
+        Ok(()) => Ok(()),
+        Err(failed) => Err(failed.value),
+    }
+}
+
+/// Whether no seat of a list has an unfinished operation.
+pub fn are_idle<A: Allocator>(seats: &[BwSeat<A>]) -> bool
+    ensures { MatchBool result (AreIdle seats.now) (HasBusy seats.now) }
+{
+    bw_tree::are_idle(seats)
 }

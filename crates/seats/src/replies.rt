@@ -1,35 +1,72 @@
 //! Commands that run to their end.
-ghost use Rattle.std.specs.Prelude.{◌≡◌, ◌≤◌, IfSome, IsSome, None};
+ghost use Rattle.std.specs.Prelude.{◌≡◌, ◌∷◌, ◌≤◌, [], IfErr, IfOk, IfSome, IsSome, None, Some};
 ghost use Rattle.bw_tree.specs.Calls.{IsCalled, IsDone, IsResumed};
 ghost use Rattle.bw_tree.specs.Runs.{IsOneHistory};
 ghost use Rattle.bw_tree.specs.Seats.{IsSame, unfinished_command};
 ghost use Rattle.bw_tree.specs.Trees.{IsSeatOf};
-ghost use Rattle.seats.specs.Replies.{CantBegin, HasNoReply, many};
+ghost use Rattle.seats.specs.Replies.{CantBegin, GoesOn, HasNoReply, many};
 
 use bw_model::{Command, Reply};
 use bw_tree::{BwSeat, Called, Tree};
+use std::alloc::Allocator;
+use std::sync::Wait;
+use thiserror::Error;
 
 /// More steps than an operation takes in small trees.
 const BUDGET: u32 = 1 << 16;
 
-/// Runs a command to its end, if the seat is idle; none where it isn't, which changes nothing, or where its steps are spent: then it stays in
-/// the seat, and `resumed` goes on with it.
-pub fn reply(tree: &Tree, seat: &mut BwSeat, command: Command) -> Option<Reply>
+/// Why there is no reply.
+#[derive(Clone, Copy, Debug, PartialEq, Eq, Error)]
+pub enum NoReply {
+    /// The seat has another operation, and stays as it is: end that first, by `resumed`.
+    #[error("the seat has another operation")]
+    Busy,
+    /// The steps are spent, and the command stays in the seat: `resumed` goes on with it.
+    #[error("the steps are spent")]
+    Spent,
+}
+
+/// Runs a command to its end, if the seat is idle and 65,536 steps are enough.
+pub fn reply(tree: &Tree, seat: &mut BwSeat, command: Command) -> Result<Reply, NoReply>
     requires own { IsSeatOf tree.now seat.old }
     ensures own { IsSeatOf tree.now seat.new }
     ensures same { IsSame seat.old seat.new }
-    ensures done { IfSome result (λ reply. IsDone seat.old command many reply seat.new) }
-    ensures some { IsSome result → unfinished_command seat.old ≡ None }
+    ensures idle { IfOk result (λ reply. unfinished_command seat.old ≡ None) }
+    ensures done { IfOk result (λ reply. IsDone seat.old command many reply seat.new) }
     ensures history { unfinished_command seat.old ≡ None → IsOneHistory seat.new.limits seat.new.seen }
-    ensures none { result ≡ None → HasNoReply seat.old command seat.new }
+    ensures refused { IfErr result (λ refusal. HasNoReply seat.old command refusal seat.new) }
 {
     if !seat.is_idle() {
-        return None;
+        return Err(NoReply::Busy);
     }
     match tree.call(seat, command, BUDGET) {
-        Called::Done(reply) => Some(reply),
-        Called::Spent => None,
+        Called::Done(reply) => Ok(reply),
+        Called::Spent => Err(NoReply::Spent),
     }
+}
+
+/// Runs a command to its end, whatever that takes. Nothing promises that others leave it to end.
+pub fn run_to_end<R: Wait, A: Allocator>(
+    rt: &R,
+    tree: &Tree<A>,
+    seat: &mut BwSeat<A>,
+    command: Command,
+) -> Reply
+    requires own { IsSeatOf tree.now seat.old }
+    requires idle { unfinished_command seat.old ≡ None }
+    ensures own { IsSeatOf tree.now seat.new }
+    ensures goes { GoesOn seat.old ((command, Some result) ∷ []) seat.new }
+    ensures history { IsOneHistory seat.new.limits seat.new.seen }
+{
+    if let Called::Done(reply) = tree.call(seat, command, BUDGET) {
+        return reply;
+    }
+    for _ in rt.forever() {
+        if let Called::Done(reply) = tree.resume(seat, BUDGET) {
+            return reply;
+        }
+    }
+    unreachable!()
 }
 
 /// Goes on with the operation of a seat for so many steps; none where it has none, which changes nothing.

@@ -1,4 +1,10 @@
 //! What a line asks for: its fields, numbers and tokens.
+//!
+//! Look first at `Request`, and at `parse`, which reads one: each line has one request, or one reason why it asks for nothing
+//! (`LineError`). `JobCommand` is the same for the lines of a race. docs/FORMATS.md has the grammar.
+//!
+//! Called by `bw_shell` and `race`, and by `tree_picture`, which prints keys as lines do. It knows no core and no tree, so it is proved
+//! beside the lowest layers.
 #![tactic(auto)]
 
 mod fields;

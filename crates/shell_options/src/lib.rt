@@ -1,4 +1,8 @@
-//! What the words of a command line ask for.
+//! What the words of a command line ask for: a program and its numbers, or the fault of the words.
+//!
+//! Look first at `options`, which answers `Settings` or an `OptionsError`; `Program` names the four programs.
+//!
+//! Called by `bwtree`. It knows limits as numbers, and no tree; nothing is run here.
 #![tactic(auto)]
 
 mod words;

@@ -1,5 +1,9 @@
-//! What the programs are to print, draw and race, and what they do where a stream fails: tests alone, over the public calls of the shell, of `drawing` and of
-//! `race`.
+//! What the programs are to print, draw and race, and what they do where a stream fails: tests alone, over the public calls of the shell,
+//! of `drawing` and of `race`.
+//!
+//! Look first at `runs`, which runs text and compares what is printed. Expected text stands in the tests, not in what a program printed.
+//!
+//! Called by nobody, and apart from those crates, which would be proved twice with their tests.
 #![tactic(auto)]
 
 #[cfg(test)]
@@ -18,6 +22,8 @@ mod faults;
 mod grown;
 #[cfg(test)]
 mod interleaved;
+#[cfg(test)]
+mod levels;
 #[cfg(test)]
 mod lines;
 #[cfg(test)]
@@ -50,6 +56,8 @@ mod reuse;
 mod runs;
 #[cfg(test)]
 mod scripts;
+#[cfg(test)]
+mod stopped;
 #[cfg(test)]
 mod streams;
 #[cfg(test)]

@@ -17,17 +17,25 @@ pub enum Part<'a> {
     Inserts(u32, u32),
     /// Deletes of keys that are there, from one number down to another, each without a stop.
     Deletes(u32, u32),
+    /// Actor 0 takes so many turns, and isn't done by then; no line where there are none.
+    Turns(u32),
+    /// These lines for each number from the first to the last, which print this.
+    Each(u32, u32, &'a str, &'a str),
+    /// The same from the first of two numbers down to the other.
+    EachDown(u32, u32, &'a str, &'a str),
     /// A listing begins, with so many pairs: as many as a number of all digits.
     Lists(u32),
     /// The keys from one number to another are the next in a listing.
     Pairs(u32, u32),
 }
 
-/// How numbers are written: k01 and v01, and so on, or k001 and v001.
+/// How numbers are written: k01 and v01, and so on, or k001 and v001, or with more digits.
 #[derive(Clone, Copy)]
 pub enum Width {
     Two,
     Three,
+    Four,
+    Five,
 }
 
 impl Width {
@@ -36,6 +44,8 @@ impl Width {
         match self {
             Width::Two => write!(text, "{number:02}"),
             Width::Three => write!(text, "{number:03}"),
+            Width::Four => write!(text, "{number:04}"),
+            Width::Five => write!(text, "{number:05}"),
         }
     }
 
@@ -93,6 +103,9 @@ impl Numbered {
                 "begin 0 delete k#\nfinish 0\n",
                 "0 deleted v#\n",
             ),
+            Part::Turns(count) => ((count.max(1), count, false), "turn 0 #\n", ""),
+            Part::Each(first, last, lines, printed) => ((first, last, false), lines, printed),
+            Part::EachDown(last, first, lines, printed) => ((first, last, true), lines, printed),
             Part::Lists(count) => ((count, count, false), "list\n", "pairs #\n"),
             Part::Pairs(first, last) => ((first, last, false), "", "k# v#\n"),
         };

@@ -1,6 +1,7 @@
 //! Inputs, and what is printed for them.
 
 use crate::race_runs::{add_parts, prints};
+use crate::words::limits_of;
 use bw_model::Limits;
 use std::alloc::Global;
 use std::sync::Wait;
@@ -57,6 +58,19 @@ fn rows_with_seats(rt: HostRuntime) {
     for seats in [2, 1, 16] {
         assert!(rt; are_printed(&rt, rt.alloc(), seats));
     }
+}
+
+// Whether the first row is printed by a race that is given no numbers.
+fn is_printed_by_default<R: Threads + Wait + Sync>(rt: &R, alloc: Global) -> bool {
+    match (limits_of(alloc, "race"), ROWS.first()) {
+        (Some(limits), Some((input, output))) => prints(rt, alloc, limits, input, (output, 0)),
+        _ => false,
+    }
+}
+
+#[test]
+fn a_row_by_default(rt: HostRuntime) {
+    assert!(rt; is_printed_by_default(&rt, rt.alloc()));
 }
 
 const MALFORMED: &[u8] = b"refused line 3: 11\n";

@@ -66,9 +66,20 @@ const COMMANDS: &[u8] =
 const REPLIES: &[u8] =
     b"0 inserted\n0 inserted\n0 value v01\n0 exists =\npairs 2\nk01 v01\nk02 =\n0 inserted\n0 inserted\n0 value v04\n0 none\n0 page 3 k02 = k03 v03 k04 v04 end\n0 tidied\n0 deleted v03\npairs 3\nk01 v01\nk02 =\nk04 v04\n";
 
-const RUNS: [(Language, &[u8], &[u8]); 2] = [
+// Cursor pages of a tree of two leaves, and of an empty one.
+const PAGES: &[u8] =
+    b"begin 0 insert k01 v01\nfinish 0\nbegin 0 insert k02 v02\nfinish 0\nbegin 0 insert k03 v03\nfinish 0\nbegin 0 insert k04 v04\nfinish 0\nbegin 0 insert k05 v05\nfinish 0\nbegin 0 insert k06 v06\nfinish 0\nbegin 0 insert k07 v07\nfinish 0\nbegin 0 insert k08 v08\nfinish 0\nbegin 0 insert k09 v09\nfinish 0\nbegin 0 insert k10 v10\nfinish 0\nbegin 0 insert k11 v11\nfinish 0\nbegin 0 insert k12 v12\nfinish 0\nbegin 0 insert k13 v13\nfinish 0\nbegin 0 insert k14 v14\nfinish 0\nbegin 0 insert k15 v15\nfinish 0\nbegin 0 insert k16 v16\nfinish 0\nbegin 0 insert k17 v17\nfinish 0\nbegin 0 page k05\nfinish 0\nbegin 0 insert k085 y\nfinish 0\nbegin 0 page k16\nfinish 0\n";
+
+const SHOWN: &[u8] =
+    b"0 inserted\n0 inserted\n0 inserted\n0 inserted\n0 inserted\n0 inserted\n0 inserted\n0 inserted\n0 inserted\n0 inserted\n0 inserted\n0 inserted\n0 inserted\n0 inserted\n0 inserted\n0 inserted\n0 inserted\n0 page 4 k05 v05 k06 v06 k07 v07 k08 v08 next k09\n0 inserted\n0 page 2 k16 v16 k17 v17 end\n";
+
+const EMPTY: &[u8] = b"begin 0 page =\nfinish 0\n";
+
+const RUNS: [(Language, &[u8], &[u8]); 4] = [
     (Language::Weave, INPUT, OUTPUT),
     (Language::Script, COMMANDS, REPLIES),
+    (Language::Weave, PAGES, SHOWN),
+    (Language::Weave, EMPTY, b"0 page 0 end\n"),
 ];
 
 // Whether each write that fails, of five bytes, leaves a beginning of the output, though the next ones wouldn't fail.
@@ -87,7 +98,7 @@ fn writes_fail(
             return false;
         }
     }
-    all.writes > 20 && all.is(output, 0)
+    all.writes > 2 && all.is(output, 0)
 }
 
 // Whether a flush that fails leaves all of the output.
@@ -110,7 +121,7 @@ fn failed_writes(rt: HostRuntime) {
         writes_fail(alloc, limits, language, input, output)
             && flush_fails(alloc, limits, language, input, output)
     });
-    assert!(rt; fail == [true; 2]);
+    assert!(rt; fail == [true; 4]);
 }
 
 // The whole lines among the first bytes of the input.
@@ -156,7 +167,7 @@ fn failed_reads(rt: HostRuntime) {
         reads_fail(alloc, limits, run, ErrorKind::Other)
             && reads_fail(alloc, limits, run, ErrorKind::Interrupted)
     });
-    assert!(rt; fail == [true; 2]);
+    assert!(rt; fail == [true; 4]);
 }
 
 // Whether this is printed, one byte a read and one a write.
@@ -191,7 +202,7 @@ fn one_byte_at_a_time(rt: HostRuntime) {
         is_printed(alloc, limits, language, input, output)
             && is_ended(alloc, limits, language, input, output)
     });
-    assert!(rt; printed == [true; 2]);
+    assert!(rt; printed == [true; 4]);
 }
 
 // Whether this is printed, by six writes at most, however many bytes come with each read.

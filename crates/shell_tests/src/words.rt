@@ -1,5 +1,6 @@
 //! The words of a command line.
 
+use bw_model::Limits;
 use shell_options::{OptionsError, Program, Settings, options};
 use std::alloc::{AllocError, Global};
 
@@ -36,6 +37,17 @@ fn words(alloc: Global, line: &str) -> Result<Vec<String>, AllocError> {
         words.push(String::from_str(alloc, word)?)?;
     }
     Ok(words)
+}
+
+/// The limits of a tree that the words of a line ask for.
+pub(crate) fn limits_of(alloc: Global, line: &str) -> Option<Limits> {
+    match words(alloc, line) {
+        Ok(words) => match options(alloc, words.as_slice()) {
+            Ok(settings) => settings.limits().ok(),
+            Err(_) => None,
+        },
+        Err(_) => None,
+    }
 }
 
 /// What the words come to.

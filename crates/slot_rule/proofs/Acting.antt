@@ -17,7 +17,7 @@ use Rattle.deltas.specs.Memory.{Memory}
 use Rattle.traces.specs.declared.trace.Entry.{Entry}
 use Rattle.traces.specs.trace.Steps.{memory_after}
 use Rattle.traces.specs.trace.Trace.{memory_of}
-use Rattle.tree_words.specs.Changes.{HasWord, SetsBits, TellsNothing, changed_word, left_by, told, word_after, words_after, SpellsParts, ChangesOneWord, StepsChangeOneWord, WordsStandFirst}
+use Rattle.tree_words.specs.Changes.{HasWord, SetsBits, TellsNothing, changed_word, left_by, operation_of, told, word_after, words_after, SpellsParts, ChangesOneWord, OperationsLeaveWords, StepsChangeOneWord, StoresTellNothing, WordsStandFirst}
 use Rattle.tree_words.specs.declared.operations.Operation.{Operation}
 use Rattle.tree_words.specs.declared.operations.Operation.TheVariants as operation
 use Rattle.tree_words.specs.Layout.{row_at, rows_at}
@@ -59,7 +59,6 @@ module _ (change : StepsChangeOneWord) (first : WordsStandFirst) (limits : Limit
         spells = λ view _. spells_views limits (words_after actor step s.words) (memory_after actor step m) (IsSettled s.views) (IsSettled (set s.views id view))
             (λ row is. settled_back s.views id limits actor seen Idle view row at tt is) spells;
         kept = λ row content is. h.kept row content (ap (λ (rows : ℕ → Option Record). rows row) (sym c.records) ∙ is);
-        reads = λ other row _ _. ap (λ (rows : ℕ → Option Record). rows row) c.records;
         writes = λ other row _ _ _ j _. stay row (j + 1);
       }
 
@@ -96,9 +95,12 @@ module _ (change : StepsChangeOneWord) (first : WordsStandFirst) (law : Limits �
         (λ k. (sym of.own k, sym e k, (λ found. sym (same found) k), (λ found. (quiet found ∙ sym (quiet x)) k))) allowed,
   )
 
--- What an operation leaves, whichever it is: the code's exchange is the step's.
-pub as_made : (step : Step Record) (made kind : Operation) → made ≡ kind → ((found : ℕ) → left_by made found ≡ word_after step found) → (found : ℕ) → left_by kind found ≡ word_after step found
-as_made step made kind is left found = ap (λ o. left_by o found) (sym is) ∙ left found
+-- What an operation leaves and tells, whichever it is: it is the step's.
+pub left_as : OperationsLeaveWords → (step : Step Record) (made kind : Operation) → made ≡ kind → made ≡ operation_of step → (found : ℕ) → left_by kind found ≡ word_after step found
+left_as leave step made kind is of found = ap (λ o. left_by o found) (sym is ∙ of) ∙ leave step found
+
+pub quiet_as : StoresTellNothing → (step : Step Record) (made kind : Operation) → made ≡ kind → made ≡ operation_of step → TellsNothing step kind
+quiet_as quiet step made kind is of = subst (TellsNothing step) (sym of ∙ is) (quiet step)
 
 pub exchanged : (old new found : ℕ) → either (eqb found old) new found ≡ left_by (operation.Exchange old new) found
 exchanged old new found = by_test (eqb found old)
@@ -106,6 +108,3 @@ exchanged old new found = by_test (eqb found old)
     by_test : (b : Bool) → either b new found ≡ (if b then new else found)
     by_test true = refl
     by_test false = refl
-
-pub quiet_as : (step : Step Record) (made kind : Operation) → made ≡ kind → TellsNothing step made → TellsNothing step kind
-quiet_as step made kind is quiet = subst (TellsNothing step) is quiet

@@ -84,6 +84,7 @@ module _ (limits : Limits) where
     spells = spells_views limits words (memory_opening limits) (λ _. Unit {0}) (IsSettled (dealt limits ∷ [])) (λ row _. tt) are.spells;
     kept = opening_kept;
     begins = tt;
+    actors = tt;
     once = λ actor. let o = dealt_once actor 0 limits.actors in omega arith;
     somewhere = λ actor below. let o = dealt_all actor 0 limits.actors (omega arith) (omega (arith, below)) in omega arith;
     each = only;

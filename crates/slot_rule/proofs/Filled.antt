@@ -25,13 +25,13 @@ use Rattle.tree_words.specs.Layout.{row_at, width}
 use Rattle.tree_words.specs.Words.{words_in}
 use Rattle.slot_rule.specs.declared.view.Reach.TheVariants.{Idle}
 use Rattle.slot_rule.specs.declared.view.Part.{Part}
-use Rattle.slot_rule.specs.Running.{IsSettled, KnowsReadable, KnowsPlaceable, KeepsRowsApart, HasSpelling, ReachFits, PartFits}
+use Rattle.slot_rule.specs.Running.{IsSettled, KnowsPlaceable, KeepsRowsApart, HasSpelling, ReachFits, PartFits}
 use Rattle.slot_rule.specs.Steps.{IsLawfulStep, Took, Fills, Places, into_row, tail_from}
 use Rattle.slot_rule.specs.Views.{part, alone, Mine, seen_of, SitsAt}
 use Rattle.slot_rule.proofs.Parts.{goes_extends, settled_back, starts_self}
 use Rattle.slot_rule.proofs.Roster.{set_at}
 use Rattle.slot_rule.proofs.Turns.{TableState, Rule, turn, event_telling, same_actor, same_limits}
-use Rattle.slot_rule.proofs.ByWord.{done_into_row, leaves_into_row, left_by_writer, write_fits, fits_write, at_each, spells_row, stands_into_row}
+use Rattle.slot_rule.proofs.ByWord.{leaves_into_row, left_by_writer, write_fits, fits_write, at_each, spells_row, stands_into_row}
 use Rattle.deltas.proofs.Replaced.{replaced_same, replaced_other}
 use Rattle.traces.proofs.OwnEntries.{knows_extends}
 
@@ -88,15 +88,14 @@ module _ (limits : Limits) (law : Limits → List Entry → Type 0) (apart : Kee
                 grows = starts_self h.run;
                 extends = λ other seen ne t. t;
                 same = λ other ne. refl;
-                reads = λ other row' ne may. refl;
                 writes = λ other row' ne may _ j small. others_row s h there (length written + 1) x other row' j (omega arith) ne may small;
               }
-              (extends_now s h there) h.kept h.begins
+              (extends_now s h there) h.kept h.begins h.actors
               (write_fits limits (set s.words at x) h.run actor row (written ++ x ∷ []) now within (omega arith) (stand_with s.words x (omega arith) (fits_write limits s.words h.run actor row written now_fits.reach)))
               (spells_row limits s.words (memory_of limits h.run) (memory_of limits h.run) (IsSettled s.views) (IsSettled (set s.views id view)) h.spells row (length written + 1) x (omega arith) refl
               (λ other j below small st. other_row s h there at (length written + 1) x other j view refl (omega arith) below small (left_by_writer other row written x (st id view stands).0) st)),
           λ limits' actor' row' written' is' word.
-              (at_each limits (λ l b q us. SitsAt l b (into_row q (us ++ x ∷ [])) (view, me.1)) actor row written into_row done_into_row me is (ap (λ (c : List (ℕ × Unit {0})). (view, c)) (ap (λ (z : Mine). z.1) is)) 1 limits' actor' row' written' is' word, refl),
+              (at_each limits (λ l b q us. SitsAt l b (into_row q (us ++ x ∷ [])) (view, me.1)) actor row written me is (ap (λ (c : List (ℕ × Unit {0})). (view, c)) (ap (λ (z : Mine). z.1) is)) limits' actor' row' written' is' word, refl),
         )
 
     -- Once the header is written, the row has the record's words.
@@ -126,7 +125,6 @@ module _ (limits : Limits) (law : Limits → List Entry → Type 0) (apart : Kee
                 (λ same. let new : Some content ≡ Some stays = sym (ap rows same ∙ replaced_same row (Some content) memory.rows) ∙ e in
                 record { there = subst (λ z. z < limits.rows) (sym same) within; spelling = subst HasSpelling (same_Some content stays new) spellable })
                 (λ ne. h.kept other stays (sym (replaced_other row (Some content) memory.rows other ne) ∙ e));
-            reads = λ other row' ne known. replaced_other row (Some content) memory.rows row' (λ e. absurd (apart.unread actor other row h.run h.legal now (subst (λ (z : ℕ). KnowsReadable (knows h.run other) z) e known)));
             writes = λ other row' ne may' _ j small. others_row s h there 0 header other row' j (omega arith) ne may' small;
           },
           λ me' is_after took limits' actor' row' written' is'.

@@ -9,7 +9,7 @@ use Rattle.traces.specs.declared.trace.Entry.{Entry}
 use Rattle.traces.specs.discipline.Disciplined.{Extends}
 use Rattle.traces.specs.trace.Trace.{memory_of}
 use Rattle.tree_words.specs.Words.{AreWordsOf}
-use Rattle.slot_rule.specs.declared.view.Reach.TheVariants.{Idle, Reading, Writing, Noted}
+use Rattle.slot_rule.specs.declared.view.Reach.TheVariants.{Idle, Writing, Noted}
 use Rattle.slot_rule.specs.declared.view.Reach.{Reach}
 use Rattle.slot_rule.specs.declared.view.Part.{Part}
 use Rattle.slot_rule.specs.Running.{Each, ExtendsFor, LeavesRow, IsSettled, is_at, times, PartFits, Running}
@@ -79,7 +79,6 @@ module _ (limits : Limits) (law : List Entry → Type 0) where
   -- a part that is no seat of its own actor's is a note
   apart_leaves : (row actor : ℕ) (reach : Reach) → IsApart actor actor reach → LeavesRow row reach
   apart_leaves row actor Idle apart = tt
-  apart_leaves row actor (Reading at words) apart = tt
   apart_leaves row actor (Writing at words) apart = absurd (apart_ne actor actor apart refl)
   apart_leaves row actor Noted apart = tt
 
@@ -100,6 +99,7 @@ module _ (limits : Limits) (law : List Entry → Type 0) where
       (λ ne. notes_leave s.words h.run row view (h.each j view there) (λ actor below. elsewhere s.views id j parts view actor h.once at (all actor below) there ne)) in record {
         run = h.run;
         legal = h.legal;
+        begins = h.begins;
         extends = each_zip (PartFits limits s.words h.run) (λ part. part.reach ≡ Idle) (λ part. Extends part.actor part.seen h.run)
             (λ part fit idle. subst (λ reach. ExtendsFor reach part.actor part.seen h.run) idle fit.extends) parts (h.each id parts at) stand.idle;
         kept = h.kept;

@@ -2,8 +2,10 @@ mod Parts
 mod Turns
 mod Acting
 mod ByWord
-mod Gathered
+mod RowReads
+mod Copied
 mod Filled
 mod Roster
 mod Dealt
 mod Left
+mod Longest

@@ -1,5 +1,5 @@
 -- Lists of parts, and runs that go on.
-use Rattle.std.proofs.Common.{◌≡◌, ◌≢◌, ℕ, zero, suc, ◌+◌, ◌≤◌, eqb, Bool, false, List, [], ◌∷◌, ◌++◌, set, sym, refl, ap, ◌∙◌, subst, arith, append_assoc, append-nil, eq-eqb, ne_eqb}
+use Rattle.std.proofs.Common.{◌≡◌, ◌≢◌, ℕ, zero, suc, ◌+◌, ◌<◌, ◌≤◌, eqb, Bool, false, List, [], ◌∷◌, ◌++◌, set, sym, refl, ap, ◌∙◌, subst, arith, append_assoc, append-nil, eq-eqb, ne_eqb}
 use Rattle.std.specs.Prelude.{if◌then◌else◌, None, Some, Option, ⊤}
 use mathlib.Core.Option.{some, some-injective, some-ne-none}
 use mathlib.Core.Logic.{dite}
@@ -21,9 +21,9 @@ use Rattle.traces.specs.trace.Steps.{memory_after}
 use Rattle.traces.specs.trace.Trace.{memory_of}
 use Rattle.tree_words.specs.Words.{SpellsWhere}
 use Rattle.slot_rule.specs.declared.view.Reach.{Reach}
-use Rattle.slot_rule.specs.declared.view.Reach.TheVariants.{Idle, Reading, Writing, Noted}
+use Rattle.slot_rule.specs.declared.view.Reach.TheVariants.{Idle, Writing, Noted}
 use Rattle.slot_rule.specs.declared.view.Part.{Part}
-use Rattle.slot_rule.specs.Running.{Each, ExtendsFor, LeavesRow, IsSettled, StartsWith, GoesOnWithStep, BeginWithSteps, is_at, times, everywhere}
+use Rattle.slot_rule.specs.Running.{Each, ExtendsFor, LeavesRow, IsSettled, StartsWith, GoesOnWithStep, BeginWithSteps, actor_of, is_at, times, everywhere}
 use Rattle.slot_rule.specs.Steps.{opened, with_step}
 use Rattle.slot_rule.specs.Views.{alone}
 use Rattle.traces.proofs.OwnEntries.{AreOthers, others_append}
@@ -50,19 +50,16 @@ starts_on seen run later a b = (a.0 ++ b.0, b.1 ∙ ap (λ (es : List Entry). es
 -- Steps are taken where a seat stands, and not where a note is.
 abbrev pub Stands : Reach → Type 0
 Stands Idle = ⊤
-Stands (Reading row words) = ⊤
 Stands (Writing row words) = ⊤
 Stands Noted = ⊥
 
 pub goes_extends : (reach : Reach) (actor : ℕ) (seen run : List Entry) → Stands reach → ExtendsFor reach actor seen run → Extends actor seen run
 goes_extends Idle actor seen run stands goes = goes
-goes_extends (Reading row words) actor seen run stands goes = goes
 goes_extends (Writing row words) actor seen run stands goes = goes
 goes_extends Noted actor seen run stands goes = absurd stands
 
 pub extends_goes : (reach : Reach) (actor : ℕ) (seen run : List Entry) → Extends actor seen run → ExtendsFor reach actor seen run
 extends_goes Idle actor seen run extends = extends
-extends_goes (Reading row words) actor seen run extends = extends
 extends_goes (Writing row words) actor seen run extends = extends
 extends_goes Noted actor seen run extends = (extends.0, extends.1)
 
@@ -98,6 +95,11 @@ begins_on (Step actor step answer reply ∷ run) more begins rest = begins_on ru
 pub begins_events : (actor : ℕ) (begun : Option Command) (step : StepOf Record) (answer : Answer Record) (reply : Option Reply) → BeginWithSteps (events actor begun step answer reply)
 begins_events actor None step answer reply = tt
 begins_events actor (Some command) step answer reply = (refl, tt)
+
+pub actors_events : (limits : Limits) (actor : ℕ) (begun : Option Command) (step : StepOf Record) (answer : Answer Record) (reply : Option Reply) → actor < limits.actors
+    → Each (λ entry. actor_of entry < limits.actors) (events actor begun step answer reply)
+actors_events limits actor None step answer reply there = (there, tt)
+actors_events limits actor (Some command) step answer reply there = (there, (there, tt))
 
 memory_begun : (limits : Limits) (run : List Entry) (actor : ℕ) (begun : Option Command) → memory_of limits (run ++ opened actor begun) ≡ memory_of limits run
 memory_begun limits run actor None = ap (memory_of limits) (append-nil run)
@@ -136,7 +138,6 @@ times_append a (p ∷ ps) w = let r = times_append a ps w in omega arith
 -- where a seat stands doesn't matter
 at_stands : (a actor : ℕ) (h : Reach) → Stands h → is_at a actor h ≡ eqb actor a
 at_stands a actor Idle stands = refl
-at_stands a actor (Reading row words) stands = refl
 at_stands a actor (Writing row words) stands = refl
 at_stands a actor Noted stands = absurd stands
 

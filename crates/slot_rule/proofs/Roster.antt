@@ -1,4 +1,4 @@
--- A look, a split and a join of seats keep the rule, and so does a new seat.
+-- Refreshing, splitting and joining seats keeps the rule, and so does a new seat.
 use Rattle.std.proofs.Common.{◌≡◌, ◌≢◌, ℕ, zero, suc, ◌+◌, List, [], ◌∷◌, ◌++◌, map, length, set, sym, refl, ap, ◌∙◌, subst, ⊎_elim, arith}
 use Rattle.std.proofs.lemmas.List.{set-get_or}
 use mathlib.Core.Logic.{dite}
@@ -13,10 +13,10 @@ use Rattle.traces.specs.declared.trace.Entry.{Entry}
 use Rattle.traces.specs.trace.Trace.{memory_of}
 use Rattle.tree_words.specs.Words.{SpellsWhere}
 use Rattle.slot_rule.specs.declared.view.Reach.{Reach}
-use Rattle.slot_rule.specs.declared.view.Reach.TheVariants.{Idle, Reading, Writing, Noted}
+use Rattle.slot_rule.specs.declared.view.Reach.TheVariants.{Idle, Writing, Noted}
 use Rattle.slot_rule.specs.declared.view.Part.{Part}
 use Rattle.slot_rule.specs.Running.{Each, ExtendsFor, LeavesRow, IsSettled, StartsWith, is_at, times, PartFits, Running}
-use Rattle.slot_rule.specs.Views.{Mine, Looked, Looks, refreshed, IsBlank, first_part, noted, other_parts}
+use Rattle.slot_rule.specs.Views.{Mine, IsRefreshed, Refreshes, refreshed, IsBlank, first_part, noted, other_parts}
 use Rattle.slot_rule.proofs.Turns.{TableState}
 use Rattle.slot_rule.proofs.Parts.{mark, each_map, each_append, extends_goes, everywhere_set, everywhere_snoc, times_append, spells_views}
 use Rattle.traces.proofs.OwnEntries.{extends_self}
@@ -64,8 +64,8 @@ module _ (limits : Limits) (law : List Entry → Type 0) where
   fits_refreshed words run [] t = tt
   fits_refreshed words run (p ∷ ps) t = (record { extends = extends_goes p.reach p.actor run run (extends_self p.actor run); reach = t.0.reach; there = t.0.there; own_limits = t.0.own_limits }, fits_refreshed words run ps t.1)
 
-  looked : (s : TableState) (h : R s) (id : ℕ) (v : List Part) → get_elem? s.views id ≡ some v → R record { words = s.words; homes = s.homes; views = set s.views id (map (refreshed h.run) v) }
-  looked s h id v at = let w : List Part = map (refreshed h.run) v in record {
+  view_refreshed : (s : TableState) (h : R s) (id : ℕ) (v : List Part) → get_elem? s.views id ≡ some v → R record { words = s.words; homes = s.homes; views = set s.views id (map (refreshed h.run) v) }
+  view_refreshed s h id v at = let w : List Part = map (refreshed h.run) v in record {
     run = h.run;
     legal = h.legal;
     kept = h.kept;
@@ -75,6 +75,7 @@ module _ (limits : Limits) (law : List Entry → Type 0) where
         (λ e. subst (λ z. Each (λ p. LeavesRow r p.reach) z) (same_view s.views id j v u at there e) (leaves_refreshed r h.run v (st id w (set_at s.views id v w at))))
         (λ ne. st j u (set_else s.views id j w ne ∙ there))) h.spells;
     begins = h.begins;
+    actors = h.actors;
     once = λ a. let t = everywhere_set s.views id v w a at in let o = h.once a in let same = times_refreshed a h.run v in omega arith;
     somewhere = λ a below. let t = everywhere_set s.views id v w a at in let o = h.somewhere a below in let same = times_refreshed a h.run v in omega arith;
     each = λ j u there. ⊎_elim
@@ -83,13 +84,13 @@ module _ (limits : Limits) (law : List Entry → Type 0) where
         (at_set s.views id j w u there);
   }
 
-  pub looks : (slots id : ℕ) (me : Mine) (i : ℕ) → Allows R slots id me i (λ n. n) (λ n. Looked law me)
-  looks slots id me i s h _ at _ = (
+  pub refreshes : (slots id : ℕ) (me : Mine) (i : ℕ) → Allows R slots id me i (λ n. n) (λ n. IsRefreshed law me)
+  refreshes slots id me i s h _ at _ = (
     map (refreshed h.run) me.0,
     keeps,
     tt,
-    subst (λ (ws : List ℕ). R record { words = ws; homes = s.homes; views = set s.views id (map (refreshed h.run) me.0) }) (sym (set-get_or s.words i 0)) (looked s h id me.0 at),
-    record { run = h.run; legal = h.legal; saw = refl; extends = each_map (Fits s.words h.run) (λ p. ExtendsFor p.reach p.actor p.seen h.run) (λ p f. f.extends) me.0 (h.each id me.0 at) },
+    subst (λ (ws : List ℕ). R record { words = ws; homes = s.homes; views = set s.views id (map (refreshed h.run) me.0) }) (sym (set-get_or s.words i 0)) (view_refreshed s h id me.0 at),
+    record { run = h.run; legal = h.legal; begins = h.begins; saw = refl; extends = each_map (Fits s.words h.run) (λ p. ExtendsFor p.reach p.actor p.seen h.run) (λ p f. f.extends) me.0 (h.each id me.0 at) },
   )
 
   pub joins : (id other : ℕ) (v w : List Part) → Joins R id v other w (v ++ w) []
@@ -110,6 +111,7 @@ module _ (limits : Limits) (law : List Entry → Type 0) where
             (λ e. subst (λ z. Each (λ p. LeavesRow r p.reach) z) (same_view s.views other j w u there' is e) (each_right (λ p. LeavesRow r p.reach) v w both))
             (λ nother. st j u (set_else first other j [] nother ∙ set_else s.views id j (v ++ w) nid ∙ is)))) h.spells;
         begins = h.begins;
+        actors = h.actors;
         once = λ a. let t = everywhere_set s.views id v (v ++ w) a at in let u = everywhere_set first other w [] a there in let o = h.once a in let sum = times_append a v w in omega arith;
         somewhere = λ a below. let t = everywhere_set s.views id v (v ++ w) a at in let u = everywhere_set first other w [] a there in let o = h.somewhere a below in let sum = times_append a v w in omega arith;
         each = λ j u is. ⊎_elim
@@ -137,6 +139,7 @@ module _ (limits : Limits) (law : List Entry → Type 0) where
             (λ e. subst (λ z. Each (λ p. LeavesRow r p.reach) z) (sym cut ∙ same_view s.views id j v u at is e) (each_append (λ p. LeavesRow r p.reach) left right (st id left here) (st (length first) right there)))
             (λ ne. st j u (at_longer first (right ∷ []) j u (set_else s.views id j left ne ∙ is)))) h.spells;
         begins = h.begins;
+        actors = h.actors;
         once = λ a. let t = everywhere_set s.views id v left a at in let u = everywhere_snoc first right a in let o = h.once a in let sum = times_append a left right in
             let whole : times a v ≡ times a (left ++ right) = ap (times a) cut in omega arith;
         somewhere = λ a below. let t = everywhere_set s.views id v left a at in let u = everywhere_snoc first right a in let o = h.somewhere a below in let sum = times_append a left right in
@@ -156,7 +159,6 @@ module _ (limits : Limits) (law : List Entry → Type 0) where
 
   note_goes : (p : Part) (reach : Reach) (run : List Entry) → ExtendsFor reach p.actor p.seen run → StartsWith run p.seen
   note_goes p Idle run goes = (goes.0, goes.1)
-  note_goes p (Reading row words) run goes = (goes.0, goes.1)
   note_goes p (Writing row words) run goes = (goes.0, goes.1)
   note_goes p Noted run goes = goes
 
@@ -178,6 +180,7 @@ module _ (limits : Limits) (law : List Entry → Type 0) where
             (λ e. subst (λ z. Each (λ p. LeavesRow r p.reach) z) (same_view s.views id j v u at is e) (st id v here))
             (λ ne. st j u (at_longer first (noted v ∷ []) j u (set_else s.views id j v ne ∙ is)))) h.spells;
         begins = h.begins;
+        actors = h.actors;
         once = λ a. let t = everywhere_set s.views id v v a at in let u = everywhere_snoc first (noted v) a in let o = h.once a in let none = note_times a v in omega arith;
         somewhere = λ a below. let t = everywhere_set s.views id v v a at in let u = everywhere_snoc first (noted v) a in let o = h.somewhere a below in let none = note_times a v in omega arith;
         each = λ j u is. ⊎_elim
@@ -200,6 +203,7 @@ module _ (limits : Limits) (law : List Entry → Type 0) where
       wide = h.wide;
       spells = with_views limits s.words s.views (s.views ++ [] ∷ []) (memory_of limits h.run) (λ r st j u is. st j u (at_longer s.views ([] ∷ []) j u is)) h.spells;
       begins = h.begins;
+      actors = h.actors;
       once = λ a. let t = everywhere_snoc s.views [] a in let o = h.once a in omega arith;
       somewhere = λ a below. let t = everywhere_snoc s.views [] a in let o = h.somewhere a below in omega arith;
       each = λ j u is. ⊎_elim (λ t. h.each j u t) (λ e. subst (λ z. Each (PartFits limits s.words h.run) z) e tt) (at_snoc s.views [] u j is);
@@ -210,6 +214,6 @@ module _ (limits : Limits) (law : List Entry → Type 0) where
 first_limits : (limits : Limits) (words : List ℕ) (run : List Entry) (v : List Part) (p : Part) (ps : List Part) → v ≡ p ∷ ps → Each (PartFits limits words run) v → p.limits ≡ limits
 first_limits limits words run v p ps e fits = let all : Each (PartFits limits words run) (p ∷ ps) = subst (λ z. Each (PartFits limits words run) z) e fits in all.0.own_limits
 
-pub looks_of : (limits key : Limits) (law : Limits → List Entry → Type 0) → key ≡ limits → (slots id : ℕ) (me : Mine) (i : ℕ) → Allows (Running key (law key)) slots id me i (λ n. n) (Looks law (step slots i 0 0 none) me)
-looks_of limits key law own slots id me i s h count at small = let t = looks key (law key) slots id me i s h count at small in
-    (t.0, t.1, t.2, t.3, λ p ps e. subst (λ l. Looked (law l) me (t.0, carried_after me.1 t.1)) (sym (first_limits key s.words h.run me.0 p ps e (h.each id me.0 at))) t.4)
+pub refreshes_of : (limits key : Limits) (law : Limits → List Entry → Type 0) → key ≡ limits → (slots id : ℕ) (me : Mine) (i : ℕ) → Allows (Running key (law key)) slots id me i (λ n. n) (Refreshes law (step slots i 0 0 none) me)
+refreshes_of limits key law own slots id me i s h count at small = let t = refreshes key (law key) slots id me i s h count at small in
+    (t.0, t.1, t.2, t.3, λ p ps e. subst (λ l. IsRefreshed (law l) me (t.0, carried_after me.1 t.1)) (sym (first_limits key s.words h.run me.0 p ps e (h.each id me.0 at))) t.4)

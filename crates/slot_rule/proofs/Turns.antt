@@ -1,5 +1,5 @@
 -- One turn of one seat keeps the rule, and so does a step of its actor.
-use Rattle.std.proofs.Common.{◌≡◌, ◌≢◌, ℕ, ◌+◌, ◌<◌, List, [], ◌∷◌, ◌++◌, length, get_or, set, take, sym, refl, ap, ◌∙◌, subst, ⊎_elim, arith, length-set}
+use Rattle.std.proofs.Common.{◌≡◌, ◌≢◌, ℕ, ◌+◌, ◌<◌, List, [], ◌∷◌, ◌++◌, get_or, set, sym, refl, ap, ◌∙◌, subst, ⊎_elim, arith, length-set}
 use Rattle.std.specs.Prelude.{Some, Option}
 use mathlib.Core.Option.{some}
 use lib.ListN.{get_elem?}
@@ -18,14 +18,14 @@ use Rattle.traces.specs.trace.Steps.{IsAnswer, memory_after}
 use Rattle.traces.specs.trace.Trace.{memory_of}
 use Rattle.record_slots.specs.Layout.{last_at}
 use Rattle.tree_words.specs.Layout.{row_at}
-use Rattle.tree_words.specs.Words.{words_in, SpellsWhere}
+use Rattle.tree_words.specs.Words.{SpellsWhere}
 use Rattle.slot_rule.specs.declared.view.Reach.{Reach}
-use Rattle.slot_rule.specs.declared.view.Reach.TheVariants.{Idle, Reading, Writing, Noted}
+use Rattle.slot_rule.specs.declared.view.Reach.TheVariants.{Idle, Writing, Noted}
 use Rattle.slot_rule.specs.declared.view.Part.{Part}
-use Rattle.slot_rule.specs.Running.{Each, ExtendsFor, StartsWith, KnowsReadable, KnowsPlaceable, IsSettled, IsSpelledRow, ReachFits, PartFits, BeginWithSteps, everywhere, Running}
+use Rattle.slot_rule.specs.Running.{Each, ExtendsFor, StartsWith, KnowsPlaceable, IsSettled, IsSpelledRow, ReachFits, PartFits, BeginWithSteps, actor_of, everywhere, Running}
 use Rattle.slot_rule.specs.Views.{Mine, part, alone, seen_of, SitsAt}
 use Rattle.slot_rule.specs.Steps.{with_step, IsLawfulStep, Took, Event}
-use Rattle.slot_rule.proofs.Parts.{IsApart, Stands, apart_ne, each_zip, extends_goes, goes_extends, events, others_events, with_events, memory_stepped, starts_on, times_alone, times_of_one, everywhere_set, elsewhere, begins_on, begins_events}
+use Rattle.slot_rule.proofs.Parts.{IsApart, Stands, actors_events, apart_ne, each_append, each_zip, extends_goes, goes_extends, events, others_events, with_events, memory_stepped, starts_on, times_alone, times_of_one, everywhere_set, elsewhere, begins_on, begins_events}
 use Rattle.traces.proofs.OwnEntries.{extends_self, extends_on, knows_on}
 
 abbrev pub TableState : Type 0
@@ -55,16 +55,11 @@ module _ (limits : Limits) (law : Limits → List Entry → Type 0) where
     pub grows : StartsWith run' run
     pub extends : (other : ℕ) (seen : List Entry) → other ≢ actor → Extends other seen run → Extends other seen run'
     pub same : (other : ℕ) → other ≢ actor → knows run' other ≡ knows run other
-    pub reads : (other row : ℕ) → other ≢ actor → KnowsReadable (knows run other) row → (memory_of limits run').rows row ≡ (memory_of limits run).rows row
     pub writes : (other row : ℕ) → other ≢ actor → KnowsPlaceable (knows run other) row → row < limits.rows → (j : ℕ) → j < last_at → get_or words' (row_at row (j + 1)) 0 ≡ get_or words (row_at row (j + 1)) 0
 
   spared : (actor other : ℕ) (words words' : List ℕ) (seen run run' : List Entry) (reach : Reach) → IsApart actor other reach → Spares actor words words' run run' → ExtendsFor reach other seen run → ReachFits limits words run other reach
       → ExtendsFor reach other seen run' × ReachFits limits words' run' other reach
   spared actor other words words' seen run run' Idle apart spares goes fits = (spares.extends other seen (apart_ne actor other apart) goes, tt)
-  spared actor other words words' seen run run' (Reading row read) apart spares goes fits = let ne = apart_ne actor other apart in (
-    spares.extends other seen ne goes,
-    (subst (λ k. KnowsReadable k row) (sym (spares.same other ne)) fits.0, fits.1 ∙ ap (λ x. take (length read) (words_in x)) (sym (spares.reads other row ne fits.0))),
-  )
   spared actor other words words' seen run run' (Writing row written) apart spares goes fits = let ne = apart_ne actor other apart in let short = fits.2 in (
     spares.extends other seen ne goes,
     (subst (λ k. KnowsPlaceable k row) (sym (spares.same other ne)) fits.0, fits.1, fits.2, λ j below. spares.writes other row ne fits.0 fits.1 j (omega arith) ∙ fits.3 j below),
@@ -83,15 +78,16 @@ module _ (limits : Limits) (law : Limits → List Entry → Type 0) where
   pub turn : (s : TableState) (h : Rule s) (id actor : ℕ) (seen : List Entry) (reach : Reach) → Stands reach → get_elem? s.views id ≡ some (alone limits actor seen reach)
       → (carried : List (ℕ × Unit {0})) (i x : ℕ) (run' seen' : List Entry) (reach' : Reach) → Stands reach' → law limits run' → Spares actor s.words (set s.words i x) h.run run' → Extends actor seen' run'
       → ((row : ℕ) (content : Record) → (memory_of limits run').rows row ≡ Some content → IsSpelledRow limits row content)
-      → BeginWithSteps run' → ReachFits limits (set s.words i x) run' actor reach' → SpellsWhere limits (set s.words i x) (memory_of limits run') (IsSettled (set s.views id (alone limits actor seen' reach')))
+      → BeginWithSteps run' → Each (λ entry. actor_of entry < limits.actors) run' → ReachFits limits (set s.words i x) run' actor reach' → SpellsWhere limits (set s.words i x) (memory_of limits run') (IsSettled (set s.views id (alone limits actor seen' reach')))
       → Rule (stepped s i x id carried (alone limits actor seen' reach') keeps)
-  turn s h id actor seen reach stands at carried i x run' seen' reach' stands' legal spares extends kept begins fits spells = let one = times_alone limits actor seen reach stands in let mine = h.each id (alone limits actor seen reach) at in record {
+  turn s h id actor seen reach stands at carried i x run' seen' reach' stands' legal spares extends kept begins actors fits spells = let one = times_alone limits actor seen reach stands in let mine = h.each id (alone limits actor seen reach) at in record {
     run = run';
     legal = legal;
     wide = length-set s.words i x ∙ h.wide;
     spells = spells;
     kept = kept;
     begins = begins;
+    actors = actors;
     once = λ b. let same = moved b in let o = h.once b in omega arith;
     somewhere = λ b below. let same = moved b in let o = h.somewhere b below in omega arith;
     each = λ j view here. ⊎_elim
@@ -110,7 +106,6 @@ module _ (limits : Limits) (law : Limits → List Entry → Type 0) where
     pub spells : (view : List Part) → view ≡ alone limits actor (with_step h.run actor begun step answer reply) Idle
         → SpellsWhere limits (set s.words i x) (memory_after actor step (memory_of limits h.run)) (IsSettled (set s.views id view))
     pub kept : (row : ℕ) (content : Record) → (memory_after actor step (memory_of limits h.run)).rows row ≡ Some content → IsSpelledRow limits row content
-    pub reads : (other row : ℕ) → other ≢ actor → KnowsReadable (knows h.run other) row → (memory_after actor step (memory_of limits h.run)).rows row ≡ (memory_of limits h.run).rows row
     pub writes : (other row : ℕ) → other ≢ actor → KnowsPlaceable (knows h.run other) row → row < limits.rows → (j : ℕ) → j < last_at → get_or (set s.words i x) (row_at row (j + 1)) 0 ≡ get_or s.words (row_at row (j + 1)) 0
 
   -- a step, and all that it can tell
@@ -132,11 +127,11 @@ module _ (limits : Limits) (law : Limits → List Entry → Type 0) where
       let grown : later ≡ h.run ++ more = with_events h.run actor begun step answer reply in
       let legal : law limits later = may h.run answer h.legal extends r.answered in
       let after : memory_of limits later ≡ memory_after actor step (memory_of limits h.run) = memory_stepped limits h.run actor begun step answer reply in
+      let begins : BeginWithSteps later = subst BeginWithSteps (sym grown) (begins_on h.run more h.begins (begins_events actor begun step answer reply)) in
       let spares : Spares actor s.words (set s.words i (f (get_or s.words i 0))) h.run later = record {
         grows = (more, grown);
         extends = λ other seen ne x. subst (Extends other seen) (sym grown) (extends_on other seen h.run more (others_events actor other begun step answer reply ne) x);
         same = λ other ne. ap (λ (run : List Entry). knows run other) grown ∙ knows_on other h.run more (others_events actor other begun step answer reply ne);
-        reads = λ other row ne l. ap (λ m. m.rows row) after ∙ r.reads other row ne l;
         writes = r.writes;
       } in (
         alone limits actor later Idle,
@@ -144,10 +139,10 @@ module _ (limits : Limits) (law : Limits → List Entry → Type 0) where
         tt,
         turn s h id actor (seen_of me) reach stands at' me.1 i (f (get_or s.words i 0)) later later Idle tt legal spares (extends_self actor later)
             (subst (λ m. (row : ℕ) (content : Record) → m.rows row ≡ Some content → IsSpelledRow limits row content) (sym after) r.kept)
-            (subst BeginWithSteps (sym grown) (begins_on h.run more h.begins (begins_events actor begun step answer reply))) tt
+            begins (subst (Each (λ entry. actor_of entry < limits.actors)) (sym grown) (each_append (λ entry. actor_of entry < limits.actors) h.run more h.actors (actors_events limits actor begun step answer reply fit.there))) tt
             (subst (λ m. SpellsWhere limits (set s.words i (f (get_or s.words i 0))) m (IsSettled (set s.views id (alone limits actor later Idle)))) (sym after) (r.spells _ refl)),
         t.2 (alone limits actor later Idle, me.1) (ap (λ (c : List (ℕ × Unit {0})). (alone limits actor later Idle, c)) (ap (λ (z : Mine). z.1) is))
-            record { run = h.run; legal = h.legal; extends = extends; answered = r.answered; grown = refl; kept = legal },
+            record { run = h.run; legal = h.legal; extends = extends; answered = r.answered; grown = refl; begins = begins; kept = legal },
       )
 
   -- where the answer is known from the number found

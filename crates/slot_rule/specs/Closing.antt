@@ -9,7 +9,7 @@ use Rattle.deltas.specs.declared.record.Record.{Record}
 use Rattle.tree_words.specs.Words.{AreWordsOf}
 use Rattle.slot_rule.specs.declared.view.Reach.TheVariants.{Idle}
 use Rattle.slot_rule.specs.declared.view.Part.{Part}
-use Rattle.slot_rule.specs.Running.{Each, IsSpelledRow, Running}
+use Rattle.slot_rule.specs.Running.{BeginWithSteps, Each, IsSpelledRow, Running}
 
 -- There are as many parts as actors, each between two steps. The rule says that no actor has two, so all have one.
 pub record AllStand (limits : Limits) (parts : List Part) : Type 0 where
@@ -21,6 +21,7 @@ pub record AllStand (limits : Limits) (parts : List Part) : Type 0 where
 pub record AreLeft (limits : Limits) (law : List Entry → Type 0) (parts : List Part) (words : List ℕ) : Type 0 where
   pub run : List Entry
   pub legal : law run
+  pub begins : BeginWithSteps run
   pub extends : Each (λ part. Extends part.actor part.seen run) parts
   pub are : AreWordsOf limits (memory_of limits run) words
   pub kept : (row : ℕ) (content : Record) → (memory_of limits run).rows row ≡ Some content → IsSpelledRow limits row content

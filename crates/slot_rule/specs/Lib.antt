@@ -2,3 +2,4 @@ pub mod Running
 pub mod Views
 pub mod Steps
 pub mod Closing
+pub mod Longest

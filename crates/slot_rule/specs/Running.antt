@@ -1,5 +1,5 @@
 -- The rule: what the words of a table and the views of its seats have to do with each other between any two atomic operations.
-use Rattle.std.specs.Prelude.{◌≡◌, ◌≢◌, ℕ, ◌+◌, ◌<◌, ◌≤◌, ◌==◌, if◌then◌else◌, List, [], ◌∷◌, ◌++◌, Bool, false, length, slice_index, take, Some, IsTrue, ⊤}
+use Rattle.std.specs.Prelude.{◌≡◌, ◌≢◌, ℕ, ◌+◌, ◌<◌, ◌≤◌, ◌==◌, if◌then◌else◌, List, [], ◌∷◌, ◌++◌, Bool, false, length, slice_index, Some, IsTrue, ⊤}
 use mathlib.Core.Option.{some}
 use lib.ListN.{get_elem?}
 use Rattle.atomic_table.specs.Table.{State}
@@ -15,9 +15,9 @@ use Rattle.record_slots.specs.Layout.{row_size}
 use Rattle.record_slots.specs.Spelling.{words_of}
 use Rattle.record_slots.specs.Spells.{IsSpelling}
 use Rattle.tree_words.specs.Layout.{row_at, width}
-use Rattle.tree_words.specs.Words.{words_in, SpellsWhere}
+use Rattle.tree_words.specs.Words.{SpellsWhere}
 use Rattle.slot_rule.specs.declared.view.Reach.{Reach}
-use Rattle.slot_rule.specs.declared.view.Reach.TheVariants.{Idle, Reading, Writing, Noted}
+use Rattle.slot_rule.specs.declared.view.Reach.TheVariants.{Idle, Writing, Noted}
 use Rattle.slot_rule.specs.declared.view.Part.{Part}
 
 -- it holds of each element
@@ -33,16 +33,16 @@ abbrev pub KnowsPlaceable : Knowledge → ℕ → Type 0
 KnowsPlaceable k row = IsTrue k.inside × IsOwn (k.own.rows row) × IsUnset k row
 
 -- What the rule asks of the runs that there may be: into a row in which one actor may place a record, no other one may, and nobody
--- may read it; a row that may be read has a record.
+-- may read it; a row that may be read has a record, and what was read there since the actor entered is still there.
 pub record KeepsRowsApart (limits : Limits) (law : List Entry → Type 0) : Type 0 where
   pub one_owner : (actor other row : ℕ) (run : List Entry) → law run → KnowsPlaceable (knows run actor) row → KnowsPlaceable (knows run other) row → actor ≡ other
   pub unread : (actor other row : ℕ) (run : List Entry) → law run → KnowsPlaceable (knows run actor) row → KnowsReadable (knows run other) row → ⊥
   pub placed : (actor row : ℕ) (run : List Entry) → law run → KnowsReadable (knows run actor) row → (content : Record) × ((memory_of limits run).rows row ≡ Some content)
+  pub stands : (actor row : ℕ) (content : Record) (run : List Entry) → law run → (knows run actor).read.seen row ≡ Some content → (memory_of limits run).rows row ≡ Some content
 
 -- The seat is not in the midst of placing a record into the row.
 abbrev pub LeavesRow : ℕ → Reach → Type 0
 LeavesRow row Idle = ⊤
-LeavesRow row (Reading at words) = ⊤
 LeavesRow row (Writing at words) = at ≢ row
 LeavesRow row Noted = ⊤
 
@@ -53,7 +53,6 @@ IsSettled views row = (id : ℕ) (view : List Part) → get_elem? views id ≡ s
 -- The other's part, with this reach, is a seat of the actor's, and no note.
 abbrev pub is_at : ℕ → ℕ → Reach → Bool
 is_at actor other Idle = other == actor
-is_at actor other (Reading row words) = other == actor
 is_at actor other (Writing row words) = other == actor
 is_at actor other Noted = false
 
@@ -66,11 +65,9 @@ abbrev pub everywhere : ℕ → List (List Part) → ℕ
 everywhere actor [] = 0
 everywhere actor (view ∷ views) = times actor view + everywhere actor views
 
--- What was read stands in a row that the actor may read; what was written stands behind the header of a row of its own, into which it
--- may place a record.
+-- What was written stands behind the header of a row of the actor's own, into which it may place a record.
 abbrev pub ReachFits : Limits → List ℕ → List Entry → ℕ → Reach → Type 0
 ReachFits limits words run actor Idle = ⊤
-ReachFits limits words run actor (Reading row read) = KnowsReadable (knows run actor) row × (read ≡ take (length read) (words_in ((memory_of limits run).rows row)))
 ReachFits limits words run actor (Writing row written) = KnowsPlaceable (knows run actor) row × (row < limits.rows) × (length written < row_size)
     × ((j : ℕ) → j < length written → slice_index words (row_at row (j + 1)) ≡ slice_index written j)
 ReachFits limits words run actor Noted = ⊤
@@ -82,7 +79,6 @@ StartsWith later seen = (rest : List Entry) × (later ≡ seen ++ rest)
 -- The run goes on from what was seen: by steps of others alone where the part is a seat's, by any where it is a note.
 abbrev pub ExtendsFor : Reach → ℕ → List Entry → List Entry → Type 0
 ExtendsFor Idle actor seen run = Extends actor seen run
-ExtendsFor (Reading row words) actor seen run = Extends actor seen run
 ExtendsFor (Writing row words) actor seen run = Extends actor seen run
 ExtendsFor Noted actor seen run = StartsWith run seen
 
@@ -114,9 +110,14 @@ BeginWithSteps [] = ⊤
 BeginWithSteps (Begin actor command ∷ rest) = GoesOnWithStep actor rest × BeginWithSteps rest
 BeginWithSteps (Step actor step answer reply ∷ rest) = BeginWithSteps rest
 
+-- the actor whose entry it is
+abbrev pub actor_of : Entry → ℕ
+actor_of (Begin actor command) = actor
+actor_of (Step actor step answer reply) = actor
+
 -- There is a longest run, which has the law, and which goes on from what each seat has seen. The words are those of the memory after it,
 -- but for rows into which a seat is in the midst of placing a record. Each actor stands in exactly one seat, so the longest run is one
--- that a seat has seen; of notes there may be any number.
+-- that a seat has seen (specs/Longest); of notes there may be any number.
 pub record Running (limits : Limits) (law : List Entry → Type 0) (s : State (Unit {0}) (List Part)) : Type 0 where
   pub run : List Entry
   pub legal : law run
@@ -124,6 +125,7 @@ pub record Running (limits : Limits) (law : List Entry → Type 0) (s : State (U
   pub spells : SpellsWhere limits s.words (memory_of limits run) (IsSettled s.views)
   pub kept : (row : ℕ) (content : Record) → (memory_of limits run).rows row ≡ Some content → IsSpelledRow limits row content
   pub begins : BeginWithSteps run
+  pub actors : Each (λ entry. actor_of entry < limits.actors) run
   pub once : (actor : ℕ) → everywhere actor s.views ≤ 1
   pub somewhere : (actor : ℕ) → actor < limits.actors → 1 ≤ everywhere actor s.views
   pub each : (id : ℕ) (view : List Part) → get_elem? s.views id ≡ some view → Each (PartFits limits s.words run) view

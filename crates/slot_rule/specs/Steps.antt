@@ -1,5 +1,5 @@
 -- Steps of an actor by its seat: what one is asked, and what it tells.
-use Rattle.std.specs.Prelude.{◌≡◌, ℕ, ◌+◌, List, [], ◌∷◌, ◌++◌, length, Option, None, Some}
+use Rattle.std.specs.Prelude.{◌≡◌, ℕ, ◌+◌, ◌*◌, ◌/◌, ◌%◌, ◌<◌, List, [], ◌∷◌, ◌++◌, length, slice_index, Option, None, Some}
 use Rattle.atomic_table.specs.Table.{Step as Made}
 use Rattle.bw_model.specs.declared.command.Command.{Command}
 use Rattle.bw_model.specs.declared.command.Reply.{Reply}
@@ -12,14 +12,17 @@ use Rattle.deltas.specs.declared.record.Record.{Record}
 use Rattle.traces.specs.declared.trace.Entry.{Entry}
 use Rattle.traces.specs.declared.trace.Entry.TheVariants.{Begin, Step}
 use Rattle.traces.specs.discipline.Disciplined.{Extends}
+use Rattle.traces.specs.discipline.Knowledge.{Knowledge, knows}
 use Rattle.traces.specs.trace.Steps.{IsAnswer}
 use Rattle.traces.specs.trace.Trace.{memory_of}
-use Rattle.record_slots.specs.Layout.{last_at}
+use Rattle.record_slots.specs.Layout.{count_unit, item_size, items_at, part_limit, row_size}
+use Rattle.record_slots.specs.Spelling.{words_of}
 use Rattle.record_slots.specs.Spells.{IsSpelling}
 use Rattle.tree_words.specs.Changes.{told}
 use Rattle.tree_words.specs.Layout.{row_at}
 use Rattle.slot_rule.specs.declared.view.Reach.{Reach}
-use Rattle.slot_rule.specs.declared.view.Reach.TheVariants.{Idle, Reading, Writing}
+use Rattle.slot_rule.specs.declared.view.Reach.TheVariants.{Idle, Writing}
+use Rattle.slot_rule.specs.Running.{BeginWithSteps, HasSpelling, KnowsReadable}
 use Rattle.slot_rule.specs.Views.{SitsAt, Mine, seen_of}
 
 -- the begin that stands before a step with which an operation begins
@@ -37,7 +40,7 @@ IsLawfulStep law limits actor seen begun step reply = (run : List Entry) (answer
     → law limits (with_step run actor begun step answer reply)
 
 -- The actor took the step after the longest run, which goes on from what it had seen by steps of others alone; the answer is what
--- the memory gave there.
+-- the memory gave there. In the run that its seat has seen then each begin stands directly before its operation's first step.
 pub record Took (law : Limits → List Entry → Type 0) (limits : Limits) (actor : ℕ) (seen : List Entry) (begun : Option Command) (step : StepOf Record) (answer : Answer Record) (reply : Option Reply)
     (later : List Entry) : Type 0 where
   pub run : List Entry
@@ -45,11 +48,21 @@ pub record Took (law : Limits → List Entry → Type 0) (limits : Limits) (acto
   pub extends : Extends actor seen run
   pub answered : IsAnswer (memory_of limits run) step answer
   pub grown : later ≡ with_step run actor begun step answer reply
+  pub begins : BeginWithSteps later
   pub kept : law limits later
 
--- The words spell the record that was read.
+-- A record was read: this is its first word, and the record has a spelling.
+abbrev pub ReadsFirst : (Limits → List Entry → Type 0) → Limits → ℕ → List Entry → ℕ → ℕ → List Entry → Type 0
+ReadsFirst law limits actor seen row word later = (content : Record) × HasSpelling content × (word ≡ slice_index (words_of content) 0) × Took law limits actor seen None (Row row) (Content content) None later
+
+-- These words spell the record that was read.
 abbrev pub ReadsRow : (Limits → List Entry → Type 0) → Limits → ℕ → List Entry → ℕ → List ℕ → List Entry → Type 0
 ReadsRow law limits actor seen row words later = (content : Record) × IsSpelling content words × Took law limits actor seen None (Row row) (Content content) None later
+
+-- The actor may read the row, and has read this record there since it entered.
+pub record HasReadRecord (k : Knowledge) (row : ℕ) (content : Record) : Type 0 where
+  pub may : KnowsReadable k row
+  pub seen : k.read.seen row ≡ Some content
 
 -- What a step tells its seat, which stood there before.
 abbrev pub Event : (Limits → List Entry → Type 0) → Option Command → StepOf Record → Option Reply → Reach → Mine → Answer Record → Mine → Type 0
@@ -59,11 +72,17 @@ Event law begun step reply reach me answer me' = (limits : Limits) (actor : ℕ)
 abbrev pub Acts : (Limits → List Entry → Type 0) → Option Command → StepOf Record → Option Reply → Mine → ℕ → Mine → Type 0
 Acts law begun step reply me found me' = Event law begun step reply Idle me (told step found) me'
 
--- where a seat stands that has read these words of a row, or has written them behind the header
-abbrev pub in_row : ℕ → List ℕ → Reach
-in_row row [] = Idle
-in_row row (word ∷ words) = Reading row (word ∷ words)
+-- The first word of a row is read, which is the step.
+abbrev pub Reads : (Limits → List Entry → Type 0) → Made (Unit {0}) → Mine → ℕ → Mine → Type 0
+Reads law made me found me' = (limits : Limits) (actor row : ℕ) → SitsAt limits actor Idle me → made.word ≡ row_at row 0
+    → SitsAt limits actor Idle me' × ReadsFirst law limits actor (seen_of me) row found (seen_of me')
 
+-- A word of a row whose record was read is looked at, and the seat is as it was. No step is taken.
+abbrev pub Looks : Made (Unit {0}) → Mine → ℕ → Mine → Type 0
+Looks made me found me' = (me' ≡ me) × ((limits : Limits) (actor row place : ℕ) (content : Record) → SitsAt limits actor Idle me → place < row_size → HasReadRecord (knows (seen_of me) actor) row content
+    → made.word ≡ row_at row place → found ≡ slice_index (words_of content) place)
+
+-- where a seat stands that has written these words behind the header of a row
 abbrev pub into_row : ℕ → List ℕ → Reach
 into_row row [] = Idle
 into_row row (word ∷ words) = Writing row (word ∷ words)
@@ -73,15 +92,6 @@ abbrev pub tail_from : List ℕ → List ℕ
 tail_from [] = []
 tail_from (word ∷ words) = words
 
--- One more word of a row is read, and the last one, which is the step.
-abbrev pub Gathers : Made (Unit {0}) → Mine → ℕ → Mine → Type 0
-Gathers made me found me' = (limits : Limits) (actor row : ℕ) (read : List ℕ) → SitsAt limits actor (in_row row read) me → made.word ≡ row_at row (length read)
-    → SitsAt limits actor (in_row row (read ++ found ∷ [])) me' × (seen_of me' ≡ seen_of me)
-
-abbrev pub GathersLast : (Limits → List Entry → Type 0) → Made (Unit {0}) → Mine → ℕ → Mine → Type 0
-GathersLast law made me found me' = (limits : Limits) (actor row : ℕ) (read : List ℕ) → SitsAt limits actor (in_row row read) me → made.word ≡ row_at row (length read) → length read ≡ last_at
-    → SitsAt limits actor Idle me' × ReadsRow law limits actor (seen_of me) row (read ++ found ∷ []) (seen_of me')
-
 -- One more word of a row is written behind the header, and the header, which is the step: it is told with the record.
 abbrev pub Fills : Made (Unit {0}) → Mine → ℕ → Mine → Type 0
 Fills made me found me' = (limits : Limits) (actor row : ℕ) (written : List ℕ) → SitsAt limits actor (into_row row written) me → made.word ≡ row_at row (length written + 1)
@@ -90,3 +100,7 @@ Fills made me found me' = (limits : Limits) (actor row : ℕ) (written : List �
 abbrev pub Places : (Limits → List Entry → Type 0) → StepOf Record → Mine → ℕ → Mine → Type 0
 Places law step me found me' = (limits : Limits) (actor row : ℕ) (written : List ℕ) → SitsAt limits actor (into_row row written) me
     → SitsAt limits actor Idle me' × Took law limits actor (seen_of me) None step Done None (seen_of me')
+
+-- how many words a record uses, by its first word
+abbrev pub used_by : ℕ → ℕ
+used_by first = items_at + item_size * (first / count_unit % part_limit)

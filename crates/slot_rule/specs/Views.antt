@@ -1,4 +1,4 @@
--- What seats know: how views are dealt, cut and joined, and what a look makes of one.
+-- What seats know: how views are dealt, cut and joined, and what a refreshed one is.
 use Rattle.std.specs.Prelude.{◌≡◌, ℕ, zero, suc, List, [], ◌∷◌, map}
 use Rattle.atomic_table.specs.Table.{Me, Step}
 use Rattle.atomic_table.specs.Seated.{TableId}
@@ -8,7 +8,7 @@ use Rattle.tree_words.specs.Layout.{width}
 use Rattle.slot_rule.specs.declared.view.Reach.{Reach}
 use Rattle.slot_rule.specs.declared.view.Reach.TheVariants.{Idle, Noted}
 use Rattle.slot_rule.specs.declared.view.Part.{Part}
-use Rattle.slot_rule.specs.Running.{Each, ExtendsFor}
+use Rattle.slot_rule.specs.Running.{BeginWithSteps, Each, ExtendsFor}
 
 -- what a seat knows, and the slots that it holds, of which a tree's table has none
 abbrev pub Mine : Type 0
@@ -69,16 +69,18 @@ IsBlank me = me ≡ ([], [])
 abbrev pub refreshed : List Entry → Part → Part
 refreshed run old = part old.limits old.actor run old.reach
 
--- A look: each part has now seen the longest run, which goes on from what it had seen.
-pub record Looked (law : List Entry → Type 0) (me me' : Mine) : Type 0 where
+-- The seat is refreshed: each part has now seen the longest run, which goes on from what it had seen, and in which each begin stands
+-- directly before its operation's first step.
+pub record IsRefreshed (law : List Entry → Type 0) (me me' : Mine) : Type 0 where
   pub run : List Entry
   pub legal : law run
+  pub begins : BeginWithSteps run
   pub saw : me' ≡ (map (refreshed run) me.0, me.1)
   pub extends : Each (λ part. ExtendsFor part.reach part.actor part.seen run) me.0
 
 -- An operation can't say the table's limits, and takes those of the seat's first part.
-abbrev pub Looks : (Limits → List Entry → Type 0) → Step (Unit {0}) → Mine → ℕ → Mine → Type 0
-Looks law made me found me' = (first : Part) (others : List Part) → me.0 ≡ first ∷ others → Looked (law first.limits) me me'
+abbrev pub Refreshes : (Limits → List Entry → Type 0) → Step (Unit {0}) → Mine → ℕ → Mine → Type 0
+Refreshes law made me found me' = (first : Part) (others : List Part) → me.0 ≡ first ∷ others → IsRefreshed (law first.limits) me me'
 
 -- a seat in which some actor of a tree of these limits stands
 abbrev pub HasPart : Limits → List Part → Type 0

@@ -43,24 +43,24 @@ impl<P: Law, C: Telling> Play<(), View> for Acting<P, C> {
     ghost then = { λ made me found me'. Acts P.law C.begun C.step C.reply me found me' };
 }
 
-/// One more word of a row is read.
-pub(crate) struct Gathering;
-
-impl Play<(), View> for Gathering {
-    ghost use Rattle.slot_rule.specs.Steps.{Gathers};
-
-    ghost then = { Gathers };
-}
-
-/// The last word of a row is read, which is the step.
-pub(crate) struct Finishing<P> {
+/// The first word of a row is read, which is the step.
+pub(crate) struct Reading<P> {
     law: PhantomData<P>,
 }
 
-impl<P: Law> Play<(), View> for Finishing<P> {
-    ghost use Rattle.slot_rule.specs.Steps.{GathersLast};
+impl<P: Law> Play<(), View> for Reading<P> {
+    ghost use Rattle.slot_rule.specs.Steps.{Reads};
 
-    ghost then = { GathersLast P.law };
+    ghost then = { Reads P.law };
+}
+
+/// A word of a row whose record was read is looked at, and no step is taken.
+pub(crate) struct Looking;
+
+impl Play<(), View> for Looking {
+    ghost use Rattle.slot_rule.specs.Steps.{Looks};
+
+    ghost then = { Looks };
 }
 
 /// One more word of a row is written, behind the header.
@@ -84,14 +84,14 @@ impl<P: Law, C: Telling> Play<(), View> for Placing<P, C> {
 }
 
 /// The longest run is seen, and no step is taken.
-pub(crate) struct Looking<P> {
+pub(crate) struct Refreshing<P> {
     law: PhantomData<P>,
 }
 
-impl<P: Law> Play<(), View> for Looking<P> {
-    ghost use Rattle.slot_rule.specs.Views.{Looks};
+impl<P: Law> Play<(), View> for Refreshing<P> {
+    ghost use Rattle.slot_rule.specs.Views.{Refreshes};
 
-    ghost then = { Looks P.law };
+    ghost then = { Refreshes P.law };
 }
 
 /// A new seat, in which no actor stands.

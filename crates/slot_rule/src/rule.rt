@@ -3,6 +3,7 @@ ghost use Rattle.std.specs.Prelude.{[]};
 ghost use Rattle.atomic_table.specs.Table.{opening};
 ghost use Rattle.tree_limits.specs.declared.limits.Limits.{Limits as LimitsSeen};
 ghost use Rattle.slot_rule.specs.Closing.{LeavesWords};
+ghost use Rattle.slot_rule.specs.Longest.{LongestIsSeen};
 ghost use Rattle.slot_rule.specs.Running.{Running};
 ghost use Rattle.slot_rule.specs.Views.{dealt};
 ghost use Rattle.tree_words.specs.Opening.{opening_words};
@@ -53,4 +54,9 @@ pub fn opening_keeps<P: Law>()
 /// that goes on from what each of them has seen.
 pub fn closing_spells<P: Law>()
     ensures { (limits : LimitsSeen) → LeavesWords limits (P.law limits) }
+{}
+
+/// The longest run is one that a seat has seen: its last entry is an actor's, which has seen it in its seat.
+pub fn longest_is_seen<P: Law>()
+    ensures { (limits : LimitsSeen) → LongestIsSeen limits (P.law limits) }
 {}

@@ -1,20 +1,20 @@
-//! Seats that look, are cut in two, are noted, and are joined.
+//! Seats that are refreshed, cut in two, noted, and joined.
 ghost use Rattle.std.specs.Prelude.{◌≡◌, ◌<◌, ◌++◌, []};
-ghost use Rattle.slot_rule.specs.Views.{HasPart, IsBlank, IsOf, Looked, first_part, noted, other_parts};
+ghost use Rattle.slot_rule.specs.Views.{HasPart, IsBlank, IsOf, IsRefreshed, first_part, noted, other_parts};
 
-use crate::plays::{Apart, Blank, Looking, Noting, Together};
+use crate::plays::{Apart, Blank, Noting, Refreshing, Together};
 use crate::rule::{Law, TableSeat, Words};
 use bw_model::Limits;
 
 /// Sees the longest run, by one load that tells nothing else.
-pub fn look<P: Law>(words: &Words<P>, seat: &mut TableSeat, limits: &Limits)
+pub fn refresh<P: Law>(words: &Words<P>, seat: &mut TableSeat, limits: &Limits)
     requires table { IsOf limits.now words.now.key words.now.table_id seat.old.table_id }
     requires some { HasPart limits.now seat.old.me.0 }
     ensures same { seat.new.table_id ≡ seat.old.table_id }
-    ensures saw { Looked (P.law limits.now) seat.old.me seat.new.me }
+    ensures saw { IsRefreshed (P.law limits.now) seat.old.me seat.new.me }
 {
     let _ = limits;
-    words.load::<Looking<P>>(seat, 0);
+    words.load::<Refreshing<P>>(seat, 0);
 }
 
 /// Cuts a seat in two: the first actor stays, and a new seat has the others.

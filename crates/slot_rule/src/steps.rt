@@ -1,18 +1,20 @@
 //! The steps that are one atomic operation on a word.
-ghost use Rattle.std.specs.Prelude.{◌≡◌, ◌<◌, ℕ, option_copied};
+ghost use Rattle.std.specs.Prelude.{◌≡◌, ◌<◌, option_copied};
 ghost use Rattle.bw_model.specs.Answers.{answer_of};
 ghost use Rattle.bw_model.specs.Lent.{lent};
 ghost use Rattle.slot_rule.specs.declared.view.Reach.TheVariants.{Idle};
 ghost use Rattle.slot_rule.specs.Steps.{IsLawfulStep, Took};
 ghost use Rattle.slot_rule.specs.Views.{SitsAt, IsOf, seen_of};
-ghost use Rattle.tree_words.specs.Changes.{HasWord, SetsBits, TellsNothing, changed_word, left_by, told, word_after};
+ghost use Rattle.tree_words.specs.Changes.{HasWord, SetsBits, changed_word, operation_of, told};
 
 use crate::plays::{Acting, Telling};
 use crate::rule::{Law, TableSeat, Words};
 use bw_model::{Command, Limits, Reply, Step, Told};
 use deltas::Record;
 use std::marker::Brand;
-use tree_words::{Operation, made_by, steps_change_one_word, told_by, word_place};
+use tree_words::{
+    Operation, made_by, operations_are_steps, steps_change_one_word, told_by, word_place,
+};
 
 /// Takes a step of the seat's actor that is one atomic operation on a word, and answers what stood there. Told are the command of
 /// an operation that begins with the step, and the reply of one that it ends.
@@ -89,14 +91,14 @@ fn operate<P: Law, C: Telling>(
     requires seat { SitsAt limits.now actor Idle seat.old.me }
     requires may { IsLawfulStep P.law limits.now actor (seen_of seat.old.me) C.begun C.step C.reply }
     requires place { at ≡ changed_word actor C.step }
-    requires left { (found : ℕ) → left_by operation found ≡ word_after C.step found }
-    requires quiet { TellsNothing C.step operation }
+    requires operation { operation ≡ operation_of C.step }
     ensures same { seat.new.table_id ≡ seat.old.table_id }
     ensures seat { SitsAt limits.now actor Idle seat.new.me }
     ensures took { Took P.law limits.now actor (seen_of seat.old.me) C.begun C.step (told C.step result) C.reply (seen_of seat.new.me) }
 {
     let _ = limits;
     let _ = actor;
+    operations_are_steps();
     steps_change_one_word();
     match operation {
         Operation::Load => words.load::<Acting<P, C>>(seat, at),

@@ -4,14 +4,11 @@ use bw_model::Limits;
 use std::collections::LinkedList;
 use traces::Entry;
 
-/// Where a seat stands between two atomic operations of one step: in the midst of a row, with the words that it has read there, or
-/// has written behind the header.
+/// Where a seat stands between two atomic operations.
 pub enum Reach {
     /// Between two steps.
     Idle,
-    /// In the midst of reading this row.
-    Reading(u16, LinkedList<u64>),
-    /// In the midst of placing a record into this row.
+    /// In the midst of placing a record into this row, with the words that it has written there behind the header.
     Writing(u16, LinkedList<u64>),
     /// Nowhere: this is a note of what the actor had seen, with which no step is taken.
     Noted,

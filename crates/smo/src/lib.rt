@@ -1,4 +1,12 @@
-//! Plans of structure changes: from pages that were read to the records to place.
+//! Plans of structure changes: splits, new roots, holds, removals, merges, and terms that are posted and taken out. From pages that were
+//! read to the records to place. (SMO is the field's word for a structure modification operation.)
+//!
+//! Look first at `PageInHand`, a page as it was read: its PID, the row that its slot had, its chain. Then at one plan, as `plan_split`:
+//! each is given exactly where its condition holds, and its record fits, is what the discipline asks, and keeps the map. The thresholds
+//! have their home here (`MANY_ITEMS`, `FEW_ITEMS`, `MANY_DELTAS`).
+//!
+//! Called by `rounds`, which ends with a plan where one is due, and by `installs`, which carries it out. Plans are the same on each
+//! level. It knows no step: nothing here reads, takes or links.
 #![tactic(auto)]
 
 mod held;

@@ -30,7 +30,8 @@ pub fn plan_remove<A: Allocator>(parent: &PageInHand<A>, page: &PageInHand<A>) -
     if chain.item_count() > FEW_ITEMS {
         return None;
     }
-    if !is_unheld(chain) {
+    let unheld = is_unheld(chain);
+    if !unheld {
         return None;
     }
     Some(Remove {

@@ -34,7 +34,7 @@ pub removal : IsPaid after_split (Row 6) (Content (remove 4))
 removal = (refl, refl)
 
 pub second_removal : IsPaid after_removal (Row 8) (Content (remove 4)) → ⊥
-second_removal h = let e : true ≡ false = h.1 in cc
+second_removal h = let e : false ≡ true = h.1 in cc
 
 pub new_round : IsPaid (recall after_removal (Slot 0) (Number 1)) (Row 8) (Content (remove 4))
 new_round = (refl, refl)

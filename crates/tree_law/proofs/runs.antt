@@ -1,6 +1,7 @@
 pub mod GoingLeft
 pub mod HelpFits
 pub mod HelpRun
+pub mod IndexRemovalRun
 pub mod LinkFits
 pub mod LinkRun
 pub mod Linking

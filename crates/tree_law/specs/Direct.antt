@@ -19,7 +19,7 @@ use Rattle.traces.specs.declared.trace.Entry.TheVariants.{Begin, Step}
 use Rattle.traces.specs.discipline.Discipline.{IsAllowed}
 use Rattle.traces.specs.discipline.Disciplined.{IsDisciplined}
 use Rattle.traces.specs.discipline.Knowledge.{Ready, knows}
-use Rattle.traces.specs.discipline.Recalled.{Recalled, Walk, AnyNames, IsStepSpent, IsUnread, is_removal, recalls}
+use Rattle.traces.specs.discipline.Recalled.{Recalled, Walk, AnyNames, IsStepSpent, IsUnread, is_removal, recalls, removal_level}
 use Rattle.traces.specs.trace.Steps.{IsAnswer}
 use Rattle.traces.specs.trace.Trace.{memory_of}
 use Rattle.traces.specs.discipline.Useful.{IsUseful}
@@ -45,15 +45,15 @@ module _ (limits : Limits) (entries : List Entry) (operation : Operation) where
     pub pids : (word bits : ℕ) → recalled.pids word ≡ Some bits → HasReadSince IsTake (PidBits word) bits
     pub rows : (word bits : ℕ) → recalled.rows word ≡ Some bits → HasReadSince IsTake (RowBits word) bits
 
-  -- Where it last read slot 0; what it recalls of its reads since, it has read since, and no row besides, nor, before the first
-  -- removal, a slot.
+  -- Where it last read slot 0; what it recalls of its reads since, it has read since, and no row besides, no removal of a lower level than
+  -- the last one that was a cause, nor, before the first removal, a slot.
   pub record Walks (seen : ℕ → Option Record) (walk : Walk) : Type 0 where
     pub at : ℕ
     pub root : ℕ
     pub begins : TakesOwnStep entries operation at (Slot 0) (Number root)
     pub last : TakesNone limits entries operation at (length entries) (IsTheStep limits entries operation (Slot 0))
     pub slots : (page : ℕ) → walk.removed ≡ false → IsUnread page walk.visited → TakesNone limits entries operation at (length entries) (IsTheStep limits entries operation (Slot page))
-    pub rows : (n row : ℕ) (answer : Answer Record) → at < n → TakesOwnStep entries operation n (Row row) answer → (content : Record) × (seen row ≡ Some content) × (is_removal content ≡ true → walk.removed ≡ true)
+    pub rows : (n row : ℕ) (answer : Answer Record) → at < n → TakesOwnStep entries operation n (Row row) answer → (content : Record) × (seen row ≡ Some content) × (is_removal content ≡ true → (walk.removed ≡ true) × (walk.level ≤ removal_level content))
     pub named : (page : ℕ) → AnyNames walk.records page → (n row : ℕ) × (content : Record) × (at < n) × TakesOwnStep entries operation n (Row row) (Content content) × NamesPage content page
 
   -- The causes so far pay for the steps that the operation has taken, and for this many more.

@@ -4,6 +4,7 @@ pub mod CursorPages
 pub mod Example
 pub mod Fitness
 pub mod HelpedSplit
+pub mod IndexRemoval
 pub mod Indexed
 pub mod Keys
 pub mod TreeLaws

@@ -12,7 +12,7 @@ use Rattle.tree_law.specs.Direct.{Accounts}
 use Rattle.tree_law.specs.State.{IsState}
 
 -- A row that an actor has taken has no other owner, and nobody has learnt it; it has what it has placed there. A row that one has learnt
--- has a record. Both are below the limit.
+-- has a record. Both are below the limit. A record that one has read stands, and who read it is inside and has learnt its row.
 pub record AreSeparate (limits : Limits) (entries : List Entry) : Type 0 where
   pub one_owner : (actor other row : ℕ) → IsOwn ((knows entries actor).own.rows row) → IsOwn ((knows entries other).own.rows row) → actor ≡ other
   pub unlearnt : (actor other row : ℕ) → IsOwn ((knows entries actor).own.rows row) → (knows entries other).read.learnt row ≡ true → ⊥
@@ -20,6 +20,9 @@ pub record AreSeparate (limits : Limits) (entries : List Entry) : Type 0 where
   pub learnt_below : (actor row : ℕ) → (knows entries actor).read.learnt row ≡ true → row < limits.rows
   pub written : (actor row : ℕ) (content : Record) → (knows entries actor).own.rows row ≡ Written content → (memory_of limits entries).rows row ≡ Some content
   pub placed : (actor row : ℕ) → (knows entries actor).read.learnt row ≡ true → (content : Record) × ((memory_of limits entries).rows row ≡ Some content)
+  pub stands : (actor row : ℕ) (content : Record) → (knows entries actor).read.seen row ≡ Some content → (memory_of limits entries).rows row ≡ Some content
+  pub seen_learnt : (actor row : ℕ) (content : Record) → (knows entries actor).read.seen row ≡ Some content → (knows entries actor).read.learnt row ≡ true
+  pub learnt_inside : (actor row : ℕ) → (knows entries actor).read.learnt row ≡ true → (knows entries actor).inside ≡ true
 
 -- What an actor knows and recalls, the command that it has under way, and the steps that it can afford are as they were.
 pub record Lasts (limits : Limits) (actor : ℕ) (seen run : List Entry) : Type 0 where

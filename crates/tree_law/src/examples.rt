@@ -5,6 +5,7 @@ ghost use Rattle.tree_law.specs.AllLinks.{all_links};
 ghost use Rattle.tree_law.specs.CursorPages.{last_page, upkeep};
 ghost use Rattle.op_machine.specs.theorem.Examples.{small};
 ghost use Rattle.tree_law.specs.HelpedSplit.{helped_split};
+ghost use Rattle.tree_law.specs.IndexRemoval.{index_removal};
 ghost use Rattle.tree_law.specs.NoRoom.{no_room};
 ghost use Rattle.tree_law.specs.Removal.{removal};
 ghost use Rattle.tree_law.specs.Sweep.{sweep};
@@ -27,6 +28,12 @@ pub fn sweep_is_disciplined()
 /// A run of two actors: one removes a leaf, from which the other replies, and then from the leaf on its right.
 pub fn removal_is_disciplined()
     ensures { IsDisciplined small removal }
+{}
+
+/// A run of two actors: one splits the root, puts a root over both halves, and removes the upper one; the other goes round that one, and
+/// through it to a leaf below it.
+pub fn index_removal_is_disciplined()
+    ensures { IsDisciplined small index_removal }
 {}
 
 /// A run of one actor that takes each row, and replies that nothing is free for its update.

@@ -1,5 +1,12 @@
-//! The law of the whole tree: any number of actors, levels, splits, roots, and removal of pages. The invariant's steps, and
-//! what follows for the traces of actors that obey their discipline.
+//! The law of the whole tree: any number of actors, levels, splits, roots, and removal of pages of every level. The invariant's steps,
+//! and what follows for the traces of actors that obey their discipline.
+//!
+//! Look first at `disciplined_runs` and at `IsState` (specs/State): a trace of steps that the discipline allows is linearized, kept by
+//! one call for each entry; its index is exact, rows are freed by the rule, and few steps are taken where operations can afford theirs.
+//! Every function is a law and does nothing when it runs.
+//!
+//! Called by `step_core` and `bw_tree`, which keep the invariant; `listing` and `scene` use what it says of leaves and levels. It knows
+//! no operation, only the discipline; neither `op_machine`'s code nor any way through the tree is named here.
 #![tactic(auto)]
 
 mod direct;
@@ -10,8 +17,8 @@ mod run_laws;
 
 pub use direct::{begins_directly, opens_directly, runs_directly, steps_directly};
 pub use examples::{
-    all_links_are_disciplined, helped_split_is_disciplined, no_room_is_disciplined,
-    pages_are_disciplined, removal_is_disciplined, sweep_is_disciplined,
+    all_links_are_disciplined, helped_split_is_disciplined, index_removal_is_disciplined,
+    no_room_is_disciplined, pages_are_disciplined, removal_is_disciplined, sweep_is_disciplined,
 };
 pub use invariant::{
     key_order, levels_are_indexed, one_begin_keeps, one_step_keeps, opening_is_tree,

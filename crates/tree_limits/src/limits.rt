@@ -11,7 +11,7 @@ pub(crate) const MAX_ACTORS: u64 = 16;
 pub(crate) const MAX_PIDS: u64 = 4096;
 
 /// How many rows there are at most.
-const MAX_ROWS: u64 = 16384;
+pub(crate) const MAX_ROWS: u64 = 16384;
 
 /// The last epoch that may open a tree.
 const MAX_EPOCH: u64 = 1 << 62;

@@ -1,9 +1,8 @@
 //! Limits by the number of keys. specs/Room.antt has the rule in one place, and docs/DECISIONS.md the reasons.
-ghost use Rattle.std.specs.Prelude.{◌≡◌, ◌≤◌, ◌^◌, ◌↔◌, IsOk, IfOk};
-ghost use Rattle.tree_limits.specs.Limits.{AreLimits};
-ghost use Rattle.tree_limits.specs.Room.{in_whole_words, pages_for, pids_for, rows_for};
+ghost use Rattle.std.specs.Prelude.{◌≡◌, ◌≤◌, ◌^◌, ◌↔◌, ℕ, IsOk, IfOk, MatchOption};
+ghost use Rattle.tree_limits.specs.Room.{AreProposed, IsMostKeys, in_whole_words, pages_for, pids_for, rows_for};
 
-use crate::limits::{BadLimits, Limits, MAX_ACTORS, MAX_PIDS};
+use crate::limits::{BadLimits, Limits, MAX_ACTORS, MAX_PIDS, MAX_ROWS};
 
 /// The bits of a word of free PIDs or rows.
 const WORD_BITS: u64 = 64;
@@ -17,24 +16,24 @@ const LEAVES_BELOW: u64 = 6;
 /// The rows of the longest chain: a base under as many deltas as make a consolidation due.
 const CHAIN_ROWS: u64 = 9;
 
-/// How many PIDs a seat may hold back: a spare one, and those of three pages in limbo.
-const SEAT_PIDS: u64 = 4;
+/// How many PIDs a seat may hold back: a spare one, and those of ten pages in limbo, as one deletion may leave in a tree whose root is at
+/// level 4.
+const SEAT_PIDS: u64 = 11;
 
-/// How many rows a seat may hold back beside those of removed pages: two spare ones, and those of eight chains in limbo.
-const SEAT_ROWS: u64 = 74;
+/// How many rows a seat may hold back: two spare ones, and the most that one deletion in such a tree was measured to leave in limbo.
+const SEAT_ROWS: u64 = 120;
 
 /// The epoch that opens.
 const FIRST_EPOCH: u64 = 1;
 
 impl Limits {
-    /// Limits of a tree that holds so many different keys, in whatever order they come and go: all keys count that the tree has or
-    /// ever had. They have enough PIDs for the pages that these keys can make, and enough rows for the longest chain of each page, with room for what each seat may hold
-    /// back. Refused exactly where that is more than limits may have: for one actor above 12,247 keys, for 16 above 10,959.
-    ///
-    /// It is a proposal, by a rule that docs/DECISIONS.md explains, and no promise that `Full` never comes: a seat that is stopped inside an
-    /// operation holds back all that the others take out meanwhile.
+    /// Limits that are proposed for a tree of so many different keys, which is no promise that `Full` never comes: a seat that is stopped
+    /// inside an operation holds back all that the others take out meanwhile. All keys count that the tree has or ever had, in whatever
+    /// order they come and go. There are enough PIDs for the pages that these keys can make, and enough rows for the longest chain of
+    /// each page, with room for what each seat may hold back. Refused exactly where that is more than limits may have: above
+    /// `most_keys`.
     pub fn for_keys(actors: u64, keys: u64) -> Result<Limits, BadLimits>
-        ensures allowed { IsOk result ↔ AreLimits actors (pids_for actors keys) (rows_for actors (pids_for actors keys)) 1 }
+        ensures allowed { IsOk result ↔ AreProposed actors keys }
         ensures actors { IfOk result (λ limits. limits.actors ≡ actors) }
         ensures pids { IfOk result (λ limits. limits.pids ≡ pids_for actors keys) }
         ensures rows { IfOk result (λ limits. limits.rows ≡ rows_for actors (pids_for actors keys)) }
@@ -48,6 +47,20 @@ impl Limits {
             return Err(BadLimits);
         }
         Limits::new(actors, pids, rows_for(actors, pids), FIRST_EPOCH)
+    }
+
+    /// How many keys `for_keys` takes at most for so many actors: for one actor 12,199, for 4 11,535, for 16 9,751. None where limits
+    /// can't have so many actors.
+    pub fn most_keys(actors: u64) -> Option<u64>
+        ensures { MatchOption result ((keys : ℕ) → AreProposed actors keys → ⊥) (IsMostKeys actors) }
+    {
+        if !(1..=MAX_ACTORS).contains(&actors) {
+            return None;
+        }
+        let words = (MAX_ROWS - SEAT_ROWS * actors) / (CHAIN_ROWS * WORD_BITS);
+        let below_root = words * WORD_BITS - SEAT_PIDS * actors - 2;
+        let leaves = below_root - (below_root + 1) / (LEAVES_BELOW + 1);
+        Some(leaves * LEAF_KEYS - 1)
     }
 }
 

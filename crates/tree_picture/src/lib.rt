@@ -1,4 +1,9 @@
 //! The picture of a tree: what stands in it, as shapes, each of which is one element of an SVG document.
+//!
+//! Look first at `picture` and at `Shape`: rectangles, lines and texts. Each page of the scene has its box (`boxes`), and a document of
+//! shapes is well-formed (`documents_are_well_formed`). The places on the sheet are those of `places`.
+//!
+//! Called by `drawing`, which writes the shapes. It knows no stream; it reads a scene and its core's actors, and changes nothing.
 #![tactic(auto)]
 
 mod boxes;

@@ -1,4 +1,5 @@
 //! Calls of which it is known what they are to answer.
+ghost use Rattle.bw_tree.specs.Seats.{IsSame};
 ghost use Rattle.bw_tree.specs.Trees.{IsSeatOf};
 
 use bw_model::{Command, Reply};
@@ -18,9 +19,9 @@ fn is_spent(called: Option<Called>) -> bool {
 /// Runs a command, and answers whether it has this reply.
 pub(crate) fn replies(tree: &Tree, seat: &mut BwSeat, command: Command, wanted: Reply) -> bool
     requires own { IsSeatOf tree.now seat.old }
-    ensures own { IsSeatOf tree.now seat.new }
+    ensures same { IsSame seat.old seat.new }
 {
-    reply(tree, seat, command) == Some(wanted)
+    reply(tree, seat, command) == Ok(wanted)
 }
 
 /// Runs a command, and answers whether it has this reply within so many steps.

@@ -157,7 +157,7 @@ impl Work for Client {
     fn work(&mut self, tree: &Tree, seat: &mut BwSeat) {
         for round in 0..self.rounds {
             let asked = self.ask(round);
-            let Some(reply) = reply(tree, seat, self.command(asked)) else {
+            let Ok(reply) = reply(tree, seat, self.command(asked)) else {
                 return;
             };
             self.learn(asked, &reply);

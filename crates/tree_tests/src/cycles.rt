@@ -16,10 +16,10 @@ use workers::opened;
 const CYCLES: u64 = 3;
 
 /// Numbers of seats and of keys that come and go: few keys, many, and the most for one seat.
-const SIZES: [(u64, u32); 5] = [(1, 1), (1, 440), (4, 3_000), (16, 1_000), (1, 12_247)];
+const SIZES: [(u64, u32); 5] = [(1, 1), (1, 440), (4, 3_000), (16, 1_000), (1, 12_199)];
 
 /// The same for keys that are updated: the most for one seat and for sixteen.
-const UPDATED: [(u64, u32); 4] = [(1, 440), (4, 3_000), (1, 12_247), (16, 10_959)];
+const UPDATED: [(u64, u32); 4] = [(1, 440), (4, 3_000), (1, 12_199), (16, 9_751)];
 
 /// Does the work for all keys below a number, in an order, and tells whether it was done for each.
 fn all(

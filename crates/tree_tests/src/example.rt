@@ -5,34 +5,42 @@ use bw_tree::{BwSeat, Tree};
 use std::alloc::Global;
 use std::test::Fail;
 use std::thread::Threads;
-use workers::{Work, opened, reply, work_in_threads};
+use workers::{NoReply, Work, opened, reply, work_in_threads};
 
 /// A question, and its answer.
 #[derive(Drop)]
 struct Ask {
     command: Option<Command>,
-    told: Option<Reply>,
+    told: Option<Result<Reply, NoReply>>,
 }
 
 impl Work for Ask {
     fn work(&mut self, tree: &Tree, seat: &mut BwSeat) {
         if let Some(command) = self.command.take() {
-            self.told = reply(tree, seat, command);
+            self.told = Some(reply(tree, seat, command));
         }
     }
 }
 
-/// Answers, and the tree's pairs.
+/// Answers, and the tree's pairs. None where there is no memory.
 fn share<R: Threads + Sync>(
     rt: &R,
     alloc: Global,
     asks: Vec<Ask>,
 ) -> Option<(Vec<Ask>, Vec<(Key, Value)>)> {
-    // two seats; PIDs, rows, the opening epoch
-    let limits = Limits::new(2, 4096, 16384, 1).ok()?;
+    // two seats, and room for a thousand different keys, ever
+    let limits = Limits::for_keys(2, 1000).ok()?;
     let (tree, mut seats) = opened(alloc, limits).ok()?;
-    let told = work_in_threads(rt, &tree, &mut seats, asks);
-    told.zip(tree.close(alloc, seats).ok())
+    let asks = match work_in_threads(rt, &tree, &mut seats, asks) {
+        Ok(asks) => asks,
+        // none was asked: there are more than seats, or there is no memory
+        Err(error) => error.works,
+    };
+    match tree.close(alloc, seats) {
+        Ok(pairs) => Some((asks, pairs)),
+        // nothing is lost: the tree and its seats are in the error, as they were
+        Err(error) => Some((asks, error.tree.close(alloc, error.seats).ok()?)),
+    }
 }
 
 #[test]
@@ -55,9 +63,10 @@ fn two_threads_share_a_tree(rt: HostRuntime) -> Result<(), Fail> {
         assert!(rt; false);
         return Ok(());
     };
-    assert!(rt; inserted.told == Some(Reply::Inserted));
+    assert!(rt; inserted.told == Some(Ok(Reply::Inserted)));
     assert!(rt;
-        found.told == Some(Reply::None) || found.told == Some(Reply::Value(country.copied()))
+        found.told == Some(Ok(Reply::None))
+            || found.told == Some(Ok(Reply::Value(country.copied())))
     );
     assert!(rt; pairs.as_slice() == [(city, country)].as_slice());
     Ok(())

@@ -27,18 +27,18 @@ fn job(alloc: Global, number: u32, each: u32) -> Result<Job, AllocError> {
     Ok(Job { number, commands })
 }
 
-/// So many such jobs.
-fn inserts(alloc: Global, count: u32, each: u32) -> Result<Vec<Job>, AllocError> {
+/// Such jobs, from one number on and below an end.
+fn inserts(alloc: Global, (first, end): (u32, u32), each: u32) -> Result<Vec<Job>, AllocError> {
     let mut jobs = Vec::new(alloc);
-    for number in 0..count {
+    for number in first..end {
         jobs.push(job(alloc, number, each)?)?;
     }
     Ok(jobs)
 }
 
 /// Whether these are the results of such jobs, each insert of which found its key absent, on so many seats.
-fn are_inserted(results: &[JobResult], count: u32, each: u32, seats: usize) -> bool {
-    let mut number = 0u32;
+fn are_inserted(results: &[JobResult], (first, end): (u32, u32), each: u32, seats: usize) -> bool {
+    let mut number = first;
     for result in results {
         if result.job != number || result.seat >= seats || result.commands.len() != each as usize {
             return false;
@@ -50,21 +50,22 @@ fn are_inserted(results: &[JobResult], count: u32, each: u32, seats: usize) -> b
         }
         number = number.wrapping_add(1);
     }
-    number == count
+    number == end
 }
 
-/// Whether a closed tree has so many keys.
-fn lists(alloc: Global, tree: Tree, seats: Vec<BwSeat>, count: u32) -> bool
+/// Whether a closed tree has the keys from one on and below an end.
+fn lists(alloc: Global, tree: Tree, seats: Vec<BwSeat>, numbers: (u32, u32)) -> bool
     requires own { AreSeatsOf tree seats.items }
 {
+    let (first, end) = numbers;
     match closed(alloc, tree, seats) {
-        Some(pairs) => are_numbers(pairs.as_slice(), 0, count),
+        Some(pairs) => are_numbers(pairs.as_slice(), first, end),
         None => false,
     }
 }
 
-/// How many seats there are, how many jobs, and how many keys each of these inserts.
-type Amounts = (u64, u32, u32);
+/// How many seats there are, the first number of a job and the one behind the last, and how many keys each of these inserts.
+type Amounts = (u64, (u32, u32), u32);
 
 /// Whether jobs that insert keys of their own have the results for it, and the seats.
 fn are_right<R: Threads + Wait + Sync, G: Gate + Sync>(
@@ -79,8 +80,8 @@ fn are_right<R: Threads + Wait + Sync, G: Gate + Sync>(
     requires idle { AreIdle list.items }
     ensures own { AreSeatsOf tree.now result.1.items }
 {
-    let (seats, count, each) = amounts;
-    let Ok(jobs) = inserts(alloc, count, each) else {
+    let (seats, numbers, each) = amounts;
+    let Ok(jobs) = inserts(alloc, numbers, each) else {
         return (false, list);
     };
     if !are_ascending(jobs.as_slice()) || list.is_empty() {
@@ -88,7 +89,7 @@ fn are_right<R: Threads + Wait + Sync, G: Gate + Sync>(
     }
     match run_jobs(rt, alloc, tree, list, jobs, gate) {
         Ok((results, list)) => (
-            are_inserted(results.as_slice(), count, each, seats as usize),
+            are_inserted(results.as_slice(), numbers, each, seats as usize),
             list,
         ),
         Err(error) => (false, error.seats),
@@ -110,7 +111,9 @@ fn are_run<R: Threads + Wait + Sync, G: Gate + Sync>(
         return false;
     };
     let (right, list) = are_right(rt, alloc, &tree, list, amounts, gate);
-    lists(alloc, tree, list, amounts.1.wrapping_mul(amounts.2)) && right
+    let ((first, end), each) = (amounts.1, amounts.2);
+    let keys = (first.wrapping_mul(each), end.wrapping_mul(each));
+    lists(alloc, tree, list, keys) && right
 }
 
 /// Counts the jobs that begin and end.
@@ -139,7 +142,9 @@ fn are_counted<R: Threads + Wait + Sync>(rt: &R, alloc: Global, amounts: Amounts
     let ran = are_run(rt, alloc, 16384, amounts, &counts);
     let begun = counts.begun.load(Ordering::SeqCst);
     let ended = counts.ended.load(Ordering::SeqCst);
-    ran && (begun, ended) == (u64::from(amounts.1), u64::from(amounts.1))
+    let (first, end) = amounts.1;
+    let jobs = u64::from(end.saturating_sub(first));
+    ran && (begun, ended) == (jobs, jobs)
 }
 
 // As many seats as jobs, more, and fewer; no job at all, and jobs without commands.
@@ -153,12 +158,12 @@ fn seats_share_jobs(rt: HostRuntime) {
         (2, 0, 1),
         (2, 3, 0),
     ] {
-        let right = are_counted(&rt, rt.alloc(), (seats, count, each));
+        let right = are_counted(&rt, rt.alloc(), (seats, (0, count), each));
         assert!(rt; right, "{seats} {count} {each}");
     }
 }
 
-/// Holds two jobs, 0 and 1, each until the other one began, and tells if that was too long.
+/// Holds two jobs, of an even and an odd number, each until the other one began, and tells if that was too long.
 #[derive(Drop)]
 struct Meets {
     begun: [AtomicBool; 2],
@@ -198,13 +203,13 @@ impl Gate for Meets {
     fn after(&self, _job: u32) {}
 }
 
-// Workers that ran one job after another would wait in vain.
+// Jobs 1 and 2. Workers that ran one job after another would wait in vain.
 #[test]
 fn jobs_run_at_once(rt: HostRuntime) {
     let gate = Meets {
         begun: [AtomicBool::new(false), AtomicBool::new(false)],
         late: AtomicBool::new(false),
     };
-    let ran = are_run(&rt, rt.alloc(), 256, (2, 2, 2), &gate);
+    let ran = are_run(&rt, rt.alloc(), 256, (2, (1, 3), 2), &gate);
     assert!(rt; ran && !gate.late.load(Ordering::SeqCst));
 }

@@ -1,5 +1,9 @@
-//! What a running tree is to do, with one thread and with several, what walks over it show, and how many rows and PIDs it takes: tests alone, over its
-//! public calls.
+//! What a running tree is to do, with one thread and with several, what walks over it show, and how many rows and PIDs it takes: tests
+//! alone, over its public calls.
+//!
+//! Look first at `trees` and `clients`, which open trees and draw commands for the others; `example` is the example of README.md.
+//!
+//! Called by nobody, and apart from `bw_tree`, `seats`, `workers` and `walks`, which would be proved twice with their tests.
 #![tactic(auto)]
 
 #[cfg(test)]
@@ -15,11 +19,15 @@ mod example;
 #[cfg(test)]
 mod full_trees;
 #[cfg(test)]
+mod handed_back;
+#[cfg(test)]
 mod jobs;
 #[cfg(test)]
 mod last_epoch;
 #[cfg(test)]
 mod loading;
+#[cfg(test)]
+mod loads;
 #[cfg(test)]
 mod numbered;
 #[cfg(test)]
@@ -52,6 +60,8 @@ mod walk_numbered;
 mod walk_pages;
 #[cfg(test)]
 mod walk_refused;
+#[cfg(test)]
+mod windows;
 #[cfg(test)]
 mod without_memory;
 #[cfg(test)]

@@ -14,19 +14,35 @@ fn proposed(actors: u64, keys: u64) -> Option<(u64, u64)> {
 fn limits_are_proposed(rt: HostRuntime) {
     for (actors, keys, limits) in [
         (1, 0, Some((64, 704))),
-        (1, 399, Some((64, 704))),
-        (1, 400, Some((128, 1_280))),
-        (4, 1_000, Some((192, 2_048))),
-        (1, 12_247, Some((1_792, 16_256))),
-        (1, 12_248, None),
-        (16, 10_959, Some((1_664, 16_192))),
-        (16, 10_960, None),
+        (1, 351, Some((64, 704))),
+        (1, 352, Some((128, 1_280))),
+        (4, 1_000, Some((256, 2_816))),
+        (1, 12_199, Some((1_792, 16_256))),
+        (1, 12_200, None),
+        (4, 11_535, Some((1_728, 16_064))),
+        (4, 11_536, None),
+        (16, 9_751, Some((1_600, 16_320))),
+        (16, 9_752, None),
         (0, 1, None),
         (17, 1, None),
         (1, u64::MAX, None),
         (u64::MAX, u64::MAX, None),
     ] {
         assert!(rt; proposed(actors, keys) == limits, "{actors} {keys}");
+    }
+}
+
+#[test]
+fn most_keys_have_limits(rt: HostRuntime) {
+    for (actors, most) in [
+        (0, None),
+        (1, Some(12_199)),
+        (4, Some(11_535)),
+        (16, Some(9_751)),
+        (17, None),
+        (u64::MAX, None),
+    ] {
+        assert!(rt; Limits::most_keys(actors) == most, "{actors}");
     }
 }
 

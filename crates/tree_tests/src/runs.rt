@@ -23,7 +23,7 @@ pub(crate) enum Run {
     Updates(bool, u32),
     /// Inserts of one seat, beside no other.
     Alone(u32),
-    /// Two hundred keys that one seat inserts and deletes, beside no other.
+    /// Keys for four levels that one seat inserts and deletes, beside no other.
     ComesAndGoes,
     /// Inserts of one seat, each looked up by it and by the other.
     Inserts(u32),

@@ -48,8 +48,7 @@ fn done_at_once<R: Threads + Sync, W: Work>(
     let Ok((tree, mut seats)) = opened(alloc, limits) else {
         return None;
     };
-    let done = work_in_threads(rt, &tree, &mut seats, works);
-    // a seat that didn't come back is missed
+    let done = work_in_threads(rt, &tree, &mut seats, works).ok();
     done.zip(closed(alloc, tree, seats))
 }
 

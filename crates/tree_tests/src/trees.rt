@@ -117,7 +117,7 @@ const RUNS: [(Size, Run); 7] = [
     ((2, 64, 256), Run::Inserts(40)),
     ((1, 64, 256), Run::Alone(10)),
     ((1, 64, 256), Run::Alone(17)),
-    ((1, 256, 4096), Run::ComesAndGoes),
+    ((1, 512, 8192), Run::ComesAndGoes),
     ((2, 256, 1024), Run::Mixed),
     ((2, 64, 256), Run::Meets),
 ];

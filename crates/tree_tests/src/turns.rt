@@ -22,7 +22,7 @@ pub(crate) fn in_turn(tree: &Tree, seats: &mut Vec<BwSeat>, command: Command) ->
     ensures own { AreSeatsOf tree.now seats.new.items }
 {
     let mut seat = take_seat(tree, seats)?;
-    let told = reply(tree, &mut seat, command);
+    let told = reply(tree, &mut seat, command).ok();
     if put_first(tree, seats, seat) {
         return told;
     }

@@ -15,7 +15,7 @@ pub(crate) fn inserts(tree: &Tree, seat: &mut BwSeat, number: u32) -> bool
     requires own { IsSeatOf tree.now seat.old }
     ensures own { IsSeatOf tree.now seat.new }
 {
-    reply(tree, seat, insert(number)) == Some(Reply::Inserted)
+    reply(tree, seat, insert(number)) == Ok(Reply::Inserted)
 }
 
 /// Whether the key has the value of its number, and is made absent.
@@ -23,7 +23,7 @@ pub(crate) fn deletes(tree: &Tree, seat: &mut BwSeat, number: u32) -> bool
     requires own { IsSeatOf tree.now seat.old }
     ensures own { IsSeatOf tree.now seat.new }
 {
-    reply(tree, seat, delete(number)) == Some(Reply::Deleted(value(number)))
+    reply(tree, seat, delete(number)) == Ok(Reply::Deleted(value(number)))
 }
 
 /// Inserts the even numbers below 1,000, or all of them, in another order than that of the keys.

@@ -12,7 +12,7 @@ use Rattle.deltas.specs.declared.record.Record.{Record}
 use Rattle.deltas.specs.Memory.{Memory, replaced_at}
 use Rattle.traces.specs.trace.Steps.{IsWordOf, memory_after}
 use Rattle.tree_words.specs.Layout.{pid_bits_at, row_bits_at, epoch_at, announced_at, width}
-use Rattle.tree_words.specs.Changes.{HasWord, SetsBits, word_after, SpellsParts, ChangesOneWord, StepsChangeOneWord, WordsStandFirst}
+use Rattle.tree_words.specs.Changes.{HasWord, SetsBits, word_after, SpellsParts, ChangesOneWord, OperationsLeaveWords, StepsChangeOneWord, StoresTellNothing, WordsStandFirst}
 use Rattle.tree_words.proofs.FreeBits.{word_kept, bits_set, word_apart, taken, found_free}
 use Rattle.deltas.proofs.Replaced.{replaced_same, replaced_other}
 
@@ -166,3 +166,37 @@ all_first actor Leave few within = omega arith
 all_first actor (Retire epoch) few within = omega arith
 all_first actor (ReusePids word bits) few within = omega arith
 all_first actor (ReuseRows word bits) few within = omega arith
+
+pub all_leave : OperationsLeaveWords
+all_leave (Slot pid) found = refl
+all_leave (Row row) found = refl
+all_leave Epoch found = refl
+all_leave (Announce other) found = refl
+all_leave (PidBits word) found = refl
+all_leave (RowBits word) found = refl
+all_leave (Place row content) found = refl
+all_leave (Exchange slot old new) found = refl
+all_leave (TakePid pid) found = refl
+all_leave (TakeRow row) found = refl
+all_leave (Enter epoch) found = refl
+all_leave Leave found = refl
+all_leave (Retire epoch) found = refl
+all_leave (ReusePids word bits) found = refl
+all_leave (ReuseRows word bits) found = refl
+
+pub all_quiet : StoresTellNothing
+all_quiet (Slot pid) = tt
+all_quiet (Row row) = tt
+all_quiet Epoch = tt
+all_quiet (Announce other) = tt
+all_quiet (PidBits word) = tt
+all_quiet (RowBits word) = tt
+all_quiet (Place row content) = tt
+all_quiet (Exchange slot old new) = tt
+all_quiet (TakePid pid) = tt
+all_quiet (TakeRow row) = tt
+all_quiet (Enter epoch) = λ found. refl
+all_quiet Leave = λ found. refl
+all_quiet (Retire epoch) = tt
+all_quiet (ReusePids word bits) = tt
+all_quiet (ReuseRows word bits) = tt

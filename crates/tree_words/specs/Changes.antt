@@ -90,10 +90,29 @@ left_by (operation.Exchange old new) found = if found == old then new else found
 left_by (And bits) found = bit_and found bits
 left_by (Or bits) found = bit_or found bits
 
+-- the one atomic operation that a step is
+abbrev pub operation_of : Step Record → Operation
+operation_of (Exchange slot old new) = operation.Exchange old new
+operation_of (TakePid pid) = And (bit_not w64 (2 ^ (pid % 64)))
+operation_of (TakeRow row) = And (bit_not w64 (2 ^ (row % 64)))
+operation_of (Enter epoch) = Store epoch
+operation_of Leave = Store 0
+operation_of (Retire epoch) = operation.Exchange epoch (epoch + 1)
+operation_of (ReusePids word bits) = Or bits
+operation_of (ReuseRows word bits) = Or bits
+operation_of _ = Load
+
+-- The operation that a step is leaves in the word what the step leaves there.
+abbrev pub OperationsLeaveWords : Type 0
+OperationsLeaveWords = (step : Step Record) (found : ℕ) → left_by (operation_of step) found ≡ word_after step found
+
 -- A step that is a store tells nothing of what it finds.
 abbrev pub TellsNothing : Step Record → Operation → Type 0
 TellsNothing step (Store word) = (found : ℕ) → told step found ≡ Done
 TellsNothing step _ = ⊤
+
+abbrev pub StoresTellNothing : Type 0
+StoresTellNothing = (step : Step Record) → TellsNothing step (operation_of step)
 
 -- the words once the step has changed its word
 abbrev pub words_after : ℕ → Step Record → List ℕ → List ℕ

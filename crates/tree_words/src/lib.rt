@@ -1,4 +1,10 @@
-//! A memory as one row of words, as a running tree keeps it.
+//! A memory as one row of words, as a running tree keeps it: slots, words of free bits, the epoch, what actors announce, rows.
+//!
+//! Look first at specs/Changes and at `made_by`: which atomic operation on which word a step is. `opening_words` are the words of the
+//! tree of one empty leaf, and `word_place`, `row_place`, `slot_place` say where each part has its words.
+//!
+//! Called by `slot_rule`, which makes the operations, and by `bw_tree` at opening. It knows no seat and no thread: it says what one
+//! operation does to one word.
 #![tactic(auto)]
 
 mod changes;
@@ -7,7 +13,7 @@ mod opening;
 mod operations;
 mod places;
 
-pub use changes::steps_change_one_word;
+pub use changes::{operations_are_steps, steps_change_one_word};
 pub use examples::{
     epochs_are_announced, exchanges_win_or_lose, free_bits_come_and_go, reads_leave_words,
     steps_have_words,

@@ -1,8 +1,8 @@
 //! Steps as atomic operations: on which word, by which operation, and what the number that it finds tells.
-ghost use Rattle.std.specs.Prelude.{◌≡◌, ℕ, ◌%◌, ◌^◌};
+ghost use Rattle.std.specs.Prelude.{◌≡◌, ◌%◌, ◌^◌};
 ghost use Rattle.bw_model.specs.Answers.{answer_of};
 ghost use Rattle.bw_model.specs.Lent.{lent};
-ghost use Rattle.tree_words.specs.Changes.{HasWord, SetsBits, TellsNothing, changed_word, left_by, told, word_after};
+ghost use Rattle.tree_words.specs.Changes.{HasWord, SetsBits, changed_word, operation_of, told};
 
 use crate::places::{announced_place, epoch_place, pid_bits_place, row_bits_place, slot_place};
 use bw_model::{Step, Told};
@@ -44,8 +44,7 @@ pub fn word_place(actor: u8, step: &Step<&Record>) -> usize
 /// The operation that a step is.
 pub fn made_by(step: &Step<&Record>) -> Operation
     requires { HasWord (lent step.now) }
-    ensures left { (found : ℕ) → left_by result found ≡ word_after (lent step.now) found }
-    ensures quiet { TellsNothing (lent step.now) result }
+    ensures made { result ≡ operation_of (lent step.now) }
     ensures bits { SetsBits (lent step.now) }
 {
     match step {

@@ -1,5 +1,5 @@
 -- What a cursor has walked on a seat.
-use Rattle.std.proofs.Common.{◌≡◌, ◌+◌, ◌++◌, ℕ, List, [], ◌∷◌, length, Bool, true, false, None, refl, sym, ap, subst, ◌∙◌, arith, append_assoc}
+use Rattle.std.proofs.Common.{◌≡◌, ◌+◌, ◌++◌, ℕ, List, [], ◌∷◌, length, Bool, true, false, None, Some, refl, sym, ap, subst, ◌∙◌, arith, append_assoc}
 use Rattle.std.proofs.lemmas.List.{append-nil, length-append}
 use Rattle.bw_model.specs.declared.command.Command.TheVariants as command
 use Rattle.bw_model.specs.declared.command.Reply.{Reply}
@@ -9,11 +9,12 @@ use Rattle.bw_tree.specs.Runs.{StartsWith}
 use Rattle.bw_tree.specs.Seats.{IsSame, Seat, unfinished_command}
 use Rattle.bw_tree.specs.declared.called.Called.TheVariants as called
 use Rattle.bw_tree.proofs.Going.{starts_on}
-use Rattle.walks.specs.Cursors.{Cursor, HasShown, HasWalked, IsNextOf, IsRunOn, IsSpentAt, WasIdle, added_by}
+use Rattle.walks.specs.Cursors.{Cursor, HasShown, HasTold, HasWalked, IsNextOf, IsRunOn, IsSpentAt, WasIdle, added_by}
 use Rattle.walks.specs.Walks.{IsWalk, pairs_shown}
 use Rattle.walks.specs.declared.cursor.Walk.{Walk}
 use Rattle.walks.specs.declared.cursor.Walk.TheVariants as walk
-use Rattle.walks.proofs.Walking.{shown_on, walk_on, walk_stays}
+use Rattle.walks.proofs.Replying.{page_is_shown}
+use Rattle.walks.proofs.Walking.{shown_on, walk_on, walk_stays, walk_tells}
 
 done_idle : (asked : Bool) (seat later : Seat) (from : List ℕ) (budget : ℕ) (reply : Reply) → IsRunOn asked seat (command.Page from) budget (called.Done reply) later → (StartsWith later.seen seat.seen) × (unfinished_command later ≡ None)
 done_idle false seat later from budget reply run = (run.grows, run.idle)
@@ -95,3 +96,17 @@ module _ (first mid last : Cursor) (seat between later : Seat) (budget : ℕ) (a
 -- nothing walked yet
 pub walked_nothing : (cursor : Cursor) (seat : Seat) (pairs : List (List ℕ × List ℕ)) → (walked : HasWalked cursor seat pairs pairs cursor seat) × (length walked.pages ≡ 0)
 walked_nothing cursor seat pairs = (record { pages = []; shown = sym (append-nil pairs); walk = λ early was. (early, was, (refl, omega arith)); bound = refl; grows = ([], sym (append-nil seat.seen)) }, refl)
+
+-- and what it tells of the map
+pub has_told : (old : Cursor) (seat : Seat) (before after : List (List ℕ × List ℕ)) (new : Cursor) (later : Seat) → HasWalked old seat before after new later → HasTold old seat before after new later
+has_told old seat before after new later w = record {
+  shown = pairs_shown w.pages;
+  added = w.shown;
+  tells = λ from early at idle.
+      let (late, was, walk) = w.walk early idle in
+      let walk_from : IsWalk later.seen old.bound (Some from) (length early) w.pages new.at (length late) = subst (λ at. IsWalk later.seen old.bound at (length early) w.pages new.at (length late)) at walk in (
+        late,
+        was,
+        λ limits turns linear. walk_tells later.seen linear.points old.bound (λ page is. page_is_shown limits turns later.seen old.bound page linear is) from (length early) w.pages new.at (length late) walk_from,
+      );
+}

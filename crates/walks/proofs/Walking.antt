@@ -99,6 +99,9 @@ module _ (run : List Entry) (points : List Bool) where
       | inl here ↦ let in' = one.within key value here in and_both _ _ (and_left (not (is_below key from)) (is_below key next) in') (under key (and_right (not (is_below key from)) (is_below key next) in'))
       | inr there ↦ let in' = more.within key value there in and_both _ _ (above_from key (not_true (is_below key next) (and_left (not (is_below key next)) (is_under key end) in'))) (and_right (not (is_below key next)) (is_under key end) in')
     ];
+    there = λ key in' has. either (is_below key next)
+        (λ before. let at = one.there key (and_both _ _ (and_left (not (is_below key from)) (is_under key end) in') before) has in (at.0, Contains-append_left xs ys (key, at.0) at.1))
+        (λ after. let at = more.there key (and_both _ _ (ap not after) (and_right (not (is_below key from)) (is_under key end) in')) (λ n late soon. has n (omega arith) soon) in (at.0, Contains-append_right xs ys (key, at.0) at.1));
     stays = λ key value in' has. either (is_below key next)
         (λ before. Contains-append_left xs ys (key, value) (one.stays key value (and_both _ _ (and_left (not (is_below key from)) (is_under key end) in') before) has))
         (λ after. Contains-append_right xs ys (key, value) (more.stays key value (and_both _ _ (ap not after) (and_right (not (is_below key from)) (is_under key end) in')) (λ n late soon. has n (omega arith) soon)));
@@ -119,6 +122,7 @@ module _ (run : List Entry) (points : List Bool) where
         let s = shown page is in let begun = s.own.2.1.begun in let done = s.within in record {
           ascending = s.pairs.ascending;
           within = λ key value among. ((s.pairs.exact key value).0 among).0;
+          there = λ key in' has. let now = has s.step (omega arith) (omega arith) in (now.0, (s.pairs.exact key now.0).1 (in', now.1));
           stays = λ key value in' has. (s.pairs.exact key value).1 (in', has s.step (omega arith) (omega arith));
           was = λ key value among. (s.step, omega arith, omega arith, ((s.pairs.exact key value).0 among).1);
         }
@@ -165,6 +169,7 @@ module _ (run : List Entry) (points : List Bool) where
     tell_none from since till = record {
       ascending = tt;
       within = λ key value among. absurd (none_in (key, value) among);
+      there = λ key in' has. let out = not_true (is_below key from) (and_left (not (is_below key from)) (is_below key from) in') in let below = and_right (not (is_below key from)) (is_below key from) in' in absurd (cc);
       stays = λ key value in' has. let out = not_true (is_below key from) (and_left (not (is_below key from)) (is_below key from) in') in let below = and_right (not (is_below key from)) (is_below key from) in' in absurd (cc);
       was = λ key value among. absurd (none_in (key, value) among);
     }

@@ -5,13 +5,16 @@ use Rattle.bw_model.specs.declared.command.Command.TheVariants as command
 use Rattle.bw_model.specs.declared.command.Reply.{Reply}
 use Rattle.traces.specs.trace.Trace.{command_of}
 use Rattle.traces.specs.declared.trace.Entry.{Entry}
+use Rattle.traces.specs.declared.trace.Turn.{Turn}
+use Rattle.tree_limits.specs.declared.limits.Limits.{Limits}
+use Rattle.op_machine.specs.theorem.Linearized.{IsLinearized}
 use Rattle.bw_tree.specs.Calls.{IsCalled, IsResumed}
 use Rattle.bw_tree.specs.Runs.{StartsWith}
 use Rattle.bw_tree.specs.Seats.{IsSame, Seat}
 use Rattle.bw_tree.specs.declared.called.Called.{Called}
 use Rattle.bw_tree.specs.declared.called.Called.TheVariants as called
-use Rattle.walks.specs.Pages.{IsPageOf, WalkedPage}
-use Rattle.walks.specs.Walks.{IsWalk, pairs_shown}
+use Rattle.walks.specs.Pages.{IsPageOf, WalkedPage, end_under}
+use Rattle.walks.specs.Walks.{IsWalk, TellMap, pairs_shown}
 use Rattle.walks.specs.declared.cursor.Walk.{Walk}
 use Rattle.walks.specs.declared.cursor.Walk.TheVariants as walk
 use Rattle.walks.specs.declared.scan.Scanned.{Scanned}
@@ -77,6 +80,14 @@ pub record HasWalked (old : Cursor) (seat : Seat) (before after : List (List ℕ
   pub walk : (early : List Entry) → WasIdle seat early → (late : List Entry) × WasIdle later late × IsWalk later.seen old.bound old.at (length early) pages new.at (length late)
   pub bound : new.bound ≡ old.bound
   pub grows : StartsWith later.seen seat.seen
+
+-- What was added to a list tells of the map, by whatever points the run is linearized: from after whatever the seat had seen while it was idle
+-- to before something that it has seen while it was idle.
+pub record HasTold (old : Cursor) (seat : Seat) (before after : List (List ℕ × List ℕ)) (new : Cursor) (later : Seat) : Type 0 where
+  pub shown : List (List ℕ × List ℕ)
+  pub added : after ≡ before ++ shown
+  pub tells : (from : List ℕ) (early : List Entry) → old.at ≡ Some from → WasIdle seat early → (late : List Entry) × WasIdle later late
+      × ((limits : Limits) (turns : List Turn) (linear : IsLinearized limits turns later.seen) → TellMap later.seen linear.points (length early) (length late) from (end_under old.bound new.at) shown)
 
 -- what an answer adds to a list
 abbrev pub added_by : Walk → Cursor → List (List ℕ × List ℕ)

@@ -25,14 +25,19 @@ PairsAscend pairs = IsStrictlySortedBy key_cmp (map (λ pair. pair.0) pairs)
 abbrev pub HasThroughout : List Entry → List Bool → ℕ → ℕ → List ℕ → List ℕ → Type 0
 HasThroughout run points since till key value = (n : ℕ) → since ≤ n → n < till → logged_value (log_at run points n) key ≡ Some value
 
+-- It has some value there before each of these steps, not always the same.
+abbrev pub IsThereThroughout : List Entry → List Bool → ℕ → ℕ → List ℕ → Type 0
+IsThereThroughout run points since till key = (n : ℕ) → since ≤ n → n < till → (value : List ℕ) × (logged_value (log_at run points n) key ≡ Some value)
+
 -- It has the value at the key before one of these steps.
 abbrev pub HasOnce : List Entry → List Bool → ℕ → ℕ → List ℕ → List ℕ → Type 0
 HasOnce run points since till key value = (n : ℕ) × (since ≤ n) × (n < till) × (logged_value (log_at run points n) key ≡ Some value)
 
--- What pairs tell of a map that others change meanwhile: their keys ascend strictly and are in the range; what the map has throughout is among
--- them, and what is among them it has had.
+-- What pairs tell of a map that others change meanwhile: their keys ascend strictly and are in the range; a key that is there throughout is
+-- among them, a value that it has throughout with it; and what is among them the map has had.
 pub record TellMap (run : List Entry) (points : List Bool) (since till : ℕ) (from : List ℕ) (end : Option (List ℕ)) (pairs : List (List ℕ × List ℕ)) : Type 0 where
   pub ascending : PairsAscend pairs
   pub within : (key value : List ℕ) → Contains pairs (key, value) → IsTrue (is_in_range from end key)
+  pub there : (key : List ℕ) → IsTrue (is_in_range from end key) → IsThereThroughout run points since till key → (value : List ℕ) × Contains pairs (key, value)
   pub stays : (key value : List ℕ) → IsTrue (is_in_range from end key) → HasThroughout run points since till key value → Contains pairs (key, value)
   pub was : (key value : List ℕ) → Contains pairs (key, value) → HasOnce run points since till key value

@@ -18,8 +18,8 @@ pub fn pages_are_the_maps()
         → IsPageOf run bound page → IsPageShown run linear.points bound page }
 {}
 
-/// What a walk has shown of the keys from where it began to where it stands: they ascend strictly, what the map has had there all the while is
-/// among it, and the map has had all of it at some time in between.
+/// What a walk has shown of the keys from where it began to where it stands: they ascend strictly, each key that the map has had there all the while, with
+/// whatever values, is among it, and the map has had all of it at some time in between.
 pub fn walks_tell_the_map()
     ensures { (limits : Limits) (turns : List Turn) (run : List Entry) (bound : Option (List ℕ)) (from : List ℕ) (since : ℕ) (pages : List WalkedPage) (to : Option (List ℕ)) (till : ℕ)
         (linear : IsLinearized limits turns run) → IsWalk run bound (Some from) since pages to till → TellMap run linear.points since till from (end_under bound to) (pairs_shown pages) }

@@ -1,13 +1,16 @@
 -- Workers are made of seats, and parted from them again.
-use Rattle.std.proofs.Common.{◌≡◌, ◌<◌, ◌≤◌, ◌+◌, ◌*◌, ℕ, zero, suc, List, [], ◌∷◌, Some, refl, sym, ap, subst, ◌++◌, ◌∙◌, arith, All, Vec, false, flat_map, length, map, true}
-use Rattle.std.specs.Prelude.{Bool, IsPermutation, MatchBool, slice_get, slice_index_or, vec_len}
+use Rattle.std.proofs.Common.{inl, inr, ◌≡◌, ◌<◌, ◌≤◌, ◌+◌, ◌*◌, ℕ, zero, suc, List, [], ◌∷◌, Some, refl, sym, ap, subst, ◌++◌, ◌∙◌, arith, All, Vec, false, flat_map, length, map, true}
+use Rattle.std.specs.Prelude.{Bool, IsPermutation, MatchBool, Option, slice_get, slice_index_or, vec_len}
 use Rattle.std.specs.List.Sorted.{IsNonDecreasingBy}
 use Rattle.std.proofs.Math.Nat.{mul-le-mul_right}
 use Rattle.std.proofs.lemmas.Grind.{flat_map-append}
-use Rattle.std.proofs.lemmas.List.{append-nil, length-map, map-append}
+use Rattle.std.proofs.lemmas.List.{append-nil, length-append, length-map, map-append}
 use Rattle.std.proofs.lemmas.List.Elements.{All-weaker}
 use Rattle.std.proofs.lemmas.List.Sorted.{All-permutation}
 use Rattle.std.proofs.lemmas.Option.{same_Some}
+use Rattle.bw_model.specs.declared.command.Command.{Command}
+use Rattle.bw_model.specs.declared.command.Reply.{Reply}
+use Rattle.traces.proofs.Pushes.{slice_get-push, slice_get-push_cases, slice_get_kept}
 use Rattle.bw_tree.specs.Seats.{Seat}
 use Rattle.bw_tree.specs.Trees.{AreSeatsOf, Tree}
 use Rattle.workers.specs.declared.job.JobResult.{JobResult}
@@ -15,8 +18,10 @@ use Rattle.workers.specs.declared.worker.Worker.{Worker}
 use Rattle.workers.specs.declared.job.Job.{Job}
 use Rattle.workers.specs.declared.job.JobsRefusal.{JobsRefusal}
 use Rattle.workers.specs.declared.job.JobsRefusal.TheVariants.{NotRun, Results}
-use Rattle.workers.specs.Jobs.{AreResultsOf}
-use Rattle.workers.specs.Worked.{AreIdle, AreNamed, HasWorked, HaveStopped, HaveWorked}
+use Rattle.bw_tree.proofs.Going.{same_on, starts_on}
+use Rattle.seats.specs.Gathered.{HaveGathered, SeesOn}
+use Rattle.workers.specs.Jobs.{AreResultsOf, calls_told}
+use Rattle.workers.specs.Worked.{AreIdle, AreNamed, GoesOn, HasWorked, HaveOneHistory, HaveStopped, HaveWorked}
 use Rattle.workers.specs.Begun.{ComesBack, HaveComeBack}
 use Rattle.workers.proofs.Named.{ArePlaced, all_within, done_by, named, reordered}
 
@@ -162,14 +167,45 @@ worked_as results others olds before news after worked same_results same_olds sa
     subst (λ z. HaveWorked z before after) (sym same_results)
     (subst (λ z. HaveWorked results z after) (sym same_olds) (subst (HaveWorked results olds) (sym same_news) worked))
 
-pub stopped : {A : Type 0} (jobs : List Job) (refusal : JobsRefusal) (results : List (JobResult A)) (olds news backs : List Seat) → refusal ≡ Results → backs ≡ news → HaveWorked results olds news → IsNonDecreasingBy (λ result. result.job) results → (AreResultsOf jobs results → ⊥)
-    → HaveStopped A jobs refusal olds backs
-stopped {A = A} jobs refusal results olds news backs is same worked order other =
-    subst (λ z. HaveStopped A jobs z olds backs) (sym is) (results, subst (HaveWorked results olds) (sym same) worked, order, other)
+-- and when the last seat has seen what all have seen
+goes_on_seen : (old mid new : Seat) (made : List (Command × Option Reply)) → GoesOn old made mid → SeesOn mid new → GoesOn old made new
+goes_on_seen old mid new made goes on = record {
+  same = same_on old mid new goes.same on.same;
+  grows = starts_on old.seen mid.seen new.seen goes.grows on.grows;
+  calls = on.calls ∙ goes.calls;
+  idle = on.command ∙ goes.idle;
+}
+
+pub gathered : {A : Type 0} (results : List (JobResult A)) (olds mids news : List Seat) → HaveWorked results olds mids → HaveGathered mids news → HaveWorked results olds news
+gathered results olds mids news worked g =
+    let counted = ap length g.before in
+    let counts = ap length g.after in
+    let before = length-append g.others (g.last ∷ []) in
+    let after = length-append g.others (g.later ∷ []) in
+    let same = worked.count in record {
+      count = omega (arith, counted, counts, before, after, same);
+      seated = worked.seated;
+      each = λ place old new at_old at_new. elim (slice_get-push_cases g.others g.later place new (sym (ap (λ z. slice_get z place) g.after) ∙ at_new)) [
+        | inl there ↦ worked.each place old new at_old (ap (λ z. slice_get z place) g.before ∙ slice_get_kept g.others (g.last ∷ []) place new there)
+        | inr is ↦
+            let h = worked.each place old g.last at_old (ap (λ z. slice_get z place) g.before ∙ ap (slice_get (g.others ++ g.last ∷ [])) is.0 ∙ slice_get-push g.others g.last) in
+            subst (HasWorked results place old) (sym is.1) record { order = h.order; named = h.named; goes = goes_on_seen old g.last g.later (flat_map calls_told h.order) h.goes g.on; history = g.seen.history }
+      ];
+    }
+
+pub one_history : (mids news : List Seat) → HaveGathered mids news → HaveOneHistory news
+one_history mids news g = record { others = g.others; last = g.later; all = g.after; seen = g.seen }
+
+-- what a refusal is told with
+pub stopped : {A : Type 0} (jobs : List Job) (refusal : JobsRefusal) (results given : List (JobResult A)) (olds news backs : List Seat) → refusal ≡ Results → given ≡ results → backs ≡ news → HaveWorked results olds news → HaveOneHistory news
+    → IsNonDecreasingBy (λ result. result.job) results → (AreResultsOf jobs results → ⊥) → HaveStopped jobs refusal given olds backs
+stopped jobs refusal results given olds news backs is same_results same worked one order other =
+    subst (λ z. HaveStopped jobs z given olds backs) (sym is)
+    (subst (λ z. HaveStopped jobs Results z olds backs) (sym same_results) (subst (HaveStopped jobs Results results olds) (sym same) (worked, one, order, other)))
 
 -- where no job was run the seats are as they were
-pub not_run : (A : Type 0) (jobs : List Job) (refusal : JobsRefusal) (olds backs : List Seat) → refusal ≡ NotRun → backs ≡ olds → HaveStopped A jobs refusal olds backs
-not_run A jobs refusal olds backs is same = subst (λ z. HaveStopped A jobs z olds backs) (sym is) same
+pub not_run : {A : Type 0} (jobs : List Job) (refusal : JobsRefusal) (results : List (JobResult A)) (olds backs : List Seat) → refusal ≡ NotRun → backs ≡ olds → results ≡ [] → HaveStopped jobs refusal results olds backs
+not_run jobs refusal results olds backs is same none = subst (λ z. HaveStopped jobs z results olds backs) (sym is) (same, none)
 
 -- what is so where a test is false
 pub where_false : (P Q : Type 0) (test : Bool) → test ≡ false → MatchBool test P Q → Q

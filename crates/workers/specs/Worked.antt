@@ -1,12 +1,11 @@
 -- What seats have done for jobs.
-use Rattle.std.specs.Prelude.{◌≡◌, ◌<◌, ◌++◌, ℕ, List, length, Option, None, Some, slice_get, All, flat_map, IsPermutation}
+use Rattle.std.specs.Prelude.{◌≡◌, ◌<◌, ◌++◌, [], ℕ, List, length, Some, slice_get, All, flat_map, IsPermutation}
 use Rattle.std.specs.List.Sorted.{IsNonDecreasingBy}
-use Rattle.bw_model.specs.declared.command.Command.{Command}
-use Rattle.bw_model.specs.declared.command.Reply.{Reply}
-use Rattle.bw_tree.specs.Calls.{calls_in}
-use Rattle.bw_tree.specs.Runs.{IsOneHistory, StartsWith}
-use Rattle.bw_tree.specs.Seats.{IsSame, Seat, unfinished_command}
+use Rattle.bw_tree.specs.Runs.{IsOneHistory}
+use Rattle.bw_tree.specs.Seats.{Seat}
+pub use Rattle.seats.specs.Gathered.{HaveOneHistory}
 pub use Rattle.seats.specs.Idle.{AreIdle}
+pub use Rattle.seats.specs.Replies.{GoesOn}
 use Rattle.workers.specs.declared.job.Job.{Job}
 use Rattle.workers.specs.declared.job.JobResult.{JobResult}
 use Rattle.workers.specs.declared.job.JobsRefusal.{JobsRefusal}
@@ -19,13 +18,6 @@ pub record AreNamed {A : Type 0} (place : ℕ) (results order : List (JobResult 
   pub all : IsPermutation results (order ++ others)
   pub named : All (λ result. result.seat ≡ place) order
   pub apart : All (λ result. result.seat ≡ place → ⊥) others
-
--- The seat has made these calls, one after another, and is idle again. What it has seen goes on from what it had seen.
-pub record GoesOn (old : Seat) (made : List (Command × Option Reply)) (new : Seat) : Type 0 where
-  pub same : IsSame old new
-  pub grows : StartsWith new.seen old.seen
-  pub calls : calls_in new ≡ calls_in old ++ made
-  pub idle : unfinished_command new ≡ None
 
 -- The calls that the seat has made are those of exactly the results that name it, in some order of whole jobs. What it has seen is one
 -- history.
@@ -41,8 +33,8 @@ pub record HaveWorked {A : Type 0} (results : List (JobResult A)) (old new : Lis
   pub seated : All (λ result. result.seat < length old) results
   pub each : (place : ℕ) (before after : Seat) → slice_get old place ≡ Some before → slice_get new place ≡ Some after → HasWorked results place before after
 
--- What the seats that come back from a refusal have done. Where memory or a thread couldn't be had, nothing. Otherwise they have worked,
--- but the results, in order of their numbers, are not those of the jobs.
-abbrev pub HaveStopped : Type 0 → List Job → JobsRefusal → List Seat → List Seat → Type 0
-HaveStopped A jobs NotRun old new = new ≡ old
-HaveStopped A jobs Results old new = (results : List (JobResult A)) × HaveWorked results old new × IsNonDecreasingBy (λ result. result.job) results × (AreResultsOf jobs results → ⊥)
+-- What the seats that come back from a refusal have done, and the results that come with it. Where memory or a thread couldn't be had,
+-- nothing. Otherwise they have worked, in one history, but the results, in order of their numbers, are not those of the jobs.
+abbrev pub HaveStopped : {A : Type 0} → List Job → JobsRefusal → List (JobResult A) → List Seat → List Seat → Type 0
+HaveStopped jobs NotRun results old new = (new ≡ old) × (results ≡ [])
+HaveStopped jobs Results results old new = HaveWorked results old new × HaveOneHistory new × IsNonDecreasingBy (λ result. result.job) results × (AreResultsOf jobs results → ⊥)

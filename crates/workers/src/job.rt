@@ -38,11 +38,13 @@ pub enum JobsRefusal {
     Results,
 }
 
-/// A refusal to run jobs, which hands back the seats.
+/// A refusal to run jobs, which hands back the seats, and what was replied.
 #[derive(Drop)]
 pub struct JobsError<A: Allocator = Global> {
     /// Why.
     pub refusal: JobsRefusal,
+    /// The results that there are, in order of their numbers: none where no job has begun.
+    pub results: Vec<JobResult<A>, A>,
     /// The seats, in their order. None has an operation.
     pub seats: Vec<BwSeat<A>, A>,
 }

@@ -1,5 +1,5 @@
 //! A worker: a seat, and the results of the jobs that it ran.
-ghost use Rattle.std.specs.Prelude.{◌≡◌, ◌<◌, ◌≤◌, ◌∷◌, [], None, Some, length, map, vec_len, zip};
+ghost use Rattle.std.specs.Prelude.{◌≡◌, ◌<◌, ◌≤◌, [], None, Some, length, map, vec_len, zip};
 ghost use Rattle.std.specs.Vec.{vec_capacity};
 ghost use Rattle.bw_tree.specs.Runs.{IsOneHistory};
 ghost use Rattle.bw_tree.specs.Seats.{unfinished_command};
@@ -11,13 +11,11 @@ use crate::gate::Gate;
 use crate::job::JobResult;
 use crate::task::Task;
 use bw_model::{Command, Reply};
-use bw_tree::{BwSeat, Called, Tree};
+use bw_tree::{BwSeat, Tree};
 use crossbeam_channel::Receiver;
+use seats::run_to_end;
 use std::alloc::Allocator;
 use std::sync::Wait;
-
-/// Steps between two looks whether a command is done.
-const STEPS: u32 = 1 << 16;
 
 /// A seat, and the results of the jobs that were run on it.
 pub(crate) struct Worker<A: Allocator> {
@@ -117,28 +115,6 @@ fn run_all<R: Wait, A: Allocator>(
     ensures goes { GoesOn seat.old (zip commands.now (map Some replies.new.items)) seat.new }
 {
     for command in commands {
-        replies.push_reserved(run(rt, tree, seat, command.copied()));
+        replies.push_reserved(run_to_end(rt, tree, seat, command.copied()));
     }
-}
-
-/// Runs a command to its end.
-fn run<R: Wait, A: Allocator>(
-    rt: &R,
-    tree: &Tree<A>,
-    seat: &mut BwSeat<A>,
-    command: Command,
-) -> Reply
-    requires own { IsSeatOf tree.now seat.old }
-    requires idle { unfinished_command seat.old ≡ None }
-    ensures goes { GoesOn seat.old ((command, Some result) ∷ []) seat.new }
-{
-    if let Called::Done(reply) = tree.call(seat, command, STEPS) {
-        return reply;
-    }
-    for _ in rt.forever() {
-        if let Called::Done(reply) = tree.resume(seat, STEPS) {
-            return reply;
-        }
-    }
-    unreachable!()
 }

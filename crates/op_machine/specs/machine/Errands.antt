@@ -24,7 +24,7 @@ due_of [] (Swap key expected value) = 8
 due_of [] (Page key) = 8
 due_of (key ∷ errands) command = 8
 
--- Whether a round holds and removes small pages of level 1 on its way: that of a deletion or a tidying for its own key does.
+-- Whether a round holds and removes small index pages on its way: that of a deletion or a tidying for its own key does.
 abbrev pub tends_of : List (List ℕ) → Command → Bool
 tends_of [] command = tidies command
 tends_of (key ∷ errands) command = false

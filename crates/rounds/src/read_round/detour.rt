@@ -1,15 +1,15 @@
 //! The way of a reader's round round a removed index page, to the page on its left.
-ghost use Rattle.std.specs.Prelude.{◌≡◌, ◌≢◌, ◌<◌, IsTrue, MatchOption, Some, true};
+ghost use Rattle.std.specs.Prelude.{◌≡◌, ◌≢◌, ◌<◌, IsTrue, MatchOption, None, Some, true};
 ghost use Rattle.std.specs.Bool.{Decides};
 ghost use Rattle.std.specs.Option.{option_map};
 ghost use Rattle.traces.specs.chain.Chains.{is_removed, level_in, low_in, right_in};
 ghost use Rattle.descent.specs.ReadLegs.{IsPlain, Round};
 ghost use Rattle.descent.specs.ReadRounds.{CanTreatRead, IsSame, LacksLeft, TreatsRead, left_of, read_way};
-ghost use Rattle.descent.specs.Ways.{LeadsDown, LeadsOn, LeadsRight, StaysLeft};
+ghost use Rattle.descent.specs.Ways.{LeadsOn, LeadsRight, StaysLeft};
 ghost use Rattle.rounds.specs.ReadRounds.{IsOnLevelOf, LeadsLeft, ended_read};
 
 use super::{Going, ReadEnded, ReadRound};
-use crate::way::{child_on_way, right_on_way};
+use crate::way::{next_on_way, right_on_way};
 use row_search::KeyWords;
 use std::alloc::Allocator;
 
@@ -50,8 +50,8 @@ impl<A: Allocator> ReadRound<A> {
         above.child_below(&low)
     }
 
-    /// On the way round a removed page, goes on to the right of the page in hand, or down from the removed page, which it has to its
-    /// right; where that one was merged, goes on from the page in hand.
+    /// On the way round a removed page, goes on to the right of the page in hand, or from the removed page, which it has to its right;
+    /// where that one was merged, goes on from the page in hand.
     #[inline(never)]
     pub(super) fn come_nearer(&mut self) -> Option<ReadEnded>
         requires can { CanTreatRead self.old.round self.old.page }
@@ -66,10 +66,51 @@ impl<A: Allocator> ReadRound<A> {
             self.descent.go_to(right);
             return None;
         }
-        let next = self.next_past();
+        if self.has_removed_aside() {
+            self.go_through();
+        } else {
+            self.go_past();
+        }
+        None
+    }
+
+    /// Goes on from the removed page, which the page in hand has as its right.
+    fn go_through(&mut self)
+        requires can { CanTreatRead self.old.round self.old.page }
+        requires round { self.old.round.leg ≡ Round self.old.met }
+        requires level { IsOnLevelOf self.old.page self.old.met }
+        requires stays { StaysLeft (left_of self.old.met) self.old.page.chain }
+        requires beside { right_in self.old.page.chain ≡ Some self.old.met.pid }
+        ensures treats { TreatsRead self.old.round self.old.page self.new.round None }
+        ensures same { IsSame self.old.round self.new.round }
+    {
+        let next = self.next_of_removed();
         self.leg.pass();
         self.descent.go_to(next);
-        None
+    }
+
+    /// Goes on from the page in hand, as the removed page was merged.
+    #[inline(never)]
+    fn go_past(&mut self)
+        requires can { CanTreatRead self.old.round self.old.page }
+        requires round { self.old.round.leg ≡ Round self.old.met }
+        requires level { IsOnLevelOf self.old.page self.old.met }
+        requires stays { StaysLeft (left_of self.old.met) self.old.page.chain }
+        requires merged { right_in self.old.page.chain ≢ Some self.old.met.pid }
+        ensures treats { TreatsRead self.old.round self.old.page self.new.round None }
+        ensures same { IsSame self.old.round self.new.round }
+    {
+        match self.next_aside() {
+            Some(right) => {
+                self.leg.pass();
+                self.descent.go_to(right);
+            }
+            None => {
+                let child = self.next_below();
+                self.leg.go_below(&mut self.descent);
+                self.descent.go_to(child);
+            }
+        }
     }
 
     /// Whether the page in hand isn't removed, and is of the removed page's level.
@@ -88,25 +129,6 @@ impl<A: Allocator> ReadRound<A> {
         right_on_way(self.page().chain(), &low, true)
     }
 
-    /// The next page, where the page in hand doesn't end to the left of the removed one: a child of that one, where the page in hand has
-    /// it as its right; else the next page from the page in hand.
-    fn next_past(&self) -> u16
-        requires reached { IsTrue (left_of self.now.met (low_in self.now.page.chain)) }
-        requires level { IsOnLevelOf self.now.page self.now.met }
-        requires index { 0 < level_in self.now.met.chain }
-        requires on_way { IsTrue (read_way self.now.round.goal self.now.round.key (low_in self.now.met.chain)) }
-        ensures through { right_in self.now.page.chain ≡ Some self.now.met.pid → LeadsDown (read_way self.now.round.goal self.now.round.key) self.now.met.chain result }
-        ensures past { right_in self.now.page.chain ≢ Some self.now.met.pid → LeadsOn (read_way self.now.round.goal self.now.round.key) self.now.page.chain result }
-    {
-        if self.has_removed_aside() {
-            return self.child_of_removed();
-        }
-        match self.next_aside() {
-            Some(right) => right,
-            None => self.next_below(),
-        }
-    }
-
     /// Whether the removed page is the right of the page in hand.
     fn has_removed_aside(&self) -> bool
         ensures { Decides result (right_in self.now.page.chain ≡ Some self.now.met.pid) }
@@ -117,19 +139,19 @@ impl<A: Allocator> ReadRound<A> {
         }
     }
 
-    /// The child of the greatest term on the way that the removed page has.
-    fn child_of_removed(&self) -> u16
+    /// The removed page's right, where it ends on the way; else the child of its greatest term there.
+    fn next_of_removed(&self) -> u16
         requires index { 0 < level_in self.now.met.chain }
         requires on_way { IsTrue (read_way self.now.round.goal self.now.round.key (low_in self.now.met.chain)) }
-        ensures { LeadsDown (read_way self.now.round.goal self.now.round.key) self.now.met.chain result }
+        ensures { LeadsOn (read_way self.now.round.goal self.now.round.key) self.now.met.chain result }
     {
         let removed = self.leg.page().chain();
         match self.going {
             Going::Left => {
                 let low = KeyWords::of(&self.aside.chain().low());
-                child_on_way(removed, &low, true)
+                next_on_way(removed, &low, true)
             }
-            Going::Seek | Going::Beyond => child_on_way(removed, &self.key, false),
+            Going::Seek | Going::Beyond => next_on_way(removed, &self.key, false),
         }
     }
 }

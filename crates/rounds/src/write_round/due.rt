@@ -1,8 +1,8 @@
 //! What is due at the pages of a writer's round.
-ghost use Rattle.std.specs.Prelude.{◌≡◌, ◌≢◌, IfSome, MatchOption, Some, true, false};
+ghost use Rattle.std.specs.Prelude.{◌≡◌, ◌≢◌, ◌<◌, IfSome, MatchOption, Some, true, false};
 ghost use Rattle.std.specs.Bool.{Decides};
 ghost use Rattle.base_page.specs.declared.item.Content.TheVariants.{Child};
-ghost use Rattle.traces.specs.chain.Chains.{content_in};
+ghost use Rattle.traces.specs.chain.Chains.{content_in, level_in};
 ghost use Rattle.descent.specs.Courses as goal;
 ghost use Rattle.descent.specs.WriteResponses.{CanTreatWrite, IsIdleOnWay, IsTended, TreatsWrite};
 ghost use Rattle.descent.specs.WriteRounds.{IsLong, SeeksLeaf};
@@ -71,16 +71,14 @@ impl<A: Allocator> WriteRound<A> {
         plan_root(self.left(), self.page())
     }
 
-    /// What is done first at the page in hand, where it is small, of level 1 and below the parent, on the way to the leaf of a key.
+    /// What is done first at the index page in hand, where it is small and below the parent, on the way to the leaf of a key.
     pub(super) fn due_upkeep(&self) -> Option<Upkeep>
         requires seeks { SeeksLeaf self.now.round.goal }
         requires tends { self.now.round.tends ≡ true }
+        requires index { 0 < level_in self.now.page.chain }
         ensures { MatchOption result (IsIdleOnWay self.now.round self.now.page) (λ upkeep. IsTended self.now.round self.now.parent self.now.page × IsUpkeep self.now.parent self.now.page upkeep) }
     {
-        if self.is_left() || self.page().chain().level() != 1 {
-            return None;
-        }
-        if !self.course.has_parent() {
+        if self.is_left() || !self.course.has_parent() {
             return None;
         }
         plan_upkeep(self.parent(), self.page())

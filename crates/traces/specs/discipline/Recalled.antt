@@ -1,5 +1,5 @@
 -- What an operation recalls of its own reads, and which of its steps a cause pays for.
-use Rattle.std.specs.Prelude.{◌≡◌, ◌≢◌, ◌<◌, ◌+◌, ◌/◌, ◌%◌, ◌^◌, ◌⊎◌, ◌||◌, ◌&&◌, not, if◌then◌else◌, ℕ, zero, suc, List, [], ◌∷◌, Bool, true, false, Option, None, Some, IsTrue, IsFalse, ⊤}
+use Rattle.std.specs.Prelude.{◌≡◌, ◌≢◌, ◌<◌, ◌+◌, ◌/◌, ◌%◌, ◌^◌, ◌⊎◌, ◌||◌, ◌&&◌, ltb, not, if◌then◌else◌, ℕ, zero, suc, List, [], ◌∷◌, Bool, true, false, Option, None, Some, IsTrue, IsFalse, ⊤}
 use Rattle.std.specs.Int.{bit_at}
 use Rattle.std.specs.List.{fold}
 use Rattle.bw_model.specs.declared.step.Answer.{Answer}
@@ -19,6 +19,7 @@ pub record Walk : Type 0 where
   pub visited : List ℕ  -- pages whose slots it has read, the last one first; once it has gone on from a removed page, those since then
   pub records : List Record  -- records that it has read, the last one first
   pub removed : Bool  -- whether one of these removes a page
+  pub level : ℕ  -- the level of the last such record that was a cause
   pub passed : Bool  -- whether it has gone on from there: it has read a slot since
 
 pub record Recalled : Type 0 where
@@ -28,7 +29,7 @@ pub record Recalled : Type 0 where
   pub walk : Walk
 
 abbrev pub no_walk : Walk
-no_walk = record { rooted = false; visited = []; records = []; removed = false; passed = false }
+no_walk = record { rooted = false; visited = []; records = []; removed = false; level = 0; passed = false }
 
 abbrev pub blank : Recalled
 blank = record { heads = λ slot. None; pids = λ word. None; rows = λ word. None; walk = no_walk }
@@ -37,7 +38,16 @@ abbrev pub is_removal : Record → Bool
 is_removal (Remove remove) = true
 is_removal _ = false
 
--- the pages that count when the next slot is read: where a removal was read, it is the first one
+-- the level of a removal
+abbrev pub removal_level : Record → ℕ
+removal_level (Remove remove) = remove.level
+removal_level _ = 0
+
+-- the record is a removal that is a cause: the first one, or of a lower level than the last one that was
+abbrev pub is_lower : Record → Walk → Bool
+is_lower content walk = is_removal content && (not walk.removed || ltb (removal_level content) walk.level)
+
+-- the pages that count when the next slot is read: where a removal was read that was a cause, it is the first one
 abbrev pub trail : Walk → List ℕ
 trail walk = if walk.removed && not walk.passed then [] else walk.visited
 
@@ -48,7 +58,12 @@ visit (suc page) walk = record walk { visited = suc page ∷ trail walk; passed 
 
 -- a record was read
 abbrev pub note : Record → Walk → Walk
-note content walk = record walk { records = content ∷ walk.records; removed = is_removal content || walk.removed }
+note content walk = record walk {
+  records = content ∷ walk.records;
+  removed = is_removal content || walk.removed;
+  level = if is_lower content walk then removal_level content else walk.level;
+  passed = if is_lower content walk then false else walk.passed;
+}
 
 abbrev pub recall : Recalled → StepOf Record → Answer Record → Recalled
 recall r (Slot slot) (Number n) = record r { heads = replaced_at slot (Some n) r.heads; walk = visit slot r.walk }
@@ -89,13 +104,14 @@ AnyNames (content ∷ contents) page = NamesPage content page ⊎ AnyNames conte
 
 -- The step is a cause: an exchange over a number that was read in the slot, whether it won or not (the slot of an own page is
 -- never read, so filling it, and emptying it again, pays nothing); a take that missed a number that was free; since slot 0
--- was last read, the first removal, or, before that, the first read of a page's slot that holds 0, though a record names the page.
+-- was last read, the first removal, and each one of a lower level than those that were causes; or, before the first, the first read of
+-- a page's slot that holds 0, though a record names the page.
 abbrev pub IsPaid : Recalled → StepOf Record → Answer Record → Type 0
 IsPaid r (Exchange slot old new) (Whether won) = WasHead r slot old
 IsPaid r (TakePid pid) (Whether false) = WasFree r.pids pid
 IsPaid r (TakeRow row) (Whether false) = WasFree r.rows row
 IsPaid r (Slot (suc page)) (Number zero) = IsTrue r.walk.rooted × IsFalse r.walk.removed × IsUnread (suc page) r.walk.visited × AnyNames r.walk.records (suc page)
-IsPaid r (Row row) (Content (Remove remove)) = IsTrue r.walk.rooted × IsFalse r.walk.removed
+IsPaid r (Row row) (Content (Remove remove)) = IsTrue r.walk.rooted × IsTrue (is_lower (Remove remove) r.walk)
 IsPaid r step answer = ⊥
 
 -- Of the steps that were left at most there are fewer now, or the step was a cause, and is worth that many more.

@@ -3,7 +3,9 @@ use Rattle.tree_law.proofs.Words.{false, [], ap, refl, Option, suc, List, true, 
 use Rattle.tree_law.proofs.Words.{Number, StepOf, TakePid, Row, TakeRow, Slot, Exchange, Memory, Record, Remove, knows, Ready, Recalled, is_removal, Entry, Step, IsExchangeOf, IsCause, TakesNone}
 use Rattle.tree_law.proofs.Words.{IsTheStep, IsTake, link_of, Operation, IsLast, Recollects, Walks}
 use Rattle.deltas.specs.declared.record.Remove.{Remove as Removal}
-use Rattle.traces.specs.discipline.Recalled.{AnyNames, IsPaid, IsUnread}
+use Rattle.std.specs.Prelude.{◌≤◌, ltb}
+use Rattle.std.proofs.lemmas.Bool.{ltb-true}
+use Rattle.traces.specs.discipline.Recalled.{AnyNames, IsPaid, IsUnread, is_lower, removal_level}
 use Rattle.tree_law.proofs.trace.Searches.{takes_kept}
 use Rattle.tree_law.proofs.direct.Appended.{memory_last, takes_below, takes_last}
 use Rattle.tree_law.proofs.direct.Causes.{none_kept}
@@ -16,14 +18,17 @@ module _ (limits : Limits) (entries : List Entry) (last : Entry) (op : Operation
   none : (m : ℕ) (Kind : StepOf Record → Type 0) → TakesNone limits entries op m (length entries) Kind → TakesNone limits longer op m (length entries) Kind
   none m Kind h = none_kept limits entries last op m (length entries) Kind (omega arith) h
 
-  -- since slot 0 was last read, the first removal
+  -- since slot 0 was last read, the first removal, or one of a lower level
   removal : (row : ℕ) (remove : Removal) (r : Recalled) (seen : ℕ → Option Record) → last ≡ Step op.actor (Row row) (Content (Remove remove)) reply → ((before : Record) → seen row ≡ Some before → Remove remove ≡ before)
-      → Walks limits entries op seen r.walk → r.walk.removed ≡ false → IsCause limits longer op (length entries)
-  removal row remove r seen is same w fresh =
+      → Walks limits entries op seen r.walk → is_lower (Remove remove) r.walk ≡ true → IsCause limits longer op (length entries)
+  removal row remove r seen is same w lower =
       let first : TakesNone limits entries op w.at (length entries) (IsTheStep limits entries op (Row row)) = λ between step answer low high own kind.
       let was = w.rows between row answer low (rw kind at own) in
-      let f : true ≡ false = sym (was.2 (subst (λ content. is_removal content ≡ true) (same was.0 was.1) refl)) ∙ fresh in
-      cc in
+      let there : (r.walk.removed ≡ true) × (r.walk.level ≤ remove.level) = subst (λ content. is_removal content ≡ true → (r.walk.removed ≡ true) × (r.walk.level ≤ removal_level content)) (sym (same was.0 was.1)) was.2 refl in
+      let less : ltb remove.level r.walk.level ≡ true = rw there.0 at lower in
+      let low = ltb-true remove.level r.walk.level less in
+      let high = there.1 in
+      omega (arith, low, high) in
       inr (inr (inr (
         w.at,
         w.root,

@@ -2,7 +2,9 @@
 use Rattle.tree_law.proofs.Words.{false, ap, refl, Option, suc, List, true, inl, ◌≢◌, length, ◌++◌, inr, ◌∷◌, subst, sym, ℕ, ◌≡◌, Bool, zero, ◌∙◌, ◌<◌, arith, Some, ◌||◌, Reply, Limits}
 use Rattle.tree_law.proofs.Words.{Answer, Content, Number, StepOf, Leave, Row, Slot, PidBits, RowBits, Memory, replaced_at, Record, Knowledge, learn, recall, Recalled, is_removal, IsAnswer, Entry}
 use Rattle.tree_law.proofs.Words.{Step, TakesNone, IsTheStep, Operation, TakesOwnStep, IsLast, Walks, []}
-use Rattle.traces.specs.discipline.Recalled.{Walk, note, visit}
+use Rattle.std.specs.Prelude.{◌≤◌, ◌&&◌, ltb, not, if◌then◌else◌}
+use Rattle.std.proofs.lemmas.Bool.{ltb-false, ltb-true}
+use Rattle.traces.specs.discipline.Recalled.{Walk, is_lower, note, removal_level, visit}
 use Rattle.tree_law.proofs.links.Exchanged.{exchanged_alike}
 use Rattle.tree_law.proofs.trace.Owned.{pushed_length}
 use Rattle.tree_law.proofs.shape.Puts.{by_equal}
@@ -49,6 +51,29 @@ walk_kept r s x h = refl
 or_none : (s t : Bool) → (s || t) ≡ false → t ≡ false
 or_none true t e = absurd (cc)
 or_none false t e = e
+
+-- the level of the last cause is at or below that of the record, and of those before it
+
+lowest_here : (w : Record) (walk : Walk) → is_removal w ≡ true → (note w walk).level ≤ removal_level w
+lowest_here w walk e = by_test (is_lower w walk) refl
+  where
+    by_test : (b : Bool) → is_lower w walk ≡ b → (if b then removal_level w else walk.level) ≤ removal_level w
+    by_test true is = omega arith
+    by_test false is =
+        let both : (not walk.removed || ltb (removal_level w) walk.level) ≡ false = rw e at is in
+        let none : ltb (removal_level w) walk.level ≡ false = or_none (not walk.removed) (ltb (removal_level w) walk.level) both in
+        ltb-false (removal_level w) walk.level none
+
+lowest_before : (w : Record) (walk : Walk) (level : ℕ) → walk.removed ≡ true → walk.level ≤ level → (note w walk).level ≤ level
+lowest_before w walk level gone most = by_test (is_lower w walk) refl
+  where
+    lower : (b : Bool) → is_removal w ≡ b → (b && (not walk.removed || ltb (removal_level w) walk.level)) ≡ true → ltb (removal_level w) walk.level ≡ true
+    lower true e is = rw gone at is
+    lower false e is = absurd cc
+
+    by_test : (b : Bool) → is_lower w walk ≡ b → (if b then removal_level w else walk.level) ≤ level
+    by_test true is = let less = ltb-true (removal_level w) walk.level (lower (is_removal w) refl is) in omega (arith, less, most)
+    by_test false is = most
 
 module _ (limits : Limits) (entries : List Entry) (last : Entry) (op : Operation) where
   abbrev longer : List Entry
@@ -124,9 +149,9 @@ module _ (limits : Limits) (entries : List Entry) (last : Entry) (op : Operation
           last = none_longer h.at (IsTheStep limits entries op (Slot 0)) (λ step answer other own kind. let e : Slot 0 ≡ Row q = sym kind ∙ (is_step step answer other own).0 ∙ i in cc) h.last;
           slots = λ page fresh new. none_longer h.at (IsTheStep limits entries op (Slot page)) (λ step answer other own kind. let e : Slot page ≡ Row q = sym kind ∙ (is_step step answer other own).0 ∙ i in cc) (h.slots page (or_none (is_removal w) walk.removed fresh) new);
           rows = λ m row answer after own. by_equal row q
-              (λ same t. rw t (w, refl, or_left (is_removal w) walk.removed))
+              (λ same t. rw t (w, refl, λ e. (or_left (is_removal w) walk.removed e, lowest_here w walk e)))
               (λ ne t. rw t (elim (takes_cases entries last op m (Row row) answer own) [
-                | inl before ↦ let f = h.rows m row answer after before in (f.0, f.1, λ e. or_right (is_removal w) walk.removed (f.2 e))
+                | inl before ↦ let f = h.rows m row answer after before in (f.0, f.1, λ e. let was = f.2 e in (or_right (is_removal w) walk.removed was.0, lowest_before w walk (removal_level f.0) was.0 was.1))
                 | inr now ↦ absurd (ne (let e : Row row ≡ Row q = (is_step (Row row) answer now.1.0 now.1.1).0 ∙ i in cc))
               ]));
           named = λ page names. elim names [

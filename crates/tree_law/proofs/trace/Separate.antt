@@ -18,4 +18,7 @@ module _ (limits : Limits) (entries : List Entry) (state : IsState limits entrie
     learnt_below = λ a row learnt. elim (state.named.row_below row) [ inl free ↦ let e = linked a row learnt in absurd (cc) | inr below ↦ below ];
     written = λ a row content is. (rw is at (state.is_tree.owns a row)).1;
     placed = λ a row learnt. let l = state.is_tree.closed row (linked a row learnt) in (l.content, l.stands);
+    stands = λ a row content is. (rw is at ((state.is_tree.sound a).seen_fits row)).1;
+    seen_learnt = λ a row content is. (state.timed.holds a).seen_learnt row content is;
+    learnt_inside = λ a row learnt. (state.timed.holds a).learnt_inside row learnt;
   }

@@ -1,5 +1,5 @@
-use Rattle.bw_tree.specs.Trees.{IsSeatOf}
+use Rattle.bw_tree.specs.Seats.{IsSame}
 use Rattle.bench.proofs.worker.steps.Given as goal
 
 abbrev pub invariant-loop-step : goal.invariant-loop-step
-invariant-loop-step l = record { own : IsSeatOf l.tree l.seat }
+invariant-loop-step l = record { same : IsSame l.initial.seat l.seat }

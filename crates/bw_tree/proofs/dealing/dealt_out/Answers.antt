@@ -5,7 +5,7 @@ use Rattle.bw_tree.specs.Loaded.{seat_at}
 use Rattle.bw_tree.specs.Seats.{Seat}
 use Rattle.bw_tree.specs.Trees.{Tree}
 use Rattle.slot_rule.specs.declared.view.Reach.TheVariants.{Idle}
-use Rattle.bw_tree.specs.Runs.{IsLawfulRun}
+use Rattle.bw_tree.specs.Runs.{IsSeenRun}
 use Rattle.slot_rule.specs.Views.{alone, seen_of}
 use Rattle.bw_tree.proofs.Opened.{first_seat_at, fresh_then, deals_one, extends_one, first_left, first_extend, leaves_others, one_more, seat_is}
 use Rattle.bw_tree.proofs.dealing.dealt_out.Goals as goal
@@ -41,7 +41,7 @@ invariant_of-push g c =
     let seen : seen_of c.first.inside.place.me ≡ c.args.first.seen = ap (λ (s : Seat). s.seen) c.first.view_is in
     let alone_is : c.cut-others.new.seat.me ≡ (alone c.tree.inside.limits c.loop-number.number c.args.first.seen Idle, []) = deals_one c.tree.inside.limits c.args.first.seen c.loop-number.number left c.loop-number.rest.me c.cut-others.new.seat.me c.loop-number-test.true all is c.cut-others.ensures.first in
     fresh_then c.own_lasts.ensures c.tree.inside.limits c.loop-number.number c.args.first.seen c.replace-place.result.me c.in-Ok.actor c.idle_actors_rest.ensures (c.empty_run_is_lawful.ensures c.tree.inside.limits)
-    (subst (IsLawfulRun c.tree.inside.limits) seen (subst (λ (l : Limits). IsLawfulRun l (seen_of c.first.inside.place.me)) same c.first.invariant.seated.lawful))
+    (subst (IsSeenRun c.tree.inside.limits) seen (subst (λ (l : Limits). IsSeenRun l (seen_of c.first.inside.place.me)) same (record { lawful = c.first.invariant.seated.lawful; begins = c.first.invariant.begins })))
     (extends_one c.tree.inside.limits c.args.first.seen c.loop-number.number left c.loop-number-test.true all each) c.loop-number-test.true
     (ap (λ place. place.me) c.replace-place.ensures.value ∙ alone_is) c.in-Ok.ensures.ok
 

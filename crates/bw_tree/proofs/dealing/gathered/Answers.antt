@@ -3,15 +3,15 @@ use Rattle.tree_limits.specs.declared.limits.Limits.{Limits}
 use Rattle.slot_rule.specs.declared.view.Reach.TheVariants.{Idle}
 use Rattle.slot_rule.specs.Views.{SitsAt, seen_of}
 use Rattle.traces.specs.discipline.Disciplined.{Extends}
-use Rattle.bw_tree.specs.Runs.{IsLawfulRun}
+use Rattle.bw_tree.specs.Runs.{IsSeenRun}
 use Rattle.bw_tree.specs.Seats.{IsSeat, Seat}
 use Rattle.bw_tree.specs.Trees.{Tree}
-use Rattle.bw_tree.proofs.Gathering.{first_extends, first_lawful, first_seat, others_are, others_extend, some_part}
+use Rattle.bw_tree.proofs.Gathering.{first_extends, first_run, first_seat, others_are, others_extend, some_part}
 use Rattle.bw_tree.proofs.Owning.{is_of, still_of}
 use Rattle.bw_tree.proofs.dealing.gathered.Goals as goal
 
-pub look-requires-clause-some : goal.look-requires-clause-some
-look-requires-clause-some g c =
+pub refresh-requires-clause-some : goal.refresh-requires-clause-some
+refresh-requires-clause-some g c =
     let tree : c.args.tree.now.limits ≡ c.tree.inside.limits = sym (ap (λ (t : Tree). t.limits) c.tree.view_is) in
     let same : c.seat.inside.limits ≡ c.tree.inside.limits = ap (λ (s : Seat). s.limits) c.seat.view_is ∙ c.requires.own.limits ∙ tree in
     some_part c.tree.inside.limits c.seat.inside.number c.seat.inside.place.me c.args.others.me c.join.new.seat.me (subst (λ (l : Limits). SitsAt l c.seat.inside.number Idle c.seat.inside.place.me) same c.seat.invariant.place) c.join.ensures.both
@@ -23,27 +23,27 @@ invariant_of-seat g c =
     let seat : IsSeat c.tree.inside.limits c.seat.inside.number c.seat.inside.place.me c.seat.inside.actor = subst (λ (l : Limits). IsSeat l c.seat.inside.number c.seat.inside.place.me c.seat.inside.actor) same c.seat.invariant in
     subst (λ (l : Limits). IsSeat l c.seat.inside.number c.cut.new.seat.me c.seat.inside.actor) (sym same)
     (first_seat c.tree.inside.limits c.seat.inside.number c.seat.inside.place.me c.args.others.me c.join.new.seat.me seat.place c.join.ensures.both
-    c.look.new.seat.me c.cut.new.seat.me c.cut.result.me c.look.ensures.saw c.cut.ensures.first c.cut.ensures.others c.own_lasts.ensures c.seat.inside.actor seat)
+    c.refresh.new.seat.me c.cut.new.seat.me c.cut.result.me c.refresh.ensures.saw c.cut.ensures.first c.cut.ensures.others c.own_lasts.ensures c.seat.inside.actor seat)
 
 pub returns-clause-each : goal.returns-clause-each
 returns-clause-each g c =
     let tree : c.args.tree.now.limits ≡ c.tree.inside.limits = sym (ap (λ (t : Tree). t.limits) c.tree.view_is) in
     let same : c.seat.inside.limits ≡ c.tree.inside.limits = ap (λ (s : Seat). s.limits) c.seat.view_is ∙ c.requires.own.limits ∙ tree in
     others_extend c.tree.inside.limits c.seat.inside.number c.seat.inside.place.me c.args.others.me c.join.new.seat.me (subst (λ (l : Limits). SitsAt l c.seat.inside.number Idle c.seat.inside.place.me) same c.seat.invariant.place) c.join.ensures.both
-    c.look.new.seat.me c.cut.new.seat.me c.cut.result.me c.look.ensures.saw c.cut.ensures.first c.cut.ensures.others
+    c.refresh.new.seat.me c.cut.new.seat.me c.cut.result.me c.refresh.ensures.saw c.cut.ensures.first c.cut.ensures.others
 
 pub join-requires-clause-table : goal.join-requires-clause-table
 join-requires-clause-table g c = is_of _ _ _ _ _ _ _ _ _ c.tree.invariant c.tree.view_is c.seat.view_is c.requires.own
 
-pub look-requires-clause-table : goal.look-requires-clause-table
-look-requires-clause-table g c = still_of _ _ _ _ _ (is_of _ _ _ _ _ _ _ _ _ c.tree.invariant c.tree.view_is c.seat.view_is c.requires.own) c.join.ensures.same
+pub refresh-requires-clause-table : goal.refresh-requires-clause-table
+refresh-requires-clause-table g c = still_of _ _ _ _ _ (is_of _ _ _ _ _ _ _ _ _ c.tree.invariant c.tree.view_is c.seat.view_is c.requires.own) c.join.ensures.same
 
 pub cut-requires : goal.cut-requires
-cut-requires g c = record { table = still_of _ _ _ _ _ (is_of _ _ _ _ _ _ _ _ _ c.tree.invariant c.tree.view_is c.seat.view_is c.requires.own) (c.look.ensures.same ∙ c.join.ensures.same) }
+cut-requires g c = record { table = still_of _ _ _ _ _ (is_of _ _ _ _ _ _ _ _ _ c.tree.invariant c.tree.view_is c.seat.view_is c.requires.own) (c.refresh.ensures.same ∙ c.join.ensures.same) }
 
 pub returns-clause-same : goal.returns-clause-same
 returns-clause-same g c = record {
-  table = c.cut.ensures.same ∙ c.look.ensures.same ∙ c.join.ensures.same ∙ ap (λ (s : Seat). s.table) c.seat.view_is;
+  table = c.cut.ensures.same ∙ c.refresh.ensures.same ∙ c.join.ensures.same ∙ ap (λ (s : Seat). s.table) c.seat.view_is;
   limits = ap (λ (s : Seat). s.limits) c.seat.view_is;
   actor = ap (λ (s : Seat). s.actor) c.seat.view_is;
 }
@@ -54,22 +54,22 @@ returns-clause-extends g c =
     let same : c.seat.inside.limits ≡ c.tree.inside.limits = ap (λ (s : Seat). s.limits) c.seat.view_is ∙ c.requires.own.limits ∙ tree in
     subst (λ (s : Seat). Extends s.actor s.seen (seen_of c.cut.new.seat.me)) c.seat.view_is
     (first_extends c.tree.inside.limits c.seat.inside.number c.seat.inside.place.me c.args.others.me c.join.new.seat.me (subst (λ (l : Limits). SitsAt l c.seat.inside.number Idle c.seat.inside.place.me) same c.seat.invariant.place) c.join.ensures.both
-    c.look.new.seat.me c.cut.new.seat.me c.cut.result.me c.look.ensures.saw c.cut.ensures.first c.cut.ensures.others)
+    c.refresh.new.seat.me c.cut.new.seat.me c.cut.result.me c.refresh.ensures.saw c.cut.ensures.first c.cut.ensures.others)
 
 pub returns-clause-history : goal.returns-clause-history
 returns-clause-history g c =
     let tree : c.args.tree.now.limits ≡ c.tree.inside.limits = sym (ap (λ (t : Tree). t.limits) c.tree.view_is) in
     let same : c.seat.inside.limits ≡ c.tree.inside.limits = ap (λ (s : Seat). s.limits) c.seat.view_is ∙ c.requires.own.limits ∙ tree in
-    c.runs_are_one_history.ensures c.seat.inside.limits (seen_of c.cut.new.seat.me) (subst (λ (l : Limits). IsLawfulRun l (seen_of c.cut.new.seat.me)) (sym same)
-    (first_lawful c.tree.inside.limits c.seat.inside.number c.seat.inside.place.me c.args.others.me c.join.new.seat.me (subst (λ (l : Limits). SitsAt l c.seat.inside.number Idle c.seat.inside.place.me) same c.seat.invariant.place) c.join.ensures.both
-    c.look.new.seat.me c.cut.new.seat.me c.cut.result.me c.look.ensures.saw c.cut.ensures.first c.cut.ensures.others))
+    c.runs_are_one_history.ensures c.seat.inside.limits (seen_of c.cut.new.seat.me) (subst (λ (l : Limits). IsSeenRun l (seen_of c.cut.new.seat.me)) (sym same)
+    (first_run c.tree.inside.limits c.seat.inside.number c.seat.inside.place.me c.args.others.me c.join.new.seat.me (subst (λ (l : Limits). SitsAt l c.seat.inside.number Idle c.seat.inside.place.me) same c.seat.invariant.place) c.join.ensures.both
+    c.refresh.new.seat.me c.cut.new.seat.me c.cut.result.me c.refresh.ensures.saw c.cut.ensures.first c.cut.ensures.others))
 
 pub returns-clause-table : goal.returns-clause-table
-returns-clause-table g c = c.cut.ensures.table ∙ c.look.ensures.same ∙ c.join.ensures.same ∙ ap (λ (s : Seat). s.table) c.seat.view_is ∙ c.requires.own.table
+returns-clause-table g c = c.cut.ensures.table ∙ c.refresh.ensures.same ∙ c.join.ensures.same ∙ ap (λ (s : Seat). s.table) c.seat.view_is ∙ c.requires.own.table
 
 pub returns-clause-others : goal.returns-clause-others
 returns-clause-others g c =
     let tree : c.args.tree.now.limits ≡ c.tree.inside.limits = sym (ap (λ (t : Tree). t.limits) c.tree.view_is) in
     let same : c.seat.inside.limits ≡ c.tree.inside.limits = ap (λ (s : Seat). s.limits) c.seat.view_is ∙ c.requires.own.limits ∙ tree in
     others_are c.tree.inside.limits c.seat.inside.number c.seat.inside.place.me c.args.others.me c.join.new.seat.me (subst (λ (l : Limits). SitsAt l c.seat.inside.number Idle c.seat.inside.place.me) same c.seat.invariant.place) c.join.ensures.both
-    c.look.new.seat.me c.cut.new.seat.me c.cut.result.me c.look.ensures.saw c.cut.ensures.first c.cut.ensures.others
+    c.refresh.new.seat.me c.cut.new.seat.me c.cut.result.me c.refresh.ensures.saw c.cut.ensures.first c.cut.ensures.others

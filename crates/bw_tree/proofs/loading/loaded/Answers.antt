@@ -1,52 +1,61 @@
-use Rattle.std.proofs.Common.{◌≡◌, ℕ, [], None, map, ap, ◌∙◌, subst}
+use Rattle.std.proofs.Common.{◌≡◌, ◌++◌, ℕ, None, IfErr, IfOk, sym, ap, ◌∙◌, subst}
 use Rattle.tree_limits.specs.declared.limits.Limits.{Limits}
 use Rattle.traces.specs.discipline.Disciplined.{Extends}
 use Rattle.traces.specs.trace.Trace.{command_of}
-use Rattle.slot_rule.specs.Views.{Mine, refreshed}
-use Rattle.bw_tree.specs.Calls.{calls_of}
-use Rattle.bw_tree.specs.Loaded.{HaveUpserted}
+use Rattle.slot_rule.specs.Views.{Mine}
+use Rattle.bw_model.specs.declared.command.Reply.TheVariants as reply
+use Rattle.bw_tree.specs.Calls.{calls_in, calls_of}
+use Rattle.bw_tree.specs.Loaded.{HasLoaded, HasStopped, HaveUpserted, IsStoppedAt}
 use Rattle.bw_tree.specs.Runs.{IsOneHistory}
 use Rattle.bw_tree.specs.Seats.{Seat}
-use Rattle.bw_tree.proofs.Filled.{are_loaded}
+use Rattle.bw_tree.specs.declared.called.Called.TheVariants as called
+use Rattle.bw_tree.specs.declared.called.LoadStop.{LoadStop}
+use Rattle.bw_tree.specs.declared.called.LoadStop.TheVariants as stop
+use Rattle.bw_tree.specs.declared.filling.TheConstants.{LOAD_BUDGET}
+use Rattle.bw_tree.proofs.Filled.{are_loaded, is_stopped}
 use Rattle.bw_tree.proofs.Gathering.{AllExtend}
 use Rattle.bw_tree.proofs.loading.loaded.Goals as goal
 
-pub returns-in-Ok-clause-loaded : goal.returns-in-Ok-clause-loaded
-returns-in-Ok-clause-loaded g c =
-    let limits : c.gathered-others.new.seat.limits ≡ c.args.tree.now.limits = c.gathered-others.ensures.same.limits ∙ c.in_ok-fill.ensures.same.limits ∙ ap (λ (s : Seat). s.limits) c.requires.first in
-    let number : c.fill.new.seat.actor ≡ 0 = c.in_ok-fill.ensures.same.actor ∙ ap (λ (s : Seat). s.actor) c.requires.first in
-    are_loaded c.own_lasts.ensures c.args.tree.now c.gathered-others.new.seat.seen c.in-Ok.seats.items c.args.pairs.now
+pub returns-in-Err-Full-clause-err : goal.returns-in-Err-Full-clause-err
+returns-in-Err-Full-clause-err g c =
+    let limits : c.gathered-others.new.seat.limits ≡ c.args.tree.now.limits = c.gathered-others.ensures.same.limits ∙ c.load-load.ensures.same.limits ∙ ap (λ (s : Seat). s.limits) c.requires.first in
+    let number : c.load-load.new.seat.actor ≡ 0 = c.load-load.ensures.same.actor ∙ ap (λ (s : Seat). s.actor) c.requires.first in
+    let told : HasStopped c.args.first c.args.pairs.now LOAD_BUDGET c.in-Err-Full.field-0 c.load-load.new.seat = subst (λ r. IfErr r (λ why. HasStopped c.args.first c.args.pairs.now LOAD_BUDGET why c.load-load.new.seat)) c.in-Err-Full.is c.load-load.ensures.stopped in
+    let is : c.in-Err-Full.field-0 ≡ stop.Full c.in-Err-Full.field-0-0 = cc c.in-Err-Full.field-0-is in
+    is_stopped c.args.tree.now c.gathered-others.new.seat.seen c.args.pairs.now LOAD_BUDGET c.in-Err-Full.field-0-0 (called.Done reply.Full) c.load-load.new.seat
     (subst (λ (l : Limits). IsOneHistory l c.gathered-others.new.seat.seen) limits c.gathered-others.ensures.history)
     (subst (λ (m : Mine). AllExtend c.gathered-others.new.seat.seen m.0) c.requires.others c.gathered-others.ensures.each)
-    c.requires.ascend c.fill.new.seat.seen
-    (subst (λ (a : ℕ). Extends a c.fill.new.seat.seen c.gathered-others.new.seat.seen) number c.gathered-others.ensures.extends)
-    (subst (λ (a : ℕ). command_of c.fill.new.seat.seen a ≡ None) number c.in_ok-fill.ensures.idle)
-    (subst (λ (a : ℕ). HaveUpserted c.args.pairs.now (calls_of a c.fill.new.seat.seen)) number c.in_ok-fill.ensures.upserted)
-    c.in-Ok.ensures
+    (subst (λ (a : ℕ). Extends a c.load-load.new.seat.seen c.gathered-others.new.seat.seen) number c.gathered-others.ensures.extends)
+    (subst (λ (s : Seat). IsStoppedAt s c.args.pairs.now LOAD_BUDGET c.in-Err-Full.field-0-0 (called.Done reply.Full) c.load-load.new.seat) c.requires.first
+    (subst (λ (why : LoadStop). HasStopped c.args.first c.args.pairs.now LOAD_BUDGET why c.load-load.new.seat) is told))
 
-pub fill-requires-clause-own : goal.fill-requires-clause-own
-fill-requires-clause-own g c = record { table = ap (λ (s : Seat). s.table) c.requires.first; limits = ap (λ (s : Seat). s.limits) c.requires.first }
-
-pub gathered-others-requires-clause-own : goal.gathered-others-requires-clause-own
-gathered-others-requires-clause-own g c = record {
-  table = c.in_ok-fill.ensures.same.table ∙ ap (λ (s : Seat). s.table) c.requires.first;
-  limits = c.in_ok-fill.ensures.same.limits ∙ ap (λ (s : Seat). s.limits) c.requires.first;
-}
-
-pub gathered-others-requires-clause-home : goal.gathered-others-requires-clause-home
-gathered-others-requires-clause-home g c = ap (λ (m : Mine). m.1) c.requires.others
-
-pub dealt_out-requires-clause-own : goal.dealt_out-requires-clause-own
-dealt_out-requires-clause-own g c = record {
-  table = c.gathered-others.ensures.same.table ∙ c.in_ok-fill.ensures.same.table ∙ ap (λ (s : Seat). s.table) c.requires.first;
-  limits = c.gathered-others.ensures.same.limits ∙ c.in_ok-fill.ensures.same.limits ∙ ap (λ (s : Seat). s.limits) c.requires.first;
-}
-
-pub dealt_out-requires-clause-first : goal.dealt_out-requires-clause-first
-dealt_out-requires-clause-first g c = c.gathered-others.ensures.same.actor ∙ c.in_ok-fill.ensures.same.actor ∙ ap (λ (s : Seat). s.actor) c.requires.first
-
-pub dealt_out-requires-clause-others : goal.dealt_out-requires-clause-others
-dealt_out-requires-clause-others g c = c.gathered-others.ensures.others ∙ ap (λ (m : Mine). (map (refreshed c.gathered-others.new.seat.seen) m.0, [])) c.requires.others
+pub returns-in-Err-Spent-clause-err : goal.returns-in-Err-Spent-clause-err
+returns-in-Err-Spent-clause-err g c =
+    let limits : c.gathered-others.new.seat.limits ≡ c.args.tree.now.limits = c.gathered-others.ensures.same.limits ∙ c.load-load.ensures.same.limits ∙ ap (λ (s : Seat). s.limits) c.requires.first in
+    let number : c.load-load.new.seat.actor ≡ 0 = c.load-load.ensures.same.actor ∙ ap (λ (s : Seat). s.actor) c.requires.first in
+    let told : HasStopped c.args.first c.args.pairs.now LOAD_BUDGET c.in-Err-Spent.field-0 c.load-load.new.seat = subst (λ r. IfErr r (λ why. HasStopped c.args.first c.args.pairs.now LOAD_BUDGET why c.load-load.new.seat)) c.in-Err-Spent.is c.load-load.ensures.stopped in
+    let is : c.in-Err-Spent.field-0 ≡ stop.Spent c.in-Err-Spent.field-0-0 = cc c.in-Err-Spent.field-0-is in
+    is_stopped c.args.tree.now c.gathered-others.new.seat.seen c.args.pairs.now LOAD_BUDGET c.in-Err-Spent.field-0-0 called.Spent c.load-load.new.seat
+    (subst (λ (l : Limits). IsOneHistory l c.gathered-others.new.seat.seen) limits c.gathered-others.ensures.history)
+    (subst (λ (m : Mine). AllExtend c.gathered-others.new.seat.seen m.0) c.requires.others c.gathered-others.ensures.each)
+    (subst (λ (a : ℕ). Extends a c.load-load.new.seat.seen c.gathered-others.new.seat.seen) number c.gathered-others.ensures.extends)
+    (subst (λ (s : Seat). IsStoppedAt s c.args.pairs.now LOAD_BUDGET c.in-Err-Spent.field-0-0 called.Spent c.load-load.new.seat) c.requires.first
+    (subst (λ (why : LoadStop). HasStopped c.args.first c.args.pairs.now LOAD_BUDGET why c.load-load.new.seat) is told))
 
 pub dealt_out-requires-clause-each : goal.dealt_out-requires-clause-each
 dealt_out-requires-clause-each g c = subst (λ (m : Mine). AllExtend c.gathered-others.new.seat.seen m.0) c.requires.others c.gathered-others.ensures.each
+
+pub returns-in-Ok-dealt_out-clause-loaded : goal.returns-in-Ok-dealt_out-clause-loaded
+returns-in-Ok-dealt_out-clause-loaded g c =
+    let limits : c.gathered-others.new.seat.limits ≡ c.args.tree.now.limits = c.gathered-others.ensures.same.limits ∙ c.load-load.ensures.same.limits ∙ ap (λ (s : Seat). s.limits) c.requires.first in
+    let number : c.load-load.new.seat.actor ≡ 0 = c.load-load.ensures.same.actor ∙ ap (λ (s : Seat). s.actor) c.requires.first in
+    let told : HasLoaded c.args.first c.args.pairs.now c.load-load.new.seat = subst (λ r. IfOk r (λ _. HasLoaded c.args.first c.args.pairs.now c.load-load.new.seat)) c.in-Ok.is c.load-load.ensures.loaded in
+    let calls : calls_in c.load-load.new.seat ≡ told.made = told.calls ∙ ap (λ (s : Seat). calls_in s ++ told.made) c.requires.first in
+    are_loaded c.own_lasts.ensures c.args.tree.now c.gathered-others.new.seat.seen c.in-Ok-dealt_out.seats.items c.args.pairs.now
+    (subst (λ (l : Limits). IsOneHistory l c.gathered-others.new.seat.seen) limits c.gathered-others.ensures.history)
+    (subst (λ (m : Mine). AllExtend c.gathered-others.new.seat.seen m.0) c.requires.others c.gathered-others.ensures.each)
+    c.requires.ascend c.load-load.new.seat.seen
+    (subst (λ (a : ℕ). Extends a c.load-load.new.seat.seen c.gathered-others.new.seat.seen) number c.gathered-others.ensures.extends)
+    (subst (λ (a : ℕ). command_of c.load-load.new.seat.seen a ≡ None) number told.idle)
+    (subst (λ (a : ℕ). HaveUpserted c.args.pairs.now (calls_of a c.load-load.new.seat.seen)) number (subst (HaveUpserted c.args.pairs.now) (sym calls) told.upserted))
+    c.in-Ok-dealt_out.ensures

@@ -1,11 +1,10 @@
 use Rattle.std.proofs.Common.{◌≡◌}
-use Rattle.bw_tree.specs.Seats.{unfinished_command}
-use Rattle.bw_tree.specs.Trees.{IsSeatOf}
+use Rattle.bw_tree.specs.Seats.{IsSame, unfinished_command}
 use Rattle.walks.specs.Cursors.{cursor_command}
 use Rattle.guide.proofs.ranges.counted.Given as goal
 
 abbrev pub invariant-loop : goal.invariant-loop
 invariant-loop l = record {
-  own : IsSeatOf l.tree l.seat;
+  same : IsSame l.initial.seat l.seat;
   ready : unfinished_command l.seat ≡ cursor_command l.cursor;
 }

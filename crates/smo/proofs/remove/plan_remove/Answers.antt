@@ -14,17 +14,17 @@ returns-then-item_count-gt-FEW_ITEMS g c = λ can.
     let many = c.if-item_count-gt-FEW_ITEMS.true in
     omega (arith, few, count, many)
 
-pub returns-then-not-is_unheld : goal.returns-then-not-is_unheld
-returns-then-not-is_unheld g c = λ can.
-    let yes = c.is_unheld.ensures.1 (rw c.chain-chain.ensures can.unheld) in
-    absurd (false≢true (sym c.if-not-is_unheld.true ∙ yes))
+pub returns-then-not-unheld : goal.returns-then-not-unheld
+returns-then-not-unheld g c = λ can.
+    let yes = c.is_unheld-unheld.ensures.1 (rw c.chain-chain.ensures can.unheld) in
+    absurd (false≢true (sym c.if-not-unheld.true ∙ yes))
 
 pub returns : goal.returns
 returns g c =
     let chain = c.args.page.now.chain in
     let fitted : IsFitted chain = rw c.chain-chain.ensures at c.keeps_rules-2.ensures.fitted in
     let above : IsFitted c.args.parent.now.chain = rw c.chain-above.ensures at c.keeps_rules.ensures.fitted in
-    let unheld : HasNoneHeld chain = rw c.chain-chain.ensures at (c.is_unheld.ensures.0 c.if-not-is_unheld.false) in
+    let unheld : HasNoneHeld chain = rw c.chain-chain.ensures at (c.is_unheld-unheld.ensures.0 c.if-not-unheld.false) in
     let (made, makes) = page_of chain fitted in
     planned c.args.parent.now c.args.page.now made _ above makes (ruled chain made fitted makes) (rw (c.level.ensures, c.chain-chain.ensures, c.head.ensures) refl)
     (record {

@@ -21,6 +21,7 @@ pub invariant_of-self : goal.invariant_of-self
 invariant_of-self g c = record {
   there = c.self.invariant.there;
   place = c.act.ensures.seat;
+  begins = c.act.ensures.took.begins;
   seated = leave_seated c.laws_of_runs.ensures _ _ _ _ c.self.invariant.seated (busy_of _ _ c.self.view_is c.requires.busy) c.if-is_leaving.ensures (Some c.leave.new.reply) c.leave.new.actor c.leave.ensures.goes (answer_of c.act.result) (seen_of c.act.new.seat.me) c.act.ensures.took c.leave.ensures.command;
 }
 
@@ -51,6 +52,7 @@ invariant_of-self-in-None g c =
     record {
       there = c.self.invariant.there;
       place = c.take-told.ensures.seat;
+      begins = took.begins;
       seated = seated_on c.laws_of_runs.ensures _ _ _ _ c.self.invariant.seated (busy_of _ _ c.self.view_is c.requires.busy) (lent c.wanted.result) c.wanted.ensures _ _ took None c.take_row.new.self (λ is. c.if-is_leaving.ensures (c.wanted.ensures ∙ ap Some is)) c.take_row.ensures.goes c.take_row.ensures.command;
     }
 
@@ -67,6 +69,7 @@ invariant_of-self-in-Some g c =
     record {
       there = c.self.invariant.there;
       place = c.take-told.ensures.seat;
+      begins = took.begins;
       seated = seated_on c.laws_of_runs.ensures _ _ _ _ c.self.invariant.seated (busy_of _ _ c.self.view_is c.requires.busy) (lent c.wanted.result) c.wanted.ensures _ _ took None c.go_on.new.self (λ is. c.if-is_leaving.ensures (c.wanted.ensures ∙ ap Some is)) c.go_on.ensures.goes c.go_on.ensures.command;
     }
 

@@ -42,6 +42,7 @@ invariant_of-self g c =
     record {
       there = c.self.invariant.there;
       place = c.act-told.ensures.seat;
+      begins = took.begins;
       seated = seated_first c.laws_of_runs.ensures _ _ _ _ _ _ c.self.invariant.there c.self.invariant.seated (idle_of _ _ c.self.view_is c.requires.idle) c.begin.ensures.shows c.begin.ensures.command c.begin.ensures.bounded (lent c.wanted.result) c.wanted.ensures
           (answer_of c.act-told.result) (seen_of c.act-told.new.seat.me) took None c.go_on.new.self c.go_on.ensures.goes c.go_on.ensures.command;
     }

@@ -1,5 +1,5 @@
-use Rattle.bw_tree.specs.Trees.{IsSeatOf}
+use Rattle.bw_tree.specs.Seats.{IsSame}
 use Rattle.guide.proofs.moving.FillsWork.work.Given as goal
 
 abbrev pub invariant-loop : goal.invariant-loop
-invariant-loop l = record { own : IsSeatOf l.tree l.seat }
+invariant-loop l = record { same : IsSame l.initial.seat l.seat }

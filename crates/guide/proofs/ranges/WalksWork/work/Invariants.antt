@@ -1,5 +1,5 @@
-use Rattle.bw_tree.specs.Trees.{IsSeatOf}
+use Rattle.bw_tree.specs.Seats.{IsSame}
 use Rattle.guide.proofs.ranges.WalksWork.work.Given as goal
 
 abbrev pub invariant-loop-number : goal.invariant-loop-number
-invariant-loop-number l = record { own : IsSeatOf l.tree l.seat }
+invariant-loop-number l = record { same : IsSame l.initial.seat l.seat }

@@ -1,5 +1,5 @@
-use Rattle.bw_tree.specs.Trees.{IsSeatOf}
+use Rattle.bw_tree.specs.Seats.{IsSame}
 use Rattle.tree_tests.proofs.clients.ClientWork.work.Given as goal
 
 abbrev pub invariant-loop-round : goal.invariant-loop-round
-invariant-loop-round l = record { own : IsSeatOf l.tree l.seat }
+invariant-loop-round l = record { same : IsSame l.initial.seat l.seat }

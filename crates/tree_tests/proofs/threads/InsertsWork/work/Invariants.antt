@@ -1,5 +1,5 @@
-use Rattle.bw_tree.specs.Trees.{IsSeatOf}
+use Rattle.bw_tree.specs.Seats.{IsSame}
 use Rattle.tree_tests.proofs.threads.InsertsWork.work.Given as goal
 
 abbrev pub invariant-loop-place : goal.invariant-loop-place
-invariant-loop-place l = record { own : IsSeatOf l.tree l.seat }
+invariant-loop-place l = record { same : IsSame l.initial.seat l.seat }

@@ -1,6 +1,6 @@
 use Rattle.std.proofs.Common.{inl, inr, refl, arith}
 use Rattle.bw_tree.proofs.Going.{same_on}
-use Rattle.walks.proofs.Walked.{spent_on, walked_counted, walked_more, walked_nothing}
+use Rattle.walks.proofs.Walked.{has_told, spent_on, walked_counted, walked_more, walked_nothing}
 use Rattle.walks.proofs.cursor.Cursor.scan.Goals as goal
 
 pub loop-init : goal.loop-init
@@ -8,15 +8,18 @@ loop-init g c = record {
   same = record { table = refl; limits = refl; actor = refl };
   ready = c.requires.ready;
   walked = walked_nothing c.args.self.now c.args.seat.now c.args.list.now.items;
+  told = has_told c.args.self.now c.args.seat.now c.args.list.now.items c.args.list.now.items c.args.self.now c.args.seat.now (walked_nothing c.args.self.now c.args.seat.now c.args.list.now.items).0;
 }
 
 pub loop-preserved : goal.loop-preserved
 loop-preserved g c =
-    let h = c.in_ok-add_page.ensures in record {
+    let h = c.in_ok-add_page.ensures in
+    let walked =
+    walked_counted c.args.self.now c.loop.self c.add_page.new.self c.args.seat.now c.loop.seat c.add_page.new.seat c.args.budget c.in_ok-add_page.field-0 c.args.list.now.items c.loop.list.items c.add_page.new.list.items h.same h.next h.list c.in-Page.is c.loop.counter c.loop.invariant.walked in record {
       same = same_on c.args.seat.now c.loop.seat c.add_page.new.seat c.loop.invariant.same h.same;
       ready = h.ready;
-      walked = walked_counted c.args.self.now c.loop.self c.add_page.new.self c.args.seat.now c.loop.seat c.add_page.new.seat c.args.budget c.in_ok-add_page.field-0 c.args.list.now.items c.loop.list.items c.add_page.new.list.items
-          h.same h.next h.list c.in-Page.is c.loop.counter c.loop.invariant.walked;
+      walked = walked;
+      told = has_told c.args.self.now c.args.seat.now c.args.list.now.items c.add_page.new.list.items c.add_page.new.self c.add_page.new.seat walked.0;
     }
 
 pub returns-in-Spent-clause-walked : goal.returns-in-Spent-clause-walked
@@ -57,3 +60,18 @@ returns-clause-ready g c = c.loop.invariant.ready
 
 pub returns-clause-walked : goal.returns-clause-walked
 returns-clause-walked g c = c.loop.invariant.walked.0
+
+pub returns-in-Spent-clause-told : goal.returns-in-Spent-clause-told
+returns-in-Spent-clause-told g c =
+    let h = c.in_ok-add_page.ensures in
+    has_told c.args.self.now c.args.seat.now c.args.list.now.items c.add_page.new.list.items c.add_page.new.self c.add_page.new.seat
+    (walked_more c.args.self.now c.loop.self c.add_page.new.self c.args.seat.now c.loop.seat c.add_page.new.seat c.args.budget c.in_ok-add_page.field-0 c.args.list.now.items c.loop.list.items c.add_page.new.list.items h.same h.next h.list c.loop.invariant.walked.0)
+
+pub returns-in-End-clause-told : goal.returns-in-End-clause-told
+returns-in-End-clause-told g c =
+    let h = c.in_ok-add_page.ensures in
+    has_told c.args.self.now c.args.seat.now c.args.list.now.items c.add_page.new.list.items c.add_page.new.self c.add_page.new.seat
+    (walked_more c.args.self.now c.loop.self c.add_page.new.self c.args.seat.now c.loop.seat c.add_page.new.seat c.args.budget c.in_ok-add_page.field-0 c.args.list.now.items c.loop.list.items c.add_page.new.list.items h.same h.next h.list c.loop.invariant.walked.0)
+
+pub returns-clause-told : goal.returns-clause-told
+returns-clause-told g c = c.loop.invariant.told

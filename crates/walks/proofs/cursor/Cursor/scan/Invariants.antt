@@ -1,6 +1,6 @@
 use Rattle.std.proofs.Common.{◌≡◌, length}
 use Rattle.bw_tree.specs.Seats.{IsSame, unfinished_command}
-use Rattle.walks.specs.Cursors.{HasWalked, cursor_command}
+use Rattle.walks.specs.Cursors.{HasTold, HasWalked, cursor_command}
 use Rattle.walks.proofs.cursor.Cursor.scan.Given as goal
 
 abbrev pub invariant-loop : goal.invariant-loop
@@ -8,4 +8,5 @@ invariant-loop g l = record {
   same : IsSame l.fn.seat l.seat;
   ready : unfinished_command l.seat ≡ cursor_command l.self;
   walked : (w : HasWalked l.fn.self l.fn.seat l.fn.list.items l.list.items l.self l.seat) × (length w.pages ≡ l.counter);
+  told : HasTold l.fn.self l.fn.seat l.fn.list.items l.list.items l.self l.seat;
 }
