@@ -1,7 +1,7 @@
 //! Commands by the words of a generator, of actors in the order of a schedule, beside a map of the standard library.
 
 use crate::by_hand::{begins, let_go};
-use crate::named::{key, value};
+use crate::named::key;
 use crate::scripts::opened;
 use bw_model::{Command, Key, Link, Schedule, Value};
 use rand_core::SeedableRng;
@@ -11,6 +11,14 @@ use std::alloc::Global;
 use std::collections::BTreeMap;
 use step_core::{Core, Event};
 use traces::Turn;
+
+/// The value that tells a turn's number; the empty one where there is no memory.
+fn value(alloc: Global, turn: u64) -> Value {
+    match format!(in alloc; "v{turn}") {
+        Ok(text) => Value::from_slice(text.as_bytes()).unwrap_or_default(),
+        Err(_) => Value::default(),
+    }
+}
 
 /// How many actors there are, and how many keys.
 const ACTORS: u8 = 4;

@@ -114,7 +114,7 @@ fn with_few<'a>(
         alloc,
         command,
         "Page identifiers, 64 to 4096, a multiple of 64 [default: 64]",
-        "Rows for records, 64 to 16384, a multiple of 64 [default: 256]",
+        "Rows for records, 64 to 16384, a multiple of 64; below nine a page a map may be full for good [default: 256]",
     )
 }
 
@@ -193,7 +193,7 @@ fn race_command<'a>(alloc: Global) -> Result<Command<'a>, AllocError>
         alloc,
         race,
         "Page identifiers, 64 to 4096, a multiple of 64 [default: 4096]",
-        "Rows for records, 64 to 16384, a multiple of 64 [default: 16384]",
+        "Rows for records, 64 to 16384, a multiple of 64; below nine a page a map may be full for good [default: 16384]",
     )
 }
 
