@@ -1,11 +1,11 @@
 //! Readers beside writers that stand in the middle of removals and are helped by nobody: past the removed pages on their way they come to
 //! their end.
 
-use crate::by_hand::replies;
-use crate::numbered::{key, value};
+use crate::by_hand::{replies, reply};
+use crate::numbered::{is_pair, key, value};
 use crate::scripts::{Ask, Line, NONE, opened, runs};
 use crate::tally::Tally;
-use bw_model::{Command, Link, Reply, Step};
+use bw_model::{Command, Key, Link, Reply, Step, Value};
 use core_memory::Entries;
 use deltas::Record;
 use std::alloc::Global;
@@ -54,7 +54,51 @@ impl Left {
     }
 }
 
-/// How many rounds a lookup takes, and how many slots and rows it reads.
+impl Left {
+    /// The first number from one on that is left; the end, where none is.
+    fn next(&self, number: u32) -> u32 {
+        for next in number..self.end {
+            if !self.is_gone(next) {
+                return next;
+            }
+        }
+        self.end
+    }
+
+    /// The number behind those of a page's pairs, if these are the numbers from one on that are left.
+    fn behind(&self, from: u32, pairs: &[(Key, Value)]) -> Option<u32> {
+        let mut number = from;
+        for pair in pairs {
+            let left = self.next(number);
+            if !is_pair(Some(pair), left, left) {
+                return None;
+            }
+            number = left.wrapping_add(1);
+        }
+        Some(number)
+    }
+
+    /// Whether the reader's cursor pages, from the least key on, show all that is left.
+    fn is_walked(&self, core: &mut Core) -> bool {
+        let (mut number, mut from) = (0, Key::default());
+        for _ in 0..self.end {
+            let Some(Reply::Page { items, next }) = reply(core, READER, Command::Page(from)) else {
+                return false;
+            };
+            match self.behind(number, items.as_slice()) {
+                Some(behind) => number = behind,
+                None => return false,
+            }
+            match next {
+                Some(next) => from = next,
+                None => return self.next(number) == self.end,
+            }
+        }
+        false
+    }
+}
+
+/// How many rounds a reading takes, and how many slots and rows it reads.
 #[derive(Clone, Copy)]
 struct Look {
     rounds: u32,
@@ -77,7 +121,7 @@ impl Look {
     }
 }
 
-/// The most rounds and the most reads that a lookup of the reader has taken.
+/// The most rounds and the most reads that a lookup or cursor page of the reader has taken.
 fn most(entries: &Entries) -> Look {
     let (mut most, mut look) = (NOTHING, NOTHING);
     for place in 0..entries.len() {
@@ -94,12 +138,14 @@ fn most(entries: &Entries) -> Look {
     most
 }
 
-/// The most rounds and reads of the lookups of all keys, and how many pages of each level were removed before these, where the lines come
-/// true, and each lookup finds what is left.
+/// The most rounds and reads of the lookups of all keys and of the cursor pages, and how many pages of each level were removed before
+/// these, where the lines come true, and both find what is left.
 fn looked(alloc: Global, left: Left, lines: &[Line]) -> Option<(u32, u32, [u32; 5])> {
     let (pids, rows) = left.room;
     let mut core = opened(alloc, 6, pids, rows, 1)?;
-    let right = runs(alloc, &mut core, lines) && left.is_found(&mut core);
+    let right = runs(alloc, &mut core, lines)
+        && left.is_found(&mut core)
+        && left.is_walked(&mut core);
     let trace = core.into_trace();
     let (look, tally) = (most(&trace.entries), Tally::of(&trace.entries));
     let removals = tally.levels.map(|level| level.removals);
@@ -135,7 +181,7 @@ fn a_lookup_ends_beside_four_that_stand(rt: HostRuntime) {
     };
     let looked = looked(rt.alloc(), left, &ON_LEVEL_1);
     assert!(rt;
-        looked.is_some_and(|(rounds, _, _)| rounds == 2),
+        looked.is_some_and(|(rounds, _, removals)| rounds == 2 && removals == [9; 5]),
         "{looked:?}"
     );
 }
@@ -177,7 +223,9 @@ fn a_lookup_goes_past_two_removed_index_pages(rt: HostRuntime) {
     };
     let looked = looked(rt.alloc(), left, &ON_LEVEL_2);
     assert!(rt;
-        looked.is_some_and(|(rounds, reads, _)| rounds == 1 && reads <= 35),
+        looked.is_some_and(|(rounds, reads, removals)| rounds == 1
+            && reads <= 35
+            && removals == [9; 5]),
         "{looked:?}"
     );
 }
@@ -208,7 +256,7 @@ fn a_lookup_ends_beside_two_that_stand(rt: HostRuntime) {
     };
     let looked = looked(rt.alloc(), left, &ON_LEVELS_3_AND_1);
     assert!(rt;
-        looked.is_some_and(|(rounds, _, _)| rounds == 1),
+        looked.is_some_and(|(rounds, _, removals)| rounds == 1 && removals == [9; 5]),
         "{looked:?}"
     );
 }

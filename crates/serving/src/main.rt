@@ -111,7 +111,12 @@ fn ask_and_serve<R: Threads + Wait + Sync>(
     let (_, _) = join_mut(
         rt,
         &mut || ask(rt, sender.take()),
-        &mut || serve_both(rt, tree, one, other, &requests, &replies),
+        &mut ||
+            requires one { IsSeatOf tree.now one.now }
+            requires other { IsSeatOf tree.now other.now }
+        {
+            serve_both(rt, tree, one, other, &requests, &replies);
+        },
     );
     Some(inserted(rt, &receiver))
 }
@@ -139,7 +144,9 @@ fn served_by<R: Threads + Wait + Sync>(
 /// no memory.
 fn served<R: Threads + Wait + Sync>(rt: &R, alloc: Global) -> Option<(u32, Vec<(Key, Value)>)> {
     let limits = Limits::for_keys(2, 1000).ok()?;
-    let (tree, mut seats) = opened(alloc, limits).ok()?;
+    let Ok((tree, mut seats)) = opened(alloc, limits) else {
+        return None;
+    };
     let inserted = served_by(rt, alloc, &tree, &mut seats)?;
     match tree.close(alloc, seats) {
         Ok(pairs) => Some((inserted, pairs)),
