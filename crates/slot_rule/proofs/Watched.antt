@@ -1,5 +1,5 @@
 -- A word is watched, which keeps the rule: the words stay, and the seat has seen the longest run.
-use Rattle.std.proofs.Common.{◌≡◌, ℕ, ◌<◌, List, [], ◌∷◌, map, get_or, set, sym, refl, ap, ◌∙◌, subst, arith}
+use Rattle.std.proofs.Common.{◌≡◌, ℕ, ◌<◌, List, [], map, get_or, set, sym, refl, ap, subst, arith}
 use Rattle.std.proofs.lemmas.List.{set-get_or}
 use mathlib.Core.Option.{none}
 use Rattle.atomic_table.specs.Table.{Allows, step as made, keeps}
@@ -20,7 +20,7 @@ use Rattle.slot_rule.specs.declared.view.Part.{Part}
 use Rattle.slot_rule.specs.declared.view.Reach.TheVariants.{Idle}
 use Rattle.slot_rule.specs.Running.{Each, IsSettled, PartFits}
 use Rattle.slot_rule.specs.Steps.{Watched, Watches}
-use Rattle.slot_rule.specs.Views.{IsOf, Mine, SitsAt, alone, part, refreshed, seen_of}
+use Rattle.slot_rule.specs.Views.{IsOf, Mine, alone, part, refreshed, seen_of}
 use Rattle.slot_rule.proofs.Parts.{spells_views}
 use Rattle.slot_rule.proofs.Roster.{view_refreshed}
 use Rattle.slot_rule.proofs.Turns.{TableState, Rule}
