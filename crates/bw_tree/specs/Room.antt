@@ -32,7 +32,7 @@ abbrev pub how_many : (ℕ → Bool) → ℕ → ℕ
 how_many free zero = 0
 how_many free (suc n) = how_many free n + (if free n then 1 else 0)
 
--- The free numbers of a word, of which there are 64, were counted in the memory after the run that the seat has seen now. That goes on from what it had seen
+-- Of the 64 numbers of a word, so many are free in the memory after the run that the seat has seen now. That run goes on from what it had seen
 -- by steps of others alone.
 pub record HasWatched (kind : Kind) (word : ℕ) (old new : Seat) (count : ℕ) : Type 0 where
   pub extends : Extends old.actor old.seen new.seen
@@ -42,8 +42,8 @@ pub record HasWatched (kind : Kind) (word : ℕ) (old new : Seat) (count : ℕ) 
 abbrev pub free_among : Limits → Kind → (ℕ → List Entry) → ℕ → ℕ
 free_among limits kind run_at n = how_many (λ number. is_free kind (memory_of limits (run_at (number / 64))) number) n
 
--- The free numbers below n were counted by words of 64, each of which was read once, after a run of its own. The first of these runs goes on from what was seen,
--- each other one from that of the word before, and the last run from each of them: all by steps of others alone.
+-- The free numbers below n were counted by words of 64, each of which was read once, after a run of its own. The first of these runs goes on
+-- from what was seen, each other one from that of the word before, and the last run from each of them: all by steps of others alone.
 pub record HasCounted (limits : Limits) (actor : ℕ) (kind : Kind) (n : ℕ) (seen later : List Entry) (count : ℕ) : Type 0 where
   pub run_at : ℕ → List Entry
   pub first : Extends actor seen (run_at 0)

@@ -55,8 +55,8 @@ impl Kind {
 }
 
 impl<A: Allocator> Tree<A> {
-    /// How many PIDs and rows are free now, by one load for each 64 of them. It takes no step, and waits for nobody; the others go on meanwhile. A
-    /// seat may ask in the midst of an operation, too.
+    /// How many PIDs and rows are free now, by one load for each 64 of them. It takes no step, and waits for nobody; the others go on
+    /// meanwhile. A seat may ask in the midst of an operation, too.
     pub fn room(&self, seat: &mut BwSeat<A>) -> Room
         requires own { IsSeatOf self.now seat.old }
         ensures same { IsSame seat.old seat.new }
