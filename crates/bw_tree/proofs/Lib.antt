@@ -16,3 +16,4 @@ mod Filled
 mod Upserting
 mod Kept
 mod Leaving
+mod Counting

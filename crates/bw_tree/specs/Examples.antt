@@ -1,9 +1,12 @@
--- Entries of two actors, of which calls are told. They are no run: nobody enters, reads or links anything.
-use Rattle.std.specs.Prelude.{codes, List, [], ◌∷◌, None, Some}
+-- Entries of two actors, of which calls and counts are told. They are no run: nobody enters, reads or links anything.
+use Rattle.std.specs.Prelude.{codes, ℕ, zero, suc, List, [], ◌∷◌, true, None, Some}
+use Rattle.std.proofs.Common.{lit≤, refl}
+use Rattle.tree_limits.specs.Limits.{AreLimits}
+use Rattle.tree_limits.specs.declared.limits.Limits.{Limits}
 use Rattle.bw_model.specs.declared.command.Command.TheVariants.{Get, Upsert, Delete}
 use Rattle.bw_model.specs.declared.command.Reply.TheVariants as reply
-use Rattle.bw_model.specs.declared.step.Answer.TheVariants.{Number, Done}
-use Rattle.bw_model.specs.declared.step.Step.TheVariants.{Epoch, Leave}
+use Rattle.bw_model.specs.declared.step.Answer.TheVariants.{Number, Whether, Done}
+use Rattle.bw_model.specs.declared.step.Step.TheVariants.{Epoch, TakePid, Leave}
 use Rattle.traces.specs.declared.trace.Entry.{Entry}
 use Rattle.traces.specs.declared.trace.Entry.TheVariants.{Begin, Step}
 
@@ -18,3 +21,26 @@ two_actors =
     ∷ Begin 0 (Upsert (codes "a") (codes "1"))
     ∷ Step 0 Epoch (Number 1) None
     ∷ []
+
+pub are_two_words : AreLimits 2 128 64 1
+are_two_words = record {
+  some_actor = lit≤ tt;
+  few_actors = lit≤ tt;
+  some_pids = lit≤ tt;
+  few_pids = lit≤ tt;
+  whole_pids = refl;
+  some_rows = lit≤ tt;
+  few_rows = lit≤ tt;
+  whole_rows = refl;
+  some_epoch = lit≤ tt;
+  small_epoch = lit≤ tt;
+}
+
+-- limits of a tree with two words of PIDs
+abbrev pub two_words : Limits
+two_words = record { actors = 2; pids = 128; rows = 64; epoch = 1; allowed = are_two_words }
+
+-- One reads the first word of free PIDs; then another takes a PID of each word; then the one reads the second word.
+abbrev pub read_between : ℕ → List Entry
+read_between zero = []
+read_between (suc word) = Step 1 (TakePid 2) (Whether true) None ∷ Step 1 (TakePid 64) (Whether true) None ∷ []

@@ -8,3 +8,4 @@ pub mod Trees
 pub mod Loaded
 pub mod Examples
 pub mod Closed
+pub mod Room

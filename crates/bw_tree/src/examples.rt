@@ -1,10 +1,13 @@
-//! What entries tell of calls: each function does nothing, and its contract computes it.
+//! What entries tell of calls and counts: each function does nothing, and its contract computes it.
 ghost use Rattle.std.specs.Prelude.{codes, ◌≡◌, [], ◌∷◌, None, Some, length};
 ghost use Rattle.bw_model.specs.declared.command.Command.TheVariants.{Get, Upsert, Delete};
 ghost use Rattle.bw_model.specs.declared.command.Reply.TheVariants as reply;
 ghost use Rattle.bw_tree.specs.Calls.{answered_last, calls_of};
-ghost use Rattle.bw_tree.specs.Examples.{two_actors};
+ghost use Rattle.bw_tree.specs.Examples.{read_between, two_actors, two_words};
+ghost use Rattle.bw_tree.specs.Room.{free_among, how_many, is_free};
+ghost use Rattle.bw_tree.specs.declared.room.Kind.TheVariants.{Pid};
 ghost use Rattle.traces.specs.discipline.Disciplined.{own_entries};
+ghost use Rattle.traces.specs.trace.Trace.{memory_of};
 
 /// The calls of an actor are its commands in order, each with its reply once it has one. What others do tells nothing of them.
 pub fn entries_tell_calls()
@@ -17,4 +20,11 @@ pub fn entries_tell_calls()
 /// A reply is that of the call that was made last.
 pub fn last_call_is_answered()
     ensures { answered_last ((Get (codes "a"), Some reply.None) ∷ (Delete (codes "b"), None) ∷ []) reply.Absent ≡ (Get (codes "a"), Some reply.None) ∷ (Delete (codes "b"), Some reply.Absent) ∷ [] }
+{}
+
+/// Each word counts as it stood when it was read, and no moment need have had so many: here 126 PIDs were free first, and 124 last.
+pub fn counts_are_taken_by_words()
+    ensures first { how_many (is_free Pid (memory_of two_words (read_between 0))) 128 ≡ 126 }
+    ensures last { how_many (is_free Pid (memory_of two_words (read_between 1))) 128 ≡ 124 }
+    ensures counted { free_among two_words Pid read_between 128 ≡ 125 }
 {}

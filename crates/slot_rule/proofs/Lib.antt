@@ -6,6 +6,7 @@ mod RowReads
 mod Copied
 mod Filled
 mod Roster
+mod Watched
 mod Dealt
 mod Left
 mod Longest

@@ -64,7 +64,7 @@ module _ (limits : Limits) (law : List Entry → Type 0) where
   fits_refreshed words run [] t = tt
   fits_refreshed words run (p ∷ ps) t = (record { extends = extends_goes p.reach p.actor run run (extends_self p.actor run); reach = t.0.reach; there = t.0.there; own_limits = t.0.own_limits }, fits_refreshed words run ps t.1)
 
-  view_refreshed : (s : TableState) (h : R s) (id : ℕ) (v : List Part) → get_elem? s.views id ≡ some v → R record { words = s.words; homes = s.homes; views = set s.views id (map (refreshed h.run) v) }
+  pub view_refreshed : (s : TableState) (h : R s) (id : ℕ) (v : List Part) → get_elem? s.views id ≡ some v → R record { words = s.words; homes = s.homes; views = set s.views id (map (refreshed h.run) v) }
   view_refreshed s h id v at = let w : List Part = map (refreshed h.run) v in record {
     run = h.run;
     legal = h.legal;

@@ -5,7 +5,7 @@ use Rattle.bw_model.specs.declared.command.Command.{Command}
 use Rattle.bw_model.specs.declared.command.Reply.{Reply}
 use Rattle.tree_limits.specs.declared.limits.Limits.{Limits}
 use Rattle.bw_model.specs.declared.step.Answer.{Answer}
-use Rattle.bw_model.specs.declared.step.Answer.TheVariants.{Content, Done}
+use Rattle.bw_model.specs.declared.step.Answer.TheVariants.{Content, Done, Number}
 use Rattle.bw_model.specs.declared.step.Step.{Step as StepOf}
 use Rattle.bw_model.specs.declared.step.Step.TheVariants.{Row}
 use Rattle.deltas.specs.declared.record.Record.{Record}
@@ -18,7 +18,8 @@ use Rattle.traces.specs.trace.Trace.{memory_of}
 use Rattle.record_slots.specs.Layout.{count_unit, item_size, items_at, part_limit, row_size}
 use Rattle.record_slots.specs.Spelling.{words_of}
 use Rattle.record_slots.specs.Spells.{IsSpelling}
-use Rattle.tree_words.specs.Changes.{told}
+use Rattle.tree_words.specs.Changes.{HasWord, changed_word, operation_of, told}
+use Rattle.tree_words.specs.declared.operations.Operation.TheVariants.{Load}
 use Rattle.tree_words.specs.Layout.{row_at}
 use Rattle.slot_rule.specs.declared.view.Reach.{Reach}
 use Rattle.slot_rule.specs.declared.view.Reach.TheVariants.{Idle, Writing}
@@ -76,6 +77,18 @@ Acts law begun step reply me found me' = Event law begun step reply Idle me (tol
 abbrev pub Reads : (Limits → List Entry → Type 0) → Made (Unit {0}) → Mine → ℕ → Mine → Type 0
 Reads law made me found me' = (limits : Limits) (actor row : ℕ) → SitsAt limits actor Idle me → made.word ≡ row_at row 0
     → SitsAt limits actor Idle me' × ReadsFirst law limits actor (seen_of me) row found (seen_of me')
+
+-- The seat has taken no step. The run that it has seen now goes on from what it had seen by steps of others alone, and a step that reads the
+-- word would be told this number after just that run.
+pub record Watched (law : Limits → List Entry → Type 0) (limits : Limits) (actor : ℕ) (seen : List Entry) (step : StepOf Record) (word : ℕ) (later : List Entry) : Type 0 where
+  pub legal : law limits later
+  pub extends : Extends actor seen later
+  pub begins : BeginWithSteps later
+  pub answered : IsAnswer (memory_of limits later) step (Number word)
+
+abbrev pub Watches : (Limits → List Entry → Type 0) → Made (Unit {0}) → Mine → ℕ → Mine → Type 0
+Watches law made me found me' = (limits : Limits) (actor : ℕ) (step : StepOf Record) → SitsAt limits actor Idle me → actor < 16 → HasWord step → operation_of step ≡ Load → made.word ≡ changed_word actor step
+    → SitsAt limits actor Idle me' × Watched law limits actor (seen_of me) step found (seen_of me')
 
 -- A word of a row whose record was read is looked at, and the seat is as it was. No step is taken.
 abbrev pub Looks : Made (Unit {0}) → Mine → ℕ → Mine → Type 0

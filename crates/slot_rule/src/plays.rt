@@ -63,6 +63,17 @@ impl Play<(), View> for Looking {
     ghost then = { Looks };
 }
 
+/// A word is watched: the longest run is seen, and no step is taken.
+pub(crate) struct Watching<P> {
+    law: PhantomData<P>,
+}
+
+impl<P: Law> Play<(), View> for Watching<P> {
+    ghost use Rattle.slot_rule.specs.Steps.{Watches};
+
+    ghost then = { Watches P.law };
+}
+
 /// One more word of a row is written, behind the header.
 pub(crate) struct Filling;
 

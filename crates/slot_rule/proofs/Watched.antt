@@ -1,0 +1,103 @@
+-- A word is watched, which keeps the rule: the words stay, and the seat has seen the longest run.
+use Rattle.std.proofs.Common.{◌≡◌, ℕ, ◌<◌, List, [], map, get_or, set, sym, refl, ap, subst, arith}
+use Rattle.std.proofs.lemmas.List.{set-get_or}
+use mathlib.Core.Option.{none}
+use Rattle.atomic_table.specs.Table.{Allows, step as made, keeps}
+use Rattle.atomic_table.specs.Seated.{TableId}
+use Rattle.tree_limits.specs.declared.limits.Limits.{Limits}
+use Rattle.bw_model.specs.declared.step.Answer.TheVariants.{Number}
+use Rattle.bw_model.specs.declared.step.Step.{Step}
+use Rattle.bw_model.specs.declared.step.Step.TheVariants.{Slot, Row, Epoch, Announce, PidBits, RowBits, Place, Exchange, TakePid, TakeRow, Enter, Leave, Retire, ReusePids, ReuseRows}
+use Rattle.deltas.specs.declared.record.Record.{Record}
+use Rattle.deltas.specs.Memory.{Memory}
+use Rattle.traces.specs.declared.trace.Entry.{Entry}
+use Rattle.traces.specs.trace.Steps.{IsAnswer}
+use Rattle.traces.specs.trace.Trace.{memory_of}
+use Rattle.tree_words.specs.Changes.{HasWord, SetsBits, StepsChangeOneWord, WordsStandFirst, SpellsParts, changed_word, operation_of, told}
+use Rattle.tree_words.specs.declared.operations.Operation.TheVariants.{Load}
+use Rattle.tree_words.specs.Layout.{rows_at}
+use Rattle.slot_rule.specs.declared.view.Part.{Part}
+use Rattle.slot_rule.specs.declared.view.Reach.TheVariants.{Idle}
+use Rattle.slot_rule.specs.Running.{Each, IsSettled, PartFits}
+use Rattle.slot_rule.specs.Steps.{Watched, Watches}
+use Rattle.slot_rule.specs.Views.{IsOf, Mine, alone, part, refreshed, seen_of}
+use Rattle.slot_rule.proofs.Parts.{spells_views}
+use Rattle.slot_rule.proofs.Roster.{view_refreshed}
+use Rattle.slot_rule.proofs.Turns.{TableState, Rule}
+
+-- a step that reads a word sets no bits, and is told the number
+reads_none : (step : Step Record) → operation_of step ≡ Load → SetsBits step
+reads_none (Slot pid) is = tt
+reads_none (Row row) is = tt
+reads_none Epoch is = tt
+reads_none (Announce actor) is = tt
+reads_none (PidBits word) is = tt
+reads_none (RowBits word) is = tt
+reads_none (Place row content) is = tt
+reads_none (Exchange slot old new) is = tt
+reads_none (TakePid pid) is = tt
+reads_none (TakeRow row) is = tt
+reads_none (Enter epoch) is = tt
+reads_none Leave is = tt
+reads_none (Retire epoch) is = tt
+reads_none (ReusePids word bits) is = cc
+reads_none (ReuseRows word bits) is = cc
+
+reads_number : (step : Step Record) (found : ℕ) → HasWord step → operation_of step ≡ Load → told step found ≡ Number found
+reads_number (Slot pid) found has is = refl
+reads_number (Row row) found has is = refl
+reads_number Epoch found has is = refl
+reads_number (Announce actor) found has is = refl
+reads_number (PidBits word) found has is = refl
+reads_number (RowBits word) found has is = refl
+reads_number (Place row content) found has is = absurd has
+reads_number (Exchange slot old new) found has is = cc
+reads_number (TakePid pid) found has is = cc
+reads_number (TakeRow row) found has is = cc
+reads_number (Enter epoch) found has is = cc
+reads_number Leave found has is = cc
+reads_number (Retire epoch) found has is = cc
+reads_number (ReusePids word bits) found has is = cc
+reads_number (ReuseRows word bits) found has is = cc
+
+module _ (change : StepsChangeOneWord) (limits : Limits) (law : Limits → List Entry → Type 0) where
+  -- what the memory answers after the longest run
+  answered : (s : TableState) (h : Rule limits law s) (actor i : ℕ) (step : Step Record) → actor < 16 → HasWord step → operation_of step ≡ Load → i ≡ changed_word actor step
+      → IsAnswer (memory_of limits h.run) step (Number (get_or s.words i 0))
+  answered s h actor i step few has reads at =
+      let m : Memory = memory_of limits h.run in
+      let parts : SpellsParts limits s.words m = spells_views limits s.words m (IsSettled s.views) (λ row. ⊥) (λ row none. absurd none) h.spells in
+      let found : ℕ = get_or s.words (changed_word actor step) 0 in
+      let told_is : IsAnswer m step (told step found) = (change limits s.words m actor step h.wide parts few has (reads_none step reads)).answers in
+      let number : IsAnswer m step (Number found) = subst (IsAnswer m step) (reads_number step found has reads) told_is in
+      subst (λ (j : ℕ). IsAnswer m step (Number (get_or s.words j 0))) (sym at) number
+
+  watches : (slots id : ℕ) (me : Mine) (i : ℕ) → Allows (Rule limits law) slots id me i (λ n. n) (Watches law (made slots i 0 0 none) me)
+  watches slots id me i s h _ at _ =
+      let run : List Entry = h.run in
+      let view : List Part = map (refreshed run) me.0 in (
+        view,
+        keeps,
+        tt,
+        subst (λ (ws : List ℕ). Rule limits law record { words = ws; homes = s.homes; views = set s.views id view }) (sym (set-get_or s.words i 0)) (view_refreshed limits (law limits) s h id me.0 at),
+        λ limits' actor step is few has reads word.
+            let fits : PartFits limits s.words run (part limits' actor (seen_of me) Idle) = (subst (λ (m : Mine). Each (PartFits limits s.words run) m.0) is (h.each id me.0 at)).0 in
+            let now : (view, me.1) ≡ (alone limits' actor run Idle, []) = ap (λ (m : Mine). (map (refreshed run) m.0, m.1)) is in
+            let saw : seen_of (view, me.1) ≡ run = ap seen_of now in (
+              subst (λ (seen : List Entry). (view, me.1) ≡ (alone limits' actor seen Idle, [])) (sym saw) now,
+              subst (λ (z : Limits × List Entry). Watched law z.0 actor (seen_of me) step (get_or s.words i 0) z.1) (λ k. (sym fits.own_limits k, sym saw k))
+                  record { legal = h.legal; extends = fits.extends; begins = h.begins; answered = answered s h actor i step few has reads word },
+            ),
+      )
+
+-- the same as the function asks for it
+module _ (change : StepsChangeOneWord) (first : WordsStandFirst) (law : Limits → List Entry → Type 0) (limits key : Limits) (table seat : TableId) (of : IsOf limits key table seat) where
+  pub watches_at : (slots id : ℕ) (me : Mine) (actor i : ℕ) (step : Step Record) → actor < 16 → HasWord step → i ≡ changed_word actor step
+      → (seat ≡ table) × (i < table.words) × Allows (Rule key law) slots id me i (λ n. n) (Watches law (made slots i 0 0 none) me)
+  watches_at slots id me actor i step few has at =
+      let low : changed_word actor step < rows_at = first actor step few has in
+      let wide = of.wide in (
+        of.same,
+        omega (arith, at, low, wide),
+        watches change key law slots id me i,
+      )
