@@ -1,4 +1,5 @@
 pub mod Behind
+pub mod Fitting
 pub mod Fresh
 pub mod Going
 pub mod Pushed

@@ -1,13 +1,15 @@
 //! Commands that run to their end.
-ghost use Rattle.std.specs.Prelude.{◌≡◌, ◌∷◌, ◌≤◌, [], IfErr, IfOk, IfSome, IsSome, None, Some};
+ghost use Rattle.std.specs.Prelude.{◌≡◌, ◌∷◌, ◌≤◌, [], IfErr, IfOk, IfSome, IsSome, IsTrue, None, Some};
 ghost use Rattle.bw_tree.specs.Calls.{IsCalled, IsDone, IsResumed};
 ghost use Rattle.bw_tree.specs.Runs.{IsOneHistory};
 ghost use Rattle.bw_tree.specs.Seats.{IsSame, unfinished_command};
 ghost use Rattle.bw_tree.specs.Trees.{IsSeatOf};
+ghost use Rattle.map_laws.specs.Fits.{CameFitting, fits};
 ghost use Rattle.seats.specs.Replies.{CantBegin, GoesOn, HasNoReply, many};
 
 use bw_model::{Command, Reply};
 use bw_tree::{BwSeat, Called, Tree};
+use map_laws::seats_replies_fit;
 use std::alloc::Allocator;
 use std::sync::Wait;
 use thiserror::Error;
@@ -33,12 +35,14 @@ pub fn reply(tree: &Tree, seat: &mut BwSeat, command: Command) -> Result<Reply, 
     ensures same { IsSame seat.old seat.new }
     ensures idle { IfOk result (λ reply. unfinished_command seat.old ≡ None) }
     ensures done { IfOk result (λ reply. IsDone seat.old command many reply seat.new) }
+    ensures fits { IfOk result (λ reply. IsTrue (fits command reply)) }
     ensures history { unfinished_command seat.old ≡ None → IsOneHistory seat.new.limits seat.new.seen }
     ensures refused { IfErr result (λ refusal. HasNoReply seat.old command refusal seat.new) }
 {
     if !seat.is_idle() {
         return Err(NoReply::Busy);
     }
+    seats_replies_fit();
     match tree.call(seat, command, BUDGET) {
         Called::Done(reply) => Ok(reply),
         Called::Spent => Err(NoReply::Spent),
@@ -56,8 +60,10 @@ pub fn run_to_end<R: Wait, A: Allocator>(
     requires idle { unfinished_command seat.old ≡ None }
     ensures own { IsSeatOf tree.now seat.new }
     ensures goes { GoesOn seat.old ((command, Some result) ∷ []) seat.new }
+    ensures fits { IsTrue (fits command result) }
     ensures history { IsOneHistory seat.new.limits seat.new.seen }
 {
+    seats_replies_fit();
     if let Called::Done(reply) = tree.call(seat, command, BUDGET) {
         return reply;
     }
@@ -75,6 +81,7 @@ pub fn resumed(tree: &Tree, seat: &mut BwSeat, budget: u32) -> Option<Called>
     ensures own { IsSeatOf tree.now seat.new }
     ensures same { IsSame seat.old seat.new }
     ensures resumed { IfSome result (λ called. IsResumed seat.old budget called seat.new) }
+    ensures fits { IfSome result (λ called. IfSome (unfinished_command seat.old) (λ command. CameFitting command called)) }
     ensures some { IsSome result → IsSome (unfinished_command seat.old) }
     ensures history { IsSome result → IsOneHistory seat.new.limits seat.new.seen }
     ensures none { result ≡ None → (unfinished_command seat.old ≡ None) × (seat.new ≡ seat.old) }
@@ -82,6 +89,7 @@ pub fn resumed(tree: &Tree, seat: &mut BwSeat, budget: u32) -> Option<Called>
     if seat.is_idle() {
         return None;
     }
+    seats_replies_fit();
     Some(tree.resume(seat, budget))
 }
 
@@ -91,6 +99,7 @@ pub fn called(tree: &Tree, seat: &mut BwSeat, command: Command, budget: u32) -> 
     ensures own { IsSeatOf tree.now seat.new }
     ensures same { IsSame seat.old seat.new }
     ensures called { IfSome result (λ called. IsCalled seat.old command budget called seat.new) }
+    ensures fits { IfSome result (λ called. CameFitting command called) }
     ensures some { IsSome result → (unfinished_command seat.old ≡ None) × (1 ≤ budget) }
     ensures history { IsSome result → IsOneHistory seat.new.limits seat.new.seen }
     ensures none { result ≡ None → CantBegin seat.old budget × (seat.new ≡ seat.old) }
@@ -98,5 +107,6 @@ pub fn called(tree: &Tree, seat: &mut BwSeat, command: Command, budget: u32) -> 
     if !seat.is_idle() || budget == 0 {
         return None;
     }
+    seats_replies_fit();
     Some(tree.call(seat, command, budget))
 }

@@ -19,7 +19,7 @@ use Rattle.bw_tree.specs.Seats.{IsSame, Seat, unfinished_command}
 use Rattle.bw_tree.specs.declared.called.Called.{Called}
 use Rattle.bw_tree.specs.declared.called.Called.TheVariants as called
 use Rattle.bw_tree.proofs.Going.{answered_snoc}
-use Rattle.walks.proofs.Asking.{Calls, finishes, fronts, is_operation, last_unanswered, operation, since}
+use Rattle.map_laws.proofs.Asking.{Calls, finishes, fronts, is_operation, last_unanswered, operation, since}
 use Rattle.walks.proofs.Replying.{IsPaged, paged}
 use Rattle.walks.specs.Cursors.{Cursor, HasShown, IsRunOn, WasIdle, cursor_command, page_from}
 use Rattle.walks.specs.Pages.{pairs_under, place_under}

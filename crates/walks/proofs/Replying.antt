@@ -1,33 +1,25 @@
 -- What a cursor page has replied.
-use Rattle.std.proofs.Common.{◌≡◌, ◌≤◌, ◌<◌, ◌+◌, ℕ, zero, suc, List, [], ◌∷◌, ◌++◌, length, take, drop, Bool, true, Option, Some, None, IsSome, IsTrue, inl, inr, refl, sym, ap, subst, ◌∙◌, arith, eq-eqb}
-use Rattle.std.specs.Prelude.{if◌then◌else◌, not, slice_get}
-use Rattle.std.proofs.lemmas.List.{length-take-le, take-append-drop}
-use mathlib.Core.Logic.{dite}
-use Rattle.std.proofs.Math.Decide.{dec_le}
+use Rattle.std.proofs.Common.{◌≡◌, ℕ, List, Bool, true, Option, Some, None, IsTrue, inl, inr, refl, sym, ap, subst, ◌∙◌}
+use Rattle.std.specs.Prelude.{not}
 use Rattle.bw_model.specs.Log.{logged_value}
 use Rattle.bw_model.specs.Replies.{command_key, is_writer, reply_of}
 use Rattle.bw_model.specs.Pairs.{IsPairsOf}
-use Rattle.bw_model.specs.declared.command.Command.{Command}
 use Rattle.bw_model.specs.declared.command.Command.TheVariants as command
 use Rattle.bw_model.specs.declared.command.Reply.{Reply}
 use Rattle.bw_model.specs.declared.command.Reply.TheVariants as reply
 use Rattle.tree_limits.specs.declared.limits.Limits.{Limits}
 use Rattle.traces.specs.declared.trace.Entry.{Entry}
-use Rattle.traces.specs.declared.trace.Entry.TheVariants.{Begin, Step}
 use Rattle.traces.specs.declared.trace.Turn.{Turn}
-use Rattle.traces.specs.trace.Run.{IsRun}
-use Rattle.traces.specs.trace.Trace.{command_of, commands_after, memory_at}
-use Rattle.traces.proofs.Pushes.{slice_get_below}
-use Rattle.traces.proofs.TraceLaws.{command_of-push}
+use Rattle.traces.specs.trace.Trace.{memory_at}
 use Rattle.op_machine.specs.theorem.Answered.{FindsTidy, IsTrueReply, RepliesAtPoint, ShowsPage}
 use Rattle.op_machine.specs.theorem.Linearized.{IsLinearized}
-use Rattle.op_machine.specs.theorem.Operations.{Finishes, IsOwnStep, Operation}
+use Rattle.op_machine.specs.theorem.Operations.{IsOwnStep, Operation}
 use Rattle.op_machine.specs.theorem.Points.{IsPoint, log_at}
 use Rattle.base_page.proofs.KeyLaws.{and_right, either}
 use Rattle.bw_model.specs.Bytes.{is_below, is_under}
 use Rattle.traces.specs.chain.Chains.{covers, high_in, low_in}
 use Rattle.traces.specs.chain.SideChain.{LivePage}
-use Rattle.walks.proofs.Spans.{begun_since}
+use Rattle.map_laws.proofs.Ending.{own_before}
 use Rattle.walks.specs.Pages.{end_under, place_under, pairs_under, IsPageOf, IsPageShown, WalkedPage, page_operation}
 use Rattle.walks.proofs.Cuts.{cut_pairs}
 
@@ -85,61 +77,6 @@ module _ (limits : Limits) (run : List Entry) (points : List Bool) (operation : 
   paged reply.Swapped is = at_point reply.Swapped is
   paged (reply.Differs value) is = at_point (reply.Differs value) is
   paged (reply.Page items next) is = at_point (reply.Page items next) is
-
--- a finished operation takes no step after its last one
-idle_then : (run : List Entry) (done actor : ℕ) (entry : Entry) (answer : Reply) → slice_get run done ≡ Some entry → ((commands : ℕ → Option Command) → commands_after commands entry actor ≡ None) → command_of (take (suc done) run) actor ≡ None
-idle_then run done actor entry answer there ends = ap (λ es. command_of es actor) (take-one run done entry there) ∙ ap (λ commands. commands actor) (command_of-push (take done run) entry) ∙ ends (command_of (take done run))
-  where
-    take-one : (xs : List Entry) (n : ℕ) (x : Entry) → slice_get xs n ≡ Some x → take (suc n) xs ≡ take n xs ++ x ∷ []
-    take-one [] n x e = cc
-    take-one (y ∷ xs) zero x e = let same : y ≡ x = cc in ap (λ z. z ∷ []) same
-    take-one (y ∷ xs) (suc n) x e = ap (λ rest. y ∷ rest) (take-one xs n x e)
-
--- a front of a longer front
-front_of : {X : Type 0} (n m : ℕ) (xs : List X) → n ≤ m → take m xs ≡ take n xs ++ drop n (take m xs)
-front_of n m xs le = sym (take-append-drop n (take m xs)) ∙ ap (λ front. front ++ drop n (take m xs)) (upto n m xs le)
-  where
-    upto : {X : Type 0} (n m : ℕ) (xs : List X) → n ≤ m → take n (take m xs) ≡ take n xs
-    upto zero m xs le = refl
-    upto (suc n) zero xs le = absurd (omega arith)
-    upto (suc n) (suc m) [] le = refl
-    upto (suc n) (suc m) (x ∷ xs) le = ap (λ rest. x ∷ rest) (upto n m xs (omega arith))
-
-get-from_take : {X : Type 0} (k : ℕ) (xs : List X) (n : ℕ) (x : X) → slice_get (take k xs) n ≡ Some x → slice_get xs n ≡ Some x
-get-from_take zero xs n x e = cc
-get-from_take (suc k) [] n x e = cc
-get-from_take (suc k) (y ∷ xs) zero x e = e
-get-from_take (suc k) (y ∷ xs) (suc n) x e = get-from_take k xs n x e
-
-pub some_of : {X : Type 0} (o : Option X) → IsSome o → (x : X) × (o ≡ Some x)
-some_of None h = cc
-some_of (Some x) h = (x, refl)
-
-module _ (limits : Limits) (run : List Entry) (is_run : IsRun limits run) (operation : Operation) (done : ℕ) (answer : Reply) (ends : Finishes run operation done answer) where
-  -- after its last step the actor has none
-  none_then : command_of (take (suc done) run) operation.actor ≡ None
-  none_then = idle_then run done operation.actor (Step operation.actor ends.0 ends.1 (Some answer)) answer ends.2.entry
-      (λ commands. ap (λ (b : Bool). if b then None else commands operation.actor) (eq-eqb operation.actor operation.actor refl))
-
-  long_then : length (take (suc done) run) ≡ suc done
-  long_then = let below : done < length run = slice_get_below run done _ ends.2.entry in length-take-le (suc done) run (omega arith)
-
-  no_step_after : (m : ℕ) → done < m → IsOwnStep run operation m → ⊥
-  no_step_after m after (step, told, (given, own)) =
-      let early : List Entry = take (suc done) run in
-      let rest : List Entry = drop (suc done) (take m run) in
-      let front : take m run ≡ early ++ rest = front_of (suc done) m run (omega arith) in
-      let (c, has) = some_of (command_of (take m run) operation.actor) (is_run.each m (Step operation.actor step told given) own.entry).0 in
-      let (place, begins) = begun_since early rest operation.actor c none_then (ap (λ es. command_of es operation.actor) (sym front) ∙ has) in
-      let there : slice_get (take m run) (length early + place) ≡ Some (Begin operation.actor c) = ap (λ es. slice_get es (length early + place)) front ∙ begins in
-      let short : length early + place < length (take m run) = slice_get_below (take m run) (length early + place) (Begin operation.actor c) there in
-      let within : m < length run = slice_get_below run m _ own.entry in
-      let whole : length (take m run) ≡ m = length-take-le m run (omega arith) in
-      let long = long_then in let first = ends.2.begun in
-      own.not_ended (length early + place) c (omega arith) (omega arith) (get-from_take m run (length early + place) (Begin operation.actor c) there)
-
-  pub own_before : (m : ℕ) → IsOwnStep run operation m → m ≤ done
-  own_before m own = dite (dec_le m done) (λ le. le) (λ gt. absurd (no_step_after m (omega arith) own))
 
 -- what a page shows is the map's at its operation's point
 pub page_is_shown : (limits : Limits) (turns : List Turn) (run : List Entry) (bound : Option (List ℕ)) (page : WalkedPage) (linear : IsLinearized limits turns run) → IsPageOf run bound page → IsPageShown run linear.points bound page

@@ -20,8 +20,8 @@ use Rattle.traces.proofs.RunLaws.{IsRun-last}
 use Rattle.op_machine.specs.theorem.Operations.{Finishes, IsOperation, Operation}
 use Rattle.bw_tree.specs.Calls.{answered_last, call_after, calls_along, calls_of}
 use Rattle.bw_tree.proofs.Going.{answered_snoc}
-use Rattle.walks.proofs.Replying.{some_of}
-use Rattle.walks.proofs.Spans.{IsOpenAt, begun_since, in_hand}
+use Rattle.map_laws.proofs.Ending.{some_of}
+use Rattle.map_laws.proofs.Spans.{IsOpenAt, begun_since, in_hand}
 use Rattle.traces.proofs.OwnEntries.{own_push}
 
 abbrev pub Calls : Type 0

@@ -1,0 +1,115 @@
+-- What the update of a command makes of the log's value at a key.
+use Rattle.std.proofs.Common.{◌≡◌, ℕ, List, [], ◌∷◌, ◌++◌, Bool, true, false, Option, Some, None, refl, sym, ap, ◌∙◌}
+use Rattle.std.specs.Prelude.{if◌then◌else◌}
+use Rattle.std.specs.Option.{option_to_list}
+use Rattle.std.specs.Ordering.{is_eq}
+use Rattle.std.specs.Str.{bytes_eq}
+use Rattle.std.proofs.lemmas.List.{append-nil}
+use Rattle.std.proofs.lemmas.List.Sums.{fold-append}
+use Rattle.base_page.proofs.KeyLaws.{either, same}
+use Rattle.bw_model.specs.Bytes.{key_cmp}
+use Rattle.bw_model.specs.Log.{Update, logged_value, set, updated_key, updated_value}
+use Rattle.bw_model.specs.Replies.{command_key, is_writer, update_of}
+use Rattle.bw_model.specs.declared.command.Command.{Command}
+use Rattle.bw_model.specs.declared.command.Command.TheVariants.{Get, Insert, Upsert, Delete, Swap, Page, Tidy}
+use Rattle.op_machine.specs.theorem.Points.{updates_by}
+use Rattle.map_laws.specs.OwnKeys.{is_about, value_by, value_made}
+
+abbrev Value : Type 0
+Value = Option (List ℕ)
+
+if_same : (b : Bool) (x : Value) → (if b then x else x) ≡ x
+if_same true x = refl
+if_same false x = refl
+
+abbrev updated : List ℕ → Option Update → Value → Value
+updated key None before = before
+updated key (Some update) before = if is_eq (key_cmp key (updated_key update)) then updated_value update else before
+
+pushed : (key : List ℕ) (log : List Update) (o : Option Update) → logged_value (log ++ option_to_list o) key ≡ updated key o (logged_value log key)
+pushed key log None = ap (λ (l : List Update). logged_value l key) (append-nil log)
+pushed key log (Some update) = fold-append (λ (before : Value) (u : Update). if is_eq (key_cmp key (updated_key u)) then updated_value u else before) None log (update ∷ [])
+
+module _ (key : List ℕ) (actor : ℕ) (before : Value) where
+  abbrev Names : Command → Option Update → Type 0
+  Names asked o = updated key o before ≡ (if is_eq (key_cmp key (command_key asked)) then value_by o before else before)
+
+  swap_names : (k expected value : List ℕ) (b : Bool) → Names (Swap k expected value) (if b then Some (set actor k value) else None)
+  swap_names k expected value true = refl
+  swap_names k expected value false = sym (if_same (is_eq (key_cmp key k)) before)
+
+  -- an update names its command's key
+  names_key : (asked : Command) (old : Value) → Names asked (update_of actor asked old)
+  names_key (Get k) old = sym (if_same (is_eq (key_cmp key k)) before)
+  names_key (Insert k value) None = refl
+  names_key (Insert k value) (Some old) = sym (if_same (is_eq (key_cmp key k)) before)
+  names_key (Upsert k value) old = refl
+  names_key (Delete k) None = sym (if_same (is_eq (key_cmp key k)) before)
+  names_key (Delete k) (Some old) = refl
+  names_key (Swap k expected value) None = sym (if_same (is_eq (key_cmp key k)) before)
+  names_key (Swap k expected value) (Some old) = swap_names k expected value (bytes_eq old expected)
+  names_key (Page k) old = sym (if_same (is_eq (key_cmp key k)) before)
+  names_key (Tidy k) old = sym (if_same (is_eq (key_cmp key k)) before)
+
+  swap_any : (k value : List ℕ) (b : Bool) → value_by (if b then Some (set actor k value) else None) before ≡ value_by (if b then Some (set 0 k value) else None) before
+  swap_any k value true = refl
+  swap_any k value false = refl
+
+  -- whoever makes it
+  any_actor : (asked : Command) (old : Value) → value_by (update_of actor asked old) before ≡ value_by (update_of 0 asked old) before
+  any_actor (Get k) old = refl
+  any_actor (Insert k value) None = refl
+  any_actor (Insert k value) (Some old) = refl
+  any_actor (Upsert k value) old = refl
+  any_actor (Delete k) None = refl
+  any_actor (Delete k) (Some old) = refl
+  any_actor (Swap k expected value) None = refl
+  any_actor (Swap k expected value) (Some old) = swap_any k value (bytes_eq old expected)
+  any_actor (Page k) old = refl
+  any_actor (Tidy k) old = refl
+
+about : (key : List ℕ) (asked : Command) (before : Value) → (if is_eq (key_cmp key (command_key asked)) then value_made asked before else before) ≡ (if is_about key asked then value_made asked before else before)
+about key (Get k) before = refl
+about key (Insert k value) before = refl
+about key (Upsert k value) before = refl
+about key (Delete k) before = refl
+about key (Swap k expected value) before = refl
+about key (Page k) before = if_same (is_eq (key_cmp key k)) before
+about key (Tidy k) before = if_same (is_eq (key_cmp key k)) before
+
+-- what a command's update makes of a key's value
+module _ (key : List ℕ) (log : List Update) (actor : ℕ) (asked : Command) where
+  abbrev now : Value
+  now = logged_value log key
+
+  abbrev old : Value
+  old = logged_value log (command_key asked)
+
+  by_key : (if is_eq (key_cmp key (command_key asked)) then value_by (update_of actor asked old) now else now) ≡ (if is_eq (key_cmp key (command_key asked)) then value_made asked now else now)
+  by_key = either (is_eq (key_cmp key (command_key asked)))
+      (λ is. ap (λ (b : Bool). if b then value_by (update_of actor asked old) now else now) is
+      ∙ ap (λ (k : List ℕ). value_by (update_of actor asked (logged_value log k)) now) (sym (same key (command_key asked) is)) ∙ any_actor key actor now asked now
+      ∙ sym (ap (λ (b : Bool). if b then value_made asked now else now) is))
+      (λ apart. ap (λ (b : Bool). if b then value_by (update_of actor asked old) now else now) apart ∙ sym (ap (λ (b : Bool). if b then value_made asked now else now) apart))
+
+  pub effect : logged_value (log ++ updates_by actor (Some asked) log) key ≡ (if is_about key asked then value_made asked (logged_value log key) else logged_value log key)
+  effect = pushed key log (update_of actor asked old) ∙ names_key key actor now asked old ∙ by_key ∙ about key asked now
+
+-- a command whose actor links nothing changes nothing
+pub reader_keeps : (asked : Command) (before : Value) → is_writer asked ≡ false → value_made asked before ≡ before
+reader_keeps (Get k) before is = refl
+reader_keeps (Insert k value) before is = absurd (cc)
+reader_keeps (Upsert k value) before is = absurd (cc)
+reader_keeps (Delete k) before is = absurd (cc)
+reader_keeps (Swap k expected value) before is = absurd (cc)
+reader_keeps (Page k) before is = refl
+reader_keeps (Tidy k) before is = absurd (cc)
+
+pub about_key : (key : List ℕ) (asked : Command) → is_about key asked ≡ true → key ≡ command_key asked
+about_key key (Get k) is = same key k is
+about_key key (Insert k value) is = same key k is
+about_key key (Upsert k value) is = same key k is
+about_key key (Delete k) is = same key k is
+about_key key (Swap k expected value) is = same key k is
+about_key key (Page k) is = absurd (cc)
+about_key key (Tidy k) is = absurd (cc)

@@ -1,0 +1,105 @@
+-- The reply of a finished operation fits its command.
+use Rattle.std.proofs.Common.{◌≡◌, ℕ, List, [], ◌∷◌, ◌++◌, length, map, Bool, Option, Some, None, IsTrue, inl, inr, refl, sym, ap, subst, ◌∙◌}
+use Rattle.std.specs.Prelude.{if◌then◌else◌, slice_get}
+use Rattle.std.specs.Str.{bytes_eq}
+use Rattle.base_page.proofs.KeyLaws.{either}
+use Rattle.bw_model.specs.Log.{logged_value}
+use Rattle.bw_model.specs.Replies.{command_key, is_writer, reply_of}
+use Rattle.bw_model.specs.declared.command.Command.{Command}
+use Rattle.bw_model.specs.declared.command.Command.TheVariants.{Get, Insert, Upsert, Delete, Swap, Page, Tidy}
+use Rattle.bw_model.specs.declared.command.Reply.{Reply}
+use Rattle.bw_model.specs.declared.command.Reply.TheVariants as reply
+use Rattle.tree_limits.specs.declared.limits.Limits.{Limits}
+use Rattle.traces.specs.declared.trace.Entry.{Entry}
+use Rattle.traces.specs.declared.trace.Turn.{Turn}
+use Rattle.traces.specs.trace.Trace.{turn_of}
+use Rattle.traces.proofs.Pushes.{slice_get-push}
+use Rattle.op_machine.specs.theorem.Answered.{IsTrueReply, RepliesAtPoint}
+use Rattle.op_machine.specs.theorem.Linearized.{IsLinearized}
+use Rattle.op_machine.specs.theorem.Operations.{Finishes, IsOperation, Operation}
+use Rattle.op_machine.specs.theorem.Points.{log_at}
+use Rattle.bw_tree.specs.Calls.{IsCalled, IsResumed, answered_last, calls_in, calls_of}
+use Rattle.bw_tree.specs.Runs.{IsOneHistory}
+use Rattle.bw_tree.specs.Seats.{Seat, unfinished_command}
+use Rattle.bw_tree.specs.declared.called.Called.{Called}
+use Rattle.bw_tree.specs.declared.called.Called.TheVariants as called
+use Rattle.bw_tree.proofs.Going.{answered_snoc}
+use Rattle.map_laws.specs.Fits.{CameFitting, fits}
+use Rattle.map_laws.proofs.Asking.{Calls, last_unanswered}
+use Rattle.map_laws.proofs.InOrder.{are_in_order, each_ended}
+
+-- what goes by the key's value
+by_value : (asked : Command) (old : Option (List ℕ)) (given : Reply) → reply_of asked old ≡ Some given → IsTrue (fits asked given)
+by_value (Get key) None given e = let same : reply.None ≡ given = cc in subst (λ r. IsTrue (fits (Get key) r)) same refl
+by_value (Get key) (Some old) given e = let same : reply.Value old ≡ given = cc in subst (λ r. IsTrue (fits (Get key) r)) same refl
+by_value (Insert key value) None given e = let same : reply.Inserted ≡ given = cc in subst (λ r. IsTrue (fits (Insert key value) r)) same refl
+by_value (Insert key value) (Some old) given e = let same : reply.Exists old ≡ given = cc in subst (λ r. IsTrue (fits (Insert key value) r)) same refl
+by_value (Upsert key value) None given e = let same : reply.Set ≡ given = cc in subst (λ r. IsTrue (fits (Upsert key value) r)) same refl
+by_value (Upsert key value) (Some old) given e = let same : reply.Replaced old ≡ given = cc in subst (λ r. IsTrue (fits (Upsert key value) r)) same refl
+by_value (Delete key) None given e = let same : reply.Absent ≡ given = cc in subst (λ r. IsTrue (fits (Delete key) r)) same refl
+by_value (Delete key) (Some old) given e = let same : reply.Deleted old ≡ given = cc in subst (λ r. IsTrue (fits (Delete key) r)) same refl
+by_value (Swap key expected value) None given e = let same : reply.Absent ≡ given = cc in subst (λ r. IsTrue (fits (Swap key expected value) r)) same refl
+by_value (Swap key expected value) (Some old) given e = either (bytes_eq old expected)
+    (λ is. let said : Some reply.Swapped ≡ Some given = subst (λ (b : Bool). (if b then Some reply.Swapped else Some (reply.Differs old)) ≡ Some given) is e in
+    let same : reply.Swapped ≡ given = cc in subst (λ r. IsTrue (fits (Swap key expected value) r)) same refl)
+    (λ no. let said : Some (reply.Differs old) ≡ Some given = subst (λ (b : Bool). (if b then Some reply.Swapped else Some (reply.Differs old)) ≡ Some given) no e in
+    let same : reply.Differs old ≡ given = cc in subst (λ r. IsTrue (fits (Swap key expected value) r)) same refl)
+by_value (Page from) old given e = absurd (cc)
+by_value (Tidy key) old given e = absurd (cc)
+
+full : (asked : Command) → IsTrue (is_writer asked) → IsTrue (fits asked reply.Full)
+full (Get key) is = absurd (cc)
+full (Insert key value) is = refl
+full (Upsert key value) is = refl
+full (Delete key) is = refl
+full (Swap key expected value) is = refl
+full (Page from) is = absurd (cc)
+full (Tidy key) is = refl
+
+module _ (limits : Limits) (run : List Entry) (points : List Bool) (operation : Operation) where
+  abbrev FitsIts : Reply → Type 0
+  FitsIts given = IsTrue (fits operation.command given)
+
+  at_point : (given : Reply) → RepliesAtPoint limits run points operation given → FitsIts given
+  at_point given (n, own, point, inl value) = by_value operation.command (logged_value (log_at run points n) (command_key operation.command)) given value
+  at_point given (n, own, point, inr page) = subst (λ (z : Command × Reply). IsTrue (fits z.0 z.1)) (λ i. (sym page.asks i, sym page.is i)) refl
+
+  -- a true reply fits
+  pub true_fits : (given : Reply) → IsTrueReply limits run points operation given → FitsIts given
+  true_fits reply.Full is = full operation.command is.0
+  true_fits reply.Tidied is = subst (λ c. IsTrue (fits c reply.Tidied)) (sym is.asks) refl
+  true_fits (reply.Value value) is = at_point (reply.Value value) is
+  true_fits reply.None is = at_point reply.None is
+  true_fits reply.Inserted is = at_point reply.Inserted is
+  true_fits (reply.Exists value) is = at_point (reply.Exists value) is
+  true_fits reply.Set is = at_point reply.Set is
+  true_fits (reply.Replaced value) is = at_point (reply.Replaced value) is
+  true_fits (reply.Deleted value) is = at_point (reply.Deleted value) is
+  true_fits reply.Absent is = at_point reply.Absent is
+  true_fits reply.Swapped is = at_point reply.Swapped is
+  true_fits (reply.Differs value) is = at_point (reply.Differs value) is
+  true_fits (reply.Page items next) is = at_point (reply.Page items next) is
+
+pub reply_fits : (limits : Limits) (turns : List Turn) (run : List Entry) → IsLinearized limits turns run → (operation : Operation) (done : ℕ) (given : Reply) → IsOperation run operation → Finishes run operation done given
+    → IsTrue (fits operation.command given)
+reply_fits limits turns run linear operation done given is ends = true_fits limits run linear.points operation given (linear.answered.each operation done given is ends)
+
+pub call_fits : (limits : Limits) (turns : List Turn) (run : List Entry) → IsLinearized limits turns run → (actor place : ℕ) (asked : Command) (given : Reply) → slice_get (calls_of actor run) place ≡ Some (asked, Some given) → IsTrue (fits asked given)
+call_fits limits turns run linear actor place asked given at =
+    let (done, ended) = each_ended run actor 0 (calls_of actor run) place asked given (are_in_order limits [] run actor linear.run.run refl) at in
+    reply_fits limits turns run linear (record { start = ended.begun.start; actor = actor; command = asked }) done given ended.begun.is ended.ends
+
+-- the call that was made last
+pub last_fits : (seat : Seat) (calls : Calls) (asked : Command) (given : Reply) → IsOneHistory seat.limits seat.seen → calls_in seat ≡ calls ++ (asked, Some given) ∷ [] → IsTrue (fits asked given)
+last_fits seat calls asked given history is =
+    call_fits seat.limits (map turn_of seat.seen) seat.seen history.linearized seat.actor (length calls) asked given (ap (λ (cs : Calls). slice_get cs (length calls)) is ∙ slice_get-push calls (asked, Some given))
+
+pub called_fits : (old new : Seat) (asked : Command) (budget : ℕ) (came : Called) → IsOneHistory new.limits new.seen → IsCalled old asked budget came new → CameFitting asked came
+called_fits old new asked budget (called.Done given) history is = last_fits new (calls_in old) asked given history is.calls
+called_fits old new asked budget called.Spent history is = tt
+
+pub resumed_fits : (old new : Seat) (asked : Command) (budget : ℕ) (came : Called) → IsOneHistory new.limits new.seen → unfinished_command old ≡ Some asked → IsResumed old budget came new → CameFitting asked came
+resumed_fits old new asked budget (called.Done given) history has is =
+    let (before, unanswered) = last_unanswered old.actor old.seen asked has in
+    last_fits new before asked given history (is.calls ∙ ap (λ (cs : Calls). answered_last cs given) unanswered ∙ answered_snoc before asked None given)
+resumed_fits old new asked budget called.Spent history has is = tt

@@ -1,0 +1,10 @@
+pub mod Spans
+pub mod Ending
+pub mod Asking
+pub mod Along
+pub mod InOrder
+pub mod Fitting
+pub mod Effects
+pub mod OwnKeys
+pub mod OneSeat
+pub mod ReadBack

@@ -1,0 +1,101 @@
+-- What an actor reads of a key of its own.
+use Rattle.std.proofs.Common.{◌≡◌, ℕ, List, [], ◌∷◌, ◌++◌, length, map, Bool, true, Option, Some, None, IsTrue, refl, sym, ap, subst, ◌∙◌, append_assoc}
+use Rattle.std.specs.Prelude.{◌&&◌, ◌≢◌, if◌then◌else◌, slice_get}
+use Rattle.std.specs.Ordering.{is_eq}
+use Rattle.base_page.proofs.KeyLaws.{and_both, itself}
+use Rattle.bw_model.specs.Bytes.{key_cmp}
+use Rattle.bw_model.specs.Replies.{reply_of}
+use Rattle.bw_model.specs.declared.command.Command.{Command}
+use Rattle.bw_model.specs.declared.command.Command.TheVariants.{Get, Insert, Upsert, Delete, Swap, Page, Tidy}
+use Rattle.bw_model.specs.declared.command.Reply.{Reply}
+use Rattle.bw_model.specs.declared.command.Reply.TheVariants as reply
+use Rattle.op_machine.specs.theorem.Points.{has_point}
+use Rattle.traces.specs.trace.Trace.{turn_of}
+use Rattle.traces.proofs.Pushes.{slice_get-push, slice_get_kept}
+use Rattle.bw_tree.specs.Calls.{IsDone, calls_in}
+use Rattle.bw_tree.specs.Runs.{IsOneHistory}
+use Rattle.bw_tree.specs.Seats.{Seat}
+use Rattle.map_laws.specs.Fits.{fits}
+use Rattle.map_laws.specs.OwnKeys.{AreOwnReplies, is_about, tells, value_then, value_through}
+use Rattle.map_laws.proofs.Asking.{Calls}
+use Rattle.map_laws.proofs.Fitting.{call_fits}
+use Rattle.map_laws.proofs.OwnKeys.{Value, through_one}
+
+not_tidied : (key : List ℕ) (asked : Command) → is_about key asked ≡ true → IsTrue (fits asked reply.Tidied) → ⊥
+not_tidied key (Get k) is fit = cc
+not_tidied key (Insert k value) is fit = cc
+not_tidied key (Upsert k value) is fit = cc
+not_tidied key (Delete k) is fit = cc
+not_tidied key (Swap k expected value) is fit = cc
+not_tidied key (Page k) is fit = cc
+not_tidied key (Tidy k) is fit = cc
+
+-- a command about a key takes effect unless it replies Full
+took_effect : (key : List ℕ) (asked : Command) (given : Reply) → is_about key asked ≡ true → IsTrue (fits asked given) → given ≢ reply.Full → has_point given ≡ true
+took_effect key asked reply.Full is fit full = absurd (full refl)
+took_effect key asked reply.Tidied is fit full = absurd (not_tidied key asked is fit)
+took_effect key asked (reply.Value v) is fit full = refl
+took_effect key asked reply.None is fit full = refl
+took_effect key asked reply.Inserted is fit full = refl
+took_effect key asked (reply.Exists v) is fit full = refl
+took_effect key asked reply.Set is fit full = refl
+took_effect key asked (reply.Replaced v) is fit full = refl
+took_effect key asked (reply.Deleted v) is fit full = refl
+took_effect key asked reply.Absent is fit full = refl
+took_effect key asked reply.Swapped is fit full = refl
+took_effect key asked (reply.Differs v) is fit full = refl
+took_effect key asked (reply.Page items next) is fit full = refl
+
+module _ (key : List ℕ) where
+  told_last : (before : Value) (calls : Calls) (asked : Command) (given : Reply) → AreOwnReplies key before (calls ++ (asked, Some given) ∷ []) → IsTrue (tells key asked given) → reply_of asked (value_through key before calls) ≡ Some given
+  told_last before [] asked given are tell = are.0 tell
+  told_last before ((other, None) ∷ calls) asked given are tell = told_last before calls asked given are tell
+  told_last before ((other, Some said) ∷ calls) asked given are tell = told_last (value_then key before other said) calls asked given are.1 tell
+
+  pub last_replies : (before : Value) (calls : Calls) (asked : Command) (given : Reply) → AreOwnReplies key before (calls ++ (asked, Some given) ∷ []) → IsTrue (is_about key asked) → IsTrue (fits asked given) → given ≢ reply.Full
+      → reply_of asked (value_through key before calls) ≡ Some given
+  last_replies before calls asked given are is fit full = told_last before calls asked given are (and_both (is_about key asked) (has_point given) is (took_effect key asked given is fit full))
+
+  own_key : is_eq (key_cmp key key) ≡ true
+  own_key = ap is_eq (itself key)
+
+  written : (before : Value) (calls : Calls) (value : List ℕ) (given : Reply) → IsTrue (fits (Upsert key value) given) → given ≢ reply.Full → value_through key before (calls ++ (Upsert key value, Some given) ∷ []) ≡ Some value
+  written before calls value given fit full =
+      through_one key before calls (Upsert key value) given
+      ∙ ap (λ (b : Bool). if b then Some value else value_through key before calls) (and_both (is_eq (key_cmp key key)) (has_point given) own_key (took_effect key (Upsert key value) given own_key fit full))
+
+  not_full : (told : Reply) → IsTrue (fits (Get key) told) → told ≢ reply.Full
+  not_full told fit = λ full. let never : IsTrue (fits (Get key) reply.Full) = subst (λ (r : Reply). IsTrue (fits (Get key) r)) full fit in cc
+
+  -- what was set is read
+  pub read_back : (before : Value) (calls : Calls) (value : List ℕ) (given told : Reply) → AreOwnReplies key before (calls ++ (Upsert key value, Some given) ∷ (Get key, Some told) ∷ [])
+      → IsTrue (fits (Upsert key value) given) → IsTrue (fits (Get key) told) → given ≢ reply.Full → told ≡ reply.Value value
+  read_back before calls value given told are fit fit_told full =
+      let split : AreOwnReplies key before ((calls ++ (Upsert key value, Some given) ∷ []) ++ (Get key, Some told) ∷ []) =
+      subst (AreOwnReplies key before) (sym (append_assoc calls ((Upsert key value, Some given) ∷ []) ((Get key, Some told) ∷ []))) are in
+      let says : reply_of (Get key) (value_through key before (calls ++ (Upsert key value, Some given) ∷ [])) ≡ Some told = last_replies before (calls ++ (Upsert key value, Some given) ∷ []) (Get key) told split own_key fit_told (not_full told fit_told) in
+      let has : reply_of (Get key) (Some value) ≡ Some told = subst (λ (v : Value). reply_of (Get key) v ≡ Some told) (written before calls value given fit full) says in
+      told_so told value has
+    where
+      told_so : (told : Reply) (value : List ℕ) → reply_of (Get key) (Some value) ≡ Some told → told ≡ reply.Value value
+      told_so told value has = let is : reply.Value value ≡ told = cc in sym is
+
+-- two calls of a seat, one after the other
+pub seat_reads_back : (old mid new : Seat) (key value : List ℕ) (before : Value) (budget more : ℕ) (given told : Reply) → IsOneHistory new.limits new.seen → AreOwnReplies key before (calls_in new)
+    → IsDone old (Upsert key value) budget given mid → IsDone mid (Get key) more told new → given ≢ reply.Full → told ≡ reply.Value value
+seat_reads_back old mid new key value before budget more given told history are set got full =
+    read_back key before (calls_in old) value given told (subst (AreOwnReplies key before) calls are) (fits_at (length (calls_in old)) (Upsert key value) given first) (fits_at (length (calls_in mid)) (Get key) told second) full
+  where
+    calls : calls_in new ≡ calls_in old ++ (Upsert key value, Some given) ∷ (Get key, Some told) ∷ []
+    calls = got.calls ∙ ap (λ (cs : Calls). cs ++ (Get key, Some told) ∷ []) set.calls ∙ append_assoc (calls_in old) ((Upsert key value, Some given) ∷ []) ((Get key, Some told) ∷ [])
+
+    fits_at : (place : ℕ) (asked : Command) (said : Reply) → slice_get (calls_in new) place ≡ Some (asked, Some said) → IsTrue (fits asked said)
+    fits_at place asked said at = call_fits new.limits (map turn_of new.seen) new.seen history.linearized new.actor place asked said at
+
+    second : slice_get (calls_in new) (length (calls_in mid)) ≡ Some (Get key, Some told)
+    second = ap (λ (cs : Calls). slice_get cs (length (calls_in mid))) got.calls ∙ slice_get-push (calls_in mid) (Get key, Some told)
+
+    first : slice_get (calls_in new) (length (calls_in old)) ≡ Some (Upsert key value, Some given)
+    first =
+        let there : slice_get (calls_in mid) (length (calls_in old)) ≡ Some (Upsert key value, Some given) = ap (λ (cs : Calls). slice_get cs (length (calls_in old))) set.calls ∙ slice_get-push (calls_in old) (Upsert key value, Some given) in
+        ap (λ (cs : Calls). slice_get cs (length (calls_in old))) got.calls ∙ slice_get_kept (calls_in mid) ((Get key, Some told) ∷ []) (length (calls_in old)) (Upsert key value, Some given) there

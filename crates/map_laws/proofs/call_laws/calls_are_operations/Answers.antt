@@ -1,0 +1,10 @@
+use Rattle.std.proofs.Common.{[], refl}
+use Rattle.bw_tree.specs.Calls.{calls_of}
+use Rattle.map_laws.proofs.InOrder.{are_in_order, each_ended}
+use Rattle.map_laws.proofs.call_laws.calls_are_operations.Goals as goal
+
+pub returns : goal.returns
+returns c = record {
+  each = λ limits run actor place asked given is_run at. each_ended run actor 0 (calls_of actor run) place asked given (are_in_order limits [] run actor is_run refl) at;
+  order = are_in_order;
+}

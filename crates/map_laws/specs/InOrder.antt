@@ -1,0 +1,28 @@
+-- Calls as operations of a run, one after another.
+use Rattle.std.specs.Prelude.{◌≡◌, ◌≤◌, ℕ, suc, List, [], ◌∷◌, Option, Some, None, ⊤}
+use Rattle.bw_model.specs.declared.command.Command.{Command}
+use Rattle.bw_model.specs.declared.command.Reply.{Reply}
+use Rattle.traces.specs.declared.trace.Entry.{Entry}
+use Rattle.op_machine.specs.theorem.Operations.{Finishes, IsOperation, Operation}
+
+-- the actor's operation that begins at this place of the run
+abbrev pub operation_at : ℕ → ℕ → Command → Operation
+operation_at actor start command = record { start = start; actor = actor; command = command }
+
+-- The actor has begun an operation with the command, no earlier than at this place.
+pub record IsBegun (run : List Entry) (actor early : ℕ) (command : Command) : Type 0 where
+  pub start : ℕ
+  pub late : early ≤ start
+  pub is : IsOperation run (operation_at actor start command)
+
+-- And step `done` of the run has ended it, with the reply.
+pub record IsEnded (run : List Entry) (actor early : ℕ) (command : Command) (given : Reply) (done : ℕ) : Type 0 where
+  pub begun : IsBegun run actor early command
+  pub ends : Finishes run (operation_at actor begun.start command) done given
+
+-- The calls are operations of the actor in this order. Each begins after the one before it has ended with its reply, the first one no earlier
+-- than at this place; the last one may be unfinished, and has no reply then.
+abbrev pub AreInOrder : List Entry → ℕ → ℕ → List (Command × Option Reply) → Type 0
+AreInOrder run actor early [] = ⊤
+AreInOrder run actor early ((command, Some given) ∷ calls) = (done : ℕ) × IsEnded run actor early command given done × AreInOrder run actor (suc done) calls
+AreInOrder run actor early ((command, None) ∷ calls) = IsBegun run actor early command × (calls ≡ [])

@@ -1,0 +1,4 @@
+pub mod InOrder
+pub mod Fits
+pub mod OwnKeys
+pub mod Examples
