@@ -1,3 +1,6 @@
 mod Documents
 mod Escapes
+mod Heights
+mod LayoutExamples
+mod Layouts
 mod Shapes

@@ -1,8 +1,11 @@
 //! The box of a page.
-ghost use Rattle.std.specs.Prelude.{◌≡◌, ◌∷◌, ◌++◌, [], OnOk};
+ghost use Rattle.std.specs.Prelude.{◌≡◌, ◌≤◌, ◌+◌, ◌∷◌, ◌++◌, [], ℕ, OnOk};
+ghost use Rattle.tree_picture.specs.Layout.{AreLaidTo};
+ghost use Rattle.tree_picture.specs.Sizes.{page_height};
+ghost use Rattle.tree_picture.specs.declared.places.TheConstants.{PAGE_WIDTH};
 
 use crate::colour::Colour;
-use crate::places::{DELTA, HEAD, PAGE_WIDTH, ROW, page_height};
+use crate::places::{DELTA, HEAD, PAGE_WIDTH, ROW, page_height, record_height};
 use crate::shape::{Rectangle, Text};
 use crate::sheet::Sheet;
 use crate::words::Words;
@@ -55,7 +58,9 @@ pub(crate) fn page_box(
     x: u32,
     y: u32,
 ) -> Result<(), AllocError>
-    ensures { OnOk result (sheet.new ≡ sheet.old ++ page.now.pid ∷ []) }
+    ensures pids { OnOk result (sheet.new.pids ≡ sheet.old.pids ++ page.now.pid ∷ []) }
+    ensures laid { OnOk result ((width bottom next : ℕ) → AreLaidTo width bottom x y sheet.old.boxes → x + PAGE_WIDTH ≤ width → x + PAGE_WIDTH ≤ next
+        → y + page_height page.now ≤ bottom → AreLaidTo width bottom next y sheet.new.boxes) }
 {
     let frame = Rectangle {
         x,
@@ -114,7 +119,7 @@ fn record_box(sheet: &mut Sheet, record: &Record, x: u32, y: u32)
     ensures { sheet.new ≡ sheet.old }
 {
     match record {
-        Record::Base(page) => base_box(sheet, page, x, y),
+        Record::Base(page) => base_box(sheet, page, x, y, record_height(record)),
         _ => sheet.rectangle(Rectangle {
             x,
             y,
@@ -129,13 +134,10 @@ fn record_box(sheet: &mut Sheet, record: &Record, x: u32, y: u32)
 }
 
 /// A base, and its items.
-fn base_box(sheet: &mut Sheet, page: &Page, x: u32, y: u32)
+fn base_box(sheet: &mut Sheet, page: &Page, x: u32, y: u32, height: u32)
     ensures { sheet.new ≡ sheet.old }
 {
     let items = page.items().as_slice();
-    let height = crate::places::pixels(items.len())
-        .saturating_mul(ROW)
-        .saturating_add(24);
     sheet.rectangle(Rectangle {
         x,
         y,

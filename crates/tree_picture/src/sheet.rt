@@ -1,6 +1,7 @@
 //! Shapes while they are drawn.
-ghost use Rattle.std.specs.Prelude.{◌≡◌, ◌∷◌, ◌++◌, [], IfOk, OnOk};
+ghost use Rattle.std.specs.Prelude.{◌≡◌, [], IfOk, OnOk};
 ghost use Rattle.tree_picture.specs.Elements.{pids_of};
+ghost use Rattle.tree_picture.specs.Layout.{boxes_of, with_page};
 
 use crate::colour::Colour;
 use crate::shape::{Line, Rectangle, Shape, Text};
@@ -24,18 +25,18 @@ pub(crate) struct Sheet {
 }
 
 impl Model for Sheet {
-    ghost use Rattle.std.specs.Prelude.{List, ℕ};
     ghost use Rattle.tree_picture.specs.Elements.{pids_of};
+    ghost use Rattle.tree_picture.specs.Layout.{Pages, boxes_of};
 
-    ghost Value = { List ℕ };
+    ghost Value = { Pages };
 
-    ghost view = { λ s. pids_of s.shapes.items };
+    ghost view = { λ s. record { pids = pids_of s.shapes.items; boxes = boxes_of s.shapes.items } };
 }
 
 impl Sheet {
     /// No shapes.
     pub(crate) fn new(alloc: Global) -> Sheet
-        ensures { result ≡ [] }
+        ensures { result ≡ record { pids = []; boxes = [] } }
     {
         Sheet {
             shapes: Vec::new(alloc),
@@ -46,7 +47,7 @@ impl Sheet {
     /// The box of a page.
     #[tactic(auto, using(crate::proofs::Shapes::page_more))]
     pub(crate) fn page(&mut self, pid: u16, rectangle: Rectangle) -> Result<(), AllocError>
-        ensures { OnOk result (self.new ≡ self.old ++ pid ∷ []) }
+        ensures { OnOk result (self.new ≡ with_page self.old pid rectangle) }
     {
         self.shapes.push(Shape::Page(pid, rectangle))?;
         Ok(())
@@ -101,7 +102,8 @@ impl Sheet {
 
     /// The picture, if there was room for all its shapes.
     pub(crate) fn finish(self, width: u32, height: u32) -> Result<Picture, AllocError>
-        ensures { IfOk result (λ picture. pids_of picture.shapes.items ≡ self) }
+        ensures shapes { IfOk result (λ picture. record { pids = pids_of picture.shapes.items; boxes = boxes_of picture.shapes.items } ≡ self) }
+        ensures size { IfOk result (λ picture. (picture.width ≡ width) × (picture.height ≡ height)) }
     {
         if self.is_full {
             return Err(AllocError);
