@@ -1,14 +1,13 @@
 -- How high levels are.
-use Rattle.std.proofs.Common.{◌≡◌, ◌≤◌, ◌<◌, ◌+◌, ◌-◌, ℕ, zero, suc, List, [], ◌∷◌, ◌++◌, arith, length, take, add-one, ap, subst, sym, ◌∙◌}
+use Rattle.std.proofs.Common.{◌≡◌, ◌≤◌, ◌<◌, ◌+◌, ◌-◌, ℕ, zero, suc, List, [], ◌∷◌, ◌++◌, arith, length, take, add-one, ap, append_assoc, map, subst, sym, ◌∙◌}
 use Rattle.std.specs.Prelude.{slice_index_or}
-use Rattle.std.specs.List.{All}
+use Rattle.std.specs.List.{All, flat_map}
 use Rattle.std.proofs.lemmas.Grind.{flat_map-append}
 use Rattle.std.proofs.lemmas.List.{append-nil, map-append}
 use Rattle.std.proofs.lemmas.List.Elements.{All-push}
 use Rattle.std.proofs.lemmas.List.Sums.{sum_by_more, sum_by_more_le}
 use Rattle.std.proofs.Math.Seq.{take-suc}
 use Rattle.traces.specs.chain.SideChain.{LivePage}
-use Rattle.tree_picture.specs.Pids.{all_pids, level_pids}
 use Rattle.tree_picture.specs.Sizes.{level_height, levels_height, page_height, with_drop}
 
 -- one element more
@@ -37,12 +36,15 @@ page_in_level (page ∷ pages) (suc i) d there =
 pub all_next : {X : Type 0} (P : X → Type 0) (xs : List X) (i : ℕ) (x : X) → i < length xs → x ≡ slice_index_or xs i x → All P (take i xs) → P x → All P (take (i + 1) xs)
 all_next P xs i x there is all one = subst (All P) (sym (take_next xs i x there is)) (All-push P (take i xs) x all one)
 
-pub pids_next : (pages : List LivePage) (i : ℕ) (page : LivePage) → i < length pages → page ≡ slice_index_or pages i page → level_pids (take (i + 1) pages) ≡ level_pids (take i pages) ++ page.pid ∷ []
-pids_next pages i page there is = ap level_pids (take_next pages i page there is) ∙ map-append (λ (page : LivePage). page.pid) (take i pages) (page ∷ [])
+pub map_next : {X Y : Type 0} (f : X → Y) (xs : List X) (i : ℕ) (x : X) → i < length xs → x ≡ slice_index_or xs i x → map f (take (i + 1) xs) ≡ map f (take i xs) ++ f x ∷ []
+map_next f xs i x there is = ap (map f) (take_next xs i x there is) ∙ map-append f (take i xs) (x ∷ [])
 
-pub all_pids_next : (levels : List (List LivePage)) (i : ℕ) (level : List LivePage) → i < length levels → level ≡ slice_index_or levels i level → all_pids (take (i + 1) levels) ≡ all_pids (take i levels) ++ level_pids level
-all_pids_next levels i level there is =
-    ap all_pids (take_next levels i level there is) ∙ flat_map-append level_pids (take i levels) (level ∷ []) ∙ ap (λ pids. all_pids (take i levels) ++ pids) (append-nil (level_pids level))
+pub flat_next : {X Y : Type 0} (f : X → List Y) (xs : List X) (i : ℕ) (x : X) → i < length xs → x ≡ slice_index_or xs i x → flat_map f (take (i + 1) xs) ≡ flat_map f (take i xs) ++ f x
+flat_next {X} {Y} f xs i x there is = ap (flat_map f) (take_next xs i x there is) ∙ flat_map-append f (take i xs) (x ∷ []) ∙ ap (λ (ys : List Y). flat_map f (take i xs) ++ ys) (append-nil (f x))
+
+-- what was told so far, and of one element more
+pub told_next : {Y : Type 0} (start so_far more all own : List Y) → so_far ≡ start ++ more → all ≡ more ++ own → so_far ++ own ≡ start ++ all
+told_next {Y} start so_far more all own before next = ap (λ (ys : List Y). ys ++ own) before ∙ append_assoc start more own ∙ ap (λ (ys : List Y). start ++ ys) (sym next)
 
 pub levels_next : (levels : List (List LivePage)) (i : ℕ) (level : List LivePage) → i < length levels → level ≡ slice_index_or levels i level → levels_height (take (i + 1) levels) ≡ levels_height (take i levels) + with_drop level
 levels_next levels i level there is = sum_by_more with_drop levels i level there ∙ ap (λ l. levels_height (take i levels) + with_drop l) (sym is)

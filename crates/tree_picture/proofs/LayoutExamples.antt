@@ -1,11 +1,14 @@
 -- Boxes and heights, worked out.
-use Rattle.std.proofs.Common.{◌≡◌, ℕ, [], ◌∷◌, arith, inl, inr, refl}
+use Rattle.std.proofs.Common.{◌≡◌, ℕ, [], ◌∷◌, arith, codes, inl, inr, refl}
 use Rattle.traces.specs.chain.Examples.{leaf_chain, put_leaf, split_leaf}
 use Rattle.traces.specs.chain.SideChain.{LivePage}
 use Rattle.tree_picture.specs.declared.colour.Colour.TheVariants.{Ink, Paper}
+use Rattle.tree_picture.specs.declared.shape.Mark.TheVariants.{Held}
+use Rattle.tree_picture.specs.declared.shape.PageBox.{PageBox}
 use Rattle.tree_picture.specs.declared.shape.Rectangle.{Rectangle}
 use Rattle.tree_picture.specs.declared.shape.Shape.TheVariants.{Page, Box}
-use Rattle.tree_picture.specs.Layout.{IsBefore, IsWithin, boxes_of}
+use Rattle.tree_picture.specs.Layout.{IsBefore, IsWithin}
+use Rattle.tree_picture.specs.Pages.{boxes_of}
 use Rattle.tree_picture.specs.Sizes.{level_height, levels_height, page_height}
 
 abbrev box : ℕ → ℕ → ℕ → ℕ → Rectangle
@@ -21,7 +24,10 @@ right = box 306 118 236 78
 abbrev under : Rectangle
 under = box 168 301 236 78
 
-boxes_are : boxes_of (Box (box 0 0 1000 440) ∷ Page 7 left ∷ Box right ∷ Page 3 under ∷ []) ≡ left ∷ under ∷ []
+abbrev page : ℕ → Rectangle → PageBox
+page pid r = record { pid = pid; rectangle = r; mark = Held; range = codes "from a to b" }
+
+boxes_are : boxes_of (Box (box 0 0 1000 440) ∷ Page (page 7 left) ∷ Box right ∷ Page (page 3 under) ∷ []) ≡ left ∷ under ∷ []
 boxes_are = refl
 
 beside : IsBefore left right
@@ -46,12 +52,12 @@ not_back (inr under) = omega (arith, under)
 inside : IsWithin 542 217 left
 inside = record { wide = omega arith; high = omega arith; right = omega arith; bottom = omega arith }
 
--- the sheet is a pixel too narrow, or the box is empty
+-- the sheet is a pixel too narrow, or the mark begins where the box ends
 not_narrow : IsWithin 265 217 left → ⊥
 not_narrow within = let right = within.right in omega (arith, right)
 
-not_empty : IsWithin 542 217 (box 30 118 0 99) → ⊥
-not_empty within = let wide = within.wide in omega (arith, wide)
+not_without_room : IsWithin 542 217 (box 30 118 166 99) → ⊥
+not_without_room within = let wide = within.wide in omega (arith, wide)
 
 -- an empty base under a put; one with two items under a split, and under five deltas
 abbrev small : LivePage

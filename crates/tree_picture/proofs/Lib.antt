@@ -3,4 +3,5 @@ mod Escapes
 mod Heights
 mod LayoutExamples
 mod Layouts
+mod Ranges
 mod Shapes

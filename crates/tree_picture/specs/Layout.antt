@@ -1,21 +1,12 @@
 -- Where the boxes of pages lie on a sheet.
-use Rattle.std.specs.Prelude.{◌≡◌, ◌≤◌, ◌<◌, ◌+◌, ◌⊎◌, ℕ, List, [], ◌∷◌, ◌++◌, All, AllPairs}
+use Rattle.std.specs.Prelude.{◌≡◌, ◌≤◌, ◌<◌, ◌+◌, ◌⊎◌, ℕ, List, All, AllPairs}
 use Rattle.tree_picture.specs.declared.shape.Rectangle.{Rectangle}
-use Rattle.tree_picture.specs.declared.shape.Shape.{Shape}
-use Rattle.tree_picture.specs.declared.shape.Shape.TheVariants.{Page, Box, Line, Text}
+use Rattle.tree_picture.specs.declared.shape.TheConstants.{MARK_INSET, RANGE_DROP}
 
--- the boxes of the pages among the shapes, in their order
-abbrev pub boxes_of : List Shape → List Rectangle
-boxes_of [] = []
-boxes_of (Page pid r ∷ shapes) = r ∷ boxes_of shapes
-boxes_of (Box r ∷ shapes) = boxes_of shapes
-boxes_of (Line line ∷ shapes) = boxes_of shapes
-boxes_of (Text text ∷ shapes) = boxes_of shapes
-
--- The rectangle isn't empty, and nothing of it is outside of a sheet of this width and height.
+-- The places where a page's texts begin are in the rectangle, and nothing of it is outside of a sheet of this width and height.
 pub record IsWithin (width height : ℕ) (r : Rectangle) : Type 0 where
-  pub wide : 0 < r.width
-  pub high : 0 < r.height
+  pub wide : MARK_INSET < r.width
+  pub high : RANGE_DROP < r.height
   pub right : r.x + r.width ≤ width
   pub bottom : r.y + r.height ≤ height
 
@@ -27,14 +18,6 @@ IsBefore one other = ((one.y ≡ other.y) × (one.x + one.width ≤ other.x)) �
 pub record AreLaidOut (width height : ℕ) (boxes : List Rectangle) : Type 0 where
   pub within : All (IsWithin width height) boxes
   pub ordered : AllPairs IsBefore boxes
-
--- the pages that were drawn: their PIDs and their boxes, in order
-pub record Pages : Type 0 where
-  pub pids : List ℕ
-  pub boxes : List Rectangle
-
-abbrev pub with_page : Pages → ℕ → Rectangle → Pages
-with_page pages pid r = record { pids = pages.pids ++ pid ∷ []; boxes = pages.boxes ++ r ∷ [] }
 
 -- The rectangle stands before every one whose corner is at this place.
 abbrev pub IsPast : ℕ → ℕ → Rectangle → Type 0

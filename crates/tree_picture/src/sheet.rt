@@ -1,10 +1,9 @@
 //! Shapes while they are drawn.
 ghost use Rattle.std.specs.Prelude.{◌≡◌, [], IfOk, OnOk};
-ghost use Rattle.tree_picture.specs.Elements.{pids_of};
-ghost use Rattle.tree_picture.specs.Layout.{boxes_of, with_page};
+ghost use Rattle.tree_picture.specs.Pages.{pages_in, with_page};
 
 use crate::colour::Colour;
-use crate::shape::{Line, Rectangle, Shape, Text};
+use crate::shape::{Line, PageBox, Rectangle, Shape, Text};
 use crate::words::Words;
 use std::alloc::{AllocError, Global};
 use std::marker::Model;
@@ -25,18 +24,17 @@ pub(crate) struct Sheet {
 }
 
 impl Model for Sheet {
-    ghost use Rattle.tree_picture.specs.Elements.{pids_of};
-    ghost use Rattle.tree_picture.specs.Layout.{Pages, boxes_of};
+    ghost use Rattle.tree_picture.specs.Pages.{Pages, pages_in};
 
     ghost Value = { Pages };
 
-    ghost view = { λ s. record { pids = pids_of s.shapes.items; boxes = boxes_of s.shapes.items } };
+    ghost view = { λ s. pages_in s.shapes.items };
 }
 
 impl Sheet {
     /// No shapes.
     pub(crate) fn new(alloc: Global) -> Sheet
-        ensures { result ≡ record { pids = []; boxes = [] } }
+        ensures { result ≡ pages_in [] }
     {
         Sheet {
             shapes: Vec::new(alloc),
@@ -46,10 +44,10 @@ impl Sheet {
 
     /// The box of a page.
     #[tactic(auto, using(crate::proofs::Shapes::page_more))]
-    pub(crate) fn page(&mut self, pid: u16, rectangle: Rectangle) -> Result<(), AllocError>
-        ensures { OnOk result (self.new ≡ with_page self.old pid rectangle) }
+    pub(crate) fn page(&mut self, page: PageBox) -> Result<(), AllocError>
+        ensures { OnOk result (self.new ≡ with_page self.old page) }
     {
-        self.shapes.push(Shape::Page(pid, rectangle))?;
+        self.shapes.push(Shape::Page(page))?;
         Ok(())
     }
 
@@ -102,7 +100,7 @@ impl Sheet {
 
     /// The picture, if there was room for all its shapes.
     pub(crate) fn finish(self, width: u32, height: u32) -> Result<Picture, AllocError>
-        ensures shapes { IfOk result (λ picture. record { pids = pids_of picture.shapes.items; boxes = boxes_of picture.shapes.items } ≡ self) }
+        ensures shapes { IfOk result (λ picture. pages_in picture.shapes.items ≡ self) }
         ensures size { IfOk result (λ picture. (picture.width ≡ width) × (picture.height ≡ height)) }
     {
         if self.is_full {

@@ -1,8 +1,9 @@
 //! The whole picture.
 ghost use Rattle.std.specs.Prelude.{◌≡◌, IfOk};
-ghost use Rattle.tree_picture.specs.Elements.{pids_of};
-ghost use Rattle.tree_picture.specs.Layout.{AreLaidOut, boxes_of};
+ghost use Rattle.tree_picture.specs.Layout.{AreLaidOut};
+ghost use Rattle.tree_picture.specs.Pages.{boxes_of, pids_of, ranges_of};
 ghost use Rattle.tree_picture.specs.Pids.{all_pids};
+ghost use Rattle.tree_picture.specs.Ranges.{all_ranges};
 
 use crate::colour::Colour;
 use crate::doings::actor_lines;
@@ -19,6 +20,7 @@ use step_core::Core;
 /// to right. Refused for want of memory alone.
 pub fn picture(alloc: Global, scene: &Scene, core: &Core) -> Result<Picture, AllocError>
     ensures pages { IfOk result (λ picture. pids_of picture.shapes.items ≡ all_pids scene.now.levels) }
+    ensures ranges { IfOk result (λ picture. ranges_of picture.shapes.items ≡ all_ranges scene.now.levels) }
     ensures laid { IfOk result (λ picture. AreLaidOut picture.width picture.height (boxes_of picture.shapes.items)) }
 {
     let levels = scene.levels();

@@ -1,7 +1,8 @@
-use Rattle.std.proofs.Common.{◌≡◌, ◌≤◌, ◌+◌, ◌*◌, [], ◌∷◌, ◌++◌, ap, append_assoc, arith, length, subst, sym, take, ◌∙◌}
+use Rattle.std.proofs.Common.{◌≡◌, ◌≤◌, ◌+◌, ◌*◌, [], ◌∷◌, ap, arith, length, subst, sym, ◌∙◌}
 use Rattle.tree_picture.specs.Layout.{AreLaidTo}
+use Rattle.tree_picture.specs.Ranges.{page_range}
 use Rattle.tree_picture.specs.Sizes.{level_height, page_height}
-use Rattle.tree_picture.proofs.Heights.{page_in_level, pids_next}
+use Rattle.tree_picture.proofs.Heights.{map_next, page_in_level, told_next}
 use Rattle.tree_picture.proofs.levels.level_row.Goals.{then-is_some, else-is_some}
 use Rattle.tree_picture.proofs.levels.level_row.Goals as goal
 
@@ -9,7 +10,6 @@ pub loop-page-preserved : goal.loop-page-preserved
 loop-page-preserved c =
     let pages = c.pages-page-items.result.now in
     let page = c.page-item.result in
-    let start = c.args.sheet.now.pids in
     let at = c.loop-page.invariant.at in
     let long = ap length c.pages-page-items.ensures.pages in
     let there = c.loop-page-test.true in
@@ -20,8 +20,8 @@ loop-page-preserved c =
     let high : page_height page ≤ level_height c.args.level.now =
     subst (λ ps. page_height page ≤ level_height ps) c.pages-page-items.ensures.pages (subst (λ p. page_height p ≤ level_height pages) (sym c.page-item.is) (page_in_level pages c.loop-page.page-index page there)) in
     record {
-      pids = ap (λ sheet. sheet.pids) same ∙ c.in_ok-page_box.ensures.pids ∙ ap (λ pids. pids ++ page.pid ∷ []) c.loop-page.invariant.pids ∙ append_assoc start _ (page.pid ∷ [])
-          ∙ ap (λ pids. start ++ pids) (sym (pids_next pages c.loop-page.page-index page there c.page-item.is));
+      pids = ap (λ sheet. sheet.pids) same ∙ c.in_ok-page_box.ensures.pids ∙ told_next _ _ _ _ (page.pid ∷ []) c.loop-page.invariant.pids (map_next (λ page. page.pid) pages c.loop-page.page-index page there c.page-item.is);
+      ranges = ap (λ sheet. sheet.ranges) same ∙ c.in_ok-page_box.ensures.ranges ∙ told_next _ _ _ _ (page_range page ∷ []) c.loop-page.invariant.ranges (map_next page_range pages c.loop-page.page-index page there c.page-item.is);
       at = omega (arith, at);
       laid = λ width fits to. subst (λ sheet. AreLaidTo width (c.args.y + level_height c.args.level.now) (c.loop-page.x + 276) c.args.y sheet.boxes) (sym same)
           (c.in_ok-page_box.ensures.laid width (c.args.y + level_height c.args.level.now) (c.loop-page.x + 276) (c.loop-page.invariant.laid width fits to)
