@@ -1,14 +1,24 @@
 //! Shapes as elements of a document.
-ghost use Rattle.std.specs.Prelude.{◌≡◌, ◌++◌, ◌∷◌, [], codes, decimal};
+ghost use Rattle.std.specs.Prelude.{◌≡◌, ◌+◌, ◌++◌, ◌∷◌, [], codes, decimal};
 ghost use Rattle.std.specs.List.{flat_map};
 ghost use Rattle.byte_streams.specs.Output.{Prints};
 ghost use Rattle.tree_picture.specs.Colours.{colour_text};
 ghost use Rattle.tree_picture.specs.Document.{attribute_text, close_text, element_text, escaped, escaped_byte, open_text};
-ghost use Rattle.tree_picture.specs.Elements.{attribute, dashes, document_attributes, document_text, element_of, line_element, number, weight, rectangle_attributes, rectangle_element, text_element};
+ghost use Rattle.tree_picture.specs.Elements.{attribute, dashes, document_attributes, document_text, elements_of, line_element, mark_in, name_in, number, range_in, weight, rectangle_attributes, rectangle_element, text_element};
 
 use byte_streams::Output;
 use itoa::Buffer;
-use tree_picture::{Colour, Line, Rectangle, Shape, Text};
+use tree_picture::{
+    Colour, INSET, Line, MARK_INSET, NAME_DROP, PageBox, RANGE_DROP, Rectangle, Shape, Text, Words,
+};
+
+/// How a text looks.
+#[derive(Clone, Copy)]
+struct TextStyle {
+    size: u8,
+    bold: bool,
+    colour: Colour,
+}
 
 /// What stands for a byte.
 fn show_byte<O: Output>(out: &mut O, byte: &u8)
@@ -95,8 +105,8 @@ fn show_page_name<O: Output>(out: &mut O, pid: u16)
     out.show(b"\"");
 }
 
-fn show_page<O: Output>(out: &mut O, pid: &u16, rectangle: &Rectangle)
-    ensures { Prints (O.state out.old) (O.state out.new) (element_text (element_of (Shape.Page pid.now rectangle.now))) }
+fn show_page_box<O: Output>(out: &mut O, pid: &u16, rectangle: &Rectangle)
+    ensures { Prints (O.state out.old) (O.state out.new) (element_text (rectangle_element (attribute (codes "id") (codes "page-" ++ decimal pid.now) ∷ []) rectangle.now)) }
 {
     out.show(b"<rect");
     show_page_name(out, *pid);
@@ -142,15 +152,28 @@ fn show_line<O: Output>(out: &mut O, line: &Line)
     out.show(b"</line>\n");
 }
 
+/// How a text looks, as attributes.
+fn show_style<O: Output>(out: &mut O, style: TextStyle)
+    ensures { Prints (O.state out.old) (O.state out.new) (flat_map attribute_text (number (codes "font-size") style.size
+        ∷ attribute (codes "font-weight") (weight style.bold) ∷ attribute (codes "fill") (colour_text style.colour) ∷ [])) }
+{
+    show_number_attribute(out, b"font-size", u32::from(style.size));
+    show_attribute(out, b"font-weight", weight_of(style.bold));
+    show_colour(out, b"fill", style.colour);
+}
+
 /// The attributes of a text.
 fn show_text_attributes<O: Output>(out: &mut O, text: &Text)
     ensures { Prints (O.state out.old) (O.state out.new) (flat_map attribute_text (text_element text.now).attributes) }
 {
     show_number_attribute(out, b"x", text.x);
     show_number_attribute(out, b"y", text.y);
-    show_number_attribute(out, b"font-size", u32::from(text.size));
-    show_attribute(out, b"font-weight", weight_of(text.bold));
-    show_colour(out, b"fill", text.colour);
+    let style = TextStyle {
+        size: text.size,
+        bold: text.bold,
+        colour: text.colour,
+    };
+    show_style(out, style);
 }
 
 fn weight_of(bold: bool) -> &'static [u8]
@@ -169,11 +192,88 @@ fn show_text<O: Output>(out: &mut O, text: &Text)
     out.show(b"</text>\n");
 }
 
+/// An attribute with a place: so far from a corner.
+fn show_place<O: Output>(out: &mut O, name: &[u8], corner: u32, inset: u32)
+    ensures { Prints (O.state out.old) (O.state out.new) (attribute_text (number name.now (corner + inset))) }
+{
+    let mut buffer = Buffer::new();
+    let place = u64::from(corner) + u64::from(inset);
+    show_attribute(out, name, buffer.format(place).as_bytes());
+}
+
+/// A text so far to the right of a corner, and so far under it.
+fn show_label<O: Output>(
+    out: &mut O,
+    corner: &Rectangle,
+    inset: u32,
+    drop: u32,
+    style: TextStyle,
+    words: &[u8],
+)
+    ensures { Prints (O.state out.old) (O.state out.new) (element_text (text_element (record {
+      x = corner.now.x + inset;
+      y = corner.now.y + drop;
+      size = style.size;
+      bold = style.bold;
+      colour = style.colour;
+      words = words.now;
+    }))) }
+{
+    out.show(b"<text");
+    show_place(out, b"x", corner.x, inset);
+    show_place(out, b"y", corner.y, drop);
+    show_style(out, style);
+    out.show(b">");
+    show_escaped(out, words);
+    out.show(b"</text>\n");
+}
+
+/// The name of a page.
+fn page_name(pid: u16) -> Words
+    ensures { result ≡ codes "PID " ++ decimal pid }
+{
+    let mut words = Words::new();
+    words.add(b"PID ");
+    let mut buffer = Buffer::new();
+    words.add(buffer.format(pid).as_bytes());
+    words
+}
+
+/// How a text of this size, weight and colour looks.
+fn style(size: u8, bold: bool, colour: Colour) -> TextStyle
+    ensures { result ≡ record { size = size; bold = bold; colour = colour } }
+{
+    TextStyle { size, bold, colour }
+}
+
+/// The texts in a page's box.
+fn show_page_texts<O: Output>(out: &mut O, page: &PageBox)
+    ensures { Prints (O.state out.old) (O.state out.new) (flat_map element_text (text_element (name_in page.now) ∷ text_element (mark_in page.now) ∷ text_element (range_in page.now) ∷ [])) }
+{
+    let corner = &page.rectangle;
+    let name = page_name(page.pid);
+    let bold = style(14, true, Colour::Ink);
+    show_label(out, corner, INSET, NAME_DROP, bold, name.as_slice());
+    let warning = style(13, true, Colour::Missing);
+    let word = page.mark.word();
+    show_label(out, corner, MARK_INSET, NAME_DROP, warning, word);
+    let plain = style(11, false, Colour::Ink);
+    show_label(out, corner, INSET, RANGE_DROP, plain, page.range.as_slice());
+}
+
+/// A page's box, and the texts in it.
+fn show_page<O: Output>(out: &mut O, page: &PageBox)
+    ensures { Prints (O.state out.old) (O.state out.new) (flat_map element_text (elements_of (Shape.Page page.now))) }
+{
+    show_page_box(out, &page.pid, &page.rectangle);
+    show_page_texts(out, page);
+}
+
 fn show_shape<O: Output>(out: &mut O, shape: &Shape)
-    ensures { Prints (O.state out.old) (O.state out.new) (element_text (element_of shape.now)) }
+    ensures { Prints (O.state out.old) (O.state out.new) (flat_map element_text (elements_of shape.now)) }
 {
     match shape {
-        Shape::Page(pid, rectangle) => show_page(out, pid, rectangle),
+        Shape::Page(page) => show_page(out, page),
         Shape::Box(rectangle) => show_box(out, rectangle),
         Shape::Line(line) => show_line(out, line),
         Shape::Text(text) => show_text(out, text),
@@ -181,7 +281,7 @@ fn show_shape<O: Output>(out: &mut O, shape: &Shape)
 }
 
 fn show_shapes<O: Output>(out: &mut O, shapes: &[Shape])
-    ensures { Prints (O.state out.old) (O.state out.new) (flat_map (λ shape. element_text (element_of shape)) shapes.now) }
+    ensures { Prints (O.state out.old) (O.state out.new) (flat_map element_text (flat_map elements_of shapes.now)) }
 {
     for shape in shapes {
         show_shape(out, shape);

@@ -17,7 +17,7 @@ use tree_picture::{Picture, documents_are_well_formed, picture};
 
 /// What stands in a core, as a picture; refused for want of memory alone.
 fn picture_of(alloc: Global, core: &Core) -> Result<Picture, AllocError>
-    ensures { IfOk result (λ picture. IsShown (seen core.now) picture.shapes.items) }
+    ensures { IfOk result (λ picture. IsShown (seen core.now) picture.width picture.height picture.shapes.items) }
 {
     let scene = Scene::of(alloc, core.limits(), core.memory())?;
     picture(alloc, &scene, core)

@@ -1,5 +1,5 @@
 //! One level as it stands.
-ghost use Rattle.std.specs.Prelude.{◌≡◌, ℕ, IfOk};
+ghost use Rattle.std.specs.Prelude.{◌≡◌, ◌≤◌, ℕ, length, IfOk};
 ghost use Rattle.core_memory.specs.Tables.{memory_in};
 ghost use Rattle.scene.specs.Levels.{first_child};
 ghost use Rattle.tree_law.specs.LevelPages.{HasPagesOn};
@@ -17,18 +17,21 @@ pub struct Level<A: Allocator = Global> {
 }
 
 impl<A: Allocator> Model for Level<A> {
-    ghost use Rattle.std.specs.Prelude.{List};
+    ghost use Rattle.std.specs.Prelude.{◌≤◌, length, List};
     ghost use Rattle.traces.specs.chain.SideChain.{LivePage};
 
     ghost Value = { List LivePage };
 
     ghost view = { λ l. l.pages.items };
+
+    ghost invariant = { λ l. length l.pages.items ≤ 4096 };
 }
 
 impl<A: Allocator> Level<A> {
     /// The pages.
     pub fn pages(&self) -> &[ScenePage<A>]
-        ensures { result.now ≡ self.now }
+        ensures pages { result.now ≡ self.now }
+        ensures few { length result.now ≤ 4096 }
     {
         self.pages.as_slice()
     }

@@ -2,7 +2,7 @@
 ghost use Rattle.std.specs.Prelude.{◌≡◌, ◌<◌, List, IfOk};
 ghost use Rattle.deltas.specs.declared.record.Record.{Record as RecordSeen};
 ghost use Rattle.traces.specs.chain.Chains.{right_in};
-ghost use Rattle.traces.specs.chain.Fitted.{Makes};
+ghost use Rattle.traces.specs.chain.Fitted.{IsPageChain, Makes};
 ghost use Rattle.core_memory.specs.Tables.{memory_in};
 ghost use Rattle.listing.specs.Listed.{StandsAt};
 ghost use Rattle.scene.specs.Levels.{low_child};
@@ -32,14 +32,14 @@ impl<A: Allocator> Drop for ScenePage<A> {
 }
 
 impl<A: Allocator> Model for ScenePage<A> {
-    ghost use Rattle.traces.specs.chain.Fitted.{Makes};
+    ghost use Rattle.traces.specs.chain.Fitted.{IsPageChain, Makes};
     ghost use Rattle.traces.specs.chain.SideChain.{LivePage};
 
     ghost Value = { LivePage };
 
     ghost view = { λ p. record { pid = p.pid; chain = p.records.items } };
 
-    ghost invariant = { λ p. Makes p.records.items p.page };
+    ghost invariant = { λ p. Makes p.records.items p.page × IsPageChain p.records.items };
 }
 
 impl<A: Allocator> ScenePage<A> {
@@ -52,7 +52,8 @@ impl<A: Allocator> ScenePage<A> {
 
     /// The records of its chain, the newest first, the base last.
     pub fn records(&self) -> &[Record]
-        ensures { result.now ≡ self.now.chain }
+        ensures chain { result.now ≡ self.now.chain }
+        ensures fits { IsPageChain result.now }
     {
         self.records.as_slice()
     }

@@ -1,5 +1,5 @@
 //! A whole tree as it stands.
-ghost use Rattle.std.specs.Prelude.{◌≡◌, IfOk};
+ghost use Rattle.std.specs.Prelude.{◌≡◌, ◌≤◌, length, IfOk};
 ghost use Rattle.core_memory.specs.Tables.{memory_in};
 ghost use Rattle.scene.specs.Levels.{AreLevels};
 ghost use Rattle.scene.specs.Scenes.{IsSceneOf};
@@ -26,11 +26,14 @@ pub struct Scene<A: Allocator = Global> {
 }
 
 impl<A: Allocator> Model for Scene<A> {
+    ghost use Rattle.std.specs.Prelude.{◌≤◌, length};
     ghost use Rattle.scene.specs.Scenes.{Scene};
 
     ghost Value = { Scene };
 
     ghost view = { λ s. record { root = s.root; levels = s.levels.items; free_pids = s.free_pids; free_rows = s.free_rows; epoch = s.epoch } };
+
+    ghost invariant = { λ s. length s.levels.items ≤ 16 };
 }
 
 impl<A: Allocator + Copy> Scene<A> {
@@ -65,7 +68,8 @@ impl<A: Allocator> Scene<A> {
 
     /// The levels, the root's first.
     pub fn levels(&self) -> &[Level<A>]
-        ensures { result.now ≡ self.now.levels }
+        ensures levels { result.now ≡ self.now.levels }
+        ensures few { length result.now ≤ 16 }
     {
         self.levels.as_slice()
     }
@@ -99,7 +103,8 @@ fn levels_of<A: Allocator, B: Allocator + Copy>(
     table: &CoreTable<A>,
 ) -> Result<Vec<Level<B>, B>, AllocError>
     requires { HasAllLevels limits.now (memory_in table.now) }
-    ensures { IfOk result (λ levels. AreLevels (memory_in table.now) levels.items) }
+    ensures are { IfOk result (λ levels. AreLevels (memory_in table.now) levels.items) }
+    ensures few { IfOk result (λ levels. length levels.items ≤ 16) }
 {
     let mut levels = Vec::new(alloc);
     let mut pid = table.slot(0);

@@ -1,3 +1,7 @@
 mod Documents
 mod Escapes
+mod Heights
+mod LayoutExamples
+mod Layouts
+mod Ranges
 mod Shapes

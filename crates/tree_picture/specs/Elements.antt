@@ -1,7 +1,12 @@
 -- Each shape as an element of an SVG document, and a list of shapes as a document.
-use Rattle.std.specs.Prelude.{ℕ, List, [], ◌∷◌, ◌++◌, Bool, true, false, codes, decimal, map}
+use Rattle.std.specs.Prelude.{ℕ, List, [], ◌∷◌, ◌+◌, ◌++◌, Bool, true, false, codes, decimal}
 use Rattle.std.specs.List.{flat_map}
+use Rattle.tree_picture.specs.declared.colour.Colour.TheVariants.{Ink, Missing}
+use Rattle.tree_picture.specs.declared.shape.TheConstants.{INSET, MARK_INSET, NAME_DROP, RANGE_DROP}
 use Rattle.tree_picture.specs.declared.shape.Line.{Line as LineOf}
+use Rattle.tree_picture.specs.declared.shape.Mark.{Mark}
+use Rattle.tree_picture.specs.declared.shape.Mark.TheVariants.{Termed, Termless, Held, Removed}
+use Rattle.tree_picture.specs.declared.shape.PageBox.{PageBox}
 use Rattle.tree_picture.specs.declared.shape.Rectangle.{Rectangle}
 use Rattle.tree_picture.specs.declared.shape.Shape.{Shape}
 use Rattle.tree_picture.specs.declared.shape.Shape.TheVariants.{Page, Box, Line, Text}
@@ -49,12 +54,33 @@ text_element text = record {
   content = text.words;
 }
 
+-- the word for how a page stands to the level above it
+abbrev pub mark_text : Mark → List ℕ
+mark_text Termed = []
+mark_text Termless = codes "no term"
+mark_text Held = codes "held"
+mark_text Removed = codes "removed"
+
+-- the texts in a page's box
+abbrev pub name_in : PageBox → TextOf
+name_in page = record { x = page.rectangle.x + INSET; y = page.rectangle.y + NAME_DROP; size = 14; bold = true; colour = Ink; words = codes "PID " ++ decimal page.pid }
+
+abbrev pub mark_in : PageBox → TextOf
+mark_in page = record { x = page.rectangle.x + MARK_INSET; y = page.rectangle.y + NAME_DROP; size = 13; bold = true; colour = Missing; words = mark_text page.mark }
+
+abbrev pub range_in : PageBox → TextOf
+range_in page = record { x = page.rectangle.x + INSET; y = page.rectangle.y + RANGE_DROP; size = 11; bold = false; colour = Ink; words = page.range }
+
 -- a page's box has the page's PID for an identifier
-abbrev pub element_of : Shape → Element
-element_of (Page pid r) = rectangle_element (attribute (codes "id") (codes "page-" ++ decimal pid) ∷ []) r
-element_of (Box r) = rectangle_element [] r
-element_of (Line line) = line_element line
-element_of (Text text) = text_element text
+abbrev pub box_element : PageBox → Element
+box_element page = rectangle_element (attribute (codes "id") (codes "page-" ++ decimal page.pid) ∷ []) page.rectangle
+
+-- A page's box is followed by its PID, its mark and its range.
+abbrev pub elements_of : Shape → List Element
+elements_of (Page page) = box_element page ∷ text_element (name_in page) ∷ text_element (mark_in page) ∷ text_element (range_in page) ∷ []
+elements_of (Box r) = rectangle_element [] r ∷ []
+elements_of (Line line) = line_element line ∷ []
+elements_of (Text text) = text_element text ∷ []
 
 abbrev pub document_attributes : ℕ → ℕ → List Attribute
 document_attributes width height =
@@ -64,12 +90,4 @@ document_attributes width height =
 -- a document of this width and height, with the shapes one over another
 abbrev pub document_text : ℕ → ℕ → List Shape → List ℕ
 document_text width height shapes =
-    open_text (codes "svg") (document_attributes width height) ++ codes "\n" ++ flat_map (λ shape. element_text (element_of shape)) shapes ++ close_text (codes "svg")
-
--- the PIDs of the pages among the shapes, in their order
-abbrev pub pids_of : List Shape → List ℕ
-pids_of [] = []
-pids_of (Page pid r ∷ shapes) = pid ∷ pids_of shapes
-pids_of (Box r ∷ shapes) = pids_of shapes
-pids_of (Line line ∷ shapes) = pids_of shapes
-pids_of (Text text ∷ shapes) = pids_of shapes
+    open_text (codes "svg") (document_attributes width height) ++ codes "\n" ++ flat_map element_text (flat_map elements_of shapes) ++ close_text (codes "svg")

@@ -1,4 +1,9 @@
+pub mod Adding
 pub mod Colours
 pub mod Document
 pub mod Elements
+pub mod Layout
+pub mod Pages
 pub mod Pids
+pub mod Ranges
+pub mod Sizes

@@ -1,51 +1,20 @@
 //! The box of a page.
-ghost use Rattle.std.specs.Prelude.{◌≡◌, ◌∷◌, ◌++◌, [], OnOk};
+ghost use Rattle.std.specs.Prelude.{◌≡◌, ◌≤◌, ◌+◌, ◌∷◌, ◌++◌, [], ℕ, OnOk};
+ghost use Rattle.tree_picture.specs.Layout.{AreLaidTo};
+ghost use Rattle.tree_picture.specs.Ranges.{page_range};
+ghost use Rattle.tree_picture.specs.Sizes.{page_height};
+ghost use Rattle.tree_picture.specs.declared.places.TheConstants.{PAGE_WIDTH};
 
 use crate::colour::Colour;
-use crate::places::{DELTA, HEAD, PAGE_WIDTH, ROW, page_height};
-use crate::shape::{Rectangle, Text};
+use crate::places::{DELTA, HEAD, PAGE_WIDTH, ROW, page_height, record_height};
+use crate::shape::{Mark, PageBox, Rectangle};
 use crate::sheet::Sheet;
 use crate::words::Words;
-use crate::write::{plain, record_words, with_number, with_range, with_token};
+use crate::write::{record_words, with_number, with_range, with_token};
 use base_page::{Content, Item, Page};
 use deltas::Record;
 use scene::ScenePage;
 use std::alloc::AllocError;
-
-/// How a page stands to the level above it.
-#[derive(Clone, Copy)]
-pub(crate) enum Mark {
-    /// The root, or a page with its term.
-    Termed,
-    /// A page without a term.
-    Termless,
-    /// A page whose term is held.
-    Held,
-    /// A removed page.
-    Removed,
-}
-
-impl Mark {
-    /// The colour of its box.
-    fn colour(self) -> Colour {
-        match self {
-            Mark::Termed => Colour::Page,
-            Mark::Termless => Colour::Paper,
-            Mark::Held => Colour::Held,
-            Mark::Removed => Colour::Removed,
-        }
-    }
-
-    /// The word for it.
-    fn word(self) -> &'static [u8] {
-        match self {
-            Mark::Termed => b"",
-            Mark::Termless => b"no term",
-            Mark::Held => b"held",
-            Mark::Removed => b"removed",
-        }
-    }
-}
 
 /// A page at its place.
 pub(crate) fn page_box(
@@ -55,9 +24,12 @@ pub(crate) fn page_box(
     x: u32,
     y: u32,
 ) -> Result<(), AllocError>
-    ensures { OnOk result (sheet.new ≡ sheet.old ++ page.now.pid ∷ []) }
+    ensures pids { OnOk result (sheet.new.pids ≡ sheet.old.pids ++ page.now.pid ∷ []) }
+    ensures ranges { OnOk result (sheet.new.ranges ≡ sheet.old.ranges ++ page_range page.now ∷ []) }
+    ensures laid { OnOk result ((width bottom next : ℕ) → AreLaidTo width bottom x y sheet.old.boxes → x + PAGE_WIDTH ≤ width → x + PAGE_WIDTH ≤ next
+        → y + page_height page.now ≤ bottom → AreLaidTo width bottom next y sheet.new.boxes) }
 {
-    let frame = Rectangle {
+    let rectangle = Rectangle {
         x,
         y,
         width: PAGE_WIDTH,
@@ -65,37 +37,16 @@ pub(crate) fn page_box(
         fill: mark.colour(),
         edge: Colour::Ink,
     };
-    sheet.page(page.pid(), frame)?;
-    page_head(sheet, page, mark, x.saturating_add(10), y);
-    records(sheet, page.records(), x, y.saturating_add(HEAD));
-    Ok(())
-}
-
-/// The PID of a page, its mark and its range.
-fn page_head(sheet: &mut Sheet, page: &ScenePage, mark: Mark, x: u32, y: u32)
-    ensures { sheet.new ≡ sheet.old }
-{
-    let mut name = Words::new();
-    with_number(&mut name, b"PID ", u64::from(page.pid()));
-    sheet.text(Text {
-        x,
-        y: y.saturating_add(18),
-        size: 14,
-        bold: true,
-        colour: Colour::Ink,
-        words: name,
-    });
-    sheet.text(Text {
-        x: x.saturating_add(PAGE_WIDTH - 80),
-        y: y.saturating_add(18),
-        size: 13,
-        bold: true,
-        colour: Colour::Missing,
-        words: plain(mark.word()),
-    });
     let mut range = Words::new();
     with_range(&mut range, page.page().low(), page.page().high());
-    sheet.words(x, y.saturating_add(35), 11, range);
+    sheet.page(PageBox {
+        pid: page.pid(),
+        rectangle,
+        mark,
+        range,
+    })?;
+    records(sheet, page.records(), x, y.saturating_add(HEAD));
+    Ok(())
 }
 
 /// The records of a page one under another, the newest first.
@@ -114,7 +65,7 @@ fn record_box(sheet: &mut Sheet, record: &Record, x: u32, y: u32)
     ensures { sheet.new ≡ sheet.old }
 {
     match record {
-        Record::Base(page) => base_box(sheet, page, x, y),
+        Record::Base(page) => base_box(sheet, page, x, y, record_height(record)),
         _ => sheet.rectangle(Rectangle {
             x,
             y,
@@ -129,13 +80,10 @@ fn record_box(sheet: &mut Sheet, record: &Record, x: u32, y: u32)
 }
 
 /// A base, and its items.
-fn base_box(sheet: &mut Sheet, page: &Page, x: u32, y: u32)
+fn base_box(sheet: &mut Sheet, page: &Page, x: u32, y: u32, height: u32)
     ensures { sheet.new ≡ sheet.old }
 {
     let items = page.items().as_slice();
-    let height = crate::places::pixels(items.len())
-        .saturating_mul(ROW)
-        .saturating_add(24);
     sheet.rectangle(Rectangle {
         x,
         y,

@@ -1,10 +1,14 @@
 //! The levels one under another.
-ghost use Rattle.std.specs.Prelude.{◌≡◌, ◌++◌, OnOk};
+ghost use Rattle.std.specs.Prelude.{◌≡◌, ◌≤◌, ◌<◌, ◌+◌, ◌-◌, ◌*◌, ◌^◌, ◌++◌, ℕ, All, length, OnOk};
+ghost use Rattle.tree_picture.specs.Layout.{AreLaidTo};
 ghost use Rattle.tree_picture.specs.Pids.{all_pids, level_pids};
+ghost use Rattle.tree_picture.specs.Ranges.{all_ranges, level_ranges};
+ghost use Rattle.tree_picture.specs.Sizes.{level_height, levels_height};
+ghost use Rattle.tree_picture.specs.declared.places.TheConstants.{DROP, GAP, PAGE_WIDTH};
 
 use crate::boxes::page_box;
 use crate::links::{Drawn, links, mark_of, side_link};
-use crate::places::{DROP, first_x, level_height, page_x};
+use crate::places::{DROP, GAP, PAGE_WIDTH, first_x, level_height};
 use crate::sheet::Sheet;
 use scene::Level;
 use std::alloc::AllocError;
@@ -18,7 +22,11 @@ fn level_row(
     x: u32,
     y: u32,
 ) -> Result<(), AllocError>
-    ensures { OnOk result (sheet.new ≡ sheet.old ++ level_pids level.now) }
+    requires { x + length level.now * (PAGE_WIDTH + GAP) < 2 ^ 32 }
+    ensures pids { OnOk result (sheet.new.pids ≡ sheet.old.pids ++ level_pids level.now) }
+    ensures ranges { OnOk result (sheet.new.ranges ≡ sheet.old.ranges ++ level_ranges level.now) }
+    ensures laid { OnOk result ((width : ℕ) → x + length level.now * (PAGE_WIDTH + GAP) ≤ width + GAP → AreLaidTo width (y + level_height level.now) x y sheet.old.boxes
+        → AreLaidTo width (y + level_height level.now) (x + length level.now * (PAGE_WIDTH + GAP)) y sheet.new.boxes) }
 {
     let mut x = x;
     for page in level.pages() {
@@ -26,7 +34,7 @@ fn level_row(
         if page.page().right().is_some() {
             side_link(sheet, x, y);
         }
-        x = page_x(x, 1);
+        x += PAGE_WIDTH + GAP;
     }
     Ok(())
 }
@@ -39,7 +47,13 @@ pub(crate) fn rows(
     width: u32,
     top: u32,
 ) -> Result<(), AllocError>
-    ensures { OnOk result (sheet.new ≡ sheet.old ++ all_pids levels.now) }
+    requires wide { All (λ level. length level * (PAGE_WIDTH + GAP) ≤ width) levels.now }
+    requires narrow { width + GAP < 2 ^ 32 }
+    requires high { top + levels_height levels.now < 2 ^ 32 }
+    ensures pids { OnOk result (sheet.new.pids ≡ sheet.old.pids ++ all_pids levels.now) }
+    ensures ranges { OnOk result (sheet.new.ranges ≡ sheet.old.ranges ++ all_ranges levels.now) }
+    ensures laid { OnOk result (AreLaidTo width top 0 top sheet.old.boxes
+        → AreLaidTo width (top + levels_height levels.now) 0 (top + levels_height levels.now) sheet.new.boxes) }
 {
     let mut y = top;
     let mut above: Option<&Level> = None;
@@ -52,7 +66,7 @@ pub(crate) fn rows(
             first_x(width, level.pages().len()),
             y,
         )?;
-        y = y.saturating_add(level_height(level)).saturating_add(DROP);
+        y += level_height(level) + DROP;
         above = Some(level);
     }
     Ok(())
@@ -79,10 +93,15 @@ pub(crate) fn all_links(sheet: &mut Sheet, levels: &[Level], width: u32, top: u3
 }
 
 /// The height behind all levels.
-pub(crate) fn bottom_of(levels: &[Level], top: u32) -> u32 {
+pub(crate) fn bottom_of(levels: &[Level], top: u32) -> u32
+    requires few { length levels.now ≤ 16 }
+    requires high { top ≤ 1000 }
+    ensures exact { result ≡ top + levels_height levels.now }
+    ensures few { result ≤ top + 16 * (5046 + DROP) }
+{
     let mut y = top;
     for level in levels {
-        y = y.saturating_add(level_height(level)).saturating_add(DROP);
+        y += level_height(level) + DROP;
     }
-    y.saturating_sub(DROP / 2)
+    y
 }

@@ -22,7 +22,9 @@ mod words;
 mod write;
 
 pub use colour::Colour;
-pub use shape::{Line, Rectangle, Shape, Text};
+pub use shape::{
+    INSET, Line, MARK_INSET, Mark, NAME_DROP, PageBox, RANGE_DROP, Rectangle, Shape, Text,
+};
 pub use sheet::Picture;
 pub use well_formed::{documents_are_well_formed, escapes_are_safe};
 pub use whole::picture;

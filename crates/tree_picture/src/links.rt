@@ -1,10 +1,9 @@
 //! Lines between pages: side links, terms, and what stands where a term is missing or its page is merged.
 ghost use Rattle.std.specs.Prelude.{◌≡◌};
 
-use crate::boxes::Mark;
 use crate::colour::Colour;
 use crate::places::{GAP, PAGE_WIDTH, page_height, page_x};
-use crate::shape::{Line, Rectangle};
+use crate::shape::{Line, Mark, Rectangle};
 use crate::sheet::Sheet;
 use crate::words::Words;
 use crate::write::with_number;

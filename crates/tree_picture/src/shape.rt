@@ -1,7 +1,21 @@
 //! Shapes. A place is told in pixels, from the left and from the top.
+ghost use Rattle.std.specs.Prelude.{◌≡◌};
+ghost use Rattle.tree_picture.specs.Elements.{mark_text};
 
 use crate::colour::Colour;
 use crate::words::Words;
+
+/// How far to the right of the corner of a page's box its name and its range begin.
+pub const INSET: u32 = 10;
+
+/// How far to the right of that corner its mark begins.
+pub const MARK_INSET: u32 = 166;
+
+/// How far under that corner its name and its mark stand.
+pub const NAME_DROP: u32 = 18;
+
+/// How far under that corner its range stands.
+pub const RANGE_DROP: u32 = 35;
 
 /// A rectangle, from its corner that is leftmost and topmost.
 #[derive(Clone, Copy)]
@@ -36,11 +50,57 @@ pub struct Text {
     pub words: Words,
 }
 
+/// How a page stands to the level above it.
+#[derive(Clone, Copy)]
+pub enum Mark {
+    /// The root, or a page with its term.
+    Termed,
+    /// A page without a term.
+    Termless,
+    /// A page whose term is held.
+    Held,
+    /// A removed page.
+    Removed,
+}
+
+impl Mark {
+    /// The colour of its box.
+    pub(crate) fn colour(self) -> Colour {
+        match self {
+            Mark::Termed => Colour::Page,
+            Mark::Termless => Colour::Paper,
+            Mark::Held => Colour::Held,
+            Mark::Removed => Colour::Removed,
+        }
+    }
+
+    /// The word for it.
+    pub fn word(self) -> &'static [u8]
+        ensures { result.now ≡ mark_text self }
+    {
+        match self {
+            Mark::Termed => b"",
+            Mark::Termless => b"no term",
+            Mark::Held => b"held",
+            Mark::Removed => b"removed",
+        }
+    }
+}
+
+/// The box of a page. Its texts stand in it: its name, its mark's word and its range.
+#[derive(Drop)]
+pub struct PageBox {
+    pub pid: u16,
+    pub rectangle: Rectangle,
+    pub mark: Mark,
+    pub range: Words,
+}
+
 /// One shape of a picture.
 #[derive(Drop)]
 pub enum Shape {
-    /// The box of a page, by its PID.
-    Page(u16, Rectangle),
+    /// The box of a page.
+    Page(PageBox),
     /// Any other box.
     Box(Rectangle),
     /// A line.

@@ -1,9 +1,9 @@
 //! Shapes while they are drawn.
-ghost use Rattle.std.specs.Prelude.{◌≡◌, ◌∷◌, ◌++◌, [], IfOk, OnOk};
-ghost use Rattle.tree_picture.specs.Elements.{pids_of};
+ghost use Rattle.std.specs.Prelude.{◌≡◌, [], IfOk, OnOk};
+ghost use Rattle.tree_picture.specs.Pages.{pages_in, with_page};
 
 use crate::colour::Colour;
-use crate::shape::{Line, Rectangle, Shape, Text};
+use crate::shape::{Line, PageBox, Rectangle, Shape, Text};
 use crate::words::Words;
 use std::alloc::{AllocError, Global};
 use std::marker::Model;
@@ -24,18 +24,17 @@ pub(crate) struct Sheet {
 }
 
 impl Model for Sheet {
-    ghost use Rattle.std.specs.Prelude.{List, ℕ};
-    ghost use Rattle.tree_picture.specs.Elements.{pids_of};
+    ghost use Rattle.tree_picture.specs.Pages.{Pages, pages_in};
 
-    ghost Value = { List ℕ };
+    ghost Value = { Pages };
 
-    ghost view = { λ s. pids_of s.shapes.items };
+    ghost view = { λ s. pages_in s.shapes.items };
 }
 
 impl Sheet {
     /// No shapes.
     pub(crate) fn new(alloc: Global) -> Sheet
-        ensures { result ≡ [] }
+        ensures { result ≡ pages_in [] }
     {
         Sheet {
             shapes: Vec::new(alloc),
@@ -45,10 +44,10 @@ impl Sheet {
 
     /// The box of a page.
     #[tactic(auto, using(crate::proofs::Shapes::page_more))]
-    pub(crate) fn page(&mut self, pid: u16, rectangle: Rectangle) -> Result<(), AllocError>
-        ensures { OnOk result (self.new ≡ self.old ++ pid ∷ []) }
+    pub(crate) fn page(&mut self, page: PageBox) -> Result<(), AllocError>
+        ensures { OnOk result (self.new ≡ with_page self.old page) }
     {
-        self.shapes.push(Shape::Page(pid, rectangle))?;
+        self.shapes.push(Shape::Page(page))?;
         Ok(())
     }
 
@@ -101,7 +100,8 @@ impl Sheet {
 
     /// The picture, if there was room for all its shapes.
     pub(crate) fn finish(self, width: u32, height: u32) -> Result<Picture, AllocError>
-        ensures { IfOk result (λ picture. pids_of picture.shapes.items ≡ self) }
+        ensures shapes { IfOk result (λ picture. pages_in picture.shapes.items ≡ self) }
+        ensures size { IfOk result (λ picture. (picture.width ≡ width) × (picture.height ≡ height)) }
     {
         if self.is_full {
             return Err(AllocError);

@@ -1,13 +1,15 @@
 //! The whole picture.
 ghost use Rattle.std.specs.Prelude.{◌≡◌, IfOk};
-ghost use Rattle.tree_picture.specs.Elements.{pids_of};
+ghost use Rattle.tree_picture.specs.Layout.{AreLaidOut};
+ghost use Rattle.tree_picture.specs.Pages.{boxes_of, pids_of, ranges_of};
 ghost use Rattle.tree_picture.specs.Pids.{all_pids};
+ghost use Rattle.tree_picture.specs.Ranges.{all_ranges};
 
 use crate::colour::Colour;
 use crate::doings::actor_lines;
 use crate::frame::{head, legend};
 use crate::levels::{all_links, bottom_of, rows};
-use crate::places::{LEFT, TOP, first_x, width_of};
+use crate::places::{DROP, LEFT, TOP, first_x, width_of};
 use crate::shape::Rectangle;
 use crate::sheet::{Picture, Sheet};
 use scene::Scene;
@@ -17,13 +19,16 @@ use step_core::Core;
 /// The picture of a scene, and of the actors of its core: the boxes of exactly the pages of the scene, level by level and from left
 /// to right. Refused for want of memory alone.
 pub fn picture(alloc: Global, scene: &Scene, core: &Core) -> Result<Picture, AllocError>
-    ensures { IfOk result (λ picture. pids_of picture.shapes.items ≡ all_pids scene.now.levels) }
+    ensures pages { IfOk result (λ picture. pids_of picture.shapes.items ≡ all_pids scene.now.levels) }
+    ensures ranges { IfOk result (λ picture. ranges_of picture.shapes.items ≡ all_ranges scene.now.levels) }
+    ensures laid { IfOk result (λ picture. AreLaidOut picture.width picture.height (boxes_of picture.shapes.items)) }
 {
     let levels = scene.levels();
     let width = width_of(levels);
-    let bottom = bottom_of(levels, TOP);
+    let end = bottom_of(levels, TOP);
+    let bottom = end.saturating_sub(DROP / 2);
     let many = core.limits().actors as u32;
-    let height = bottom.saturating_add(many * 56).saturating_add(90);
+    let height = bottom + many * 56 + 90;
     let mut sheet = Sheet::new(alloc);
     sheet.rectangle(Rectangle {
         x: 0,

@@ -1,6 +1,6 @@
 //! The words of a text.
-ghost use Rattle.std.specs.Prelude.{◌≡◌, ◌++◌, ◌≤◌, ◌+◌, [], length};
-ghost use Rattle.tree_picture.specs.declared.words.TheConstants.{MAX_WORDS};
+ghost use Rattle.std.specs.Prelude.{◌≡◌, []};
+ghost use Rattle.tree_picture.specs.Adding.{Adds};
 
 use arrayvec::ArrayVec;
 use std::marker::Model;
@@ -41,7 +41,7 @@ impl Words {
 
     /// Adds bytes behind the others, where all of them have room.
     pub fn add(&mut self, bytes: &[u8])
-        ensures { length self.old + length bytes.now ≤ MAX_WORDS → self.new ≡ self.old ++ bytes.now }
+        ensures { Adds self.old self.new bytes.now }
     {
         let _ = self.bytes.try_extend_from_slice(bytes);
     }

@@ -1,6 +1,10 @@
 //! Words for numbers, keys and records.
 
-ghost use Rattle.std.specs.Prelude.{◌<◌};
+ghost use Rattle.std.specs.Prelude.{◌≡◌, ◌≤◌, ◌++◌, codes, length, option_copied, take};
+ghost use Rattle.hex.specs.Hex.{encode_lower};
+ghost use Rattle.tree_picture.specs.Adding.{Adds};
+ghost use Rattle.tree_picture.specs.Ranges.{dots, range_text, short_token};
+ghost use Rattle.tree_picture.specs.declared.write.TheConstants.{SHORT_DIGITS};
 
 use crate::words::Words;
 use bw_model::Key;
@@ -10,6 +14,9 @@ use shell_lines::is_word;
 
 /// How many bytes of a key or a value are written at most.
 const SHORT: usize = 10;
+
+/// How many of them, where each is written in two digits.
+const SHORT_DIGITS: usize = 5;
 
 /// These words.
 pub(crate) fn plain(bytes: &[u8]) -> Words {
@@ -25,41 +32,64 @@ pub(crate) fn with_number(words: &mut Words, before: &[u8], number: u64) {
     words.add(buffer.format(number).as_bytes());
 }
 
-/// Words, and a key or a value behind them, as the program prints it; a long one is cut.
-pub(crate) fn with_token(words: &mut Words, before: &[u8], bytes: &[u8]) {
-    words.add(before);
-    let is_word = is_word(bytes);
-    if !is_word {
-        words.add(b"=");
-    }
-    let mut left = if is_word { SHORT } else { SHORT / 2 };
-    for byte in bytes {
-        if left == 0 {
-            words.add(b"..");
-            return;
-        }
-        left -= 1;
-        if is_word {
-            words.add(&[*byte]);
-        } else {
-            words.add(&[digit(*byte / 16), digit(*byte % 16)]);
-        }
+/// The first bytes, and no more than so many.
+fn first(bytes: &[u8], many: usize) -> &[u8]
+    ensures bytes { result.now ≡ take many bytes.now }
+    ensures few { length result.now ≤ many }
+{
+    if bytes.len() > many {
+        &bytes[..many]
+    } else {
+        bytes
     }
 }
 
-/// A hexadecimal digit.
-fn digit(value: u8) -> u8
-    requires { value < 16 }
+/// Two dots where there are more bytes than so many.
+fn dots_of(many: usize, bytes: &[u8]) -> &'static [u8]
+    ensures { result.now ≡ dots many bytes.now }
 {
-    if value < 10 {
-        b'0' + value
-    } else {
-        b'a' + (value - 10)
+    if bytes.len() > many { b".." } else { b"" }
+}
+
+/// Adds two digits for each byte.
+fn add_digits(words: &mut Words, bytes: &[u8])
+    requires { length bytes.now ≤ SHORT_DIGITS }
+    ensures { Adds words.old words.new (encode_lower bytes.now) }
+{
+    let mut digits = [0u8; 2 * SHORT_DIGITS];
+    let text = &mut digits[..2 * bytes.len()];
+    match hex::encode_to_slice(bytes, text) {
+        Ok(()) => words.add(text),
+        Err(_) => unreachable!(),
     }
+}
+
+/// Adds a key or a value, as the program prints it; a long one is cut.
+fn add_short(words: &mut Words, bytes: &[u8])
+    ensures { Adds words.old words.new (short_token bytes.now) }
+{
+    if is_word(bytes) {
+        words.add(first(bytes, SHORT));
+        words.add(dots_of(SHORT, bytes));
+    } else {
+        words.add(b"=");
+        add_digits(words, first(bytes, SHORT_DIGITS));
+        words.add(dots_of(SHORT_DIGITS, bytes));
+    }
+}
+
+/// Words, and a key or a value behind them.
+pub(crate) fn with_token(words: &mut Words, before: &[u8], bytes: &[u8])
+    ensures { Adds words.old words.new (before.now ++ short_token bytes.now) }
+{
+    words.add(before);
+    add_short(words, bytes);
 }
 
 /// From which key on, and up to which one.
-pub(crate) fn with_range(words: &mut Words, low: &Key, high: Option<&Key>) {
+pub(crate) fn with_range(words: &mut Words, low: &Key, high: Option<&Key>)
+    ensures { Adds words.old words.new (range_text low.now (option_copied high.entry)) }
+{
     with_token(words, b"from ", low.as_slice());
     match high {
         Some(high) => with_token(words, b" to ", high.as_slice()),

@@ -1,5 +1,5 @@
-use Rattle.byte_streams.proofs.Showing.{shows_then, no_text}
+use Rattle.byte_streams.proofs.Showing.{shows_then}
 use Rattle.drawing.proofs.elements.show_page.Goals as goal
 
 pub returns : goal.returns
-returns g c = shows_then (shows_then (shows_then (shows_then c.show.ensures (shows_then c.show_page_name.ensures c.show_rectangle.ensures)) c.show-2.ensures) (no_text _)) c.show-3.ensures
+returns g c = shows_then c.show_page_box.ensures c.show_page_texts.ensures

@@ -1,5 +1,5 @@
-use Rattle.byte_streams.proofs.Showing.{shows_then, no_text}
+use Rattle.byte_streams.proofs.Showing.{shows_then}
 use Rattle.drawing.proofs.elements.show_text_attributes.Goals as goal
 
 pub returns : goal.returns
-returns g c = rw (c.from.ensures, c.weight_of.ensures) at (shows_then c.show_number_attribute.ensures (shows_then c.show_number_attribute-2.ensures (shows_then c.show_number_attribute-3.ensures (shows_then c.show_attribute.ensures (shows_then c.show_colour.ensures (no_text _))))))
+returns g c = shows_then c.show_number_attribute.ensures (shows_then c.show_number_attribute-2.ensures c.show_style.ensures)

@@ -1,4 +1,4 @@
-use Rattle.std.proofs.Common.{sym, ◌∙◌, arith}
+use Rattle.std.proofs.Common.{ap, length, sym, ◌∙◌, arith}
 use Rattle.scene.proofs.Sides.{chain_at, is_more, no_front, page_last, page_more, pid_below}
 use Rattle.scene.proofs.level.level_from.Goals as goal
 
@@ -29,3 +29,9 @@ unreachable-requires g c =
 
 pub loop-init : goal.loop-init
 loop-init g c = λ number has. rw c.new-pages.ensures.items (no_front _ _ _ number has)
+
+pub invariant_of-result : goal.invariant_of-result
+invariant_of-result g c =
+    let (number, has) = c.requires.stands in
+    let whole = c.in_ok-push.ensures.items ∙ page_last _ _ number _ has _ _ _ (c.loop.invariant number has) c.in_ok-page.page c.in_ok-page.ensures.pid c.in_ok-page.ensures.chain (sym c.right-right.ensures ∙ c.in-None.is) in
+    omega (arith, ap length whole, has.few, c.args.limits.now.allowed.few_pids)

@@ -1,8 +1,9 @@
 use Rattle.std.proofs.Common.{refl, subst, sym}
-use Rattle.traces.specs.chain.Fitted.{Makes}
+use Rattle.traces.specs.chain.Fitted.{IsPageChain, Makes}
 use Rattle.scene.proofs.page.page_at.Goals as goal
 
 pub invariant_of-result : goal.invariant_of-result
 invariant_of-result g c =
     let (chain, stands) = c.requires.stands in
-    subst (λ records. Makes records c.page_of-page.result) (sym (c.in_ok-records.ensures chain stands)) (c.page_of-page.ensures.makes _ chain refl stands)
+    let same = sym (c.in_ok-records.ensures chain stands) in
+    (subst (λ records. Makes records c.page_of-page.result) same (c.page_of-page.ensures.makes _ chain refl stands), subst IsPageChain same stands.fits)

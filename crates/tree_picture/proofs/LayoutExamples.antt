@@ -1,0 +1,85 @@
+-- Boxes and heights, worked out.
+use Rattle.std.proofs.Common.{◌≡◌, ℕ, [], ◌∷◌, arith, codes, inl, inr, refl}
+use Rattle.traces.specs.chain.Examples.{leaf_chain, put_leaf, split_leaf}
+use Rattle.traces.specs.chain.SideChain.{LivePage}
+use Rattle.tree_picture.specs.declared.colour.Colour.TheVariants.{Ink, Paper}
+use Rattle.tree_picture.specs.declared.shape.Mark.TheVariants.{Held}
+use Rattle.tree_picture.specs.declared.shape.PageBox.{PageBox}
+use Rattle.tree_picture.specs.declared.shape.Rectangle.{Rectangle}
+use Rattle.tree_picture.specs.declared.shape.Shape.TheVariants.{Page, Box}
+use Rattle.tree_picture.specs.Layout.{IsBefore, IsWithin}
+use Rattle.tree_picture.specs.Pages.{boxes_of}
+use Rattle.tree_picture.specs.Sizes.{level_height, levels_height, page_height}
+
+abbrev box : ℕ → ℕ → ℕ → ℕ → Rectangle
+box x y width height = record { x = x; y = y; width = width; height = height; fill = Paper; edge = Ink }
+
+-- a page, the one to its right, and one under them
+abbrev left : Rectangle
+left = box 30 118 236 99
+
+abbrev right : Rectangle
+right = box 306 118 236 78
+
+abbrev under : Rectangle
+under = box 168 301 236 78
+
+abbrev page : ℕ → Rectangle → PageBox
+page pid r = record { pid = pid; rectangle = r; mark = Held; range = codes "from a to b" }
+
+boxes_are : boxes_of (Box (box 0 0 1000 440) ∷ Page (page 7 left) ∷ Box right ∷ Page (page 3 under) ∷ []) ≡ left ∷ under ∷ []
+boxes_are = refl
+
+beside : IsBefore left right
+beside = inl (refl, omega arith)
+
+below : IsBefore left under
+below = inr (omega arith)
+
+-- no box stands before itself, none before one that it overlaps, and none before the one to its left
+not_itself : IsBefore left left → ⊥
+not_itself (inl (same, beside)) = omega (arith, beside)
+not_itself (inr under) = omega (arith, under)
+
+not_overlapped : IsBefore left (box 265 118 236 78) → ⊥
+not_overlapped (inl (same, beside)) = omega (arith, beside)
+not_overlapped (inr under) = omega (arith, under)
+
+not_back : IsBefore right left → ⊥
+not_back (inl (same, beside)) = omega (arith, beside)
+not_back (inr under) = omega (arith, under)
+
+inside : IsWithin 542 217 left
+inside = record { wide = omega arith; high = omega arith; right = omega arith; bottom = omega arith }
+
+-- the sheet is a pixel too narrow, or the mark begins where the box ends
+not_narrow : IsWithin 265 217 left → ⊥
+not_narrow within = let right = within.right in omega (arith, right)
+
+not_without_room : IsWithin 542 217 (box 30 118 166 99) → ⊥
+not_without_room within = let wide = within.wide in omega (arith, wide)
+
+-- an empty base under a put; one with two items under a split, and under five deltas
+abbrev small : LivePage
+small = record { pid = 1; chain = put_leaf }
+
+abbrev middle : LivePage
+middle = record { pid = 2; chain = split_leaf }
+
+abbrev large : LivePage
+large = record { pid = 3; chain = leaf_chain }
+
+small_is : page_height small ≡ 99
+small_is = refl
+
+middle_is : page_height middle ≡ 129
+middle_is = refl
+
+large_is : page_height large ≡ 213
+large_is = refl
+
+level_is : level_height (small ∷ large ∷ middle ∷ []) ≡ 213
+level_is = refl
+
+levels_are : levels_height ((small ∷ []) ∷ (small ∷ middle ∷ []) ∷ []) ≡ 396
+levels_are = refl

@@ -1,0 +1,48 @@
+-- How long the words for a range are, and how they come together.
+use Rattle.std.proofs.Common.{◌≡◌, ◌≤◌, ◌+◌, ◌*◌, ℕ, zero, suc, List, [], ◌∷◌, ◌++◌, Bool, true, false, Option, Some, None, ap, append_assoc, arith, length, take, ◌∙◌}
+use Rattle.std.specs.Prelude.{codes, if◌then◌else◌, nat_lt}
+use Rattle.std.proofs.lemmas.List.{length-append}
+use Rattle.hex.specs.Hex.{encode_lower, lower_digits}
+use Rattle.hex.proofs.HexLemmas.{length-encode_with}
+use Rattle.shell_lines.specs.Token.{is_word}
+use Rattle.tree_picture.specs.Adding.{Adds}
+use Rattle.tree_picture.specs.Ranges.{dots, end_text, range_text, short_token}
+
+pub adds_then : (old middle new more last : List ℕ) → Adds old middle more → Adds middle new last → Adds old new (more ++ last)
+adds_then old middle new more last one two = λ fits.
+    let long = length-append more last in
+    let first : middle ≡ old ++ more = one (omega (arith, fits, long)) in
+    two (omega (arith, fits, long, ap length first, length-append old more)) ∙ ap (λ (words : List ℕ). words ++ last) first ∙ append_assoc old more last
+
+few_taken : (many : ℕ) (bytes : List ℕ) → length (take many bytes) ≤ many
+few_taken zero bytes = omega arith
+few_taken (suc many) [] = omega arith
+few_taken (suc many) (b ∷ bytes) = omega (arith, few_taken many bytes)
+
+few_dots : (many : ℕ) (bytes : List ℕ) → length (dots many bytes) ≤ 2
+few_dots many bytes = go (nat_lt many (length bytes))
+  where
+    go : (more : Bool) → length (if more then codes ".." else []) ≤ 2
+    go true = omega arith
+    go false = omega arith
+
+few_short : (bytes : List ℕ) → length (short_token bytes) ≤ 13
+few_short bytes = go (is_word bytes)
+  where
+    go : (word : Bool) → length (if word then take 10 bytes ++ dots 10 bytes else codes "=" ++ encode_lower (take 5 bytes) ++ dots 5 bytes) ≤ 13
+    go true = omega (arith, length-append (take 10 bytes) (dots 10 bytes), few_taken 10 bytes, few_dots 10 bytes)
+    go false = omega (arith, length-append (encode_lower (take 5 bytes)) (dots 5 bytes), length-encode_with lower_digits (take 5 bytes), few_taken 5 bytes, few_dots 5 bytes)
+
+few_end : (high : Option (List ℕ)) → length (end_text high) ≤ 17
+few_end (Some high) = omega (arith, few_short high)
+few_end None = omega arith
+
+-- the words for a range have room
+range_fits : (low : List ℕ) (high : Option (List ℕ)) → length (range_text low high) ≤ 35
+range_fits low high = omega (arith, length-append (short_token low) (end_text high), few_short low, few_end high)
+
+-- the words, where none stood before
+pub whole_range : (old words low low_now : List ℕ) (high high_now : Option (List ℕ)) → Adds old words (range_text low high) → old ≡ [] → low ≡ low_now → high ≡ high_now → words ≡ range_text low_now high_now
+whole_range old words low low_now high high_now adds none low_is high_is =
+    adds (omega (arith, range_fits low high, ap length none)) ∙ ap (λ (first : List ℕ). first ++ range_text low high) none
+    ∙ ap (λ (key : List ℕ). range_text key high) low_is ∙ ap (λ (key : Option (List ℕ)). range_text low_now key) high_is

@@ -1,0 +1,19 @@
+use Rattle.std.proofs.Common.{◌≡◌, [], ◌∷◌, ◌++◌, ap, arith, refl, subst, sym, ◌∙◌}
+use Rattle.tree_picture.specs.declared.colour.Colour.TheVariants.{Ink}
+use Rattle.tree_picture.specs.Layout.{AreLaidTo}
+use Rattle.tree_picture.proofs.Layouts.{one_more}
+use Rattle.tree_picture.proofs.Ranges.{whole_range}
+use Rattle.tree_picture.proofs.boxes.page_box.Goals as goal
+
+pub returns-clause-ranges : goal.returns-clause-ranges
+returns-clause-ranges c =
+    ap (λ sheet. sheet.ranges) (c.records-2.ensures ∙ c.in_ok-page.ensures)
+    ∙ ap (λ words. c.args.sheet.now.ranges ++ words ∷ [])
+    (whole_range _ _ _ _ _ _ c.with_range.ensures c.new-range.ensures (c.low.ensures ∙ c.page.ensures.low) (c.high.ensures ∙ c.page-2.ensures.high))
+
+pub returns-clause-laid : goal.returns-clause-laid
+returns-clause-laid c = λ width bottom next to right further high.
+    let exact = c.page_height.ensures.exact in
+    subst (λ sheet. AreLaidTo width bottom next c.args.y sheet.boxes) (sym (c.records-2.ensures ∙ c.in_ok-page.ensures))
+    (one_more to (record { x = c.args.x; y = c.args.y; width = 236; height = c.page_height.result; fill = c.colour.result; edge = Ink }) refl refl
+    (record { wide = omega arith; high = omega (arith, exact); right = omega (arith, right); bottom = omega (arith, exact, high) }) next (omega (arith, further)))

@@ -1,0 +1,34 @@
+use Rattle.std.proofs.Common.{◌≤◌, ◌+◌, ◌*◌, ap, arith, length, subst}
+use Rattle.std.specs.List.{All}
+use Rattle.std.proofs.lemmas.List.{take_all}
+use Rattle.tree_picture.proofs.Heights.{all_next}
+use Rattle.tree_picture.proofs.places.width_of.Goals.{then-row-width, else-row-width}
+use Rattle.tree_picture.proofs.places.width_of.Goals as goal
+
+pub loop-level-preserved : goal.loop-level-preserved
+loop-level-preserved c =
+    let width = c.if-row-width.width in
+    let row = c.row_width.ensures c.pages.ensures.few in
+    let own = ap length c.pages.ensures.pages in
+    let few = c.pages.ensures.few in
+    let before = c.loop-level.invariant.few in
+    let wider : c.loop-level.width ≤ width = elim c.if-row-width.branch [
+      | then-row-width w ↦ omega (arith, w.width-is, w.if-row-width.true)
+      | else-row-width w ↦ omega (arith, w.width-is)
+    ] in
+    let fits : length c.level-item.result * 276 + 60 ≤ width = elim c.if-row-width.branch [
+      | then-row-width w ↦ omega (arith, w.width-is, row, own)
+      | else-row-width w ↦ omega (arith, w.width-is, w.if-row-width.false, row, own)
+    ] in
+    record {
+      wide = all_next (λ level. length level * 276 + 60 ≤ width) c.args.levels.now c.loop-level.level-index c.level-item.result c.loop-level-test.true c.level-item.is
+          (λ k d there. let was = c.loop-level.invariant.wide k d there in omega (arith, was, wider)) fits;
+      few = elim c.if-row-width.branch [
+        | then-row-width w ↦ omega (arith, w.width-is, row, few)
+        | else-row-width w ↦ omega (arith, w.width-is, before)
+      ];
+    }
+
+pub returns-clause-wide : goal.returns-clause-wide
+returns-clause-wide c =
+    subst (All (λ level. length level * 276 + 60 ≤ c.loop-level.width)) (take_all c.loop-level.level-index c.args.levels.now c.loop-level-test.false) c.loop-level.invariant.wide
