@@ -1,4 +1,4 @@
-//! Does one thing again and again, as often as the command line says: a program for bench/rows.sh and bench/tree.sh.
+//! Does one thing again and again, as often as the command line says: a program for bench/rows.sh, bench/tree.sh and bench/windows.sh.
 //!
 //! Look first at `What` (worker). Called by nobody but those scripts; it has no contract, and no claim rests on it.
 //!
@@ -9,9 +9,10 @@
 //!
 //! `bench WHAT SIZE THREADS OPERATIONS BYTES`: it opens a tree and inserts SIZE keys of so many bytes, 16 at least, by one seat; that is
 //! all where WHAT is `load`. Where it is `reads` or `half`, each of so many threads then does so many operations on drawn keys: lookups,
-//! or upserts and lookups by turns. Where it is `steps`, they do lookups, and count their steps. Where it is `rows` or `ways`, there is
+//! or upserts and lookups by turns. Where it is `steps`, they do lookups, and count their steps. Where it is `window`, the tree has 256 PIDs
+//! and is empty; keys come at its end, and go at its front once there are SIZE. Where it is `rows` or `ways`, there is
 //! no tree: an operation loads the words of SIZE rows, drawn ones, or those of a way over five levels. It prints how many operations
-//! succeeded or steps were taken by what came last, and on standard error how many nanoseconds that took. bench/tree.sh runs it.
+//! succeeded or steps were taken by what came last, and on standard error how many nanoseconds that took. bench/tree.sh and bench/windows.sh run it.
 #![tactic(auto)]
 
 mod amounts;

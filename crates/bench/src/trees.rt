@@ -11,20 +11,27 @@ use std::alloc::{AllocError, Global};
 use std::thread::Threads;
 use std::time::{Clock, Instant};
 
-/// Loads a new tree, and does what is asked on it, if that is more. Answers what was done last; none without memory, seats or a clock.
+/// Loads a new tree, if it is no window's, and does what is asked on it, if that is more. Answers what was done last; none without memory, seats or a clock.
 pub(crate) fn run<R: Threads + Clock + Sync>(
     rt: &R,
     alloc: Global,
     what: What,
     scale: Scale,
 ) -> Option<Done> {
-    let Ok(limits) = Limits::new(4, 4096, 16384, 1) else {
+    let (pids, rows) = match what {
+        What::Window => (256, 4096),
+        _ => (4096, 16384),
+    };
+    let Ok(limits) = Limits::new(4, pids, rows, 1) else {
         return None;
     };
     let Ok((tree, mut seats)) = opened(alloc, limits) else {
         return None;
     };
-    on_loaded(rt, alloc, &tree, &mut seats, what, scale)
+    match what {
+        What::Window => in_threads(rt, alloc, &tree, &mut seats, what, scale),
+        _ => on_loaded(rt, alloc, &tree, &mut seats, what, scale),
+    }
 }
 
 /// The same on a new tree.
@@ -76,8 +83,8 @@ fn in_threads<R: Threads + Clock + Sync>(
 /// One worker for each thread, each with a seed of its own.
 fn workers(alloc: Global, what: What, scale: Scale) -> Result<Vec<Worker>, AllocError> {
     let mut workers = Vec::new(alloc);
-    for seed in 0..scale.threads {
-        workers.push(Worker::new(what, scale, seed))?;
+    for thread in 0..scale.threads {
+        workers.push(Worker::new(what, scale, thread))?;
     }
     Ok(workers)
 }

@@ -30,6 +30,8 @@ pub(crate) enum What {
     Half,
     /// Drawn keys are looked up one step at a time, and the steps are counted.
     Steps,
+    /// Every second operation inserts the next key at the end, the others delete the first one, once there are as many as there are to be.
+    Window,
 }
 
 impl What {
@@ -40,6 +42,7 @@ impl What {
             "reads" => Some(What::Reads),
             "half" => Some(What::Half),
             "steps" => Some(What::Steps),
+            "window" => Some(What::Window),
             _ => None,
         }
     }
@@ -51,16 +54,19 @@ pub(crate) struct Worker {
     what: What,
     scale: Scale,
     drawn: Pcg32,
+    /// Which of the threads it is.
+    thread: u32,
     /// How many operations succeeded, or how many steps they took.
     pub(crate) done: u64,
 }
 
 impl Worker {
-    pub(crate) fn new(what: What, scale: Scale, seed: u32) -> Worker {
+    pub(crate) fn new(what: What, scale: Scale, thread: u32) -> Worker {
         Worker {
             what,
             scale,
-            drawn: Pcg32::seed_from_u64(u64::from(seed)),
+            drawn: Pcg32::seed_from_u64(u64::from(thread)),
+            thread,
             done: 0,
         }
     }
@@ -70,19 +76,44 @@ impl Worker {
         let drawn = self.drawn.next_word();
         let number = drawn.checked_rem(self.scale.size).unwrap_or(0);
         match self.what {
+            What::Window => self.moved(operation),
             What::Load => Command::Insert(self.key(operation), value(operation)),
             What::Half if operation % 2 == 0 => Command::Upsert(self.key(number), value(operation)),
             _ => Command::Get(self.key(number)),
         }
     }
 
-    /// The key of a number: zeros, and 16 hexadecimal digits. Neighbours among the numbers are none among the keys.
-    fn key(&self, number: u32) -> Key {
+    /// The next command of a window: the threads take the keys in turn. Where none is to go yet, the key that came is looked up.
+    fn moved(&self, operation: u32) -> Command {
+        let place = operation / 2;
+        let number = place
+            .wrapping_mul(self.scale.threads)
+            .wrapping_add(self.thread);
+        let key = self.key(number);
+        if operation % 2 == 0 {
+            return Command::Insert(key, value(number));
+        }
+        match number.checked_sub(self.scale.size) {
+            Some(old) => Command::Delete(self.key(old)),
+            None => Command::Get(key),
+        }
+    }
+
+    /// What the digits of a number's key say: neighbours among the numbers are none among the keys, but in a window.
+    fn digits(&self, number: u32) -> u64 {
+        if self.what == What::Window {
+            return u64::from(number);
+        }
         let product = u64::from(number).wrapping_mul(SCATTER);
-        let scattered = (product ^ (product >> 32)).wrapping_mul(SCATTER);
+        (product ^ (product >> 32)).wrapping_mul(SCATTER)
+    }
+
+    /// The key of a number: zeros, and 16 hexadecimal digits.
+    fn key(&self, number: u32) -> Key {
+        let digits = self.digits(number);
         let mut bytes = [b'0'; MAX_LENGTH];
         let length = (self.scale.key_bytes as usize).clamp(DIGITS, MAX_LENGTH);
-        match hex::encode_to_slice(scattered.to_be_bytes(), &mut bytes[length - DIGITS..length]) {
+        match hex::encode_to_slice(digits.to_be_bytes(), &mut bytes[length - DIGITS..length]) {
             Ok(()) => Key::from_slice(&bytes[..length]).unwrap_or_default(),
             Err(_) => Key::default(),
         }
@@ -102,13 +133,13 @@ impl Work for Worker {
     }
 }
 
-/// Whether a command finds what it is about: an insert no value, a lookup or an upsert one.
+/// Whether a command finds what it is about: an insert no value, a lookup, an upsert or a deletion one.
 fn succeeds(tree: &Tree, seat: &mut BwSeat, command: Command) -> bool
     requires own { IsSeatOf tree.now seat.old }
     ensures same { IsSame seat.old seat.new }
 {
     match reply(tree, seat, command) {
-        Ok(Reply::Inserted | Reply::Value(_) | Reply::Replaced(_)) => true,
+        Ok(Reply::Inserted | Reply::Value(_) | Reply::Replaced(_) | Reply::Deleted(_)) => true,
         _ => false,
     }
 }

@@ -85,6 +85,18 @@ pub(crate) fn replies(core: &mut Core, actor: u8, command: Command, wanted: Repl
     reply(core, actor, command) == Some(wanted)
 }
 
+/// How many PIDs are in use, of at most 512. PID 0 is among them, those that an actor has taken, and those in limbo.
+pub(crate) fn used(core: &Core) -> u32 {
+    let (memory, pids) = (core.memory(), core.limits().pids);
+    let mut count = 0u32;
+    for pid in 0..512u16 {
+        if u64::from(pid) < pids && !memory.is_free_pid(pid) {
+            count = count.wrapping_add(1);
+        }
+    }
+    count
+}
+
 /// Whether all operations are done, and then four deletes of a key by each actor, after which each has freed all that it took out.
 pub(crate) fn comes_to_rest(core: &mut Core, key: &Key) -> bool {
     for actor in 0..16u8 {

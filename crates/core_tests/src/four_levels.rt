@@ -2,8 +2,7 @@
 
 use crate::by_hand::{begins, end, let_go, replies, stepped};
 use crate::numbered::{key, value};
-use crate::scripts::{Ask, Line, Say, lists_all, opened, runs};
-use crate::stops::{Stop, stops_from};
+use crate::scripts::{Line, lists_all, opened, runs};
 use crate::tally::Tally;
 use bw_model::{Command, Link, Reply};
 use std::alloc::Global;
@@ -106,43 +105,4 @@ fn reads_between(alloc: Global) -> bool {
 #[test]
 fn a_lookup_goes_through_a_removal_on_level_2(rt: HostRuntime) {
     assert!(rt; reads_between(rt.alloc()));
-}
-
-/// On the way that the removal is on: a cursor page, inserts of ten keys, by which a leaf is split, a delete, and the rest of the commands.
-const OTHERS: [Line; 8] = [
-    Line::Replies(1, Ask::Page(780), Say::Page(780, 784, Some(785))),
-    Line::InsertsBehind(1, 790),
-    Line::Deletes(1, 803, 803),
-    Line::Replies(1, Ask::Swap(802, 802, 802), Say::Swapped),
-    Line::Replies(1, Ask::Upsert(801, 801), Say::Replaced(801)),
-    Line::Replies(1, Ask::Tidy(802), Say::Tidied),
-    Line::Finishes(0, Say::Deleted(804)),
-    Line::Replies(1, Ask::Get(801), Say::Value(801)),
-];
-
-/// Before the step after which the delete begins with the page of level 2: it holds the term of that page some forty steps before it removes it,
-/// by the 243rd.
-const BEFORE_HOLD: u32 = 190;
-
-/// Whether the delete stops anywhere from there on, while actor 1 does all of that.
-fn removal_stops(alloc: Global) -> bool {
-    let stop = Stop {
-        actor: 0,
-        ask: Ask::Delete(804),
-        link: Link::Delete,
-        least: 340,
-        most: 400,
-    };
-    stops_from(
-        alloc,
-        &BEFORE_REMOVAL,
-        (stop, BEFORE_HOLD),
-        &OTHERS,
-        &OTHERS,
-    )
-}
-
-#[test]
-fn others_go_through_a_removal_on_level_2(rt: HostRuntime) {
-    assert!(rt; removal_stops(rt.alloc()));
 }

@@ -17,6 +17,8 @@ mod four_levels;
 #[cfg(test)]
 mod index_removals;
 #[cfg(test)]
+mod level_two;
+#[cfg(test)]
 mod named;
 #[cfg(test)]
 mod numbered;
@@ -24,6 +26,8 @@ mod numbered;
 mod numbers;
 #[cfg(test)]
 mod plain_map;
+#[cfg(test)]
+mod planned_above;
 #[cfg(test)]
 mod refusals;
 #[cfg(test)]
@@ -46,6 +50,8 @@ mod scripts;
 mod standing;
 #[cfg(test)]
 mod stops;
+#[cfg(test)]
+mod stops_above;
 #[cfg(test)]
 mod swaps;
 #[cfg(test)]

@@ -72,18 +72,7 @@ pub(crate) fn stops_anywhere(
     early: &[Line],
     late: &[Line],
 ) -> bool {
-    stops_from(alloc, before, (stop, 0), early, late)
-}
-
-/// Whether they do wherever it stops from a step on, and it takes as many steps as is said.
-pub(crate) fn stops_from(
-    alloc: Global,
-    before: &[Line],
-    (stop, first): (Stop, u32),
-    early: &[Line],
-    late: &[Line],
-) -> bool {
-    for steps in first..=stop.most {
+    for steps in 0..=stop.most {
         match goes_on_anew(alloc, before, (stop, steps), early, late) {
             Some(true) => {}
             Some(false) => return false,

@@ -1,6 +1,6 @@
 //! Trees that grow and shrink to nothing, again and again, by actors whose turns are drawn.
 
-use crate::by_hand::{let_go, replies, reply};
+use crate::by_hand::{comes_to_rest, let_go, replies, reply, used};
 use crate::index_removals::removes;
 use crate::numbered::{insert, key, value};
 use crate::scripts::{lists_all, opened};
@@ -160,6 +160,63 @@ fn lasts(alloc: Global) -> Option<bool> {
 #[test]
 fn a_tree_rises_and_falls(rt: HostRuntime) {
     assert!(rt; lasts(rt.alloc()) == Some(true));
+}
+
+/// Tides: with one actor in each order, and with four.
+const TIDES: [(u32, u8, Order); 4] = [
+    (1_100, 1, Order::Ascending),
+    (1_100, 1, Order::Descending),
+    (1_100, 1, Order::Scattered),
+    (1_000, 4, Order::Scattered),
+];
+
+/// Whether each of so many keys' places is tidied, from the last one on.
+fn tidies(core: &mut Core, keys: u32) -> bool {
+    for number in (1..=keys).rev() {
+        if !replies(core, 0, Command::Tidy(key(number)), Reply::Tidied) {
+            return false;
+        }
+    }
+    true
+}
+
+/// Whether a tide comes and goes, and its places are tidied where several actors have deleted; and all that was taken out is free then.
+fn comes_and_goes(alloc: Global, core: &mut Core, rise: &Tide, seed: u64) -> bool {
+    let fall = Tide {
+        rises: false,
+        ..*rise
+    };
+    rises_and_falls(alloc, core, rise, &fall, seed)
+        && (rise.actors == 1 || tidies(core, rise.keys))
+        && comes_to_rest(core, &key(1))
+}
+
+/// How many PIDs are in use after each of five tides; none where a reply is wrong.
+fn used_after(alloc: Global, place: usize) -> Option<[u32; 5]> {
+    let (keys, actors, order) = TIDES[place % 4];
+    let rise = Tide {
+        rises: true,
+        keys,
+        actors,
+        order,
+    };
+    let mut core = opened(alloc, u64::from(actors), 512, 4_096, 1)?;
+    let mut after = [0; 5];
+    let mut right = true;
+    for seed in 0..5usize {
+        right = right && comes_and_goes(alloc, &mut core, &rise, seed as u64);
+        after[seed] = used(&core);
+    }
+    let_go(core);
+    right.then_some(after)
+}
+
+// A page is left on each level, of which there are four or three, and PID 0.
+#[test]
+fn tides_leave_as_many_pids(rt: HostRuntime) {
+    let after = [0, 1, 2, 3].map(|place| used_after(rt.alloc(), place));
+    let wanted = [Some([5; 5]), Some([5; 5]), Some([4; 5]), Some([4; 5])];
+    assert!(rt; after == wanted, "{after:?}");
 }
 
 /// Eighty keys come in their order: nine leaves, of eight keys each but the last.

@@ -1,6 +1,6 @@
 //! Keys that come at one end and go at the other: how many PIDs are in use at most.
 
-use crate::by_hand::replies;
+use crate::by_hand::{replies, used};
 use crate::numbered::{insert, key, value};
 use crate::scripts::{inserts, lists_all, opened};
 use crate::tally::Tally;
@@ -13,6 +13,9 @@ const KEYS: u32 = 1_000;
 
 const LAST: u32 = 10_000;
 
+/// How many laps there are: in each as many keys come as there are at a time, and as many go.
+const LAPS: usize = 9;
+
 /// Whether the oldest key goes, and the next one comes.
 fn moves(core: &mut Core, actor: u8, number: u32) -> bool {
     let old = number.wrapping_sub(KEYS);
@@ -21,12 +24,10 @@ fn moves(core: &mut Core, actor: u8, number: u32) -> bool {
         && replies(core, actor, insert(number), Reply::Inserted)
 }
 
-/// Whether all keys come and go, by the actors in turn.
-fn moves_all(core: &mut Core, actors: u8) -> bool {
-    if !inserts(core, 0, 1, KEYS) {
-        return false;
-    }
-    for number in KEYS + 1..=LAST {
+/// Whether all keys of a lap have come, and those of the one before have gone, by the actors in turn.
+fn moves_all(core: &mut Core, actors: u8, lap: u32) -> bool {
+    for place in 1..=KEYS {
+        let number = lap.wrapping_mul(KEYS).wrapping_add(place);
         let actor = (number % 16) as u8 % actors.max(1);
         if !moves(core, actor, number) {
             return false;
@@ -35,18 +36,46 @@ fn moves_all(core: &mut Core, actors: u8) -> bool {
     true
 }
 
-/// How many PIDs are in use at most.
-fn most_used(alloc: Global, actors: u8) -> Option<u32> {
-    let mut core = opened(alloc, u64::from(actors), 192, 8_192, 1)?;
-    let right = moves_all(&mut core, actors) && lists_all(alloc, &core, LAST - KEYS + 1, LAST);
-    let trace = core.into_trace();
-    let tally = Tally::of(&trace.entries);
-    right.then_some(tally.most_used)
+/// How many PIDs are in use after each lap; none where a reply is wrong.
+fn used_after(core: &mut Core, actors: u8) -> Option<[u32; LAPS]> {
+    if !inserts(core, 0, 1, KEYS) {
+        return None;
+    }
+    let mut after = [0; LAPS];
+    for lap in 1..=LAPS {
+        if !moves_all(core, actors, lap as u32) {
+            return None;
+        }
+        after[(lap - 1) % LAPS] = used(core);
+    }
+    Some(after)
 }
 
+/// The first number, and the greatest one.
+fn first_and_greatest(numbers: &[u32]) -> [u32; 2] {
+    let first = numbers.first().copied().unwrap_or(0);
+    let mut greatest = first;
+    for number in numbers {
+        greatest = greatest.max(*number);
+    }
+    [first, greatest]
+}
+
+/// How many PIDs are in use at most, how many after the first lap, and how many at most after a lap.
+fn laps(alloc: Global, actors: u8) -> Option<[u32; 3]> {
+    let mut core = opened(alloc, u64::from(actors), 192, 8_192, 1)?;
+    let after = used_after(&mut core, actors);
+    let right = lists_all(alloc, &core, LAST - KEYS + 1, LAST);
+    let trace = core.into_trace();
+    let tally = Tally::of(&trace.entries);
+    let after = after?;
+    let [first, greatest] = first_and_greatest(&after);
+    right.then_some([tally.most_used, first, greatest])
+}
+
+// A lap is no whole number of pages of level 2, of 512 keys each, so that its end may find two pages more than the first one's.
 #[test]
 fn a_window_takes_few_pids(rt: HostRuntime) {
-    let (alone, by_four) = (most_used(rt.alloc(), 1), most_used(rt.alloc(), 4));
-    assert!(rt; alone.is_some_and(|most| most <= 151), "{alone:?}");
-    assert!(rt; by_four.is_some_and(|most| most <= 160), "{by_four:?}");
+    let found = [laps(rt.alloc(), 1), laps(rt.alloc(), 4)];
+    assert!(rt; found == [Some([151, 145, 147]); 2], "{found:?}");
 }

@@ -39,7 +39,7 @@ impl Work for Inserts {
 }
 
 /// The works once they are done on a new tree, all at once, and its pairs.
-fn done_at_once<R: Threads + Sync, W: Work>(
+pub(crate) fn done_at_once<R: Threads + Sync, W: Work>(
     rt: &R,
     alloc: Global,
     limits: Limits,
