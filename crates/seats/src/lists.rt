@@ -1,5 +1,6 @@
 //! Lists of a tree's seats.
-ghost use Rattle.std.specs.Prelude.{◌≡◌, ◌↔◌, ◌++◌, ◌∷◌, [], IfErr, IfOk, IfSome, IsErrOf, MatchBool, None, OnErr, OnOk, option_to_list, vec_len};
+ghost use Rattle.std.specs.Prelude.{◌≡◌, ◌≤◌, ◌↔◌, ◌++◌, ◌∷◌, [], IfErr, IfOk, IfSome, IsErrOf, MatchBool, None, OnErr, OnOk, option_to_list, vec_len};
+ghost use Rattle.std.specs.Vec.{vec_capacity};
 ghost use Rattle.bw_model.specs.declared.command.Reply.TheVariants as reply;
 ghost use Rattle.bw_tree.specs.Loaded.{AreLoaded, IsStopped, KeysAscend};
 ghost use Rattle.bw_tree.specs.Trees.{AreFresh, AreSeatsOf, HasBusy, IsSeatOf};
@@ -48,6 +49,7 @@ pub fn take_seat(tree: &Tree, seats: &mut Vec<BwSeat>) -> Option<BwSeat>
     ensures taken { IfSome result (IsSeatOf tree.now) }
     ensures last { seats.old.items ≡ seats.new.items ++ option_to_list result }
     ensures none { result ≡ None → vec_len seats.old ≡ 0 }
+    ensures room { vec_capacity seats.new ≡ vec_capacity seats.old }
 {
     let _ = tree;
     seats.pop()
@@ -61,6 +63,8 @@ pub fn give_seat(tree: &Tree, seats: &mut Vec<BwSeat>, seat: BwSeat) -> Result<(
     ensures ok { OnOk result (seats.new.items ≡ seats.old.items ++ seat ∷ []) }
     ensures err { OnErr result (seats.new.items ≡ seats.old.items) }
     ensures back { IfErr result (λ refused. refused ≡ seat) }
+    ensures room { OnErr result (vec_capacity seats.old ≤ vec_len seats.old) }
+    ensures capacity { vec_capacity seats.old ≤ vec_capacity seats.new }
 {
     let _ = tree;
     match seats.push(seat) {

@@ -1,5 +1,5 @@
 -- Cursors, and what asking one for its next page comes to.
-use Rattle.std.specs.Prelude.{◌≡◌, ◌+◌, ◌≤◌, ◌++◌, ◌-◌, ◌^◌, ◌⊎◌, ℕ, Bool, true, false, List, [], Option, None, Some, if◌then◌else◌, length}
+use Rattle.std.specs.Prelude.{◌≡◌, ◌+◌, ◌≤◌, ◌++◌, ◌-◌, ◌^◌, ◌⊎◌, ℕ, Bool, true, false, List, [], Option, None, Some, if◌then◌else◌, length, map}
 use Rattle.bw_model.specs.declared.command.Command.{Command}
 use Rattle.bw_model.specs.declared.command.Command.TheVariants as command
 use Rattle.bw_model.specs.declared.command.Reply.{Reply}
@@ -8,7 +8,7 @@ use Rattle.traces.specs.declared.trace.Entry.{Entry}
 use Rattle.traces.specs.declared.trace.Turn.{Turn}
 use Rattle.tree_limits.specs.declared.limits.Limits.{Limits}
 use Rattle.op_machine.specs.theorem.Linearized.{IsLinearized}
-use Rattle.bw_tree.specs.Calls.{IsCalled, IsResumed}
+use Rattle.bw_tree.specs.Calls.{IsCalled, IsResumed, calls_in}
 use Rattle.bw_tree.specs.Runs.{StartsWith}
 use Rattle.bw_tree.specs.Seats.{IsSame, Seat}
 use Rattle.bw_tree.specs.declared.called.Called.{Called}
@@ -72,14 +72,23 @@ IsNextOf old seat budget walk.Page new later = HasShown old seat budget new late
 IsNextOf old seat budget walk.Spent new later = HasAsked old seat budget new later
 IsNextOf old seat budget walk.End new later = (old.at ≡ None) × (new ≡ old) × (later ≡ seat)
 
+-- the commands of a seat's calls, in order
+abbrev pub commands_in : Seat → List Command
+commands_in seat = map (λ call. call.0) (calls_in seat)
+
+-- The seat was called with the commands that it had been called with, and then with commands of cursor pages alone.
+abbrev pub CallsPages : Seat → Seat → Type 0
+CallsPages seat later = (keys : List (List ℕ)) × (commands_in later ≡ commands_in seat ++ map command.Page keys)
+
 -- A list of pairs grew by what pages show that follow one another in one walk, from where the cursor stood to where it stands. After whatever
--- the seat had seen while it was idle the walk began, and it was over before something that the seat has seen while it was idle.
+-- the seat had seen while it was idle the walk began, and it was over before something that the seat has seen while it was idle. Nothing else was called on the seat.
 pub record HasWalked (old : Cursor) (seat : Seat) (before after : List (List ℕ × List ℕ)) (new : Cursor) (later : Seat) : Type 0 where
   pub pages : List WalkedPage
   pub shown : after ≡ before ++ pairs_shown pages
   pub walk : (early : List Entry) → WasIdle seat early → (late : List Entry) × WasIdle later late × IsWalk later.seen old.bound old.at (length early) pages new.at (length late)
   pub bound : new.bound ≡ old.bound
   pub grows : StartsWith later.seen seat.seen
+  pub alone : CallsPages seat later
 
 -- What was added to a list tells of the map, by whatever points the run is linearized: from after whatever the seat had seen while it was idle
 -- to before something that it has seen while it was idle.
