@@ -42,8 +42,8 @@ fn raise(tree: &Tree, seat: &mut BwSeat, counter: &Key) -> bool
             Ok(Reply::Swapped) => return true,
             // another thread was faster: its value comes back
             Ok(Reply::Differs(other)) => known = other,
-            // nothing was free just now, and nothing was changed
-            Ok(Reply::Full) => {}
+            // nothing is free, and to try again frees nothing: tidy, or move to a larger tree
+            Ok(Reply::Full) => return false,
             _ => return false,
         }
     }
@@ -79,7 +79,11 @@ fn raised<R: Threads + Sync>(rt: &R, alloc: Global) -> Option<(Vec<Raises>, Vec<
         // error.refusal says why: there are more works than seats, or there is no memory
         Err(error) => error.works,
     };
-    Some(works).zip(tree.close(alloc, seats).ok())
+    match tree.close(alloc, seats) {
+        Ok(pairs) => Some((works, pairs)),
+        // nothing is lost: the tree and its seats are in the error, as they were
+        Err(error) => Some((works, error.tree.close(alloc, error.seats).ok()?)),
+    }
 }
 
 #[test]
