@@ -56,7 +56,11 @@ fn done<R: Threads + Wait + Sync>(
     let jobs = jobs(alloc).ok()?;
     let (tree, seats) = opened(alloc, limits).ok()?;
     let (results, seats) = ran(rt, alloc, &tree, seats, jobs);
-    results.zip(tree.close(alloc, seats).ok())
+    match tree.close(alloc, seats) {
+        Ok(pairs) => Some((results?, pairs)),
+        // nothing is lost: the tree and its seats are in the error, as they were
+        Err(error) => Some((results?, error.tree.close(alloc, error.seats).ok()?)),
+    }
 }
 
 #[test]

@@ -23,22 +23,27 @@ impl Work for Fills {
     }
 }
 
-/// Fills a tree, from the next number on, and closes it: its pairs.
-fn filled(alloc: Global, store: Store, fills: &mut Fills) -> Option<Vec<(Key, Value)>> {
+/// Fills a tree, from the next number on, and closes it: its pairs; or the store, which has them.
+fn filled(alloc: Global, store: Store, fills: &mut Fills) -> Result<Vec<(Key, Value)>, Store> {
     let mut store = store;
     if !store.lend(fills) {
-        return None;
+        return Err(store);
     }
-    store.close(alloc).ok()
+    store.close(alloc)
 }
 
 /// How many pairs fill the small tree, and the larger one.
 fn filled_twice(alloc: Global) -> Option<(usize, usize)> {
     let mut fills = Fills { next: 0 };
     let small = Store::open(alloc, Limits::for_keys(1, 100).ok()?)?;
-    let pairs = filled(alloc, small, &mut fills)?;
+    // nothing is lost where it is refused: the store comes back, and is closed once more
+    let pairs = filled(alloc, small, &mut fills)
+        .or_else(|store| store.close(alloc))
+        .ok()?;
     let larger = Store::open_from(alloc, Limits::for_keys(1, 1000).ok()?, pairs.as_slice())?;
-    let more = filled(alloc, larger, &mut fills)?;
+    let more = filled(alloc, larger, &mut fills)
+        .or_else(|store| store.close(alloc))
+        .ok()?;
     Some((pairs.len(), more.len()))
 }
 

@@ -68,7 +68,11 @@ pub(crate) fn done_alone<W: Work>(alloc: Global, work: &mut W) -> Option<Vec<(Ke
     if !store.lend(work) {
         return None;
     }
-    store.close(alloc).ok()
+    match store.close(alloc) {
+        Ok(pairs) => Some(pairs),
+        // nothing is lost: the store comes back, and is closed once more
+        Err(store) => store.close(alloc).ok(),
+    }
 }
 
 /// Gives a key a value, and looks it up.
