@@ -7,7 +7,7 @@ use bw_model::{Command, Key, Reply, Value};
 use bw_tree::{BwSeat, Tree};
 use std::alloc::Global;
 use walks::{Cursor, Scanned, Walk};
-use workers::{Work, reply};
+use workers::{Work, reply, resumed};
 
 /// How many steps a page may take.
 const BUDGET: u32 = 4096;
@@ -50,7 +50,11 @@ fn listed(tree: &Tree, seat: &mut BwSeat, alloc: Global) -> Option<Vec<(Key, Val
     let mut pairs = Vec::new(alloc);
     match cursor.scan(tree, seat, BUDGET, &mut pairs) {
         Ok(Scanned::End) => Some(pairs),
-        _ => None,
+        // the list is given up: the operation of its page ends, so that the seat is idle again
+        _ => {
+            let _ = resumed(tree, seat, u32::MAX);
+            None
+        }
     }
 }
 

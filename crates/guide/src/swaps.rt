@@ -42,8 +42,8 @@ fn raise(tree: &Tree, seat: &mut BwSeat, counter: &Key) -> bool
             Ok(Reply::Swapped) => return true,
             // another thread was faster: its value comes back
             Ok(Reply::Differs(other)) => known = other,
-            // nothing was free just now, and nothing was changed
-            Ok(Reply::Full) => {}
+            // nothing is free, and to try again frees nothing: tidy, or move to a larger tree
+            Ok(Reply::Full) => return false,
             _ => return false,
         }
     }
