@@ -1,6 +1,9 @@
 //! The pairs of a range of keys, page by page and all at once.
+ghost use Rattle.std.specs.Prelude.{◌≡◌, [], false, IfSome, None, Some};
 ghost use Rattle.bw_tree.specs.Seats.{IsSame};
 ghost use Rattle.bw_tree.specs.Trees.{IsSeatOf};
+ghost use Rattle.walks.specs.Cursors.{Cursor as Place, HasTold};
+ghost use Rattle.walks.specs.Pages.{place_under};
 
 use crate::opening::done_alone;
 use bw_model::{Command, Key, Reply, Value};
@@ -38,15 +41,22 @@ fn counted(tree: &Tree, seat: &mut BwSeat) -> Option<usize>
     None
 }
 
-/// The pairs of that range, in a list.
-fn listed(tree: &Tree, seat: &mut BwSeat, alloc: Global) -> Option<Vec<(Key, Value)>>
+/// The pairs of the keys from one on and below a bound, in a list, which tells of the tree's map what a walk to its end tells.
+fn listed(
+    tree: &Tree,
+    seat: &mut BwSeat,
+    alloc: Global,
+    from: Key,
+    bound: Key,
+) -> Option<Vec<(Key, Value)>>
     requires own { IsSeatOf tree.now seat.old }
     ensures same { IsSame seat.old seat.new }
+    ensures told { IfSome result (λ pairs. (end : Place) × (end.at ≡ None) × HasTold (record { at = place_under (Some bound) (Some from); bound = Some bound; asked = false; pairs = [] }) seat.old [] pairs.items end seat.new) }
 {
     if !seat.is_idle() {
         return None;
     }
-    let mut cursor = Cursor::new(key(20), Some(key(50)));
+    let mut cursor = Cursor::new(from, Some(bound));
     let mut pairs = Vec::new(alloc);
     match cursor.scan(tree, seat, BUDGET, &mut pairs) {
         Ok(Scanned::End) => Some(pairs),
@@ -74,7 +84,7 @@ impl Work for Walks {
             }
         }
         let counted = counted(tree, seat);
-        self.walked = counted.zip(listed(tree, seat, self.alloc));
+        self.walked = counted.zip(listed(tree, seat, self.alloc, key(20), key(50)));
     }
 }
 

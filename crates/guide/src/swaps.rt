@@ -1,6 +1,6 @@
 //! Threads raise a counter, each by swaps that it tries until one wins.
 ghost use Rattle.bw_tree.specs.Seats.{IsSame};
-ghost use Rattle.bw_tree.specs.Trees.{IsSeatOf};
+ghost use Rattle.bw_tree.specs.Trees.{AreSeatsOf, IsSeatOf};
 
 use bw_model::{Command, Key, Limits, Reply, Value};
 use bw_tree::{BwSeat, Tree};
@@ -68,6 +68,17 @@ impl Work for Raises {
     }
 }
 
+/// The pairs of a tree, which ends with it; it is closed once more where that is refused.
+fn closed(alloc: Global, tree: Tree, seats: Vec<BwSeat>) -> Option<Vec<(Key, Value)>>
+    requires own { AreSeatsOf tree seats.items }
+{
+    match tree.close(alloc, seats) {
+        Ok(pairs) => Some(pairs),
+        // nothing is lost: the tree and its seats are in the error, as they were
+        Err(error) => error.tree.close(alloc, error.seats).ok(),
+    }
+}
+
 /// Lets four threads raise the counter of a new tree, all at once: the works, and the pairs at the end.
 fn raised<R: Threads + Sync>(rt: &R, alloc: Global) -> Option<(Vec<Raises>, Vec<(Key, Value)>)> {
     let work = || Raises { raised: 0 };
@@ -79,11 +90,7 @@ fn raised<R: Threads + Sync>(rt: &R, alloc: Global) -> Option<(Vec<Raises>, Vec<
         // error.refusal says why: there are more works than seats, or there is no memory
         Err(error) => error.works,
     };
-    match tree.close(alloc, seats) {
-        Ok(pairs) => Some((works, pairs)),
-        // nothing is lost: the tree and its seats are in the error, as they were
-        Err(error) => Some((works, error.tree.close(alloc, error.seats).ok()?)),
-    }
+    Some(works).zip(closed(alloc, tree, seats))
 }
 
 #[test]
