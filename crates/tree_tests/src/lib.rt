@@ -41,6 +41,8 @@ mod refused_jobs;
 #[cfg(test)]
 mod refused_trees;
 #[cfg(test)]
+mod room_watched;
+#[cfg(test)]
 mod run_out;
 #[cfg(test)]
 mod runs;

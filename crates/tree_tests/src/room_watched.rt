@@ -1,0 +1,134 @@
+//! How many PIDs and rows are free while a tree opens, fills, refuses, and empties again.
+ghost use Rattle.bw_tree.specs.Trees.{IsSeatOf};
+
+use crate::calls::{goes_to_its_end, stops_after};
+use crate::works::{Work, key};
+use bw_model::{Command, Limits, Reply};
+use bw_tree::{BwSeat, Room, Tree};
+use std::alloc::Global;
+use workers::{opened, reply, take_seat};
+
+/// More keys than the trees hold.
+const KEYS: u32 = 1_000;
+
+/// How many steps are too few for a lookup, and how many are enough.
+const FEW: u32 = 3;
+
+const ENOUGH: u32 = 4_096;
+
+/// Does the work for the numbers from a first one on, until it is refused or was done for so many; tells for how many.
+fn works(tree: &Tree, seat: &mut BwSeat, work: Work, first: u32, count: u32) -> u32
+    requires own { IsSeatOf tree.now seat.old }
+    ensures own { IsSeatOf tree.now seat.new }
+{
+    for place in 0..count {
+        let number = first.wrapping_add(place);
+        if reply(tree, seat, work.command(number)) != Ok(work.reply(number)) {
+            return place;
+        }
+    }
+    count
+}
+
+/// What two idle seats in turn say is free, where they say the same.
+fn free(tree: &Tree, one: &mut BwSeat, other: &mut BwSeat) -> Option<(u32, u32)>
+    requires own { IsSeatOf tree.now one.old }
+    requires own_other { IsSeatOf tree.now other.old }
+    ensures own { IsSeatOf tree.now one.new }
+    ensures own_other { IsSeatOf tree.now other.new }
+{
+    let room = tree.room(one);
+    if tree.room(other) != room {
+        return None;
+    }
+    let Room {
+        free_pids,
+        free_rows,
+    } = room;
+    Some((free_pids, free_rows))
+}
+
+/// How many PIDs and rows are free in a tree of two seats: at the opening; once one has inserted nine keys, which takes a chain out of the tree; once the
+/// other one has inserted until it was refused; and once the first one has tidied.
+fn filled(tree: &Tree, one: &mut BwSeat, other: &mut BwSeat) -> Option<[(u32, u32); 4]>
+    requires own { IsSeatOf tree.now one.old }
+    requires own_other { IsSeatOf tree.now other.old }
+    ensures own { IsSeatOf tree.now one.new }
+    ensures own_other { IsSeatOf tree.now other.new }
+{
+    let opening = free(tree, one, other)?;
+    works(tree, one, Work::Insert, 0, 9);
+    let begun = free(tree, one, other)?;
+    works(tree, other, Work::Insert, 9, KEYS);
+    let full = free(tree, one, other)?;
+    works(tree, one, Work::Tidy, 0, 1);
+    let tidied = free(tree, one, other)?;
+    Some([opening, begun, full, tidied])
+}
+
+/// The same, once one seat has deleted the keys, as far as it wasn't refused, and both have tidied at each of them, twice.
+fn emptied(tree: &Tree, one: &mut BwSeat, other: &mut BwSeat) -> Option<(u32, u32)>
+    requires own { IsSeatOf tree.now one.old }
+    requires own_other { IsSeatOf tree.now other.old }
+    ensures own { IsSeatOf tree.now one.new }
+    ensures own_other { IsSeatOf tree.now other.new }
+{
+    works(tree, other, Work::Delete, 0, KEYS);
+    for _ in 0..2 {
+        works(tree, other, Work::Tidy, 0, KEYS);
+        works(tree, one, Work::Tidy, 0, KEYS);
+    }
+    free(tree, one, other)
+}
+
+/// Whether so many PIDs and rows are free in a tree of this size each time, and in the end.
+fn are_free(
+    alloc: Global,
+    size: (u64, u64),
+    filling: [(u32, u32); 4],
+    end: (u32, u32),
+) -> Option<bool> {
+    let limits = Limits::new(2, size.0, size.1, 1).ok()?;
+    let (tree, mut seats) = opened(alloc, limits).ok()?;
+    let mut one = take_seat(&tree, &mut seats)?;
+    let mut other = take_seat(&tree, &mut seats)?;
+    let right = filled(&tree, &mut one, &mut other)? == filling;
+    Some(right && emptied(&tree, &mut one, &mut other)? == end)
+}
+
+// The deletions are refused in the end, too.
+#[test]
+fn no_row_is_free_where_rows_ran_out(rt: HostRuntime) {
+    let filling = [(62, 62), (62, 52), (42, 0), (42, 8)];
+    assert!(rt; are_free(rt.alloc(), (64, 64), filling, (43, 40)) == Some(true));
+}
+
+// All pages but the root and its leaf come back; of the rows, all but those of these two and what the seats hold back.
+#[test]
+fn no_pid_is_free_where_pids_ran_out(rt: HostRuntime) {
+    let filling = [(62, 1022), (62, 1012), (0, 863), (0, 871)];
+    assert!(rt; are_free(rt.alloc(), (64, 1024), filling, (60, 1016)) == Some(true));
+}
+
+// The second of two words of PIDs and the last of 32 of rows are counted, too.
+#[test]
+fn all_words_are_counted(rt: HostRuntime) {
+    let filling = [(126, 2046), (126, 2036), (0, 1768), (0, 1776)];
+    assert!(rt; are_free(rt.alloc(), (128, 2048), filling, (124, 2033)) == Some(true));
+}
+
+/// Whether a seat may ask in the midst of a lookup, which then goes on to its end.
+fn asks_when_busy(alloc: Global) -> Option<bool> {
+    let limits = Limits::new(1, 64, 64, 1).ok()?;
+    let (tree, mut seats) = opened(alloc, limits).ok()?;
+    let mut seat = take_seat(&tree, &mut seats)?;
+    let stopped = stops_after(&tree, &mut seat, Command::Get(key(1)), FEW);
+    let room = tree.room(&mut seat);
+    let ended = goes_to_its_end(&tree, &mut seat, ENOUGH, Reply::None);
+    Some(stopped && ended && room.free_pids == 62 && room.free_rows == 62)
+}
+
+#[test]
+fn a_busy_seat_asks(rt: HostRuntime) {
+    assert!(rt; asks_when_busy(rt.alloc()) == Some(true));
+}
