@@ -1,4 +1,4 @@
-//! Trees whose keys come at one end and go at the other, each in a thread of its own: PIDs don't run out, however many keys come, where few are
+//! Trees whose keys come at one end and go behind it, each in a thread of its own: PIDs don't run out, however many keys come, where few are
 //! there at a time. Were a page of level 2 lost for each 512 keys, with one below it on each level, 256 PIDs would be lost within the first 20,000 of
 //! the 100,000 keys of the first tree. bench/windows.sh does so with a million.
 ghost use Rattle.bw_tree.specs.Trees.{AreSeatsOf};
@@ -60,6 +60,72 @@ fn all_left<R: Threads + Sync>(
         Vec::from_array(alloc, TRIALS)?,
         &|trial: Trial| -> Option<usize> { left(alloc, trial) },
     )
+}
+
+/// So many keys after it came a key goes, by its turn, where as many pages as can be are to be left. No more than 996 keys are there at a time.
+const AGES: [u32; 4] = [24, 160, 896, 6_656];
+
+/// How many keys come then, and how many are there at the end.
+const THINNED: (u32, usize) = (8_000, 944);
+
+/// At which of the ages a key goes. Where keys come in their order, each page but the last of its level has eight keys or terms, and the first page
+/// below another one is never removed. So all keys of a first leaf go, those of the four next leaves but four, and then those of the others;
+/// likewise for the pages above leaves.
+fn turn(number: u32) -> usize {
+    let (leaf, page) = (number / 8 % 8, number / 64 % 8);
+    if number % 8 >= 4 || leaf == 0 {
+        0
+    } else if leaf > 4 || page == 0 {
+        1
+    } else if page > 4 {
+        2
+    } else {
+        3
+    }
+}
+
+/// Deletes the key that has come to the age, if that is its turn; tells whether nothing was refused.
+fn goes(tree: &Tree, seats: &mut Vec<BwSeat>, number: u32, age: u32, at: usize) -> bool
+    requires own { AreSeatsOf tree.now seats.old.items }
+    ensures own { AreSeatsOf tree.now seats.new.items }
+{
+    let old = number.wrapping_sub(age);
+    number < age || turn(old) != at || is_done(tree, seats, Work::Delete, old)
+}
+
+/// Inserts the keys in their order, and deletes each at its age, until something is refused: how many came.
+fn thins(tree: &Tree, seats: &mut Vec<BwSeat>, end: u32) -> u32
+    requires own { AreSeatsOf tree.now seats.old.items }
+    ensures own { AreSeatsOf tree.now seats.new.items }
+{
+    let [first, second, third, last] = AGES;
+    for number in 0..end {
+        if !(goes(tree, seats, number, first, 0)
+            && goes(tree, seats, number, second, 1)
+            && goes(tree, seats, number, third, 2)
+            && goes(tree, seats, number, last, 3)
+            && is_done(tree, seats, Work::Insert, number))
+        {
+            return number;
+        }
+    }
+    end
+}
+
+/// How many keys came to a tree of limits for so many, and how many pairs it has then.
+fn came(alloc: Global, keys: u64, end: u32) -> Option<(u32, usize)> {
+    let limits = Limits::for_keys(1, keys).ok()?;
+    let (tree, mut seats) = opened(alloc, limits).ok()?;
+    let came = thins(&tree, &mut seats, end);
+    let pairs = tree.close(alloc, seats).ok()?;
+    Some((came, pairs.len()))
+}
+
+// Limits for 7 / 2 of 1,000 keys hold them.
+#[test]
+fn first_pages_stay_without_keys(rt: HostRuntime) {
+    let held = came(rt.alloc(), 7 * 1_000 / 2, THINNED.0);
+    assert!(rt; held == Some(THINNED));
 }
 
 #[test]
