@@ -1,7 +1,9 @@
 pub mod Behind
 pub mod Fresh
+pub mod Gathering
 pub mod Going
 pub mod Pushed
 pub mod Resting
 pub mod Seeing
+pub mod Showing
 pub mod Yielded
