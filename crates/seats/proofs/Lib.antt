@@ -1,8 +1,10 @@
 pub mod Behind
 pub mod Fitting
 pub mod Fresh
+pub mod Gathering
 pub mod Going
 pub mod Pushed
 pub mod Resting
 pub mod Seeing
+pub mod Showing
 pub mod Yielded

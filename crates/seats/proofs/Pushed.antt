@@ -46,3 +46,7 @@ all_taken (x ∷ xs) ys = ap (λ rest. x ∷ rest) (all_taken xs ys)
 -- what is written over a whole list stands in its place
 pub written : {X : Type 0} (n : ℕ) (xs ys : List X) → n ≡ length xs → take n (xs ++ drop (length xs) ys) ≡ xs
 written n xs ys long = ap (λ k. take k (xs ++ drop (length xs) ys)) long ∙ all_taken xs (drop (length xs) ys)
+
+-- and one more element behind it
+pub pushed_behind : {X : Type 0} (n : ℕ) (xs ys news : List X) (x y : X) → n ≡ length xs → news ≡ take n (xs ++ drop (length xs) ys) ++ x ∷ [] → x ≡ y → news ≡ xs ++ y ∷ []
+pushed_behind n xs ys news x y long is same = is ∙ ap (λ z. z ++ x ∷ []) (written n xs ys long) ∙ ap (λ z. xs ++ z ∷ []) same

@@ -1,12 +1,14 @@
 -- Seats that see on, whatever others have done meanwhile.
-use Rattle.std.proofs.Common.{◌≡◌, ◌<◌, ◌+◌, ℕ, zero, suc, List, [], ◌∷◌, Some, ap, append-nil, arith, length, refl, slice_set, subst, sym, ◌∙◌}
+use Rattle.std.proofs.Common.{◌≡◌, ◌<◌, ◌+◌, ◌++◌, ℕ, zero, suc, List, [], ◌∷◌, Some, ap, arith, length, refl, slice_set, subst, sym, ◌∙◌}
 use Rattle.std.specs.Prelude.{slice_get, slice_index_or}
 use Rattle.std.proofs.lemmas.Option.{same_Some}
 use mathlib.Core.Logic.{dite}
 use native.Mathlib.Decide.{ℕ_discrete}
-use Rattle.traces.specs.discipline.Disciplined.{own_entries}
+use Rattle.std.proofs.lemmas.List.{append_assoc}
+use Rattle.traces.specs.declared.trace.Entry.{Entry}
+use Rattle.traces.specs.discipline.Disciplined.{Extends, own_entries}
 use Rattle.traces.specs.trace.Trace.{command_of}
-use Rattle.traces.proofs.OwnEntries.{own_extends}
+use Rattle.traces.proofs.OwnEntries.{extends_self, others_append, own_extends}
 use Rattle.tree_law.specs.Own.{OwnLasts}
 use Rattle.bw_tree.specs.Calls.{calls_along}
 use Rattle.bw_tree.specs.Notes.{HasHeeded, Note, note_of}
@@ -18,18 +20,21 @@ use Rattle.seats.specs.Gathered.{SeesOn}
 pub heeded : OwnLasts → (old new : Seat) (note : Note) → HasHeeded old note new → SeesOn old new
 heeded own old new note h = record {
   same = h.same;
-  grows = (h.extends.0, h.extends.1);
+  extends = h.extends;
   calls = ap (λ n. calls_along [] (own_entries n new.seen)) h.same.actor ∙ ap (calls_along []) (own_extends old.actor old.seen new.seen h.extends);
   command = ap (λ n. command_of new.seen n) h.same.actor ∙ (own old.limits old.actor old.seen new.seen h.extends).command;
 }
 
 pub sees_self : (seat : Seat) → SeesOn seat seat
-sees_self seat = record { same = same_self seat; grows = ([], sym (append-nil seat.seen)); calls = refl; command = refl }
+sees_self seat = record { same = same_self seat; extends = extends_self seat.actor seat.seen; calls = refl; command = refl }
+
+extends_more : (actor : ℕ) (a b c : List Entry) → Extends actor a b → Extends actor b c → Extends actor a c
+extends_more actor a b c g h = (g.0 ++ h.0, h.1 ∙ ap (λ z. z ++ h.0) g.1 ∙ append_assoc a g.0 h.0, others_append actor g.0 h.0 g.2 h.2)
 
 pub sees_on : (a b c : Seat) → SeesOn a b → SeesOn b c → SeesOn a c
 sees_on a b c g h = record {
   same = same_on a b c g.same h.same;
-  grows = starts_on a.seen b.seen c.seen g.grows h.grows;
+  extends = extends_more a.actor a.seen b.seen c.seen g.extends (subst (λ n. Extends n b.seen c.seen) g.same.actor h.extends);
   calls = h.calls ∙ g.calls;
   command = h.command ∙ g.command;
 }

@@ -1,16 +1,15 @@
 -- Workers are made of seats, and parted from them again.
-use Rattle.std.proofs.Common.{inl, inr, ◌≡◌, ◌<◌, ◌≤◌, ◌+◌, ◌*◌, ℕ, zero, suc, List, [], ◌∷◌, Some, refl, sym, ap, subst, ◌++◌, ◌∙◌, arith, All, Vec, false, flat_map, length, map, true}
+use Rattle.std.proofs.Common.{◌≡◌, ◌<◌, ◌≤◌, ◌+◌, ◌*◌, ℕ, zero, suc, List, [], ◌∷◌, Some, refl, sym, ap, subst, ◌++◌, ◌∙◌, arith, All, Vec, false, flat_map, length, map, true}
 use Rattle.std.specs.Prelude.{Bool, IsPermutation, MatchBool, Option, slice_get, slice_index_or, vec_len}
 use Rattle.std.specs.List.Sorted.{IsNonDecreasingBy}
 use Rattle.std.proofs.Math.Nat.{mul-le-mul_right}
 use Rattle.std.proofs.lemmas.Grind.{flat_map-append}
-use Rattle.std.proofs.lemmas.List.{append-nil, length-append, length-map, map-append}
+use Rattle.std.proofs.lemmas.List.{append-nil, length-map, map-append}
 use Rattle.std.proofs.lemmas.List.Elements.{All-weaker}
 use Rattle.std.proofs.lemmas.List.Sorted.{All-permutation}
 use Rattle.std.proofs.lemmas.Option.{same_Some}
 use Rattle.bw_model.specs.declared.command.Command.{Command}
 use Rattle.bw_model.specs.declared.command.Reply.{Reply}
-use Rattle.traces.proofs.Pushes.{slice_get-push, slice_get-push_cases, slice_get_kept}
 use Rattle.bw_tree.specs.Seats.{Seat}
 use Rattle.bw_tree.specs.Trees.{AreSeatsOf, Tree}
 use Rattle.workers.specs.declared.job.JobResult.{JobResult}
@@ -167,34 +166,34 @@ worked_as results others olds before news after worked same_results same_olds sa
     subst (λ z. HaveWorked z before after) (sym same_results)
     (subst (λ z. HaveWorked results z after) (sym same_olds) (subst (HaveWorked results olds) (sym same_news) worked))
 
--- and when the last seat has seen what all have seen
+-- and when they see what all have seen
 goes_on_seen : (old mid new : Seat) (made : List (Command × Option Reply)) → GoesOn old made mid → SeesOn mid new → GoesOn old made new
 goes_on_seen old mid new made goes on = record {
   same = same_on old mid new goes.same on.same;
-  grows = starts_on old.seen mid.seen new.seen goes.grows on.grows;
+  grows = starts_on old.seen mid.seen new.seen goes.grows (on.extends.0, on.extends.1);
   calls = on.calls ∙ goes.calls;
   idle = on.command ∙ goes.idle;
 }
 
+-- each seat was there before
+was_there : (mids news : List Seat) → HaveGathered mids news → (n : ℕ) (new : Seat) → slice_get news n ≡ Some new → (mid : Seat) × (slice_get mids n ≡ Some mid)
+was_there mids news g n new at =
+    let below = below_of news n new at in
+    let count = g.count in there mids n (omega (arith, below, count))
+
 pub gathered : {A : Type 0} (results : List (JobResult A)) (olds mids news : List Seat) → HaveWorked results olds mids → HaveGathered mids news → HaveWorked results olds news
-gathered results olds mids news worked g =
-    let counted = ap length g.before in
-    let counts = ap length g.after in
-    let before = length-append g.others (g.last ∷ []) in
-    let after = length-append g.others (g.later ∷ []) in
-    let same = worked.count in record {
-      count = omega (arith, counted, counts, before, after, same);
-      seated = worked.seated;
-      each = λ place old new at_old at_new. elim (slice_get-push_cases g.others g.later place new (sym (ap (λ z. slice_get z place) g.after) ∙ at_new)) [
-        | inl there ↦ worked.each place old new at_old (ap (λ z. slice_get z place) g.before ∙ slice_get_kept g.others (g.last ∷ []) place new there)
-        | inr is ↦
-            let h = worked.each place old g.last at_old (ap (λ z. slice_get z place) g.before ∙ ap (slice_get (g.others ++ g.last ∷ [])) is.0 ∙ slice_get-push g.others g.last) in
-            subst (HasWorked results place old) (sym is.1) record { order = h.order; named = h.named; goes = goes_on_seen old g.last g.later (flat_map calls_told h.order) h.goes g.on; history = g.seen.history }
-      ];
-    }
+gathered results olds mids news worked g = record {
+  count = g.count ∙ worked.count;
+  seated = worked.seated;
+  each = λ place old new at_old at_new.
+      let mid = was_there mids news g place new at_new in
+      let h = worked.each place old mid.0 at_old mid.1 in
+      let sees = g.each place mid.0 new mid.1 at_new in
+      record { order = h.order; named = h.named; goes = goes_on_seen old mid.0 new (flat_map calls_told h.order) h.goes sees.on; history = sees.history };
+}
 
 pub one_history : (mids news : List Seat) → HaveGathered mids news → HaveOneHistory news
-one_history mids news g = record { others = g.others; last = g.later; all = g.after; seen = g.seen }
+one_history mids news g = (g.run, λ n seat at. let mid = was_there mids news g n seat at in (g.each n mid.0 seat mid.1 at).all)
 
 -- what a refusal is told with
 pub stopped : {A : Type 0} (jobs : List Job) (refusal : JobsRefusal) (results given : List (JobResult A)) (olds news backs : List Seat) → refusal ≡ Results → given ≡ results → backs ≡ news → HaveWorked results olds news → HaveOneHistory news

@@ -20,7 +20,7 @@ use std::thread::Threads;
 /// Runs all jobs, by as many threads as there are seats, once all of these stand. A free thread takes the next job, and runs its commands in
 /// order, each to its end; it waits where the gate does. The results stand in order of the jobs' numbers. It is refused for want of memory
 /// or of a thread, before a job has begun, and where a result is missing, doubled or foreign. The seats come back in their order and idle, also
-/// from a refusal; the last one has seen what all have seen. A reply takes 3.2 KB, for which there is memory before a job begins.
+/// from a refusal; each has seen what all have done, in one history. A reply takes 3.2 KB, for which there is memory before a job begins.
 pub fn run_jobs<R: Threads + Wait + Sync, G: Gate + Sync, A: Allocator + Copy + Send + Sync>(
     rt: &R,
     alloc: A,
