@@ -5,3 +5,4 @@ mod LayoutExamples
 mod Layouts
 mod Ranges
 mod Shapes
+mod TextExamples

@@ -1,7 +1,7 @@
 //! The levels one under another.
 ghost use Rattle.std.specs.Prelude.{◌≡◌, ◌≤◌, ◌<◌, ◌+◌, ◌-◌, ◌*◌, ◌^◌, ◌++◌, ℕ, All, length, OnOk};
 ghost use Rattle.tree_picture.specs.Layout.{AreLaidTo};
-ghost use Rattle.tree_picture.specs.Pids.{all_pids, level_pids};
+ghost use Rattle.tree_picture.specs.Pids.{all_pids, all_removed, level_pids, level_removed};
 ghost use Rattle.tree_picture.specs.Ranges.{all_ranges, level_ranges};
 ghost use Rattle.tree_picture.specs.Sizes.{level_height, levels_height};
 ghost use Rattle.tree_picture.specs.declared.places.TheConstants.{DROP, GAP, PAGE_WIDTH};
@@ -25,6 +25,7 @@ fn level_row(
     requires { x + length level.now * (PAGE_WIDTH + GAP) < 2 ^ 32 }
     ensures pids { OnOk result (sheet.new.pids ≡ sheet.old.pids ++ level_pids level.now) }
     ensures ranges { OnOk result (sheet.new.ranges ≡ sheet.old.ranges ++ level_ranges level.now) }
+    ensures removed { OnOk result (sheet.new.removed ≡ sheet.old.removed ++ level_removed level.now) }
     ensures laid { OnOk result ((width : ℕ) → x + length level.now * (PAGE_WIDTH + GAP) ≤ width + GAP → AreLaidTo width (y + level_height level.now) x y sheet.old.boxes
         → AreLaidTo width (y + level_height level.now) (x + length level.now * (PAGE_WIDTH + GAP)) y sheet.new.boxes) }
 {
@@ -52,6 +53,7 @@ pub(crate) fn rows(
     requires high { top + levels_height levels.now < 2 ^ 32 }
     ensures pids { OnOk result (sheet.new.pids ≡ sheet.old.pids ++ all_pids levels.now) }
     ensures ranges { OnOk result (sheet.new.ranges ≡ sheet.old.ranges ++ all_ranges levels.now) }
+    ensures removed { OnOk result (sheet.new.removed ≡ sheet.old.removed ++ all_removed levels.now) }
     ensures laid { OnOk result (AreLaidTo width top 0 top sheet.old.boxes
         → AreLaidTo width (top + levels_height levels.now) 0 (top + levels_height levels.now) sheet.new.boxes) }
 {

@@ -1,5 +1,7 @@
 //! Lines between pages: side links, terms, and what stands where a term is missing or its page is merged.
 ghost use Rattle.std.specs.Prelude.{◌≡◌};
+ghost use Rattle.traces.specs.chain.Chains.{is_removed};
+ghost use Rattle.tree_picture.specs.Pages.{says_removed};
 
 use crate::colour::Colour;
 use crate::places::{GAP, PAGE_WIDTH, page_height, page_x};
@@ -41,7 +43,9 @@ fn term_for(above: &Level, pid: u16) -> Option<bool> {
 }
 
 /// The mark of a page by the level above it, or of a page of the top level, of which slot 0 has the root.
-pub(crate) fn mark_of(page: &ScenePage, above: Option<&Level>, root: u16) -> Mark {
+pub(crate) fn mark_of(page: &ScenePage, above: Option<&Level>, root: u16) -> Mark
+    ensures { says_removed result ≡ is_removed page.now.chain }
+{
     if page.page().is_removed() {
         return Mark::Removed;
     }

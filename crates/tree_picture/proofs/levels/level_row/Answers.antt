@@ -1,4 +1,5 @@
-use Rattle.std.proofs.Common.{◌≡◌, ◌≤◌, ◌+◌, ◌*◌, [], ◌∷◌, ap, arith, length, subst, sym, ◌∙◌}
+use Rattle.std.proofs.Common.{◌≡◌, ◌≤◌, ◌+◌, ◌*◌, [], ◌∷◌, ◌++◌, ap, arith, length, subst, sym, ◌∙◌}
+use Rattle.traces.specs.chain.Chains.{is_removed}
 use Rattle.tree_picture.specs.Layout.{AreLaidTo}
 use Rattle.tree_picture.specs.Ranges.{page_range}
 use Rattle.tree_picture.specs.Sizes.{level_height, page_height}
@@ -22,6 +23,8 @@ loop-page-preserved c =
     record {
       pids = ap (λ sheet. sheet.pids) same ∙ c.in_ok-page_box.ensures.pids ∙ told_next _ _ _ _ (page.pid ∷ []) c.loop-page.invariant.pids (map_next (λ page. page.pid) pages c.loop-page.page-index page there c.page-item.is);
       ranges = ap (λ sheet. sheet.ranges) same ∙ c.in_ok-page_box.ensures.ranges ∙ told_next _ _ _ _ (page_range page ∷ []) c.loop-page.invariant.ranges (map_next page_range pages c.loop-page.page-index page there c.page-item.is);
+      removed = ap (λ sheet. sheet.removed) same ∙ c.in_ok-page_box.ensures.removed ∙ ap (λ one. c.loop-page.sheet.removed ++ one ∷ []) c.mark_of.ensures
+          ∙ told_next _ _ _ _ (is_removed page.chain ∷ []) c.loop-page.invariant.removed (map_next (λ page. is_removed page.chain) pages c.loop-page.page-index page there c.page-item.is);
       at = omega (arith, at);
       laid = λ width fits to. subst (λ sheet. AreLaidTo width (c.args.y + level_height c.args.level.now) (c.loop-page.x + 276) c.args.y sheet.boxes) (sym same)
           (c.in_ok-page_box.ensures.laid width (c.args.y + level_height c.args.level.now) (c.loop-page.x + 276) (c.loop-page.invariant.laid width fits to)

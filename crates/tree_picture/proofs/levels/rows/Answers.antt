@@ -1,5 +1,5 @@
 use Rattle.std.proofs.Common.{◌≤◌, ◌+◌, ◌*◌, ap, arith, length, ◌∙◌}
-use Rattle.tree_picture.specs.Pids.{level_pids}
+use Rattle.tree_picture.specs.Pids.{level_pids, level_removed}
 use Rattle.tree_picture.specs.Ranges.{level_ranges}
 use Rattle.tree_picture.specs.Sizes.{level_height}
 use Rattle.tree_picture.proofs.Heights.{flat_next, levels_next, told_next}
@@ -21,6 +21,7 @@ loop-level-preserved c =
     record {
       pids = c.in_ok-level_row.ensures.pids ∙ told_next _ _ _ _ (level_pids level) c.loop-level.invariant.pids (flat_next level_pids levels c.loop-level.level-index level there c.level-item.is);
       ranges = c.in_ok-level_row.ensures.ranges ∙ told_next _ _ _ _ (level_ranges level) c.loop-level.invariant.ranges (flat_next level_ranges levels c.loop-level.level-index level there c.level-item.is);
+      removed = c.in_ok-level_row.ensures.removed ∙ told_next _ _ _ _ (level_removed level) c.loop-level.invariant.removed (flat_next level_removed levels c.loop-level.level-index level there c.level-item.is);
       at = omega (arith, c.loop-level.invariant.at, exact, levels_next levels c.loop-level.level-index level there c.level-item.is);
       laid = λ to. next_level
           (c.in_ok-level_row.ensures.laid c.args.width (omega (arith, first, own)) (next_level (c.loop-level.invariant.laid to) (y + level_height level) c.first_x.result y (omega arith) (omega arith)))
