@@ -2,11 +2,13 @@
 //!
 //! Each module is one block of that page, which checks/copies compares with it.
 //!
-//! Called by nobody. It uses a tree as a user would, by `workers`, `walks`, `bw_tree` and `bw_model`.
+//! Called by nobody. It uses a tree as a user would, by `workers`, `walks`, `map_laws`, `bw_tree` and `bw_model`.
 #![tactic(auto)]
 
 #[cfg(test)]
 mod budgets;
+#[cfg(test)]
+mod concluding;
 #[cfg(test)]
 mod full;
 #[cfg(test)]

@@ -8,3 +8,4 @@ pub mod Effects
 pub mod OwnKeys
 pub mod OneSeat
 pub mod ReadBack
+pub mod Told

@@ -1,8 +1,9 @@
 -- Calls as operations of a run, one after another.
-use Rattle.std.specs.Prelude.{◌≡◌, ◌≤◌, ℕ, suc, List, [], ◌∷◌, Option, Some, None, ⊤}
+use Rattle.std.specs.Prelude.{◌≡◌, ◌≤◌, ℕ, suc, List, [], ◌∷◌, Option, Some, None, slice_get, ⊤}
 use Rattle.bw_model.specs.declared.command.Command.{Command}
 use Rattle.bw_model.specs.declared.command.Reply.{Reply}
 use Rattle.traces.specs.declared.trace.Entry.{Entry}
+use Rattle.bw_tree.specs.Calls.{calls_of}
 use Rattle.op_machine.specs.theorem.Operations.{Finishes, IsOperation, Operation}
 
 -- the actor's operation that begins at this place of the run
@@ -26,3 +27,7 @@ abbrev pub AreInOrder : List Entry → ℕ → ℕ → List (Command × Option R
 AreInOrder run actor early [] = ⊤
 AreInOrder run actor early ((command, Some given) ∷ calls) = (done : ℕ) × IsEnded run actor early command given done × AreInOrder run actor (suc done) calls
 AreInOrder run actor early ((command, None) ∷ calls) = IsBegun run actor early command × (calls ≡ [])
+
+-- One of the actor's calls has the command.
+abbrev pub IsCall : List Entry → ℕ → Command → Type 0
+IsCall run actor command = (place : ℕ) × (reply : Option Reply) × (slice_get (calls_of actor run) place ≡ Some (command, reply))

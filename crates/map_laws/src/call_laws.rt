@@ -14,15 +14,17 @@ ghost use Rattle.traces.specs.trace.Trace.{command_of};
 ghost use Rattle.op_machine.specs.theorem.Linearized.{IsLinearized};
 ghost use Rattle.op_machine.specs.theorem.Operations.{Finishes, IsOperation, Operation};
 ghost use Rattle.map_laws.specs.Fits.{CameFitting, fits};
-ghost use Rattle.map_laws.specs.InOrder.{AreInOrder, IsEnded};
+ghost use Rattle.map_laws.specs.InOrder.{AreInOrder, IsCall, IsEnded};
 
 /// Each call that has a reply is an operation of the actor's, which ends with that reply. The calls are operations in their order, also
 /// those alone that come after a place at which the actor had none under way (`back`; from the run's begin on where `front` is empty).
+/// Each operation of the run is one of its actor's calls.
 pub fn calls_are_operations()
     ensures each { (limits : Limits) (run : List Entry) (actor place : ℕ) (command : Command) (reply : Reply)
         → IsRun limits run → slice_get (calls_of actor run) place ≡ Some (command, Some reply) → (done : ℕ) × IsEnded run actor 0 command reply done }
     ensures order { (limits : Limits) (front back : List Entry) (actor : ℕ)
         → IsRun limits (front ++ back) → command_of front actor ≡ None → AreInOrder (front ++ back) actor (length front) (calls_of actor back) }
+    ensures all { (run : List Entry) (operation : Operation) → IsOperation run operation → IsCall run operation.actor operation.command }
 {}
 
 /// The reply of a finished operation is one of its command's kind, and so is that of each call.

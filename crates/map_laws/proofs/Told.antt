@@ -1,0 +1,62 @@
+-- Each operation of a run is one of its actor's calls.
+use Rattle.std.proofs.Common.{◌≡◌, ℕ, zero, suc, List, [], ◌∷◌, length, Bool, true, Option, Some, None, refl, sym, ap, subst, ◌∙◌, eq-eqb}
+use Rattle.std.specs.Prelude.{if◌then◌else◌, slice_get}
+use Rattle.bw_model.specs.declared.command.Command.{Command}
+use Rattle.bw_model.specs.declared.command.Reply.{Reply}
+use Rattle.base_page.proofs.KeyLaws.{either}
+use Rattle.traces.specs.declared.trace.Entry.{Entry}
+use Rattle.traces.specs.declared.trace.Entry.TheVariants.{Begin, Step}
+use Rattle.traces.specs.discipline.Disciplined.{is_entry_of, own_entries}
+use Rattle.traces.proofs.Pushes.{slice_get_kept, slice_get-push}
+use Rattle.bw_tree.specs.Calls.{answered_last, call_after, calls_along}
+use Rattle.map_laws.specs.InOrder.{IsCall}
+use Rattle.map_laws.proofs.Asking.{Calls}
+
+-- one of the calls has the command
+abbrev IsAmong : Command → Calls → Type 0
+IsAmong asked calls = (place : ℕ) × (reply : Option Reply) × (slice_get calls place ≡ Some (asked, reply))
+
+one_later : (asked : Command) (first : Command × Option Reply) (calls : Calls) → IsAmong asked calls → IsAmong asked (first ∷ calls)
+one_later asked first calls (place, reply, at) = (suc place, reply, at)
+
+answered_keeps : (calls : Calls) (given : Reply) (asked : Command) (place : ℕ) (reply : Option Reply) → slice_get calls place ≡ Some (asked, reply) → IsAmong asked (answered_last calls given)
+answered_keeps [] given asked place reply at = absurd (cc)
+answered_keeps ((c, before) ∷ []) given asked zero reply at = (0, Some given, ap (λ (z : Command). Some (z, Some given)) (first_same (c, before) (asked, reply) at))
+  where
+    first_same : (v w : Command × Option Reply) → Some v ≡ Some w → v.0 ≡ w.0
+    first_same v w e = let pair : v ≡ w = cc in λ i. (pair i).0
+answered_keeps ((c, before) ∷ []) given asked (suc place) reply at = absurd (cc)
+answered_keeps (first ∷ second ∷ rest) given asked zero reply at = (0, reply, at)
+answered_keeps (first ∷ second ∷ rest) given asked (suc place) reply at = one_later asked first (answered_last (second ∷ rest) given) (answered_keeps (second ∷ rest) given asked place reply at)
+
+after_keeps : (asked : Command) (calls : Calls) (entry : Entry) → IsAmong asked calls → IsAmong asked (call_after calls entry)
+after_keeps asked calls (Begin who other) (place, reply, at) = (place, reply, slice_get_kept calls ((other, None) ∷ []) place (asked, reply) at)
+after_keeps asked calls (Step who step told None) among = among
+after_keeps asked calls (Step who step told (Some given)) (place, reply, at) = answered_keeps calls given asked place reply at
+
+along_keeps : (asked : Command) (calls : Calls) (entries : List Entry) → IsAmong asked calls → IsAmong asked (calls_along calls entries)
+along_keeps asked calls [] among = among
+along_keeps asked calls (entry ∷ entries) among = along_keeps asked (call_after calls entry) entries (after_keeps asked calls entry among)
+
+along_tells : (actor : ℕ) (asked : Command) (calls : Calls) (entries : List Entry) (n : ℕ) → slice_get entries n ≡ Some (Begin actor asked) → IsAmong asked (calls_along calls entries)
+along_tells actor asked calls [] n at = absurd (cc)
+along_tells actor asked calls (entry ∷ entries) zero at =
+    let is : entry ≡ Begin actor asked = cc in
+    along_keeps asked (call_after calls entry) entries (subst (λ e. IsAmong asked (call_after calls e)) (sym is) (length calls, None, slice_get-push calls (asked, None)))
+along_tells actor asked calls (entry ∷ entries) (suc n) at = along_tells actor asked (call_after calls entry) entries n at
+
+own_begin : (actor : ℕ) (asked : Command) (run : List Entry) (n : ℕ) → slice_get run n ≡ Some (Begin actor asked) → (m : ℕ) × (slice_get (own_entries actor run) m ≡ Some (Begin actor asked))
+own_begin actor asked [] n at = absurd (cc)
+own_begin actor asked (entry ∷ run) zero at =
+    let is : entry ≡ Begin actor asked = cc in
+    let mine : is_entry_of actor entry ≡ true = ap (is_entry_of actor) is ∙ eq-eqb actor actor refl in
+    (0, subst (λ (b : Bool). slice_get (if b then entry ∷ own_entries actor run else own_entries actor run) 0 ≡ Some (Begin actor asked)) (sym mine) at)
+own_begin actor asked (entry ∷ run) (suc n) at = by_rest (own_begin actor asked run n at)
+  where
+    by_rest : (m : ℕ) × (slice_get (own_entries actor run) m ≡ Some (Begin actor asked)) → (m : ℕ) × (slice_get (own_entries actor (entry ∷ run)) m ≡ Some (Begin actor asked))
+    by_rest (m, there) = either (is_entry_of actor entry)
+        (λ mine. (suc m, subst (λ (b : Bool). slice_get (if b then entry ∷ own_entries actor run else own_entries actor run) (suc m) ≡ Some (Begin actor asked)) (sym mine) there))
+        (λ apart. (m, subst (λ (b : Bool). slice_get (if b then entry ∷ own_entries actor run else own_entries actor run) m ≡ Some (Begin actor asked)) (sym apart) there))
+
+pub told_call : (run : List Entry) (actor start : ℕ) (asked : Command) → slice_get run start ≡ Some (Begin actor asked) → IsCall run actor asked
+told_call run actor start asked at = let (m, there) = own_begin actor asked run start at in along_tells actor asked [] (own_entries actor run) m there
