@@ -10,7 +10,7 @@ pub enum Content {
     /// The value of the key.
     Value(Value),
     /// The PID of the child whose keys begin at the key; a held term's page is about to be removed.
-    Child { page: u16, held: bool },
+    Child { page: u32, held: bool },
 }
 
 /// A key and what a page has there.

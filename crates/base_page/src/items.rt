@@ -106,7 +106,7 @@ impl Items {
     }
 
     /// The child that the items have at the key, or none.
-    pub fn child_at(&self, key: &Key) -> Option<u16>
+    pub fn child_at(&self, key: &Key) -> Option<u32>
         ensures { result ≡ child_in (content_at self.now key.now) }
     {
         match self.find(key) {

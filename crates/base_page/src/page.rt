@@ -16,7 +16,7 @@ pub struct Page {
     level: u8,
     low: Key,
     high: Option<Key>,
-    right: Option<u16>,
+    right: Option<u32>,
     removed: bool,
     items: Items,
 }
@@ -47,7 +47,7 @@ impl Page {
     }
 
     /// The page of a range, on a level, with these items.
-    pub fn new(level: u8, low: Key, high: Option<Key>, right: Option<u16>, items: Items) -> Page
+    pub fn new(level: u8, low: Key, high: Option<Key>, right: Option<u32>, items: Items) -> Page
         requires { IsPage (record { level = level; low = low; high = high; right = right; removed = false; items = items }) }
         ensures { result ≡ record { level = level; low = low; high = high; right = right; removed = false; items = items } }
     {
@@ -83,7 +83,7 @@ impl Page {
     }
 
     /// The PID of the next page to the right on the level, or none.
-    pub fn right(&self) -> Option<u16>
+    pub fn right(&self) -> Option<u32>
         ensures { result ≡ self.now.right }
     {
         self.right

@@ -71,7 +71,7 @@ fn chain_over(alloc: Global, base: Page) -> Result<Chain, AllocError>
     let mut row = HeldRow::new(alloc)?;
     for place in 0..8u8 {
         row.write(&Record::Delete(Delete {
-            next: 1 + u16::from(place),
+            next: 1 + u32::from(place),
             key: key(place),
         }));
         part.push(&mut row);

@@ -4,12 +4,15 @@ ghost use Rattle.bw_tree.specs.Trees.{AreSeatsOf};
 
 use crate::amounts::{Done, Scale};
 use crate::worker::{What, Worker};
-use bw_model::Limits;
+use bw_model::{BadLimits, Limits};
 use bw_tree::{BwSeat, Tree};
 use seats::{opened, work_in_threads};
 use std::alloc::{AllocError, Global};
 use std::thread::Threads;
 use std::time::{Clock, Instant};
+
+/// How many keys a tree with the greatest limits of no large tree is loaded with at most.
+const FEW_KEYS: u32 = 20_000;
 
 /// Loads a new tree, if it is no window's, and does what is asked on it, if that is more. Answers what was done last; none without memory, seats or a clock.
 pub(crate) fn run<R: Threads + Clock + Sync>(
@@ -18,11 +21,7 @@ pub(crate) fn run<R: Threads + Clock + Sync>(
     what: What,
     scale: Scale,
 ) -> Option<Done> {
-    let (pids, rows) = match what {
-        What::Window => (256, 4096),
-        _ => (4096, 16384),
-    };
-    let Ok(limits) = Limits::new(4, pids, rows, 1) else {
+    let Ok(limits) = limits_for(what, scale.size) else {
         return None;
     };
     let Ok((tree, mut seats)) = opened(alloc, limits) else {
@@ -31,6 +30,15 @@ pub(crate) fn run<R: Threads + Clock + Sync>(
     match what {
         What::Window => in_threads(rt, alloc, &tree, &mut seats, what, scale),
         _ => on_loaded(rt, alloc, &tree, &mut seats, what, scale),
+    }
+}
+
+/// The limits of a tree for so many keys: a large tree's where they are many.
+fn limits_for(what: What, keys: u32) -> Result<Limits, BadLimits> {
+    match what {
+        What::Window => Limits::new(4, 256, 4096, 1),
+        _ if keys <= FEW_KEYS => Limits::new(4, 4096, 16384, 1),
+        _ => Limits::for_many_keys(4, u64::from(keys)),
     }
 }
 
@@ -50,10 +58,12 @@ fn on_loaded<R: Threads + Clock + Sync>(
         operations: scale.size,
         ..scale
     };
-    let loaded = in_threads(rt, alloc, tree, seats, What::Load, keys)?;
     match what {
-        What::Load => Some(loaded),
-        _ => in_threads(rt, alloc, tree, seats, what, scale),
+        What::Load | What::Ascend => in_threads(rt, alloc, tree, seats, what, keys),
+        _ => {
+            in_threads(rt, alloc, tree, seats, What::Load, keys)?;
+            in_threads(rt, alloc, tree, seats, what, scale)
+        }
     }
 }
 

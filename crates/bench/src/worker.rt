@@ -13,6 +13,9 @@ use seats::{Work, called, reply, resumed};
 /// More steps than an operation takes.
 const MOST_STEPS: u32 = 1 << 16;
 
+/// How many pairs a scan shows.
+const SCANNED: usize = 100;
+
 /// An odd number, so that products with it modulo 2^64 are as many as the numbers.
 const SCATTER: u64 = 0x9e37_79b9_7f4a_7c15;
 
@@ -22,12 +25,16 @@ const DIGITS: usize = 16;
 /// What is done.
 #[derive(Clone, Copy, Debug, PartialEq, Eq, Drop)]
 pub(crate) enum What {
-    /// The keys are inserted.
+    /// The keys are inserted, in drawn order.
     Load,
+    /// The keys are inserted in ascending order.
+    Ascend,
     /// Drawn keys are looked up.
     Reads,
     /// Every second operation is an upsert of a drawn key, the others look one up.
     Half,
+    /// Pages from drawn keys on are shown, until there were 100 pairs.
+    Scans,
     /// Drawn keys are looked up one step at a time, and the steps are counted.
     Steps,
     /// Every second operation inserts the next key at the end, the others delete the first one, once there are as many as there are to be.
@@ -39,8 +46,10 @@ impl What {
     pub(crate) fn named(word: &str) -> Option<What> {
         match word {
             "load" => Some(What::Load),
+            "ascend" => Some(What::Ascend),
             "reads" => Some(What::Reads),
             "half" => Some(What::Half),
+            "scans" => Some(What::Scans),
             "steps" => Some(What::Steps),
             "window" => Some(What::Window),
             _ => None,
@@ -77,7 +86,8 @@ impl Worker {
         let number = drawn.checked_rem(self.scale.size).unwrap_or(0);
         match self.what {
             What::Window => self.moved(operation),
-            What::Load => Command::Insert(self.key(operation), value(operation)),
+            What::Load | What::Ascend => Command::Insert(self.key(operation), value(operation)),
+            What::Scans => Command::Page(self.key(number)),
             What::Half if operation % 2 == 0 => Command::Upsert(self.key(number), value(operation)),
             _ => Command::Get(self.key(number)),
         }
@@ -99,9 +109,9 @@ impl Worker {
         }
     }
 
-    /// What the digits of a number's key say: neighbours among the numbers are none among the keys, but in a window.
+    /// What the digits of a number's key say: neighbours among the numbers are none among the keys, but in a window and where they ascend.
     fn digits(&self, number: u32) -> u64 {
-        if self.what == What::Window {
+        if matches!(self.what, What::Window | What::Ascend) {
             return u64::from(number);
         }
         let product = u64::from(number).wrapping_mul(SCATTER);
@@ -126,6 +136,7 @@ impl Work for Worker {
             let command = self.command(operation);
             let done = match self.what {
                 What::Steps => steps(tree, seat, command),
+                What::Scans => u64::from(shows(tree, seat, command)),
                 _ => u64::from(succeeds(tree, seat, command)),
             };
             self.done = self.done.saturating_add(done);
@@ -142,6 +153,26 @@ fn succeeds(tree: &Tree, seat: &mut BwSeat, command: Command) -> bool
         Ok(Reply::Inserted | Reply::Value(_) | Reply::Replaced(_) | Reply::Deleted(_)) => true,
         _ => false,
     }
+}
+
+/// Whether the pages from a command's on show 100 pairs, or all up to the end.
+fn shows(tree: &Tree, seat: &mut BwSeat, command: Command) -> bool
+    requires own { IsSeatOf tree.now seat.old }
+    ensures same { IsSame seat.old seat.new }
+{
+    let mut command = command;
+    let mut shown = 0usize;
+    for _ in 0..SCANNED {
+        let Ok(Reply::Page { items, next }) = reply(tree, seat, command) else {
+            return false;
+        };
+        shown = items.as_slice().len().saturating_add(shown);
+        match next {
+            Some(next) if shown < SCANNED => command = Command::Page(next),
+            _ => return true,
+        }
+    }
+    false
 }
 
 /// How many steps a command takes.

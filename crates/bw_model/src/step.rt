@@ -6,25 +6,25 @@ ghost use Rattle.bw_model.specs.Answers.{IsNumber, IsContent, IsWhether, TellsNu
 #[derive(Drop)]
 pub enum Step<R> {
     /// Reads a slot of the mapping table.
-    Slot(u16),
+    Slot(u32),
     /// Reads the record in a row.
-    Row(u16),
+    Row(u32),
     /// Reads the epoch.
     Epoch,
     /// Reads the epoch that an actor announced, or 0.
     Announce(u8),
     /// Reads a word of the bits of free PIDs.
-    PidBits(u8),
+    PidBits(u32),
     /// Reads a word of the bits of free rows.
-    RowBits(u8),
+    RowBits(u32),
     /// Places a record into an own row.
-    Place(u16, R),
+    Place(u32, R),
     /// Exchanges a slot's number from the second to the third (compare-and-swap).
-    Exchange(u16, u16, u16),
+    Exchange(u32, u32, u32),
     /// Clears the free bit of a PID.
-    TakePid(u16),
+    TakePid(u32),
     /// Clears the free bit of a row.
-    TakeRow(u16),
+    TakeRow(u32),
     /// Announces an epoch.
     Enter(u64),
     /// Announces 0: the actor is outside.
@@ -32,9 +32,9 @@ pub enum Step<R> {
     /// Moves the epoch on by one, if it is this one.
     Retire(u64),
     /// Sets bits of one word of the free PIDs.
-    ReusePids(u8, u64),
+    ReusePids(u32, u64),
     /// Sets bits of one word of the free rows.
-    ReuseRows(u8, u64),
+    ReuseRows(u32, u64),
 }
 
 /// What a step answers.

@@ -17,7 +17,7 @@ use Rattle.traces.specs.declared.trace.Entry.TheVariants.{Begin}
 use Rattle.traces.specs.discipline.Discipline.{May}
 use Rattle.traces.specs.discipline.Disciplined.{Extends}
 use Rattle.traces.specs.discipline.Knowledge.{Knowledge, begun, knows}
-use Rattle.traces.specs.discipline.Recalled.{Recalled, blank, recalls}
+use Rattle.traces.specs.discipline.Recalled.{Recalled, blank, cause_worth, recalls}
 use Rattle.traces.specs.trace.Steps.{IsAnswer}
 use Rattle.traces.specs.trace.Trace.{command_of, memory_of}
 use Rattle.traces.specs.trace.Within.{IsWithin}
@@ -43,29 +43,29 @@ not_inside true t e = cc
 not_inside false t e = cc
 
 -- Who is outside takes only steps on a word.
-word_of : (limits : Limits) (a : ℕ) (k : Knowledge) (s : StepOf Record) → May a k s → IsWithin limits s → k.inside ≡ false → HasWord s
-word_of limits a k (step.Slot p) m w out = let l = limits.allowed.few_pids in omega arith
+word_of : (limits : Limits) (a : ℕ) (k : Knowledge) (s : StepOf Record) → May a k s → IsWithin limits s → k.inside ≡ false → HasWord limits s
+word_of limits a k (step.Slot p) m w out = w
 word_of limits a k (step.Row r) m w out = not_inside k.inside m.0 out
 word_of limits a k step.Epoch m w out = tt
 word_of limits a k (step.Announce b) m w out = let l = limits.allowed.few_actors in omega arith
-word_of limits a k (step.PidBits b) m w out = let l = limits.allowed.few_pids in omega arith
-word_of limits a k (step.RowBits b) m w out = let l = limits.allowed.few_rows in omega arith
+word_of limits a k (step.PidBits b) m w out = let l = limits.allowed.whole_pids in omega arith
+word_of limits a k (step.RowBits b) m w out = let l = limits.allowed.whole_rows in omega arith
 word_of limits a k (step.Place r c) m w out = not_inside k.inside m.0 out
-word_of limits a k (step.Exchange p x y) m w out = let l = limits.allowed.few_pids in let v = w.0 in omega arith
-word_of limits a k (step.TakePid p) m w out = let l = limits.allowed.few_pids in omega arith
-word_of limits a k (step.TakeRow r) m w out = let l = limits.allowed.few_rows in omega arith
+word_of limits a k (step.Exchange p x y) m w out = w.0
+word_of limits a k (step.TakePid p) m w out = w
+word_of limits a k (step.TakeRow r) m w out = w
 word_of limits a k (step.Enter e) m w out = tt
 word_of limits a k step.Leave m w out = tt
 word_of limits a k (step.Retire t) m w out = w
-word_of limits a k (step.ReusePids b c) m w out = let l = limits.allowed.few_pids in let v = w.0 in omega arith
-word_of limits a k (step.ReuseRows b c) m w out = let l = limits.allowed.few_rows in let v = w.0 in omega arith
+word_of limits a k (step.ReusePids b c) m w out = let l = limits.allowed.whole_pids in let v = w.0 in omega arith
+word_of limits a k (step.ReuseRows b c) m w out = let l = limits.allowed.whole_rows in let v = w.0 in omega arith
 
 -- what is asked of a seat, of what it shows
 pub idle_of : (old seat : Seat) → seat ≡ old → unfinished_command old ≡ None → unfinished_command seat ≡ None
 idle_of old seat is idle = subst (λ s. unfinished_command s ≡ None) (sym is) idle
 
 module _ (laws : HaveLaws) (limits : Limits) (a : ℕ) (seen : List Entry) (now new : Actor) (command : Command) (there : a < limits.actors) (h : IsSeated limits a seen now) (free : command_of seen a ≡ None)
-    (begins : (k : Knowledge) (r : Recalled) → IsActor limits a k r now → IsActor limits a (begun k command) blank new) (has : running_command new ≡ Some command) (few : steps_due blank new.hand new.running < 2 ^ 18) where
+    (begins : (k : Knowledge) (r : Recalled) → IsActor limits a k r now → IsActor limits a (begun k command) blank new) (has : running_command new ≡ Some command) (few : steps_due blank new.hand new.running < cause_worth limits) where
   idle : running_command now ≡ None
   idle = h.runs ∙ free
 
@@ -106,7 +106,7 @@ module _ (laws : HaveLaws) (limits : Limits) (a : ℕ) (seen : List Entry) (now 
     may_first : May a (knows (seen ++ Begin a command ∷ []) a) asked
     may_first = known_may laws limits a (seen ++ Begin a command ∷ []) new (begun_seated seen h.lawful (extends_self a seen)) (busy_then seen h.lawful (extends_self a seen)) asked e
 
-    pub first_word : HasWord asked
+    pub first_word : HasWord limits asked
     first_word = word_of limits a (knows (seen ++ Begin a command ∷ []) a) asked may_first
         (within laws limits a (seen ++ Begin a command ∷ []) new (begun_seated seen h.lawful (extends_self a seen)) (busy_then seen h.lawful (extends_self a seen)) asked e) (outside seen (extends_self a seen))
 

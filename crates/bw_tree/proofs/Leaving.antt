@@ -34,14 +34,14 @@ module _ (limits key : Limits) (own : key ≡ limits) (spells : (limits : Limits
   left : AreLeft limits (IsLawfulRun limits) parts words
   left = spells limits id parts words homes all_stand (subst (λ (l : Limits). Final (Seen (Running l (IsLawfulRun l)) id parts) words homes) own final)
 
-  pub keeps : (run : List Entry) × IsLawfulRun limits run × KeepMemory words (memory_of limits run)
-  keeps = (left.run, left.legal, record { limits = limits; are = left.are; kept = left.kept })
+  pub keeps : (run : List Entry) × IsLawfulRun limits run × KeepMemory limits words (memory_of limits run)
+  keeps = (left.run, left.legal, record { are = left.are; kept = left.kept })
 
   pub closes : ((limits : Limits) (run : List Entry) → IsSeenRun limits run → IsOneHistory limits run) → (pairs : List (List ℕ × List ℕ))
-      → ((run : List Entry) → IsLawfulRun limits run → KeepMemory words (memory_of limits run) → IsListing limits run pairs) → AreClosed limits seats pairs
+      → ((run : List Entry) → IsLawfulRun limits run → KeepMemory limits words (memory_of limits run) → IsListing limits run pairs) → AreClosed limits seats pairs
   closes history pairs lists = record {
     run = left.run;
     history = history limits left.run (record { lawful = left.legal; begins = left.begins });
     extends = λ n seat at. let (m, there) = has.each n seat at in each_get (λ p. Extends p.actor p.seen left.run) parts m (part limits seat.actor seat.seen Idle) left.extends there;
-    listing = lists left.run left.legal (record { limits = limits; are = left.are; kept = left.kept });
+    listing = lists left.run left.legal (record { are = left.are; kept = left.kept });
   }

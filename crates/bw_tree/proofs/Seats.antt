@@ -110,12 +110,12 @@ module _ (laws : HaveLaws) (limits : Limits) (a : ℕ) (seen : List Entry) (now 
   k = knows seen a
 
   stays : (run : List Entry) (told : Answer Record) (rest : ℕ) → IsLawfulRun limits run → Extends a seen run → IsAnswer (memory_of limits run) asked told
-      → IsStepSpent (recalls seen a) asked told (steps_due (recalls seen a) now.hand now.running) rest → StaysDirect limits run (Step a asked told reply) a rest
+      → IsStepSpent limits (recalls seen a) asked told (steps_due (recalls seen a) now.hand now.running) rest → StaysDirect limits run (Step a asked told reply) a rest
   stays run told rest legal x is spent =
       let lasts = laws.own limits a seen run x in
       laws.steps_directly limits run a (steps_due (recalls seen a) now.hand now.running) rest asked told reply legal.state
       (subst (λ q. IsAllowed limits a q asked reply) (sym lasts.known) allowed) (subst (λ q. IsUseful q asked) (sym lasts.known) useful) is legal.direct (lasts.affords _ h.pays)
-      (subst (λ q. IsStepSpent q asked told (steps_due (recalls seen a) now.hand now.running) rest) (sym lasts.recalled) spent)
+      (subst (λ q. IsStepSpent limits q asked told (steps_due (recalls seen a) now.hand now.running) rest) (sym lasts.recalled) spent)
 
   pub may_take : IsSome (command_of seen a) → 0 < steps_due (recalls seen a) now.hand now.running → IsLawfulStep IsLawfulRun limits a seen None asked reply
   may_take busy some run told legal x is =

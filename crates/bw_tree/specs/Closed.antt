@@ -11,7 +11,6 @@ abbrev pub AreFilled : List Bool → ℕ → Type 0
 AreFilled filled count = (place : ℕ) → 0 ≤ place → place < count → slice_index_or filled place false ≡ true
 
 -- The words are those of the memory, and each record of it has words.
-pub record KeepMemory (words : List ℕ) (memory : Memory) : Type 0 where
-  pub limits : Limits
+pub record KeepMemory (limits : Limits) (words : List ℕ) (memory : Memory) : Type 0 where
   pub are : AreWordsOf limits memory words
   pub kept : (row : ℕ) (content : Record) → memory.rows row ≡ Some content → IsSpelledRow limits row content

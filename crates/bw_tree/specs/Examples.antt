@@ -1,7 +1,7 @@
 -- Entries of two actors, of which calls and counts are told. They are no run: nobody enters, reads or links anything.
-use Rattle.std.specs.Prelude.{codes, ℕ, zero, suc, List, [], ◌∷◌, true, None, Some}
+use Rattle.std.specs.Prelude.{codes, ℕ, zero, suc, List, [], ◌∷◌, true, false, None, Some}
 use Rattle.std.proofs.Common.{lit≤, refl}
-use Rattle.tree_limits.specs.Limits.{AreLimits}
+use Rattle.tree_limits.specs.Limits.{AreLargeLimits, AreLimits}
 use Rattle.tree_limits.specs.declared.limits.Limits.{Limits}
 use Rattle.bw_model.specs.declared.command.Command.TheVariants.{Get, Upsert, Delete}
 use Rattle.bw_model.specs.declared.command.Reply.TheVariants as reply
@@ -36,9 +36,23 @@ are_two_words = record {
   small_epoch = lit≤ tt;
 }
 
+pub two_words_allowed : AreLargeLimits 2 128 64 1
+two_words_allowed = record {
+  some_actor = are_two_words.some_actor;
+  few_actors = are_two_words.few_actors;
+  some_pids = are_two_words.some_pids;
+  few_pids = lit≤ tt;
+  whole_pids = are_two_words.whole_pids;
+  some_rows = are_two_words.some_rows;
+  few_rows = lit≤ tt;
+  whole_rows = are_two_words.whole_rows;
+  some_epoch = are_two_words.some_epoch;
+  small_epoch = are_two_words.small_epoch;
+}
+
 -- limits of a tree with two words of PIDs
 abbrev pub two_words : Limits
-two_words = record { actors = 2; pids = 128; rows = 64; epoch = 1; allowed = are_two_words }
+two_words = record { actors = 2; pids = 128; rows = 64; epoch = 1; is_large = false; allowed = two_words_allowed; small = λ _. are_two_words }
 
 -- One reads the first word of free PIDs; then another takes a PID of each word; then the one reads the second word.
 abbrev pub read_between : ℕ → List Entry

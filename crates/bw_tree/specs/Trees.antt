@@ -51,6 +51,7 @@ pub record OpensAt (limits : Limits) (asked : ℕ) (opened : Limits) : Type 0 wh
   pub pids : opened.pids ≡ limits.pids
   pub rows : opened.rows ≡ limits.rows
   pub epoch : opened.epoch ≡ asked
+  pub kind : opened.is_large ≡ limits.is_large
 
 -- An epoch outside the range is refused; otherwise memory was.
 pub record IsRefusedAt (epoch : ℕ) (error : OpenError) : Type 0 where

@@ -13,7 +13,7 @@ use atomic_table::Closed;
 use bw_model::{Key, Limits, Value};
 use deltas::Record;
 use listing::{Rows, add_pairs, pages_are_listed};
-use record_slots::{ROW_WORDS, from_words, rows_have_words, spelling_is_one};
+use record_slots::{ROW_WORDS, read_words, rows_have_words, spelling_is_one};
 use std::alloc::Allocator;
 use tree_law::leaves_stand;
 use tree_words::{row_place, slot_place};
@@ -21,22 +21,25 @@ use tree_words::{row_place, slot_place};
 /// The words of a closed table.
 #[derive(Drop)]
 struct ClosedRows<'a, A: Allocator> {
+    limits: &'a Limits,
     closed: &'a Closed<(), A>,
 }
 
 impl<'a, A: Allocator> Rows for ClosedRows<'a, A> {
     ghost use Rattle.bw_tree.specs.Closed.{AreFilled, KeepMemory};
 
-    ghost has = { λ rows memory. AreFilled rows.closed.now.words.filled rows.closed.now.words.len × KeepMemory rows.closed.now.words.items memory };
+    ghost has = { λ rows memory. AreFilled rows.closed.now.words.filled rows.closed.now.words.len × KeepMemory rows.limits.now rows.closed.now.words.items memory };
 
-    fn slot(&self, pid: u16) -> u16 {
-        self.closed.word(slot_place(pid)) as u16
+    ghost pids = { λ rows. rows.limits.now.pids };
+
+    fn slot(&self, pid: u32) -> u32 {
+        self.closed.word(slot_place(self.limits, pid)) as u32
     }
 
-    fn record(&self, row: u16) -> Record {
+    fn record(&self, row: u32) -> Record {
         rows_have_words();
         spelling_is_one();
-        match from_words(&row_of(self.closed, row)) {
+        match read_words(&row_of(self.closed, row)) {
             Ok(record) => record,
             Err(_) => unreachable!(),
         }
@@ -44,7 +47,7 @@ impl<'a, A: Allocator> Rows for ClosedRows<'a, A> {
 }
 
 /// The words of a row.
-fn row_of<A: Allocator>(closed: &Closed<(), A>, row: u16) -> [u64; ROW_WORDS]
+fn row_of<A: Allocator>(closed: &Closed<(), A>, row: u32) -> [u64; ROW_WORDS]
     requires full { AreFilled closed.now.words.filled closed.now.words.len }
     requires there { row_at row last_at < closed.now.words.len }
     ensures long { length result ≡ row_size }
@@ -68,13 +71,17 @@ pub(crate) fn list<A: Allocator, B: Allocator>(
     requires room { 24 * limits.now.pids ≤ vec_capacity pairs }
     requires slots { closed.slots.len ≡ 0 }
     requires full { AreFilled closed.words.filled closed.words.len }
-    requires left { (run : List Entry) × IsLawfulRun limits.now run × KeepMemory closed.words.items (memory_of limits.now run) }
-    ensures { (run : List Entry) → IsLawfulRun limits.now run → KeepMemory closed.words.items (memory_of limits.now run) → IsListing limits.now run result.items }
+    requires left { (run : List Entry) × IsLawfulRun limits.now run × KeepMemory limits.now closed.words.items (memory_of limits.now run) }
+    ensures { (run : List Entry) → IsLawfulRun limits.now run → KeepMemory limits.now closed.words.items (memory_of limits.now run) → IsListing limits.now run result.items }
 {
     leaves_stand();
     pages_are_listed();
     let mut pairs = pairs;
-    let Ok(()) = add_pairs(&mut pairs, limits, &ClosedRows { closed: &closed }) else {
+    let rows = ClosedRows {
+        limits,
+        closed: &closed,
+    };
+    let Ok(()) = add_pairs(&mut pairs, limits, &rows) else {
         unreachable!()
     };
     closed.free();

@@ -32,7 +32,7 @@ impl<A: Allocator + Copy> Tree<A> {
         ensures seats { IfOk result (λ opened. AreFresh opened.0 opened.1.items) }
         ensures err { IfErr result (λ error. IsRefusedAt epoch error) }
     {
-        match Limits::new(limits.actors, limits.pids, limits.rows, epoch) {
+        match limits.opening_at(epoch) {
             Ok(limits) => Tree::<A>::open(alloc, limits),
             Err(_) => Err(OpenError::BadEpoch),
         }

@@ -23,7 +23,7 @@ pub(crate) fn read_held<A: Allocator>(
     place: &mut TableSeat,
     limits: &Limits,
     number: u8,
-    row: u16,
+    row: u32,
     to: &mut HeldRow<A>,
 )
     requires table { IsOf limits.now words.now.key words.now.table_id place.old.table_id }
@@ -45,7 +45,7 @@ fn read_words(
     place: &mut TableSeat,
     limits: &Limits,
     number: u8,
-    row: u16,
+    row: u32,
     to: &mut Row,
 )
     requires table { IsOf limits.now words.now.key words.now.table_id place.old.table_id }

@@ -44,7 +44,7 @@ impl Kind {
     }
 
     /// The step that reads a word of free bits.
-    fn bits<'a>(self, word: u8) -> Step<&'a Record>
+    fn bits<'a>(self, word: u32) -> Step<&'a Record>
         ensures { lent result ≡ bits_step self word }
     {
         match self {
@@ -84,13 +84,13 @@ impl<A: Allocator> BwSeat<A> {
     {
         let mut count = 0;
         for word in 0..kind.count(&self.limits) / 64 {
-            count += self.watch_bits(words, kind, word as u8);
+            count += self.watch_bits(words, kind, word as u32);
         }
         count
     }
 
     /// How many of the numbers of a word of free bits are free.
-    fn watch_bits(&mut self, words: &TreeWords, kind: Kind, word: u8) -> u32
+    fn watch_bits(&mut self, words: &TreeWords, kind: Kind, word: u32) -> u32
         requires own { IsOf self.old.limits words.now.key words.now.table_id self.old.table }
         requires there { 64 * word < count_of self.old.limits kind }
         ensures same { IsSame self.old self.new }

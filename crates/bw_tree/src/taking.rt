@@ -59,7 +59,7 @@ fn place_record(
     place: &mut TableSeat,
     limits: &Limits,
     number: u8,
-    row: u16,
+    row: u32,
     content: &Record,
 )
     requires table { IsOf limits.now words.now.key words.now.table_id place.old.table_id }

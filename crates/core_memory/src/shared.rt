@@ -4,7 +4,7 @@ ghost use Rattle.deltas.specs.Spellable.{IsSpellable};
 
 use crate::rows::{used, write_row};
 use deltas::Record;
-use record_slots::{ROW_WORDS, from_words, to_words};
+use record_slots::{ROW_WORDS, read_words, to_words};
 use row_chain::HeldRow;
 use row_search::Row;
 use std::alloc::{AllocError, Allocator, Global};
@@ -60,7 +60,7 @@ impl<A: Allocator> SharedRecord<A> {
     {
         let mut row = [0; ROW_WORDS];
         write_row(&mut row, self.words.as_slice());
-        from_words(&row).unwrap()
+        read_words(&row).unwrap()
     }
 
     /// Writes the record over the one that stands in a room.

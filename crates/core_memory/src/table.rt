@@ -16,7 +16,7 @@ use std::marker::Model;
 /// Slots and records by number, words of free bits, the epoch, and what each actor announced.
 pub struct CoreTable<A: Allocator = Global> {
     limits: Limits,
-    slots: Vec<u16, A>,
+    slots: Vec<u32, A>,
     rows: Vec<Option<SharedRecord<A>>, A>,
     pid_bits: Vec<u64, A>,
     row_bits: Vec<u64, A>,
@@ -73,17 +73,17 @@ impl<A: Allocator + Copy> CoreTable<A> {
 
 impl<A: Allocator> CoreTable<A> {
     /// The number in a slot, or 0 where there is no such slot.
-    pub fn slot(&self, pid: u16) -> u16
+    pub fn slot(&self, pid: u32) -> u32
         ensures { result ≡ (memory_in self.now).slots pid }
     {
-        self.slots.get(usize::from(pid)).copied().unwrap_or(0)
+        self.slots.get(pid as usize).copied().unwrap_or(0)
     }
 
     /// The record that was placed last in a row, decoded.
-    pub fn record(&self, row: u16) -> Option<Record>
+    pub fn record(&self, row: u32) -> Option<Record>
         ensures { result ≡ (memory_in self.now).rows row }
     {
-        match self.rows.get(usize::from(row)) {
+        match self.rows.get(row as usize) {
             Some(Some(shared)) => Some(shared.record()),
             _ => None,
         }
@@ -104,7 +104,7 @@ impl<A: Allocator> CoreTable<A> {
     }
 
     /// Whether a PID is free.
-    pub fn is_free_pid(&self, pid: u16) -> bool
+    pub fn is_free_pid(&self, pid: u32) -> bool
         requires { pid < self.now.limits.pids }
         ensures { result ≡ (memory_in self.now).free_pids pid }
     {
@@ -112,7 +112,7 @@ impl<A: Allocator> CoreTable<A> {
     }
 
     /// Whether a row is free.
-    pub fn is_free_row(&self, row: u16) -> bool
+    pub fn is_free_row(&self, row: u32) -> bool
         requires { row < self.now.limits.rows }
         ensures { result ≡ (memory_in self.now).free_rows row }
     {
@@ -132,7 +132,7 @@ impl<A: Allocator> CoreTable<A> {
         let _ = actor;
         match step {
             Step::Slot(pid) => Ok(Answer::Number(u64::from(self.slot(*pid)))),
-            Step::Row(row) => match &self.rows[usize::from(*row)] {
+            Step::Row(row) => match &self.rows[*row as usize] {
                 Some(shared) => Ok(Answer::Content(shared.try_clone()?)),
                 None => unreachable!(),
             },
@@ -160,7 +160,7 @@ impl<A: Allocator> CoreTable<A> {
             Step::Announce(_) | Step::PidBits(_) | Step::RowBits(_) => {}
             Step::Place(row, content) => place(&mut self.rows, row, content),
             Step::Exchange(slot, old, new) => {
-                let place = usize::from(slot);
+                let place = slot as usize;
                 if self.slots[place] == old {
                     self.slots[place] = new;
                 }
@@ -181,7 +181,7 @@ impl<A: Allocator> CoreTable<A> {
 }
 
 /// So many slots: the root is page 1, which begins in row 1.
-fn opening_slots<A: Allocator>(alloc: A, count: u64) -> Result<Vec<u16, A>, AllocError>
+fn opening_slots<A: Allocator>(alloc: A, count: u64) -> Result<Vec<u32, A>, AllocError>
     requires some { 64 ≤ count }
     ensures { IfOk result (λ slots. slots.items ≡ slice_set (slice_set (replicate count 0) 0 1) 1 1) }
 {
@@ -234,46 +234,46 @@ fn free_bits<A: Allocator>(alloc: A, count: u64) -> Result<Vec<u64, A>, AllocErr
 /// Places a record in a row.
 fn place<A: Allocator>(
     rows: &mut Vec<Option<SharedRecord<A>>, A>,
-    row: u16,
+    row: u32,
     content: SharedRecord<A>,
 )
     requires { row < length rows.old.items }
     ensures { rows.new.items ≡ slice_set rows.old.items row (Some content) }
 {
-    rows[usize::from(row)] = Some(content);
+    rows[row as usize] = Some(content);
 }
 
 /// A word of free bits.
-fn word_at(words: &[u64], word: u8) -> u64
+fn word_at(words: &[u64], word: u32) -> u64
     requires { word < length words.now }
     ensures { IsWordOf (is_free words.now) word result }
 {
-    words[usize::from(word)]
+    words[word as usize]
 }
 
 /// Whether the bit of a number is set.
-fn is_set(words: &[u64], number: u16) -> bool
+fn is_set(words: &[u64], number: u32) -> bool
     requires { number < 64 * length words.now }
     ensures { result ≡ is_free words.now number }
 {
-    words[usize::from(number / 64)] & 1 << (number % 64) != 0
+    words[(number / 64) as usize] & 1 << (number % 64) != 0
 }
 
 /// Clears the bit of a number.
-fn clear_bit<A: Allocator>(words: &mut Vec<u64, A>, number: u16)
+fn clear_bit<A: Allocator>(words: &mut Vec<u64, A>, number: u32)
     requires { number < 64 * length words.old.items }
     ensures taken { is_free words.new.items ≡ replaced_at number false (is_free words.old.items) }
     ensures len { length words.new.items ≡ length words.old.items }
 {
-    let word = usize::from(number / 64);
+    let word = (number / 64) as usize;
     words[word] &= !(1 << (number % 64));
 }
 
 /// Sets bits of one word.
-fn set_bits<A: Allocator>(words: &mut Vec<u64, A>, word: u8, bits: u64)
+fn set_bits<A: Allocator>(words: &mut Vec<u64, A>, word: u32, bits: u64)
     requires { word < length words.old.items }
     ensures freed { is_free words.new.items ≡ (λ n. is_free words.old.items n || is_among word bits n) }
     ensures len { length words.new.items ≡ length words.old.items }
 {
-    words[usize::from(word)] |= bits;
+    words[word as usize] |= bits;
 }

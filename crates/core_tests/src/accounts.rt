@@ -12,19 +12,19 @@ use traces::Entry;
 /// What is kept of the record in a row.
 #[derive(Clone, Copy)]
 struct Placed {
-    next: Option<u16>,
+    next: Option<u32>,
     link: Link,
 }
 
 /// The memory that a trace has made, but for what pages hold.
 #[derive(Drop)]
 struct Accounts {
-    slots: [u16; MOST as usize],
+    slots: [u32; MOST as usize],
     placed: [Placed; MOST as usize],
     rows: Numbers,
     pids: Numbers,
     /// The page that each actor has made ready last.
-    ready: [u16; 16],
+    ready: [u32; 16],
 }
 
 /// A base of which nothing is under it.
@@ -48,16 +48,16 @@ impl Accounts {
         }
     }
 
-    fn slot(&self, page: u16) -> u16 {
-        self.slots[usize::from(page % MOST)]
+    fn slot(&self, page: u32) -> u32 {
+        self.slots[(page % MOST) as usize]
     }
 
-    fn placed(&self, row: u16) -> Placed {
-        self.placed[usize::from(row % MOST)]
+    fn placed(&self, row: u32) -> Placed {
+        self.placed[(row % MOST) as usize]
     }
 
     /// Takes the chain from a row on out of the tree.
-    fn unlink_chain(&mut self, head: u16) -> bool {
+    fn unlink_chain(&mut self, head: u32) -> bool {
         let mut next = Some(head);
         for _ in 0..13u32 {
             let Some(row) = next else {
@@ -72,7 +72,7 @@ impl Accounts {
     }
 
     /// A slot has gone to 0: the page was cleared; or it was never linked, and its row goes back to the actor, as no other has seen it.
-    fn empties(&mut self, page: u16, head: u16) -> bool {
+    fn empties(&mut self, page: u32, head: u32) -> bool {
         if self.placed(head).link == Link::Remove {
             self.pids.moves(page, Status::Linked, Status::Limbo) && self.unlink_chain(head)
         } else {
@@ -82,7 +82,7 @@ impl Accounts {
     }
 
     /// A record was linked over another, or in place of a chain.
-    fn links(&mut self, actor: u8, head: u16, row: u16) -> bool {
+    fn links(&mut self, actor: u8, head: u32, row: u32) -> bool {
         let placed = self.placed(row);
         let ready = self.ready[usize::from(actor % 16)];
         let stands = match placed.link {
@@ -95,14 +95,14 @@ impl Accounts {
     }
 
     /// An own page is filled before it is linked.
-    fn fills(&mut self, actor: u8, page: u16, row: u16) -> bool {
+    fn fills(&mut self, actor: u8, page: u32, row: u32) -> bool {
         self.ready[usize::from(actor % 16)] = page;
         self.pids.is_at(page, Status::Spare) && self.rows.moves(row, Status::Spare, Status::Linked)
     }
 
     /// An exchange has won.
-    fn exchanges(&mut self, actor: u8, page: u16, old: u16, new: u16) -> bool {
-        self.slots[usize::from(page % MOST)] = new;
+    fn exchanges(&mut self, actor: u8, page: u32, old: u32, new: u32) -> bool {
+        self.slots[(page % MOST) as usize] = new;
         if page == 0 {
             self.pids.moves(new, Status::Spare, Status::Linked)
         } else if new == 0 {
@@ -128,7 +128,7 @@ impl Accounts {
     fn does(&mut self, step: &Step<Record>) -> bool {
         match step {
             Step::Place(row, content) => {
-                self.placed[usize::from(*row % MOST)] = Placed {
+                self.placed[(*row % MOST) as usize] = Placed {
                     next: content.next(),
                     link: content.link(),
                 };
@@ -161,7 +161,7 @@ impl Accounts {
     }
 
     /// The rows of the chain of a page, if each is linked.
-    fn chain_length(&self, page: u16) -> Option<u32> {
+    fn chain_length(&self, page: u32) -> Option<u32> {
         let head = self.slot(page);
         let mut next = (head > 0).then_some(head);
         for length in 0..14u32 {

@@ -89,7 +89,7 @@ pub(crate) fn replies(core: &mut Core, actor: u8, command: Command, wanted: Repl
 pub(crate) fn used(core: &Core) -> u32 {
     let (memory, pids) = (core.memory(), core.limits().pids);
     let mut count = 0u32;
-    for pid in 0..512u16 {
+    for pid in 0..512u32 {
         if u64::from(pid) < pids && !memory.is_free_pid(pid) {
             count = count.wrapping_add(1);
         }

@@ -1,7 +1,7 @@
 //! Where each row, or each PID, is.
 
 /// More rows than the trees of these tests have, and more PIDs.
-pub(crate) const MOST: u16 = 16384;
+pub(crate) const MOST: u32 = 16384;
 
 /// What is true of a row or a PID.
 #[derive(Clone, Copy, PartialEq, Eq)]
@@ -29,13 +29,13 @@ impl Numbers {
         Numbers { statuses }
     }
 
-    pub(crate) fn is_at(&self, number: u16, status: Status) -> bool {
-        self.statuses[usize::from(number % MOST)] == status
+    pub(crate) fn is_at(&self, number: u32, status: Status) -> bool {
+        self.statuses[(number % MOST) as usize] == status
     }
 
     /// Moves a number from one status to another, if it has the first.
-    pub(crate) fn moves(&mut self, number: u16, from: Status, to: Status) -> bool {
-        let status = &mut self.statuses[usize::from(number % MOST)];
+    pub(crate) fn moves(&mut self, number: u32, from: Status, to: Status) -> bool {
+        let status = &mut self.statuses[(number % MOST) as usize];
         let is_there = *status == from;
         if is_there {
             *status = to;
@@ -44,10 +44,10 @@ impl Numbers {
     }
 
     /// Frees the numbers of a word's bits, if all of them are in limbo.
-    pub(crate) fn frees(&mut self, word: u8, bits: u64) -> bool {
-        for bit in 0..64u16 {
-            let number = u16::from(word).wrapping_mul(64).wrapping_add(bit);
-            let is_freed = bits >> (u32::from(bit) % 64) & 1 == 1;
+    pub(crate) fn frees(&mut self, word: u32, bits: u64) -> bool {
+        for bit in 0..64u32 {
+            let number = word.wrapping_mul(64).wrapping_add(bit);
+            let is_freed = bits >> (bit % 64) & 1 == 1;
             if is_freed && !self.moves(number, Status::Limbo, Status::Free) {
                 return false;
             }

@@ -46,7 +46,7 @@ pub(crate) struct Tally {
     pub(crate) most_used: u32,
     begun: u32,
     step: u32,
-    placed: [Option<(u16, Change)>; 16],
+    placed: [Option<(u32, Change)>; 16],
 }
 
 const NOTHING: Level = Level {
@@ -136,7 +136,7 @@ impl Tally {
     }
 
     /// An exchange has won.
-    fn link(&mut self, actor: u8, row: u16) {
+    fn link(&mut self, actor: u8, row: u32) {
         if let Some((placed, change)) = self.placed[usize::from(actor % 16)] {
             if placed == row {
                 self.change(change);

@@ -48,15 +48,15 @@ impl Ways {
 /// What a page's records say of it, the newest first: its level and whether it is removed, its first key, and where it ends, at which page.
 #[derive(Drop)]
 struct Read {
-    pid: u16,
+    pid: u32,
     level: u8,
     is_removed: bool,
     low: Key,
-    end: Option<(Option<Key>, u16)>,
+    end: Option<(Option<Key>, u32)>,
 }
 
 impl Read {
-    fn nothing(pid: u16) -> Read {
+    fn nothing(pid: u32) -> Read {
         Read {
             pid,
             level: 0,
@@ -67,7 +67,7 @@ impl Read {
     }
 
     /// The end of the page, where no newer record told it.
-    fn ends(&mut self, high: Option<Key>, right: u16) {
+    fn ends(&mut self, high: Option<Key>, right: u32) {
         if self.end.is_none() {
             self.end = Some((high, right));
         }
@@ -127,7 +127,7 @@ impl Walk {
     }
 
     /// It has read a slot: where it goes round a page, slot 0 and an empty one are the ways of being lost.
-    fn reads_slot(&mut self, pid: u16, row: u64) {
+    fn reads_slot(&mut self, pid: u32, row: u64) {
         if self.around.is_some() && (pid == 0 || row == 0) {
             self.ways.lost = self.ways.lost.saturating_add(1);
             self.stops();

@@ -10,10 +10,10 @@ use Rattle.deltas.specs.declared.record.Record.TheVariants.{Base, Put, Delete, S
 
 -- a number that a page may have, and one that the row of a record may have
 abbrev pub IsPid : ℕ → Type 0
-IsPid pid = (0 < pid) × (pid < 4096)
+IsPid pid = (0 < pid) × (pid < 4194304)
 
 abbrev pub IsRow : ℕ → Type 0
-IsRow row = (0 < row) × (row < 16384)
+IsRow row = (0 < row) × (row < 67108864)
 
 abbrev pub HasPid : Content → Type 0
 HasPid (Value value) = ⊤

@@ -10,7 +10,7 @@ use std::alloc::AllocError;
 /// A key of a leaf has a value. `next` is the row of the record under it, here and below.
 #[derive(Drop)]
 pub struct Put {
-    pub next: u16,
+    pub next: u32,
     pub key: Key,
     pub value: Value,
 }
@@ -18,7 +18,7 @@ pub struct Put {
 /// A key of a leaf is absent.
 #[derive(Drop)]
 pub struct Delete {
-    pub next: u16,
+    pub next: u32,
     pub key: Key,
 }
 
@@ -26,44 +26,44 @@ pub struct Delete {
 #[derive(Drop)]
 pub struct Split {
     pub level: u8,
-    pub next: u16,
+    pub next: u32,
     pub separator: Key,
-    pub page: u16,
+    pub page: u32,
 }
 
 /// An index page has a term: a separator and the child whose keys begin there.
 #[derive(Drop)]
 pub struct Term {
     pub level: u8,
-    pub next: u16,
+    pub next: u32,
     pub separator: Key,
-    pub child: u16,
+    pub child: u32,
 }
 
 /// The term of a separator is held: its child is about to be removed.
 #[derive(Drop)]
 pub struct Hold {
     pub level: u8,
-    pub next: u16,
+    pub next: u32,
     pub separator: Key,
-    pub child: u16,
+    pub child: u32,
 }
 
 /// The page is removed.
 #[derive(Clone, Copy)]
 pub struct Remove {
     pub level: u8,
-    pub next: u16,
+    pub next: u32,
 }
 
 /// The range, the right and the items of a removed page came to its left page.
 #[derive(Drop)]
 pub struct Merge {
     pub level: u8,
-    pub next: u16,
+    pub next: u32,
     pub low: Key,
     pub high: Option<Key>,
-    pub right: Option<u16>,
+    pub right: Option<u32>,
     pub items: Items,
 }
 
@@ -71,9 +71,9 @@ pub struct Merge {
 #[derive(Drop)]
 pub struct Unterm {
     pub level: u8,
-    pub next: u16,
+    pub next: u32,
     pub separator: Key,
-    pub child: u16,
+    pub child: u32,
 }
 
 /// One record of a chain: a base with the whole page, or a delta over the record under it.
@@ -113,7 +113,7 @@ impl Clone for Record {
 
 impl Record {
     /// The row of the record under this one; a base has none.
-    pub fn next(&self) -> Option<u16>
+    pub fn next(&self) -> Option<u32>
         ensures { result ≡ next_row self.now }
     {
         match self {

@@ -125,10 +125,9 @@ among_all : (limits : Limits) (pages : List ℕ) → AreDistinct limits pages �
 among_all limits pages h q e = elim (eqb_tells q 0) [ inl same ↦ (let some = limits.allowed.some_pids in let is = same.1 in omega arith) | inr differs ↦ among limits pages h q (rw differs.0 at e) ]
 
 -- Pages that differ are at most 4,095.
-pub few_pages : (limits : Limits) (pages : List ℕ) → AreDistinct limits pages → length pages ≤ 4095
+pub few_pages : (limits : Limits) (pages : List ℕ) → AreDistinct limits pages → suc (length pages) ≤ limits.pids
 unfolding IsDistinct
 few_pages limits pages h =
     let all : IsDistinct ◌==◌ (0 ∷ pages) = (new_test 0 pages (zero_new limits pages h), differ limits pages h) in
     let few = length-le_from_distinct_below (0 ∷ pages) limits.pids all (among_all limits pages h) in
-    let most = limits.allowed.few_pids in
     omega (arith, few)

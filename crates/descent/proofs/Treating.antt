@@ -14,10 +14,11 @@ use Rattle.deltas.specs.declared.record.Unterm.{Unterm as UntermRecord}
 use Rattle.traces.specs.chain.Chains.{content_in, covers, is_removed, level_in, low_in, right_in}
 use Rattle.traces.specs.discipline.Knowledge.{Knowledge}
 use Rattle.traces.specs.discipline.Recalled.{Recalled, WasHead}
-use Rattle.smo.specs.Sizes.{HasFewItems}
+use Rattle.smo.specs.Sizes.{HasFewItems, many_of}
 use Rattle.smo.specs.Splits.{CanSplit}
 use Rattle.smo.specs.declared.upkeep.Upkeep.{Upkeep}
 use Rattle.smo.specs.Versions.{Version}
+use Rattle.smo.proofs.Few.{few_many}
 use Rattle.smo.proofs.Places.{made}
 use Rattle.descent.specs.Courses.{WriteGoal, Seek, Left, Merge, Unterm}
 use Rattle.descent.specs.WriteEnds.{WriteEnd}
@@ -89,8 +90,8 @@ module _ (old : WriteRound) (k now : Knowledge) (r : Recalled) (version : Versio
   keeps_on alive pid level low names (Merge left) seeks passing by = absurd seeks
   keeps_on alive pid level low names (Unterm parent left) seeks passing by = absurd seeks
 
-  few_deltas : ¬ IsLong old.due version.chain → length version.chain ≤ 8
-  few_deltas short = let most = lt_of_not-le (λ (many : 9 ≤ length version.chain). short (inl many)) in omega (arith, most)
+  few_deltas : ¬ IsLong old.limits old.due version.chain → length version.chain ≤ 8
+  few_deltas short = let few = few_many old.limits in let most = lt_of_not-le (λ (many : suc (many_of old.limits) ≤ length version.chain). short (inl many)) in omega (arith, few, most)
 
   few_items : is_removed version.chain ≡ false → length version.chain ≤ 8 → ¬ CanSplit version → HasFewItems version.chain
   few_items alive short narrow =
@@ -119,7 +120,7 @@ module _ (old : WriteRound) (k now : Knowledge) (r : Recalled) (version : Versio
         keeps = keeps_on alive pid (level_in version.chain) leads.low names old.goal seeks leads.on_way h.passed;
       }
 
-  below : (pid : ℕ) → IsHere old version → IsFine old.due version → 0 < level_in version.chain → LeadsDown way version.chain pid → VisitsToWrite old.limits old.key old.floor old.goal (Some version) None now r (page.to_page old.limits pid)
+  below : (pid : ℕ) → IsHere old version → IsFine old.limits old.due version → 0 < level_in version.chain → LeadsDown way version.chain pid → VisitsToWrite old.limits old.key old.floor old.goal (Some version) None now r (page.to_page old.limits pid)
   below pid here fine index leads =
       let alive = here.alive in
       let names = down_names way version.chain pid index leads in

@@ -66,16 +66,16 @@ module _ (old new : WriteRound) (told : Answer Record) (visit : page.Visit) wher
       abbrev way_here : List ℕ → Bool
       way_here = write_way old.goal old.key
 
-      less : is_removed version.chain ≡ false → left_at reserve (recall r (page.wanted visit) told).walk [] Slot < left_in reserve r visit
+      less : is_removed version.chain ≡ false → left_at old.limits reserve (recall r (page.wanted visit) told).walk [] Slot < left_in old.limits reserve r visit
       less = left_on reserve old.limits way_here (is_cutting old.goal) k r visit h.level h.low h.earlier told h.seeks f version b
 
-      more : is_removed version.chain ≡ false → (goal : WriteGoal) → old.goal ≡ goal → left_at reserve (recall r (page.wanted visit) told).walk [] Slot + write_round_kept kept goal < left_in reserve r visit + write_round_kept kept old.goal
+      more : is_removed version.chain ≡ false → (goal : WriteGoal) → old.goal ≡ goal → left_at old.limits reserve (recall r (page.wanted visit) told).walk [] Slot + write_round_kept kept goal < left_in old.limits reserve r visit + write_round_kept kept old.goal
       more alive goal e = let l = less alive in rw e (omega (arith, l))
 
-      some_left : write_round_kept kept old.goal < left_in reserve r visit + write_round_kept kept old.goal
+      some_left : write_round_kept kept old.goal < left_in old.limits reserve r visit + write_round_kept kept old.goal
       some_left = let some = left_some reserve old.limits way_here (is_cutting old.goal) k r visit h.level h.low h.earlier told h.seeks f version b in omega (arith, some)
 
-      keeps : (goal : WriteGoal) → old.goal ≡ goal → write_round_kept kept goal ≡ kept → kept < left_in reserve r visit + write_round_kept kept old.goal
+      keeps : (goal : WriteGoal) → old.goal ≡ goal → write_round_kept kept goal ≡ kept → kept < left_in old.limits reserve r visit + write_round_kept kept old.goal
       keeps goal e is = let some = left_some reserve old.limits way_here (is_cutting old.goal) k r visit h.level h.low h.earlier told h.seeks f version b in rw e (rw is (omega (arith, some)))
 
       by_result : (o : Option WriteEnd) → TreatsWrite here version new o → Spends reserve kept r here told new o
@@ -161,7 +161,7 @@ pub spends_from : (old new : WriteRound) (told : Answer Record) (result : Option
 spends_from old new told result responds = by_step writing (λ round. refl) (λ o x n e. Pays n e o x) old new told result responds
     (λ pid reserve kept k r h f. inl (omega arith))
     (λ visit next b reserve kept k r h f.
-    still (with_walk reserve) r (page.wanted visit) told _ _ (write_round_kept kept old.goal) (spent_on reserve old.limits (write_way old.goal old.key) (is_cutting old.goal) k r visit h.level h.low h.earlier told h.seeks f next b))
+    still (with_walk old.limits reserve) r (page.wanted visit) told _ _ (write_round_kept kept old.goal) (spent_on reserve old.limits (write_way old.goal old.key) (is_cutting old.goal) k r visit h.level h.low h.earlier told h.seeks f next b))
     (λ visit next sight b sees. paid old new told visit next sight result b sees)
 
 -- what the round shows, its descent does

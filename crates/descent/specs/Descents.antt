@@ -80,6 +80,6 @@ Responds old told new None = Starts old told new ⊎ Visits old told new
 Responds old told new (Some sight) = Finds old told sight
 
 -- how many reads a round takes at most from a state on, with those that are reserved once a removal was read
-abbrev pub left_from : ℕ → Recalled → WayState → ℕ
-left_from reserve r Root = few_reads
-left_from reserve r (Page visit) = left_in reserve r visit
+abbrev pub left_from : Limits → ℕ → Recalled → WayState → ℕ
+left_from limits reserve r Root = few_reads limits
+left_from limits reserve r (Page visit) = left_in limits reserve r visit

@@ -381,7 +381,7 @@ read_round_kept kept (Left removed) = kept
 read_round_kept kept Beyond = kept
 
 abbrev pub read_round_left : ℕ → ℕ → Recalled → ReadRound → ℕ
-read_round_left reserve kept r round = left_from reserve r round.state + read_round_kept kept round.goal
+read_round_left reserve kept r round = left_from round.limits reserve r round.state + read_round_kept kept round.goal
 
 -- Where a page wasn't there, a cause pays, but where a removed index page was met, and what is reserved is left; beyond a removed leaf
 -- the reads that were kept are.
@@ -393,7 +393,7 @@ MissesRead reserve kept r old told Beyond = kept < read_round_left reserve kept 
 -- A round that goes on has fewer reads left, or a cause paid for the reserve. Where the round ends at a removed page, the reserve
 -- is left; where it was begun for a removed page, so are those that were kept.
 abbrev pub Spends : ℕ → ℕ → Recalled → ReadRound → Answer Record → ReadRound → Option ReadEnd → Type 0
-Spends reserve kept r old told new None = IsSpentWith (1 + with_walk reserve) r (wanted old) told (read_round_left reserve kept r old) (read_round_left reserve kept (recall r (wanted old) told) new)
+Spends reserve kept r old told new None = IsSpentWith (1 + with_walk old.limits reserve) r (wanted old) told (read_round_left reserve kept r old) (read_round_left reserve kept (recall r (wanted old) told) new)
 Spends reserve kept r old told new (Some Again) = MissesRead reserve kept r old told old.goal
 Spends reserve kept r old told new (Some (Removed removed)) = reserve + read_round_kept kept old.goal < read_round_left reserve kept r old
 Spends reserve kept r old told new (Some (Leaf leaf)) = read_round_kept kept old.goal < read_round_left reserve kept r old

@@ -174,18 +174,18 @@ IsAmong page [] = ⊥
 IsAmong page (other ∷ others) = (page ≡ other) ⊎ IsAmong page others
 
 -- how many reads a round takes at most: slot 0, and of each page the slot and 13 records
-abbrev pub few_reads : ℕ
-few_reads = 1 + 14 * 4095
+abbrev pub few_reads : Limits → ℕ
+few_reads limits = 1 + 14 * limits.pids
 
 -- how many reads a round takes at most once it goes on from a removed page, with those that are reserved for rounds after it
-abbrev pub with_walk : ℕ → ℕ
-with_walk reserve = 14 * 4095 + reserve
+abbrev pub with_walk : Limits → ℕ → ℕ
+with_walk limits reserve = 14 * limits.pids + reserve
 
 -- how many reads a round takes at most from a visit on, with the one that it has asked for, and with those that are reserved
 -- once a removal was read
-abbrev pub left_at : ℕ → Walk → List Record → VisitState → ℕ
-left_at reserve walk part Slot = 14 * (4095 - length (trail walk)) + (if walk.removed then reserve else 0)
-left_at reserve walk part (Row head row) = 14 * (4095 - length walk.visited) + (13 - length part) + (if walk.passed then reserve else (if is_removed part then with_walk reserve else 0))
+abbrev pub left_at : Limits → ℕ → Walk → List Record → VisitState → ℕ
+left_at limits reserve walk part Slot = 14 * (limits.pids - length (trail walk)) + (if walk.removed then reserve else 0)
+left_at limits reserve walk part (Row head row) = 14 * (limits.pids - length walk.visited) + (13 - length part) + (if walk.passed then reserve else (if is_removed part then with_walk limits reserve else 0))
 
-abbrev pub left_in : ℕ → Recalled → Visit → ℕ
-left_in reserve r visit = left_at reserve r.walk visit.part visit.state
+abbrev pub left_in : Limits → ℕ → Recalled → Visit → ℕ
+left_in limits reserve r visit = left_at limits reserve r.walk visit.part visit.state

@@ -39,8 +39,8 @@ pub record IsHere (old : WriteRound) (version : Version) : Type 0 where
   pub stays : StaysLeft (write_way old.goal old.key) version.chain
 
 -- The page is neither to be consolidated nor to be split.
-pub record IsFine (due : ℕ) (version : Version) : Type 0 where
-  pub short : ¬ IsLong due version.chain
+pub record IsFine (limits : Limits) (due : ℕ) (version : Version) : Type 0 where
+  pub short : ¬ IsLong limits due version.chain
   pub narrow : ¬ CanSplit version
 
 -- The round holds and removes small pages on its way to the leaf of a key, and the page is an index page, below the parent.
@@ -66,7 +66,7 @@ pub record GoesAside (old : WriteRound) (version : Version) (new : WriteRound) :
 -- Nothing is due at the page, nor of a small page's removal, and the round goes down to a child of it.
 pub record GoesBelow (old : WriteRound) (version : Version) (new : WriteRound) : Type 0 where
   pub here : IsHere old version
-  pub fine : IsFine old.due version
+  pub fine : IsFine old.limits old.due version
   pub idle : IsIdleOnWay old version
   pub index : ends_at old.goal old.floor < level_in version.chain
   pub child : ℕ
@@ -77,13 +77,13 @@ pub record GoesBelow (old : WriteRound) (version : Version) (new : WriteRound) :
 pub record EndsLong (old : WriteRound) (version page : Version) : Type 0 where
   pub is : page ≡ version
   pub here : IsHere old version
-  pub long : IsLong old.due version.chain
+  pub long : IsLong old.limits old.due version.chain
 
 -- The page has few deltas and too many items.
 pub record EndsWide (old : WriteRound) (version page : Version) (plan : SplitPlan) : Type 0 where
   pub is : page ≡ version
   pub here : IsHere old version
-  pub short : ¬ IsLong old.due version.chain
+  pub short : ¬ IsLong old.limits old.due version.chain
   pub plan_due : IsSplitPlan version plan
 
 -- The page stands to the right of another one, and the parent lacks its term.
@@ -105,7 +105,7 @@ pub record EndsUnrooted (old : WriteRound) (version left : Version) (root : Page
 pub record EndsSmall (old : WriteRound) (version parent page : Version) (upkeep : Upkeep) : Type 0 where
   pub is : page ≡ version
   pub here : IsHere old version
-  pub fine : IsFine old.due version
+  pub fine : IsFine old.limits old.due version
   pub tended : IsTended old parent version
   pub due : IsUpkeep parent version upkeep
 
@@ -115,7 +115,7 @@ pub record EndsFine (old : WriteRound) (version : Version) (parent : Option Vers
   pub seeks : old.goal ≡ Seek
   pub above : parent ≡ old.parent
   pub here : IsHere old version
-  pub fine : IsFine old.due version
+  pub fine : IsFine old.limits old.due version
   pub level : level_in version.chain ≡ 0
 
 -- The page is removed, on the way to a leaf.
@@ -128,7 +128,7 @@ pub record EndsRemoved (old : WriteRound) (version removed : Version) : Type 0 w
 pub record IsAtLeft (old : WriteRound) (version : Version) (pid : ℕ) : Type 0 where
   pub goal : old.goal ≡ Left pid
   pub here : IsHere old version
-  pub fine : IsFine old.due version
+  pub fine : IsFine old.limits old.due version
   pub level : level_in version.chain ≡ old.floor
 
 -- Nothing is due at the page, which is below the level of the removed page to whose left the round goes.
@@ -136,7 +136,7 @@ pub record EndsBelow (old : WriteRound) (version : Version) : Type 0 where
   pub pid : ℕ
   pub goal : old.goal ≡ Left pid
   pub here : IsHere old version
-  pub fine : IsFine old.due version
+  pub fine : IsFine old.limits old.due version
   pub below : level_in version.chain < old.floor
 
 -- the round, gone to read the removed page again

@@ -18,7 +18,7 @@ use Rattle.traces.specs.discipline.Recalled.{IsPaid, IsSpentWith, IsUnread, Reca
 use Rattle.smo.specs.Merges.{IsMergePlan}
 use Rattle.smo.specs.Readings.{IsAfter}
 use Rattle.smo.specs.Roots.{IsRootPlan}
-use Rattle.smo.specs.Sizes.{HasFewDeltas, HasFewItems}
+use Rattle.smo.specs.Sizes.{HasFewDeltas, HasFewItems, many_of}
 use Rattle.smo.specs.Splits.{IsSplitPlan}
 use Rattle.smo.specs.Terms.{IsTermPlan}
 use Rattle.smo.specs.Unterms.{IsUntermPlan}
@@ -202,14 +202,14 @@ Shows round k r = ShowsState round k r round.state
 
 -- ends
 
--- The page has 8 deltas or more, or a leaf those that are due.
-abbrev pub IsLong : ℕ → List Record → Type 0
-IsLong due chain = (8 < length chain) ⊎ ((level_in chain ≡ 0) × (due < length chain))
+-- The page has many deltas, or a leaf those that are due.
+abbrev pub IsLong : Limits → ℕ → List Record → Type 0
+IsLong limits due chain = (many_of limits < length chain) ⊎ ((level_in chain ≡ 0) × (due < length chain))
 
 -- The page is to be consolidated.
 pub record IsLongEnd (round : WriteRound) (k : Knowledge) (r : Recalled) (version : Version) : Type 0 where
   pub page : IsAlive round.limits k r version
-  pub long : IsLong round.due version.chain
+  pub long : IsLong round.limits round.due version.chain
 
 -- The page is to be split.
 pub record IsSplitEnd (round : WriteRound) (k : Knowledge) (r : Recalled) (version : Version) (plan : SplitPlan) : Type 0 where
@@ -301,7 +301,7 @@ write_round_kept kept (Merge left) = kept
 write_round_kept kept (Unterm parent left) = kept
 
 abbrev pub write_round_left : ℕ → ℕ → Recalled → WriteRound → ℕ
-write_round_left reserve kept r round = left_from reserve r round.state + write_round_kept kept round.goal
+write_round_left reserve kept r round = left_from round.limits reserve r round.state + write_round_kept kept round.goal
 
 -- Where a page wasn't there, a cause pays, but where a removed page is read for its term, the reads that were kept are left; so they
 -- are where a page that was there is below the removed one's level.
@@ -314,7 +314,7 @@ MissesWrite reserve kept r old told (Unterm parent left) = kept < write_round_le
 -- A round that goes on has fewer reads left, or a cause paid for the reserve. Where the round ends at a removed page, the reserve
 -- is left; where it was begun for a removed page, so are those that were kept.
 abbrev pub Spends : ℕ → ℕ → Recalled → WriteRound → Answer Record → WriteRound → Option WriteEnd → Type 0
-Spends reserve kept r old told new None = IsSpentWith (1 + with_walk reserve) r (wanted old) told (write_round_left reserve kept r old) (write_round_left reserve kept (recall r (wanted old) told) new)
+Spends reserve kept r old told new None = IsSpentWith (1 + with_walk old.limits reserve) r (wanted old) told (write_round_left reserve kept r old) (write_round_left reserve kept (recall r (wanted old) told) new)
 Spends reserve kept r old told new (Some end.Again) = MissesWrite reserve kept r old told old.goal
 Spends reserve kept r old told new (Some (end.Removed removed)) = reserve + write_round_kept kept old.goal < write_round_left reserve kept r old
 Spends reserve kept r old told new (Some end.Done) = kept < write_round_left reserve kept r old

@@ -30,10 +30,10 @@ use smo::plans_are_due;
 pub fn rounds_are_short()
     ensures read { (reserve kept : ℕ) (k : Knowledge) (r : Recalled) (round : reader.ReadRound)
         → reader.Shows round k r
-        → reader.read_round_left reserve kept r round ≤ few_reads + with_walk reserve + reader.read_round_kept kept round.goal }
+        → reader.read_round_left reserve kept r round ≤ few_reads round.limits + with_walk round.limits reserve + reader.read_round_kept kept round.goal }
     ensures write { (reserve kept : ℕ) (k : Knowledge) (r : Recalled) (round : writer.WriteRound)
         → writer.Shows round k r
-        → writer.write_round_left reserve kept r round ≤ few_reads + with_walk reserve + writer.write_round_kept kept round.goal }
+        → writer.write_round_left reserve kept r round ≤ few_reads round.limits + with_walk round.limits reserve + writer.write_round_kept kept round.goal }
 {}
 
 /// What a reader's round makes of an answer that fits what is known leaves it what it shows, and spends as it may.

@@ -89,7 +89,7 @@ fn show_rectangle<O: Output>(out: &mut O, rectangle: &Rectangle)
 }
 
 /// The digits of a PID.
-fn show_digits<O: Output>(out: &mut O, pid: u16)
+fn show_digits<O: Output>(out: &mut O, pid: u32)
     ensures { Prints (O.state out.old) (O.state out.new) (escaped (decimal pid)) }
 {
     let mut buffer = Buffer::new();
@@ -97,7 +97,7 @@ fn show_digits<O: Output>(out: &mut O, pid: u16)
 }
 
 /// The identifier of a page's box.
-fn show_page_name<O: Output>(out: &mut O, pid: u16)
+fn show_page_name<O: Output>(out: &mut O, pid: u32)
     ensures { Prints (O.state out.old) (O.state out.new) (attribute_text (attribute (codes "id") (codes "page-" ++ decimal pid))) }
 {
     out.show(b" id=\"page-");
@@ -105,7 +105,7 @@ fn show_page_name<O: Output>(out: &mut O, pid: u16)
     out.show(b"\"");
 }
 
-fn show_page_box<O: Output>(out: &mut O, pid: &u16, rectangle: &Rectangle)
+fn show_page_box<O: Output>(out: &mut O, pid: &u32, rectangle: &Rectangle)
     ensures { Prints (O.state out.old) (O.state out.new) (element_text (rectangle_element (attribute (codes "id") (codes "page-" ++ decimal pid.now) ∷ []) rectangle.now)) }
 {
     out.show(b"<rect");
@@ -229,7 +229,7 @@ fn show_label<O: Output>(
 }
 
 /// The name of a page.
-fn page_name(pid: u16) -> Words
+fn page_name(pid: u32) -> Words
     ensures { result ≡ codes "PID " ++ decimal pid }
 {
     let mut words = Words::new();

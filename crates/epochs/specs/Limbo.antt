@@ -81,6 +81,6 @@ IsNewItem limbo (Pid pid) = IsNew limbo.pids pid
 
 -- Each number is there once, and is below the limit.
 pub record IsLimboList (list : LimboList) : Type 0 where
-  pub small : list.limit ≤ 16384
+  pub small : list.limit ≤ 67108864
   pub once : AllPairs (λ one other. one.number ≢ other.number) list.entries
   pub within : All (λ entry. entry.number < list.limit) list.entries

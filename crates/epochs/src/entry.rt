@@ -7,7 +7,7 @@ ghost use Rattle.epochs.specs.Reclamation.{may_be_freed};
 /// A number in a limbo list.
 #[derive(Clone, Copy)]
 pub struct Entry {
-    pub number: u16,
+    pub number: u32,
     pub stage: Stage,
 }
 
@@ -24,10 +24,10 @@ pub enum Stage {
 
 impl Entry {
     /// Whether the number is one of this word, and may be freed.
-    pub(crate) fn goes_with(self, word: u8) -> bool
+    pub(crate) fn goes_with(self, word: u32) -> bool
         ensures { result ≡ ((self.number / 64 == word) && is_passed self.stage) }
     {
-        self.number / 64 == u16::from(word) && self.stage.is_passed()
+        self.number / 64 == word && self.stage.is_passed()
     }
 }
 

@@ -31,7 +31,7 @@ impl<A: Allocator> Model for LimboList<A> {
 impl<A: Allocator> LimboList<A> {
     /// With room for all numbers below the limit, so that no later call takes memory.
     pub(crate) fn new(alloc: A, limit: u64) -> Result<LimboList<A>, AllocError>
-        requires { limit ≤ 16384 }
+        requires { limit ≤ 67108864 }
         ensures { IfOk result (λ list. list ≡ record { limit = limit; entries = [] }) }
     {
         Ok(LimboList {
@@ -41,21 +41,21 @@ impl<A: Allocator> LimboList<A> {
     }
 
     /// Whether the number may be added.
-    pub(crate) fn accepts(&self, number: u16) -> bool
+    pub(crate) fn accepts(&self, number: u32) -> bool
         ensures { IsTrue result ↔ IsNew self.now number }
     {
         u64::from(number) < self.limit && !self.contains(number)
     }
 
     /// Whether the number is in the list.
-    fn contains(&self, number: u16) -> bool
+    fn contains(&self, number: u32) -> bool
         ensures { result ≡ is_in self.now number }
     {
         self.entries.iter().any(|entry| entry.number == number)
     }
 
     /// Adds a number, without a stamp.
-    pub(crate) fn add(&mut self, number: u16)
+    pub(crate) fn add(&mut self, number: u32)
         requires { IsNew self.old number }
         ensures { self.new ≡ added number self.old }
     {
@@ -84,7 +84,7 @@ impl<A: Allocator> LimboList<A> {
     }
 
     /// Takes out the numbers of the first word with one that may be freed: the word's place, and their bits.
-    pub(crate) fn next_word(&mut self) -> Option<(u8, u64)>
+    pub(crate) fn next_word(&mut self) -> Option<(u32, u64)>
         ensures { MatchOption result (HandsNothingOn self.old self.new) (λ handed. HandsOn self.old handed.0 handed.1 self.new) }
     {
         let word = first_word(&self.entries)?;

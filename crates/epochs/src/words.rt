@@ -7,21 +7,21 @@ use crate::Entry;
 use std::alloc::Allocator;
 
 /// The place of the first word with a number that may be freed.
-pub(crate) fn first_word(entries: &[Entry]) -> Option<u8>
-    requires { All (λ entry. entry.number < 16384) entries.now }
+pub(crate) fn first_word(entries: &[Entry]) -> Option<u32>
+    requires { All (λ entry. entry.number < 67108864) entries.now }
     ensures { IsFirstPlace entries.now result }
 {
     let mut first = None;
     for entry in entries {
         if entry.stage.is_passed() {
-            first = Some(earlier(first, (entry.number / 64) as u8));
+            first = Some(earlier(first, entry.number / 64));
         }
     }
     first
 }
 
 /// The earlier of two words, the first of which there may not be.
-fn earlier(first: Option<u8>, word: u8) -> u8
+fn earlier(first: Option<u32>, word: u32) -> u32
     ensures { result ≡ lower first word }
 {
     match first {
@@ -31,7 +31,7 @@ fn earlier(first: Option<u8>, word: u8) -> u8
 }
 
 /// The bits of the numbers of a word that may be freed.
-pub(crate) fn bits_of(entries: &[Entry], word: u8) -> u64
+pub(crate) fn bits_of(entries: &[Entry], word: u32) -> u64
     ensures { AreBitsOf entries.now word result }
 {
     let mut bits = 0;
@@ -44,7 +44,7 @@ pub(crate) fn bits_of(entries: &[Entry], word: u8) -> u64
 }
 
 /// Takes out the numbers of a word that may be freed.
-pub(crate) fn hand_on<A: Allocator>(entries: &mut Vec<Entry, A>, word: u8)
+pub(crate) fn hand_on<A: Allocator>(entries: &mut Vec<Entry, A>, word: u32)
     ensures rest { entries.new.items ≡ without word entries.old.items }
     ensures capacity { vec_capacity entries.new ≡ vec_capacity entries.old }
 {

@@ -53,28 +53,28 @@ module _ (k : Knowledge) where
 
   -- a taking takes nothing out
   number_limbo : (taking : Taking) (told : Answer Record) → (learn k (wanted_number taking) told).limbo ≡ k.limbo
-  number_limbo (Bits Pid word) answer.Start = refl
-  number_limbo (Bits Pid word) (answer.Number n) = refl
-  number_limbo (Bits Pid word) (answer.Content content) = refl
-  number_limbo (Bits Pid word) (answer.Whether b) = refl
-  number_limbo (Bits Pid word) answer.Done = refl
-  number_limbo (Bits Row word) answer.Start = refl
-  number_limbo (Bits Row word) (answer.Number n) = refl
-  number_limbo (Bits Row word) (answer.Content content) = refl
-  number_limbo (Bits Row word) (answer.Whether b) = refl
-  number_limbo (Bits Row word) answer.Done = refl
-  number_limbo (Take Pid number) answer.Start = refl
-  number_limbo (Take Pid number) (answer.Number n) = refl
-  number_limbo (Take Pid number) (answer.Content content) = refl
-  number_limbo (Take Pid number) (answer.Whether true) = refl
-  number_limbo (Take Pid number) (answer.Whether false) = refl
-  number_limbo (Take Pid number) answer.Done = refl
-  number_limbo (Take Row number) answer.Start = refl
-  number_limbo (Take Row number) (answer.Number n) = refl
-  number_limbo (Take Row number) (answer.Content content) = refl
-  number_limbo (Take Row number) (answer.Whether true) = refl
-  number_limbo (Take Row number) (answer.Whether false) = refl
-  number_limbo (Take Row number) answer.Done = refl
+  number_limbo (Bits Pid word whole) answer.Start = refl
+  number_limbo (Bits Pid word whole) (answer.Number n) = refl
+  number_limbo (Bits Pid word whole) (answer.Content content) = refl
+  number_limbo (Bits Pid word whole) (answer.Whether b) = refl
+  number_limbo (Bits Pid word whole) answer.Done = refl
+  number_limbo (Bits Row word whole) answer.Start = refl
+  number_limbo (Bits Row word whole) (answer.Number n) = refl
+  number_limbo (Bits Row word whole) (answer.Content content) = refl
+  number_limbo (Bits Row word whole) (answer.Whether b) = refl
+  number_limbo (Bits Row word whole) answer.Done = refl
+  number_limbo (Take Pid number whole) answer.Start = refl
+  number_limbo (Take Pid number whole) (answer.Number n) = refl
+  number_limbo (Take Pid number whole) (answer.Content content) = refl
+  number_limbo (Take Pid number whole) (answer.Whether true) = refl
+  number_limbo (Take Pid number whole) (answer.Whether false) = refl
+  number_limbo (Take Pid number whole) answer.Done = refl
+  number_limbo (Take Row number whole) answer.Start = refl
+  number_limbo (Take Row number whole) (answer.Number n) = refl
+  number_limbo (Take Row number whole) (answer.Content content) = refl
+  number_limbo (Take Row number whole) (answer.Whether true) = refl
+  number_limbo (Take Row number whole) (answer.Whether false) = refl
+  number_limbo (Take Row number whole) answer.Done = refl
 
   module _ (limits : Limits) where
     fresh_over : (content : Record) (page old new : ℕ) → 0 < page → 0 < old → 0 < new → Fits limits k (step.Exchange page old new) (answer.Whether true)
@@ -95,7 +95,7 @@ module _ (k : Knowledge) where
     linked_outs page old new content p o n placed fits = rw (over_learnt k page old new content p n (over_other k limits page old new p o n fits) placed) (linked_limbo content old new)
 
     module _ (plan : Plan) (spares : Spares) where
-      taking_outs : (now : Knowledge) → now.limbo ≡ k.limbo → (state : State) (found : Found) → TakesOut limits k now plan (moved_by plan spares state found).end
+      taking_outs : (now : Knowledge) → now.limbo ≡ k.limbo → (state : State) (found : Found) → TakesOut limits k now plan (moved_by limits plan spares state found).end
       taking_outs now same state (Not taking) = record { limbo = same; fresh = tt }
       taking_outs now same state (Taken kind number) = record { limbo = same; fresh = tt }
       taking_outs now same state Full = record { limbo = same; fresh = tt }

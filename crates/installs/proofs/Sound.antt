@@ -1,6 +1,7 @@
 -- A change that goes on names no number that has no place.
 use Rattle.std.proofs.Common.{◌≡◌, ◌<◌, ◌≤◌, ◌+◌, ◌*◌, ◌/◌, ◌-◌, ℕ, zero, suc, [], ◌∷◌, length, length-append, length-take-le, Bool, true, false, Option, Some, None, refl, subst, arith}
-use Rattle.std.specs.Prelude.{IfNone, IfSome, ⊤, ltb, is_some, not, ◌&&◌, if◌then◌else◌}
+use Rattle.std.specs.Prelude.{IfNone, IfSome, ⊤, ltb, ◌%◌, is_some, not, ◌&&◌, if◌then◌else◌}
+use Rattle.std.proofs.Math.Nat.{mod-lt}
 use Rattle.std.proofs.lemmas.Bool.{ltb-true, ltb-false}
 use Rattle.std.proofs.lemmas.List.Elements.{All-push, All-take}
 use Rattle.std.specs.Int.{trailing_zeros, w64}
@@ -12,10 +13,10 @@ use Rattle.bw_model.specs.declared.step.Answer.{Answer}
 use Rattle.deltas.specs.declared.record.Record.{Record}
 use Rattle.traces.specs.discipline.Fitting.{Fits, FitsWord}
 use Rattle.traces.specs.discipline.Knowledge.{Knowledge}
-use Rattle.installs.specs.Changes.{AreEnough, Change, IsNeededNext, IsSame, IsSoundChange, IsSoundState, IsTarget, clears, needs_pid, rows_needed, wanted, wanted_at}
+use Rattle.installs.specs.Changes.{AreEnough, Change, IsNeededNext, IsSame, IsSoundChange, IsSoundState, IsTarget, clears, head_of, needs_pid, rows_needed, wanted, wanted_at}
 use Rattle.installs.specs.Moves.{Moved, after_ready, after_taking, decided_by, first_state, moved, moved_by, unused, whether_in, with_number}
 use Rattle.installs.specs.Spares.{HaveRoom, Spares}
-use Rattle.installs.specs.Taking.{IsSoundFound, IsSoundTaking, count_of, found_after, kind_of, wanted_number}
+use Rattle.installs.specs.Taking.{IsSoundFound, IsSoundTaking, begun_at, count_of, first_word, found_after, kind_of, wanted_number}
 use Rattle.installs.specs.declared.change.End.{End}
 use Rattle.installs.specs.declared.change.State.{State}
 use Rattle.installs.specs.declared.change.State.TheVariants as state
@@ -34,6 +35,18 @@ lowest_below limit word bits fits =
     let lowest = bit_at-trailing_zeros w64 (suc bits) (omega arith) fits.fits in
     (fits.below (trailing_zeros w64 (suc bits)) lowest.0 lowest.1).1
 
+some_numbers : (limits : Limits) (kind : Kind) → 64 ≤ count_of limits kind
+some_numbers limits Pid = limits.allowed.some_pids
+some_numbers limits Row = limits.allowed.some_rows
+
+-- a taking begins at a word that is there
+first_there : (limits : Limits) (kind : Kind) (head : ℕ) → 64 * first_word limits kind head < count_of limits kind
+first_there limits kind head = go limits.is_large
+  where
+    go : (large : Bool) → 64 * (if large then head * 2654435761 % (count_of limits kind / 64) else 0) < count_of limits kind
+    go false = let some = some_numbers limits kind in omega (arith, some)
+    go true = let some = some_numbers limits kind in let below = mod-lt (head * 2654435761) {m = count_of limits kind / 64} (omega (arith, some)) in omega (arith, below)
+
 -- the kind of what is found, or to be found
 abbrev pub IsFoundOf : Kind → Found → Type 0
 IsFoundOf kind (Not taking) = kind_of taking ≡ kind
@@ -41,43 +54,45 @@ IsFoundOf kind (Taken other number) = other ≡ kind
 IsFoundOf kind Full = ⊤
 
 found_of : (limits : Limits) (taking : Taking) (told : Answer Record) → IsFoundOf (kind_of taking) (found_after limits taking told)
-found_of limits (Bits kind word) (answer.Number zero) = go (ltb (suc word) (count_of limits kind / 64))
+found_of limits (Bits kind word whole) (answer.Number zero) = go (ltb (suc word) (count_of limits kind / 64)) whole
   where
-    go : (more : Bool) → IsFoundOf kind (if more then Not (Bits kind (suc word)) else Full)
-    go true = refl
-    go false = tt
-found_of limits (Bits kind word) (answer.Number (suc bits)) = refl
-found_of limits (Bits kind word) answer.Start = tt
-found_of limits (Bits kind word) (answer.Content content) = tt
-found_of limits (Bits kind word) (answer.Whether b) = tt
-found_of limits (Bits kind word) answer.Done = tt
-found_of limits (Take kind number) (answer.Whether true) = refl
-found_of limits (Take kind number) (answer.Whether false) = refl
-found_of limits (Take kind number) answer.Start = tt
-found_of limits (Take kind number) (answer.Content content) = tt
-found_of limits (Take kind number) (answer.Number n) = tt
-found_of limits (Take kind number) answer.Done = tt
+    go : (more whole : Bool) → IsFoundOf kind (if more then Not (Bits kind (suc word) whole) else if whole then Full else Not (Bits kind 0 true))
+    go true whole = refl
+    go false true = tt
+    go false false = refl
+found_of limits (Bits kind word whole) (answer.Number (suc bits)) = refl
+found_of limits (Bits kind word whole) answer.Start = tt
+found_of limits (Bits kind word whole) (answer.Content content) = tt
+found_of limits (Bits kind word whole) (answer.Whether b) = tt
+found_of limits (Bits kind word whole) answer.Done = tt
+found_of limits (Take kind number whole) (answer.Whether true) = refl
+found_of limits (Take kind number whole) (answer.Whether false) = refl
+found_of limits (Take kind number whole) answer.Start = tt
+found_of limits (Take kind number whole) (answer.Content content) = tt
+found_of limits (Take kind number whole) (answer.Number n) = tt
+found_of limits (Take kind number whole) answer.Done = tt
 
 -- what a taking finds is there
 found_sound : (limits : Limits) (k : Knowledge) (taking : Taking) (told : Answer Record) → Fits limits k (wanted_number taking) told → IsSoundTaking limits taking → IsSoundFound limits (found_after limits taking told)
-found_sound limits k (Bits kind word) (answer.Number zero) fits sound = go (ltb (suc word) (count_of limits kind / 64)) refl
+found_sound limits k (Bits kind word whole) (answer.Number zero) fits sound = go (ltb (suc word) (count_of limits kind / 64)) refl whole
   where
-    go : (more : Bool) → ltb (suc word) (count_of limits kind / 64) ≡ more → IsSoundFound limits (if more then Not (Bits kind (suc word)) else Full)
-    go true is = let some = ltb-true (suc word) (count_of limits kind / 64) is in omega (arith, some)
-    go false is = tt
-found_sound limits k (Bits Pid word) (answer.Number (suc bits)) fits sound = lowest_below limits.pids word bits fits
-found_sound limits k (Bits Row word) (answer.Number (suc bits)) fits sound = lowest_below limits.rows word bits fits
-found_sound limits k (Bits kind word) answer.Start fits sound = tt
-found_sound limits k (Bits kind word) (answer.Content content) fits sound = tt
-found_sound limits k (Bits kind word) (answer.Whether b) fits sound = tt
-found_sound limits k (Bits kind word) answer.Done fits sound = tt
-found_sound limits k (Take Pid number) (answer.Whether true) fits sound = (fits.some, fits.below)
-found_sound limits k (Take Row number) (answer.Whether true) fits sound = (fits.some, fits.below)
-found_sound limits k (Take kind number) (answer.Whether false) fits sound = omega (arith, sound)
-found_sound limits k (Take kind number) answer.Start fits sound = tt
-found_sound limits k (Take kind number) (answer.Content content) fits sound = tt
-found_sound limits k (Take kind number) (answer.Number n) fits sound = tt
-found_sound limits k (Take kind number) answer.Done fits sound = tt
+    go : (more : Bool) → ltb (suc word) (count_of limits kind / 64) ≡ more → (whole : Bool) → IsSoundFound limits (if more then Not (Bits kind (suc word) whole) else if whole then Full else Not (Bits kind 0 true))
+    go true is whole = let some = ltb-true (suc word) (count_of limits kind / 64) is in omega (arith, some)
+    go false is true = tt
+    go false is false = let some = some_numbers limits kind in omega (arith, some)
+found_sound limits k (Bits Pid word whole) (answer.Number (suc bits)) fits sound = lowest_below limits.pids word bits fits
+found_sound limits k (Bits Row word whole) (answer.Number (suc bits)) fits sound = lowest_below limits.rows word bits fits
+found_sound limits k (Bits kind word whole) answer.Start fits sound = tt
+found_sound limits k (Bits kind word whole) (answer.Content content) fits sound = tt
+found_sound limits k (Bits kind word whole) (answer.Whether b) fits sound = tt
+found_sound limits k (Bits kind word whole) answer.Done fits sound = tt
+found_sound limits k (Take Pid number whole) (answer.Whether true) fits sound = (fits.some, fits.below)
+found_sound limits k (Take Row number whole) (answer.Whether true) fits sound = (fits.some, fits.below)
+found_sound limits k (Take kind number whole) (answer.Whether false) fits sound = omega (arith, sound)
+found_sound limits k (Take kind number whole) answer.Start fits sound = tt
+found_sound limits k (Take kind number whole) (answer.Content content) fits sound = tt
+found_sound limits k (Take kind number whole) (answer.Number n) fits sound = tt
+found_sound limits k (Take kind number whole) answer.Done fits sound = tt
 
 two_at_most : (plan : Plan) → rows_needed plan ≤ 2
 two_at_most (Install pid head content) = omega arith
@@ -108,7 +123,7 @@ module _ (limits : Limits) (plan : Plan) where
       pid_kept false = room.pid
 
   -- the first state is one of the plan's
-  pub first_sound : (spares : Spares) → IsTarget limits plan → IsSoundState limits plan spares (first_state plan spares)
+  pub first_sound : (spares : Spares) → IsTarget limits plan → IsSoundState limits plan spares (first_state limits plan spares)
   first_sound spares target = at_first (needs_pid plan && not (is_some spares.pid)) refl (ltb (length spares.rows) (rows_needed plan)) refl
     where
       missing_pid : (needs : Bool) (pid : Option ℕ) → (needs && not (is_some pid)) ≡ true → (needs ≡ true) × (pid ≡ None)
@@ -128,16 +143,16 @@ module _ (limits : Limits) (plan : Plan) where
       at_place (Unlink pid head unterm removal) is enough = (enough, rw (← is) (rw (← is) at target).0.page)
 
       at_first : (pid : Bool) → (needs_pid plan && not (is_some spares.pid)) ≡ pid → (row : Bool) → ltb (length spares.rows) (rows_needed plan) ≡ row
-          → IsSoundState limits plan spares (if pid then state.Taking (Bits Pid 0) else if row then state.Taking (Bits Row 0) else after_taking plan)
-      at_first true pid row e = ((let some = limits.allowed.some_pids in omega (arith, some)), missing_pid (needs_pid plan) spares.pid pid)
-      at_first false pid true e = ((let some = limits.allowed.some_rows in omega (arith, some)), (ltb-true (length spares.rows) (rows_needed plan) e, some_pid (needs_pid plan) spares.pid pid))
+          → IsSoundState limits plan spares (if pid then state.Taking (begun_at limits Pid (head_of plan)) else if row then state.Taking (begun_at limits Row (head_of plan)) else after_taking plan)
+      at_first true pid row e = (first_there limits Pid (head_of plan), missing_pid (needs_pid plan) spares.pid pid)
+      at_first false pid true e = (first_there limits Row (head_of plan), (ltb-true (length spares.rows) (rows_needed plan) e, some_pid (needs_pid plan) spares.pid pid))
       at_first false pid false e = at_place plan refl (record { pid = some_pid (needs_pid plan) spares.pid pid; rows = ltb-false (length spares.rows) (rows_needed plan) e })
 
   -- such a state is one of the plan's, if the change goes on, and there is room for its spares
   abbrev pub StaysSound : Moved → Type 0
   StaysSound now = HaveRoom limits now.spares × IfNone now.end (IsSoundState limits plan now.spares now.state)
 
-  found_stays : (spares : Spares) (state : State) (found : Found) → HaveRoom limits spares → (kind : Kind) → IsNeededNext plan spares kind → IsTarget limits plan → IsSoundFound limits found → IsFoundOf kind found → StaysSound (moved_by plan spares state found)
+  found_stays : (spares : Spares) (state : State) (found : Found) → HaveRoom limits spares → (kind : Kind) → IsNeededNext plan spares kind → IsTarget limits plan → IsSoundFound limits found → IsFoundOf kind found → StaysSound (moved_by limits plan spares state found)
   found_stays spares state (Not taking) room kind missing target sound of = (room, (sound, rw of missing))
   found_stays spares state (Taken other number) room kind missing target sound of =
       let there = room_taken spares other number room (rw of missing) sound in

@@ -30,22 +30,23 @@ number_in found = 0
 
 -- a PID that was found was taken
 is_taken : (limits : Limits) (taking : Taking) (told : Answer Record) (n : ℕ) → found_after limits taking told ≡ Taken Pid n → pid_taken (wanted_number taking) told ≡ Some n
-is_taken limits (Take Pid m) (Whether true) n e = ap (λ f. Some (number_in f)) e
-is_taken limits (Take Row m) (Whether true) n e = cc
-is_taken limits (Take kind m) (Whether false) n e = cc
-is_taken limits (Bits kind word) (Number zero) n e = go (ltb (suc word) (count_of limits kind / 64)) e
+is_taken limits (Take Pid m whole) (Whether true) n e = ap (λ f. Some (number_in f)) e
+is_taken limits (Take Row m whole) (Whether true) n e = cc
+is_taken limits (Take kind m whole) (Whether false) n e = cc
+is_taken limits (Bits kind word whole) (Number zero) n e = go (ltb (suc word) (count_of limits kind / 64)) whole e
   where
-    go : (t : Bool) → (if t then Not (Bits kind (suc word)) else Full) ≡ Taken Pid n → pid_taken (wanted_number (Bits kind word)) (Number zero) ≡ Some n
-    go true f = cc
-    go false f = cc
-is_taken limits (Bits kind word) (Number (suc bits)) n e = cc
+    go : (t whole : Bool) → (if t then Not (Bits kind (suc word) whole) else if whole then Full else Not (Bits kind 0 true)) ≡ Taken Pid n → pid_taken (wanted_number (Bits kind word whole)) (Number zero) ≡ Some n
+    go true whole f = cc
+    go false true f = cc
+    go false false f = cc
+is_taken limits (Bits kind word whole) (Number (suc bits)) n e = cc
 is_taken limits taking told n e = cc
 
-by_found : (plan : Plan) (spares : Spares) (at : State) (taken : Option ℕ) (found : Found) → ((n : ℕ) → found ≡ Taken Pid n → taken ≡ Some n) → IsPidFrom spares.pid taken (moved_by plan spares at found).spares.pid
-by_found plan spares at taken (Not taking) new = same_pid spares.pid taken
-by_found plan spares at taken (Taken Pid n) new = inr (new n refl)
-by_found plan spares at taken (Taken Row n) new = same_pid spares.pid taken
-by_found plan spares at taken Full new = same_pid spares.pid taken
+by_found : (limits : Limits) (plan : Plan) (spares : Spares) (at : State) (taken : Option ℕ) (found : Found) → ((n : ℕ) → found ≡ Taken Pid n → taken ≡ Some n) → IsPidFrom spares.pid taken (moved_by limits plan spares at found).spares.pid
+by_found limits plan spares at taken (Not taking) new = same_pid spares.pid taken
+by_found limits plan spares at taken (Taken Pid n) new = inr (new n refl)
+by_found limits plan spares at taken (Taken Row n) new = same_pid spares.pid taken
+by_found limits plan spares at taken Full new = same_pid spares.pid taken
 
 by_deciding : (plan : Plan) (spares : Spares) (taken : Option ℕ) (won : Bool) → IsPidFrom spares.pid taken (decided_by plan spares won).spares.pid
 by_deciding (Install pid head content) spares taken true = same_pid spares.pid taken
@@ -58,7 +59,7 @@ by_deciding (Root left root) spares taken false = same_pid spares.pid taken
 by_deciding (Unlink pid head unterm removal) spares taken false = same_pid spares.pid taken
 
 by_state : (limits : Limits) (plan : Plan) (spares : Spares) (at : State) (told : Answer Record) → IsPidFrom spares.pid (pid_taken (wanted_at plan spares at) told) (moved limits plan spares at told).spares.pid
-by_state limits plan spares (state.Taking taking) told = by_found plan spares (state.Taking taking) (pid_taken (wanted_number taking) told) (found_after limits taking told) (is_taken limits taking told)
+by_state limits plan spares (state.Taking taking) told = by_found limits plan spares (state.Taking taking) (pid_taken (wanted_number taking) told) (found_after limits taking told) (is_taken limits taking told)
 by_state limits plan spares state.Base told = same_pid spares.pid _
 by_state limits plan spares state.Ready told = same_pid spares.pid _
 by_state limits plan spares state.Place told = same_pid spares.pid _

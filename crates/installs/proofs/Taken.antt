@@ -1,7 +1,7 @@
 -- What the answers of a taking leave known.
-use Rattle.std.proofs.Common.{◌≡◌, ◌<◌, ◌≤◌, ◌∙◌, ◌*◌, ◌/◌, ◌%◌, ◌+◌, inl, inr, ℕ, zero, suc, length, Bool, true, false, Some, refl, sym, ap, arith}
-use Rattle.std.specs.Prelude.{ltb, is_some, not, ◌&&◌, if◌then◌else◌}
-use Rattle.std.proofs.lemmas.Bool.{cases_eq, ltb-false}
+use Rattle.std.proofs.Common.{◌≡◌, ◌<◌, ◌≤◌, ◌∙◌, ◌*◌, ◌/◌, ◌%◌, ◌+◌, inl, inr, ℕ, zero, suc, length, subst, Bool, true, false, None, Some, refl, sym, ap, arith}
+use Rattle.std.specs.Prelude.{ltb, ◌==◌, is_some, not, ◌&&◌, if◌then◌else◌}
+use Rattle.std.proofs.lemmas.Bool.{cases_eq, eqb-true, ltb-false}
 use Rattle.std.specs.Int.{bit_at, trailing_zeros, w64}
 use Rattle.std.proofs.lemmas.Nat.Bits.{bit_at-trailing_zeros}
 use Rattle.tree_limits.specs.declared.limits.Limits.{Limits}
@@ -11,10 +11,10 @@ use Rattle.deltas.specs.Memory.{replaced_at}
 use Rattle.deltas.specs.declared.record.Record.{Record}
 use Rattle.traces.specs.discipline.Fitting.{Fits, FitsTaken, FitsTakenPid, FitsWord}
 use Rattle.traces.specs.discipline.Knowledge.{Knowledge, Empty, Ready, learn}
-use Rattle.installs.specs.Changes.{Change, Follows, IsLike, IsNeededNext, KeepsSpare, LacksNumber, MayChange, Shows, ShowsState, needs_pid, rows_needed}
+use Rattle.installs.specs.Changes.{Change, Follows, head_of, IsLike, IsNeededNext, KeepsSpare, LacksNumber, MayChange, Shows, ShowsState, needs_pid, rows_needed}
 use Rattle.installs.specs.Moves.{Moved, after_taking, first_state, moved_by, with_number}
 use Rattle.installs.specs.Spares.{AreTheSpares, AreUnset, Spares}
-use Rattle.installs.specs.Taking.{AllFull, AreFull, count_of, found_after, kind_of, wanted_number, word_read}
+use Rattle.installs.specs.Taking.{AllFull, AreFull, begun_at, count_of, first_word, found_after, kind_of, wanted_number, word_read}
 use Rattle.installs.specs.declared.change.State.{State}
 use Rattle.installs.specs.declared.change.State.TheVariants as state
 use Rattle.installs.specs.declared.plan.Plan.{Plan}
@@ -44,8 +44,16 @@ in_word limit word bits fits =
     let place : (64 * word + trailing_zeros w64 (suc bits)) % 64 ≡ trailing_zeros w64 (suc bits) = omega (arith, within) in
     (omega (arith, within), rw place lowest.1)
 
+-- nothing was read before the first word
+none_below : (word : ℕ) → ◌≡◌ {A = ℕ} (if word == 0 then word else 0) 0
+none_below word = by_test (word == 0) refl
+  where
+    by_test : (none : Bool) → (word == 0) ≡ none → ◌≡◌ {A = ℕ} (if none then word else 0) 0
+    by_test true is = eqb-true word 0 is
+    by_test false is = refl
+
 -- where all that is known stands, a change begins with the first number that is missing, or with its first place
-pub shows_first : (actor : ℕ) (limits : Limits) (k : Knowledge) (plan : Plan) (spares : Spares) → MayChange actor k plan → KeepsSpare plan spares.pid → AreTheSpares k.own spares → AreUnset k.own → Shows actor (bare_at limits plan (first_state plan spares)) spares k
+pub shows_first : (actor : ℕ) (limits : Limits) (k : Knowledge) (plan : Plan) (spares : Spares) → MayChange actor k plan → KeepsSpare plan spares.pid → AreTheSpares k.own spares → AreUnset k.own → Shows actor (bare_at limits plan (first_state limits plan spares)) spares k
 shows_first actor limits k plan spares may keeps are bare = record { may = may; keeps = keeps; are = are; stands = at_first (needs_pid plan && not (is_some spares.pid)) (ltb (length spares.rows) (rows_needed plan)) }
   where
     at_place : (plan : Plan) → ShowsState plan spares k (after_taking plan)
@@ -54,9 +62,9 @@ shows_first actor limits k plan spares may keeps are bare = record { may = may; 
     at_place (Root left root) = bare
     at_place (Unlink pid head unterm removal) = bare
 
-    at_first : (pid row : Bool) → ShowsState plan spares k (if pid then state.Taking (Bits Pid 0) else if row then state.Taking (Bits Row 0) else after_taking plan)
-    at_first true row = (bare, λ below lt. absurd (omega (arith, lt)))
-    at_first false true = (bare, λ below lt. absurd (omega (arith, lt)))
+    at_first : (pid row : Bool) → ShowsState plan spares k (if pid then state.Taking (begun_at limits Pid (head_of plan)) else if row then state.Taking (begun_at limits Row (head_of plan)) else after_taking plan)
+    at_first true row = (bare, λ below lt. absurd (let none = none_below (first_word limits Pid (head_of plan)) in omega (arith, lt, none)))
+    at_first false true = (bare, λ below lt. absurd (let none = none_below (first_word limits Row (head_of plan)) in omega (arith, lt, none)))
     at_first false false = at_place plan
 
 module _ (actor : ℕ) (limits : Limits) (k : Knowledge) (plan : Plan) (spares : Spares) (may : MayChange actor k plan) (keeps : KeepsSpare plan spares.pid) (are : AreTheSpares k.own spares) (bare : AreUnset k.own) where
@@ -66,76 +74,81 @@ module _ (actor : ℕ) (limits : Limits) (k : Knowledge) (plan : Plan) (spares :
   -- what follows an answer of a taking
   abbrev pub Finds : Taking → Answer Record → Type 0
   Finds taking told =
-      let now = moved_by plan spares (state.Taking taking) (found_after limits taking told) in
+      let now = moved_by limits plan spares (state.Taking taking) (found_after limits taking told) in
       Follows actor k (learn k (wanted_number taking) told) (change (state.Taking taking)) told (change now.state) now.spares now.end
 
-  like_word : (kind : Kind) (word bits : ℕ) → IsLike k.asked.linked k (learn k (wanted_number (Bits kind word)) (answer.Number bits))
-  like_word Pid word bits = record { inside = refl; read = refl; command = refl; linked_now = refl }
-  like_word Row word bits = record { inside = refl; read = refl; command = refl; linked_now = refl }
+  like_word : (kind : Kind) (word : ℕ) (whole : Bool) (bits : ℕ) → IsLike k.asked.linked k (learn k (wanted_number (Bits kind word whole)) (answer.Number bits))
+  like_word Pid word whole bits = record { inside = refl; read = refl; command = refl; linked_now = refl }
+  like_word Row word whole bits = record { inside = refl; read = refl; command = refl; linked_now = refl }
 
-  own_word : (kind : Kind) (word bits : ℕ) → (learn k (wanted_number (Bits kind word)) (answer.Number bits)).own ≡ k.own
-  own_word Pid word bits = refl
-  own_word Row word bits = refl
+  own_word : (kind : Kind) (word : ℕ) (whole : Bool) (bits : ℕ) → (learn k (wanted_number (Bits kind word whole)) (answer.Number bits)).own ≡ k.own
+  own_word Pid word whole bits = refl
+  own_word Row word whole bits = refl
 
-  full_then : (kind : Kind) (word : ℕ) → AreFull k.asked kind word → AreFull (learn k (wanted_number (Bits kind word)) (answer.Number 0)).asked kind (suc word)
-  full_then Pid word full = λ below lt. none_free k.asked.no_pids word below (omega (arith, lt)) full
-  full_then Row word full = λ below lt. none_free k.asked.no_rows word below (omega (arith, lt)) full
+  full_then : (kind : Kind) (word : ℕ) (whole : Bool) → AreFull k.asked kind (if whole then word else 0) → AreFull (learn k (wanted_number (Bits kind word whole)) (answer.Number 0)).asked kind (if whole then suc word else 0)
+  full_then Pid word true full = λ below lt. none_free k.asked.no_pids word below (omega (arith, lt)) full
+  full_then Row word true full = λ below lt. none_free k.asked.no_rows word below (omega (arith, lt)) full
+  full_then kind word false full = λ below lt. absurd (omega (arith, lt))
 
-  full_still : (kind : Kind) (word bits : ℕ) → AreFull k.asked kind word → AreFull (learn k (wanted_number (Bits kind word)) (answer.Number (suc bits))).asked kind word
-  full_still Pid word bits full = full
-  full_still Row word bits full = full
+  full_still : (kind : Kind) (word : ℕ) (whole : Bool) (bits up : ℕ) → AreFull k.asked kind up → AreFull (learn k (wanted_number (Bits kind word whole)) (answer.Number (suc bits))).asked kind up
+  full_still Pid word whole bits up full = full
+  full_still Row word whole bits up full = full
 
   lacks : (kind : Kind) (now : Knowledge) → IsNeededNext plan spares kind → AllFull limits now.asked kind → LacksNumber limits plan spares now
   lacks Pid now missing all = inl (missing, all)
   lacks Row now missing all = inr (missing, all)
 
   -- a word was read as 0, and there is a next one, or none
-  pub empty_word : (kind : Kind) (word : ℕ) → IsNeededNext plan spares kind → AreFull k.asked kind word → Finds (Bits kind word) (answer.Number 0)
-  empty_word kind word missing full = go (ltb (suc word) (count_of limits kind / 64)) refl
+  pub empty_word : (kind : Kind) (word : ℕ) (whole : Bool) → IsNeededNext plan spares kind → AreFull k.asked kind (if whole then word else 0) → Finds (Bits kind word whole) (answer.Number 0)
+  empty_word kind word whole missing full = go (ltb (suc word) (count_of limits kind / 64)) refl whole refl
     where
       now : Knowledge
-      now = learn k (wanted_number (Bits kind word)) (answer.Number 0)
+      now = learn k (wanted_number (Bits kind word whole)) (answer.Number 0)
 
-      after : Bool → Moved
-      after more = moved_by plan spares (state.Taking (Bits kind word)) (if more then Not (Bits kind (suc word)) else Full)
+      after : Bool → Bool → Moved
+      after more all = moved_by limits plan spares (state.Taking (Bits kind word whole)) (if more then Not (Bits kind (suc word) whole) else if all then Full else Not (Bits kind 0 true))
 
-      go : (more : Bool) → ltb (suc word) (count_of limits kind / 64) ≡ more → Follows actor k now (change (state.Taking (Bits kind word))) (answer.Number 0) (change (after more).state) (after more).spares (after more).end
-      go true is = record {
-        shows = record { may = still_may actor k now plan (like_word kind word 0) may; keeps = keeps; are = rw (own_word kind word 0) are; stands = (rw (own_word kind word 0) bare, full_then kind word full) };
-        like = like_word kind word 0;
+      goes_on : (next : ℕ) (all : Bool) → AreFull now.asked kind (if all then next else 0) → Follows actor k now (change (state.Taking (Bits kind word whole))) (answer.Number 0) (change (state.Taking (Bits kind next all))) spares None
+      goes_on next all so_far = record {
+        shows = record { may = still_may actor k now plan (like_word kind word whole 0) may; keeps = keeps; are = rw (own_word kind word whole 0) are; stands = (rw (own_word kind word whole 0) bare, so_far) };
+        like = like_word kind word whole 0;
       }
-      go false is = record {
-        like = rw (unlinked plan k.asked.linked).1 (like_word kind word 0);
-        rest = rw (own_word kind word 0) (record { are = are; unset = bare });
-        decided = lacks kind now missing (λ below lt. full_then kind word full below (let last = ltb-false (suc word) (count_of limits kind / 64) is in omega (arith, lt, last)));
+
+      go : (more : Bool) → ltb (suc word) (count_of limits kind / 64) ≡ more → (all : Bool) → all ≡ whole → Follows actor k now (change (state.Taking (Bits kind word whole))) (answer.Number 0) (change (after more all).state) (after more all).spares (after more all).end
+      go true is all same = goes_on (suc word) whole (full_then kind word whole full)
+      go false is false same = goes_on 0 true (λ below lt. absurd (omega (arith, lt)))
+      go false is true same = record {
+        like = rw (unlinked plan k.asked.linked).1 (like_word kind word whole 0);
+        rest = rw (own_word kind word whole 0) (record { are = are; unset = bare });
+        decided = lacks kind now missing (λ below lt. subst (λ (b : Bool). AreFull now.asked kind (if b then suc word else 0)) (sym same) (full_then kind word whole full) below (let last = ltb-false (suc word) (count_of limits kind / 64) is in omega (arith, lt, last)));
       }
 
   -- a word with a free number
-  pub some_word : (kind : Kind) (word bits : ℕ) → (64 * word + trailing_zeros w64 (suc bits)) / 64 ≡ word → AreFull k.asked kind word → Finds (Bits kind word) (answer.Number (suc bits))
-  some_word kind word bits place full = record {
+  pub some_word : (kind : Kind) (word : ℕ) (whole : Bool) (bits : ℕ) → (64 * word + trailing_zeros w64 (suc bits)) / 64 ≡ word → AreFull k.asked kind (if whole then word else 0) → Finds (Bits kind word whole) (answer.Number (suc bits))
+  some_word kind word whole bits place full = record {
     shows = record {
-      may = still_may actor k (learn k (wanted_number (Bits kind word)) (answer.Number (suc bits))) plan (like_word kind word (suc bits)) may;
+      may = still_may actor k (learn k (wanted_number (Bits kind word whole)) (answer.Number (suc bits))) plan (like_word kind word whole (suc bits)) may;
       keeps = keeps;
-      are = rw (own_word kind word (suc bits)) are;
-      stands = (rw (own_word kind word (suc bits)) bare, rw place (full_still kind word bits full));
+      are = rw (own_word kind word whole (suc bits)) are;
+      stands = (rw (own_word kind word whole (suc bits)) bare, rw place (full_still kind word whole bits (if whole then word else 0) full));
     };
-    like = like_word kind word (suc bits);
+    like = like_word kind word whole (suc bits);
   }
 
   -- another actor came before
-  pub missed : (kind : Kind) (number : ℕ) → AreFull k.asked kind (number / 64) → Finds (Take kind number) (answer.Whether false)
-  missed Pid number full = record { shows = record { may = may; keeps = keeps; are = are; stands = (bare, full) }; like = like_self k }
-  missed Row number full = record { shows = record { may = may; keeps = keeps; are = are; stands = (bare, full) }; like = like_self k }
+  pub missed : (kind : Kind) (number : ℕ) (whole : Bool) → AreFull k.asked kind (if whole then number / 64 else 0) → Finds (Take kind number whole) (answer.Whether false)
+  missed Pid number whole full = record { shows = record { may = may; keeps = keeps; are = are; stands = (bare, full) }; like = like_self k }
+  missed Row number whole full = record { shows = record { may = may; keeps = keeps; are = are; stands = (bare, full) }; like = like_self k }
 
   -- a free number was taken
-  pub taken_pid : (pid : ℕ) → IsNeededNext plan spares Pid → FitsTakenPid limits k pid → Finds (Take Pid pid) (answer.Whether true)
-  taken_pid pid missing fits = record {
+  pub taken_pid : (pid : ℕ) (whole : Bool) → IsNeededNext plan spares Pid → FitsTakenPid limits k pid → Finds (Take Pid pid whole) (answer.Whether true)
+  taken_pid pid whole missing fits = record {
     shows = shows_first actor limits now plan (with_number Pid pid spares) (still_may actor k now plan like may) (keeps_none plan missing.0) (pid_taken k.own spares are pid fits.some missing.1) unset;
     like = like;
   }
     where
       now : Knowledge
-      now = learn k (wanted_number (Take Pid pid)) (answer.Whether true)
+      now = learn k (wanted_number (Take Pid pid whole)) (answer.Whether true)
 
       like : IsLike k.asked.linked k now
       like = record { inside = refl; read = refl; command = refl; linked_now = refl }
@@ -152,39 +165,39 @@ module _ (actor : ℕ) (limits : Limits) (k : Knowledge) (plan : Plan) (spares :
         | inr other ↦ bare page row (sym (replaced_other pid Empty k.own.pages page other) ∙ e)
       ]
 
-  pub taken_row : (row : ℕ) → FitsTaken limits k row → Finds (Take Row row) (answer.Whether true)
-  taken_row row fits = record {
+  pub taken_row : (row : ℕ) (whole : Bool) → FitsTaken limits k row → Finds (Take Row row whole) (answer.Whether true)
+  taken_row row whole fits = record {
     shows = shows_first actor limits now plan (with_number Row row spares) (still_may actor k now plan like may) keeps (row_taken k.own spares are row fits.some fits.foreign) bare;
     like = like;
   }
     where
       now : Knowledge
-      now = learn k (wanted_number (Take Row row)) (answer.Whether true)
+      now = learn k (wanted_number (Take Row row whole)) (answer.Whether true)
 
       like : IsLike k.asked.linked k now
       like = record { inside = refl; read = refl; command = refl; linked_now = refl }
 
   -- whatever the answer, the taking goes on as it says
   pub finds : (taking : Taking) (told : Answer Record) → IsNeededNext plan spares (kind_of taking) → AreFull k.asked (kind_of taking) (word_read taking) → Fits limits k (wanted_number taking) told → Finds taking told
-  finds (Bits kind word) (answer.Number zero) missing full fits = empty_word kind word missing full
-  finds (Bits Pid word) (answer.Number (suc bits)) missing full fits = some_word Pid word bits (in_word limits.pids word bits fits).0 full
-  finds (Bits Row word) (answer.Number (suc bits)) missing full fits = some_word Row word bits (in_word limits.rows word bits fits).0 full
-  finds (Bits Pid word) answer.Start missing full fits = absurd fits
-  finds (Bits Row word) answer.Start missing full fits = absurd fits
-  finds (Bits Pid word) (answer.Content content) missing full fits = absurd fits
-  finds (Bits Row word) (answer.Content content) missing full fits = absurd fits
-  finds (Bits Pid word) (answer.Whether b) missing full fits = absurd fits
-  finds (Bits Row word) (answer.Whether b) missing full fits = absurd fits
-  finds (Bits Pid word) answer.Done missing full fits = absurd fits
-  finds (Bits Row word) answer.Done missing full fits = absurd fits
-  finds (Take Pid pid) (answer.Whether true) missing full fits = taken_pid pid missing fits
-  finds (Take Row row) (answer.Whether true) missing full fits = taken_row row fits
-  finds (Take kind number) (answer.Whether false) missing full fits = missed kind number full
-  finds (Take Pid number) answer.Start missing full fits = absurd fits
-  finds (Take Row number) answer.Start missing full fits = absurd fits
-  finds (Take Pid number) (answer.Content content) missing full fits = absurd fits
-  finds (Take Row number) (answer.Content content) missing full fits = absurd fits
-  finds (Take Pid number) (answer.Number n) missing full fits = absurd fits
-  finds (Take Row number) (answer.Number n) missing full fits = absurd fits
-  finds (Take Pid number) answer.Done missing full fits = absurd fits
-  finds (Take Row number) answer.Done missing full fits = absurd fits
+  finds (Bits kind word whole) (answer.Number zero) missing full fits = empty_word kind word whole missing full
+  finds (Bits Pid word whole) (answer.Number (suc bits)) missing full fits = some_word Pid word whole bits (in_word limits.pids word bits fits).0 full
+  finds (Bits Row word whole) (answer.Number (suc bits)) missing full fits = some_word Row word whole bits (in_word limits.rows word bits fits).0 full
+  finds (Bits Pid word whole) answer.Start missing full fits = absurd fits
+  finds (Bits Row word whole) answer.Start missing full fits = absurd fits
+  finds (Bits Pid word whole) (answer.Content content) missing full fits = absurd fits
+  finds (Bits Row word whole) (answer.Content content) missing full fits = absurd fits
+  finds (Bits Pid word whole) (answer.Whether b) missing full fits = absurd fits
+  finds (Bits Row word whole) (answer.Whether b) missing full fits = absurd fits
+  finds (Bits Pid word whole) answer.Done missing full fits = absurd fits
+  finds (Bits Row word whole) answer.Done missing full fits = absurd fits
+  finds (Take Pid pid whole) (answer.Whether true) missing full fits = taken_pid pid whole missing fits
+  finds (Take Row row whole) (answer.Whether true) missing full fits = taken_row row whole fits
+  finds (Take kind number whole) (answer.Whether false) missing full fits = missed kind number whole full
+  finds (Take Pid number whole) answer.Start missing full fits = absurd fits
+  finds (Take Row number whole) answer.Start missing full fits = absurd fits
+  finds (Take Pid number whole) (answer.Content content) missing full fits = absurd fits
+  finds (Take Row number whole) (answer.Content content) missing full fits = absurd fits
+  finds (Take Pid number whole) (answer.Number n) missing full fits = absurd fits
+  finds (Take Row number whole) (answer.Number n) missing full fits = absurd fits
+  finds (Take Pid number whole) answer.Done missing full fits = absurd fits
+  finds (Take Row number whole) answer.Done missing full fits = absurd fits

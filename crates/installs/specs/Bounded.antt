@@ -1,5 +1,6 @@
 -- How many steps a change takes at most, but for those that a cause pays for.
 use Rattle.std.specs.Prelude.{◌≡◌, ◌<◌, ◌-◌, ◌+◌, ◌*◌, ◌⊎◌, ℕ, suc, length, Option, Some, None, Bool, true, false, ⊤}
+use Rattle.tree_limits.specs.declared.limits.Limits.{Limits}
 use Rattle.bw_model.specs.declared.step.Answer.{Answer}
 use Rattle.bw_model.specs.declared.step.Answer.TheVariants.{Whether}
 use Rattle.bw_model.specs.declared.step.Step.{Step as StepOf}
@@ -15,7 +16,7 @@ use Rattle.installs.specs.declared.plan.Plan.TheVariants.{Split}
 use Rattle.installs.specs.declared.taking.Taking.TheVariants.{Take}
 use Rattle.installs.specs.Changes.{Change, clears, head_of, needs_pid, rows_needed, slot_of, wanted}
 use Rattle.installs.specs.Spares.{Spares}
-use Rattle.installs.specs.Taking.{number_left, recalled_words}
+use Rattle.installs.specs.Taking.{most_reads, number_left, recalled_words}
 
 -- how many numbers are needed still
 abbrev pub pids_missing : Bool → Option ℕ → ℕ
@@ -28,25 +29,29 @@ numbers_missing plan spares = pids_missing (needs_pid plan) spares.pid + (rows_n
 
 -- How many steps a change takes at most from a state on, with the one that it has asked for: after a lost change that is undone,
 -- and after a page is cleared, so many are to be left.
-abbrev pub left_at : ℕ → Plan → Spares → State → ℕ
-left_at after plan spares (Taking taking) = number_left taking + (257 * (numbers_missing plan spares - 1) + 5)
-left_at after plan spares Base = 4
-left_at after plan spares Ready = 3
-left_at after plan spares Place = 2
-left_at after plan spares Link = 1
-left_at after plan spares Undo = suc after
-left_at after plan spares Clear = suc after
+abbrev pub left_at : Limits → ℕ → Plan → Spares → State → ℕ
+left_at limits after plan spares (Taking taking) = number_left limits taking + (most_reads limits * (numbers_missing plan spares - 1) + 5)
+left_at limits after plan spares Base = 4
+left_at limits after plan spares Ready = 3
+left_at limits after plan spares Place = 2
+left_at limits after plan spares Link = 1
+left_at limits after plan spares Undo = suc after
+left_at limits after plan spares Clear = suc after
 
 abbrev pub steps_left : ℕ → Change → Spares → ℕ
-steps_left after change spares = left_at after change.plan spares change.state
+steps_left after change spares = left_at change.limits after change.plan spares change.state
+
+-- how many steps a change takes at most
+abbrev pub few_steps : Limits → ℕ
+few_steps limits = most_reads limits * 3 + 8
 
 -- what a cause is worth at least
-abbrev pub worth : ℕ → ℕ
-worth after = 800 + after
+abbrev pub worth : Limits → ℕ → ℕ
+worth limits after = few_steps limits + after
 
 -- The slot of the exchange that decides was read as what it is to hold; a number to take was read as free.
 abbrev pub RecallsAt : Recalled → Plan → State → Type 0
-RecallsAt r plan (Taking (Take kind number)) = WasHead r (slot_of plan) (head_of plan) × WasFree (recalled_words r kind) number
+RecallsAt r plan (Taking (Take kind number whole)) = WasHead r (slot_of plan) (head_of plan) × WasFree (recalled_words r kind) number
 RecallsAt r plan Undo = ⊤
 RecallsAt r plan Clear = ⊤
 RecallsAt r plan state = WasHead r (slot_of plan) (head_of plan)
@@ -73,7 +78,7 @@ IsPidFrom old taken (Some pid) = (old ≡ Some pid) ⊎ (taken ≡ Some pid)
 -- A change that goes on recalls what it has read, and has fewer steps left, or a cause paid for more. Where it has ended, a cause
 -- paid, or what has to be left is left: a page is cleared by what its exchange that decides has paid.
 abbrev pub SpendsTo : ℕ → Recalled → Change → Spares → Answer Record → Change → Spares → Option End → Type 0
-SpendsTo after r old had told new has None = Recalls new has (recall r (wanted old had) told) × IsSpentWith (worth after) r (wanted old had) told (steps_left after old had) (steps_left after new has)
+SpendsTo after r old had told new has None = Recalls new has (recall r (wanted old had) told) × IsSpentWith (worth old.limits after) r (wanted old had) told (steps_left after old had) (steps_left after new has)
 SpendsTo after r old had told new has (Some Won) = IsPaid r (wanted old had) told ⊎ ((clears old.plan ≡ true) × (after < steps_left after old had))
 SpendsTo after r old had told new has (Some Lost) = IsPaid r (wanted old had) told ⊎ (after < steps_left after old had)
 SpendsTo after r old had told new has (Some Full) = 0 < steps_left after old had

@@ -14,10 +14,9 @@ use Rattle.installs.specs.declared.taking.Found.{Found}
 use Rattle.installs.specs.declared.taking.Found.TheVariants.{Not, Taken, Full}
 use Rattle.installs.specs.declared.taking.Kind.{Kind}
 use Rattle.installs.specs.declared.taking.Kind.TheVariants.{Pid, Row}
-use Rattle.installs.specs.declared.taking.Taking.TheVariants.{Bits}
-use Rattle.installs.specs.Changes.{clears, needs_pid, rows_needed}
+use Rattle.installs.specs.Changes.{clears, head_of, needs_pid, rows_needed}
 use Rattle.installs.specs.Spares.{Spares}
-use Rattle.installs.specs.Taking.{found_after}
+use Rattle.installs.specs.Taking.{begun_at, found_after}
 
 -- where a change stands, with these spares, and how it ended, if it has
 pub record Moved : Type 0 where
@@ -39,8 +38,8 @@ after_ready (Root left root) = Link
 after_ready (Unlink pid head unterm removal) = Place
 
 -- First a PID is taken, if one is missing, then rows.
-abbrev pub first_state : Plan → Spares → State
-first_state plan spares = if needs_pid plan && not (is_some spares.pid) then Taking (Bits Pid 0) else if ltb (length spares.rows) (rows_needed plan) then Taking (Bits Row 0) else after_taking plan
+abbrev pub first_state : Limits → Plan → Spares → State
+first_state limits plan spares = if needs_pid plan && not (is_some spares.pid) then Taking (begun_at limits Pid (head_of plan)) else if ltb (length spares.rows) (rows_needed plan) then Taking (begun_at limits Row (head_of plan)) else after_taking plan
 
 -- A number that was taken is the last spare of its kind.
 abbrev pub with_number : Kind → ℕ → Spares → Spares
@@ -52,10 +51,10 @@ abbrev pub unused : Plan → Spares → Spares
 unused plan spares = record { pid = if needs_pid plan then None else spares.pid; rows = take (length spares.rows - rows_needed plan) spares.rows }
 
 -- after a taking
-abbrev pub moved_by : Plan → Spares → State → Found → Moved
-moved_by plan spares state (Not taking) = record { state = Taking taking; spares = spares; end = None }
-moved_by plan spares state (Taken kind number) = record { state = first_state plan (with_number kind number spares); spares = with_number kind number spares; end = None }
-moved_by plan spares state Full = record { state = state; spares = spares; end = Some end.Full }
+abbrev pub moved_by : Limits → Plan → Spares → State → Found → Moved
+moved_by limits plan spares state (Not taking) = record { state = Taking taking; spares = spares; end = None }
+moved_by limits plan spares state (Taken kind number) = record { state = first_state limits plan (with_number kind number spares); spares = with_number kind number spares; end = None }
+moved_by limits plan spares state Full = record { state = state; spares = spares; end = Some end.Full }
 
 -- after the exchange that decides: a page whose term is out is cleared; a new page that is not linked is emptied again
 abbrev pub decided_by : Plan → Spares → Bool → Moved
@@ -67,7 +66,7 @@ whether_in (Whether whether) = whether
 whether_in told = false
 
 abbrev pub moved : Limits → Plan → Spares → State → Answer Record → Moved
-moved limits plan spares (Taking taking) told = moved_by plan spares (Taking taking) (found_after limits taking told)
+moved limits plan spares (Taking taking) told = moved_by limits plan spares (Taking taking) (found_after limits taking told)
 moved limits plan spares Base told = record { state = Ready; spares = spares; end = None }
 moved limits plan spares Ready told = record { state = after_ready plan; spares = spares; end = None }
 moved limits plan spares Place told = record { state = Link; spares = spares; end = None }

@@ -1,5 +1,5 @@
 -- The taking of one free number: a PID or a row.
-use Rattle.std.specs.Prelude.{◌<◌, ◌*◌, ◌/◌, ◌-◌, ◌+◌, ℕ, zero, suc, ltb, Bool, true, false, if◌then◌else◌, Option, IsTrue, ⊤}
+use Rattle.std.specs.Prelude.{◌<◌, ◌*◌, ◌/◌, ◌-◌, ◌+◌, ℕ, zero, suc, ltb, ◌==◌, ◌%◌, Bool, true, false, if◌then◌else◌, Option, IsTrue, ⊤}
 use Rattle.std.specs.Int.{trailing_zeros, w64}
 use Rattle.tree_limits.specs.declared.limits.Limits.{Limits}
 use Rattle.bw_model.specs.declared.step.Step.{Step as StepOf}
@@ -34,26 +34,34 @@ abbrev pub recalled_words : Recalled → Kind → ℕ → Option ℕ
 recalled_words r Pid = r.pids
 recalled_words r Row = r.rows
 
+-- Where a taking begins: at word 0, and in a large tree at one that the newest row of the page scatters. One that hasn't begun at word 0
+-- goes on there once it has come to the last word.
+abbrev pub first_word : Limits → Kind → ℕ → ℕ
+first_word limits kind head = if limits.is_large then head * 2654435761 % (count_of limits kind / 64) else 0
+
+abbrev pub begun_at : Limits → Kind → ℕ → Taking
+begun_at limits kind head = Bits kind (first_word limits kind head) (first_word limits kind head == 0)
+
 -- the step that a taking has asked for: it reads a word of free bits, or takes a number
 abbrev pub wanted_number : Taking → StepOf Record
-wanted_number (Bits Pid word) = step.PidBits word
-wanted_number (Bits Row word) = step.RowBits word
-wanted_number (Take Pid number) = step.TakePid number
-wanted_number (Take Row number) = step.TakeRow number
+wanted_number (Bits Pid word whole) = step.PidBits word
+wanted_number (Bits Row word whole) = step.RowBits word
+wanted_number (Take Pid number whole) = step.TakePid number
+wanted_number (Take Row number whole) = step.TakeRow number
 
 abbrev pub kind_of : Taking → Kind
-kind_of (Bits kind word) = kind
-kind_of (Take kind number) = kind
+kind_of (Bits kind word whole) = kind
+kind_of (Take kind number whole) = kind
 
--- the word that it reads, or read last
+-- how many words, from the first one on, it has read as 0: none where it began at another one
 abbrev pub word_read : Taking → ℕ
-word_read (Bits kind word) = word
-word_read (Take kind number) = number / 64
+word_read (Bits kind word whole) = if whole then word else 0
+word_read (Take kind number whole) = if whole then number / 64 else 0
 
 -- the word, or the number, is there
 abbrev pub IsSoundTaking : Limits → Taking → Type 0
-IsSoundTaking limits (Bits kind word) = 64 * word < count_of limits kind
-IsSoundTaking limits (Take kind number) = number < count_of limits kind
+IsSoundTaking limits (Bits kind word whole) = 64 * word < count_of limits kind
+IsSoundTaking limits (Take kind number whole) = number < count_of limits kind
 
 -- Each word of the kind below this one was read as 0.
 abbrev pub AreFull : Asked → Kind → ℕ → Type 0
@@ -63,18 +71,25 @@ AreFull asked kind word = (below : ℕ) → below < word → IsTrue (full_words 
 abbrev pub AllFull : Limits → Asked → Kind → Type 0
 AllFull limits asked kind = AreFull asked kind (count_of limits kind / 64)
 
+-- how many words of free bits there are, and twice as many, with the takes
+abbrev pub most_words : Limits → ℕ
+most_words limits = limits.pids / 64 + limits.rows / 64
+
+unfoldable pub most_reads : Limits → ℕ
+most_reads limits = 2 * most_words limits + 2
+
 -- how many steps a taking takes at most, but for those that a cause pays for
-abbrev pub number_left : Taking → ℕ
-number_left (Bits kind word) = 257 - word
-number_left (Take kind number) = 1
+abbrev pub number_left : Limits → Taking → ℕ
+number_left limits (Bits kind word whole) = if whole then suc (most_words limits) - word else most_reads limits - word
+number_left limits (Take kind number whole) = 1
 
 -- How a taking goes on: from a word that is 0 to the next one, if there is one; from another one to its lowest free number; after a
 -- take that missed it reads the same word again.
 abbrev pub found_after : Limits → Taking → Answer Record → Found
-found_after limits (Bits kind word) (Number zero) = if ltb (suc word) (count_of limits kind / 64) then Not (Bits kind (suc word)) else Full
-found_after limits (Bits kind word) (Number (suc bits)) = Not (Take kind (64 * word + trailing_zeros w64 (suc bits)))
-found_after limits (Take kind number) (Whether true) = Taken kind number
-found_after limits (Take kind number) (Whether false) = Not (Bits kind (number / 64))
+found_after limits (Bits kind word whole) (Number zero) = if ltb (suc word) (count_of limits kind / 64) then Not (Bits kind (suc word) whole) else if whole then Full else Not (Bits kind 0 true)
+found_after limits (Bits kind word whole) (Number (suc bits)) = Not (Take kind (64 * word + trailing_zeros w64 (suc bits)) whole)
+found_after limits (Take kind number whole) (Whether true) = Taken kind number
+found_after limits (Take kind number whole) (Whether false) = Not (Bits kind (number / 64) whole)
 found_after limits taking told = Full
 
 -- The number, or the word, is there.

@@ -1,5 +1,5 @@
 //! A change of the tree: a record over a page's newest row, the split of a page, a new root, or the end of a removed page.
-ghost use Rattle.std.specs.Prelude.{◌≡◌, ◌<◌, ◌≤◌, ◌*◌, ◌+◌, ◌/◌, ℕ, false, None, Some, IfNone};
+ghost use Rattle.std.specs.Prelude.{◌≡◌, ◌<◌, ◌≤◌, ◌*◌, ◌+◌, ◌/◌, ℕ, Bool, false, None, Some, IfNone};
 ghost use Rattle.std.specs.Int.{trailing_zeros, w64};
 ghost use Rattle.bw_model.specs.Answers.{answer_of};
 ghost use Rattle.bw_model.specs.Lent.{lent};
@@ -8,7 +8,7 @@ ghost use Rattle.traces.specs.discipline.Discipline.{May, MayFree};
 ghost use Rattle.traces.specs.discipline.Fitting.{Fits};
 ghost use Rattle.traces.specs.discipline.Knowledge.{Knowledge, learn};
 ghost use Rattle.traces.specs.discipline.Recalled.{Recalled, WasHead};
-ghost use Rattle.installs.specs.Bounded.{IsApart, IsPidFrom, Recalls, Spends, pid_taken, steps_left};
+ghost use Rattle.installs.specs.Bounded.{IsApart, IsPidFrom, Recalls, Spends, few_steps, pid_taken, steps_left};
 ghost use Rattle.installs.specs.Changes.{Follows, IsMade, IsMadeAt, IsOfChange, IsSame, IsSoundChange, IsSpellablePlan, IsTarget, FitsChange, KeepsSpare, MayChange, Shows, at, base_row, head_of, linked_number, placed_in, slot_of, wanted};
 ghost use Rattle.installs.specs.Moves.{after_ready, decided_by, first_state, moved, moved_by};
 ghost use Rattle.installs.specs.Outs.{TakesFresh, limbo_after};
@@ -84,9 +84,9 @@ impl Change {
         ensures limits { result.limits ≡ limits.now }
         ensures plan { result.plan ≡ plan }
         ensures recalls { (r : Recalled) → WasHead r (slot_of plan) (head_of plan) → IsApart plan spares.now.pid → Recalls result spares.now r }
-        ensures few { (after : ℕ) → steps_left after result spares.now ≤ 800 }
+        ensures few { (after : ℕ) → steps_left after result spares.now ≤ few_steps limits.now }
     {
-        let state = first_state(&plan, spares);
+        let state = first_state(limits, &plan, spares);
         let made = made_for(&plan, state, spares);
         Change {
             limits: *limits,
@@ -144,8 +144,8 @@ impl Change {
         ensures same { IsSame self.old self.new }
         ensures pid { IsPidFrom spares.old.pid (pid_taken (wanted self.old spares.old) (answer_of told)) spares.new.pid }
         ensures spends { Spends self.old spares.old (answer_of told) self.new spares.new result }
-        ensures lowest { (kind : Kind) (word bits : ℕ) → self.old.state ≡ State.Taking (Taking.Bits kind word) → told ≡ Told.Number bits → 0 < bits → self.new.state ≡ State.Taking (Taking.Take kind (64 * word + trailing_zeros w64 bits)) }
-        ensures again { (kind : Kind) (number : ℕ) → self.old.state ≡ State.Taking (Taking.Take kind number) → told ≡ Told.Whether false → self.new.state ≡ State.Taking (Taking.Bits kind (number / 64)) }
+        ensures lowest { (kind : Kind) (word bits : ℕ) (whole : Bool) → self.old.state ≡ State.Taking (Taking.Bits kind word whole) → told ≡ Told.Number bits → 0 < bits → self.new.state ≡ State.Taking (Taking.Take kind (64 * word + trailing_zeros w64 bits) whole) }
+        ensures again { (kind : Kind) (number : ℕ) (whole : Bool) → self.old.state ≡ State.Taking (Taking.Take kind number whole) → told ≡ Told.Whether false → self.new.state ≡ State.Taking (Taking.Bits kind (number / 64) whole) }
     {
         let _ = &self.limits;
         self.move_on(spares, told)
@@ -214,14 +214,14 @@ impl Change {
         requires state { self.old.state ≡ State.Taking taking }
         requires sound { IsSoundChange self.old spares.old }
         requires told { FitsChange self.old spares.old (answer_of told) }
-        ensures moved { moved_by self.old.plan spares.old self.old.state (found_after self.old.limits taking (answer_of told)) ≡ record { state = self.new.state; spares = spares.new; end = result } }
+        ensures moved { moved_by self.old.limits self.old.plan spares.old self.old.state (found_after self.old.limits taking (answer_of told)) ≡ record { state = self.new.state; spares = spares.new; end = result } }
         ensures same { IsSame self.old self.new }
     {
         match taking.next(&self.limits, told) {
             Found::Not(taking) => self.go(State::Taking(taking)),
             Found::Taken { kind, number } => {
                 spares.keep(kind, number);
-                let state = first_state(&self.plan, spares);
+                let state = first_state(&self.limits, &self.plan, spares);
                 self.go(state)
             }
             Found::Full => Some(End::Full),
@@ -258,7 +258,7 @@ impl Change {
     }
 
     /// The row of the new page's base.
-    fn base_row(&self, spares: &Spares) -> u16
+    fn base_row(&self, spares: &Spares) -> u32
         ensures { result ≡ base_row self.now.plan spares.now }
     {
         match &self.plan {
@@ -268,7 +268,7 @@ impl Change {
     }
 
     /// What comes into the slot whose exchange decides.
-    fn linked_number(&self, spares: &Spares) -> u16
+    fn linked_number(&self, spares: &Spares) -> u32
         ensures { result ≡ linked_number self.now.plan spares.now }
     {
         match &self.plan {
@@ -308,20 +308,14 @@ fn after_ready(plan: &Plan) -> State
 }
 
 /// Where a change goes on with these spares.
-fn first_state(plan: &Plan, spares: &Spares) -> State
-    ensures { result ≡ first_state plan.now spares.now }
+fn first_state(limits: &Limits, plan: &Plan, spares: &Spares) -> State
+    ensures { result ≡ first_state limits.now plan.now spares.now }
 {
     if plan.needs_pid() && spares.pid().is_none() {
-        return State::Taking(Taking::Bits {
-            kind: Kind::Pid,
-            word: 0,
-        });
+        return State::Taking(Taking::begin(limits, Kind::Pid, plan.head()));
     }
     if spares.rows().len() < plan.rows_needed() {
-        return State::Taking(Taking::Bits {
-            kind: Kind::Row,
-            word: 0,
-        });
+        return State::Taking(Taking::begin(limits, Kind::Row, plan.head()));
     }
     match plan {
         Plan::Install { .. } | Plan::Unlink { .. } => State::Place,

@@ -11,27 +11,27 @@ use smo::SplitPlan;
 pub enum Plan {
     /// A record over the row `head` of the page `pid`.
     Install {
-        pid: u16,
-        head: u16,
+        pid: u32,
+        head: u32,
         content: Record,
     },
     /// The split of the page `pid`, with the upper part as a new page.
     Split {
-        pid: u16,
+        pid: u32,
         plan: SplitPlan,
     },
     /// A root over the page `left`, which is the root.
     Root {
-        left: u16,
+        left: u32,
         root: Page,
     },
     /// The unterm of a removed page over the row `head` of its parent `pid`; then the removed page is cleared: its slot goes from the
     /// row `removal` to 0.
     Unlink {
-        pid: u16,
-        head: u16,
+        pid: u32,
+        head: u32,
         unterm: Unterm,
-        removal: u16,
+        removal: u32,
     },
 }
 
@@ -69,7 +69,7 @@ impl Plan {
     }
 
     /// The record that comes over a page's newest row, where the new page has this PID.
-    pub(crate) fn record(&self, right: u16) -> Record
+    pub(crate) fn record(&self, right: u32) -> Record
         ensures { result ≡ new_record self.now right }
     {
         match self {
@@ -81,7 +81,7 @@ impl Plan {
     }
 
     /// The slot whose exchange decides.
-    pub(crate) fn slot(&self) -> u16
+    pub(crate) fn slot(&self) -> u32
         ensures { result ≡ slot_of self.now }
     {
         match self {
@@ -91,7 +91,7 @@ impl Plan {
     }
 
     /// What that slot held.
-    pub(crate) fn head(&self) -> u16
+    pub(crate) fn head(&self) -> u32
         ensures { result ≡ head_of self.now }
     {
         match self {
@@ -112,7 +112,7 @@ impl Plan {
     }
 
     /// The page that is to be cleared, or 0.
-    pub(crate) fn cleared_page(&self) -> u16
+    pub(crate) fn cleared_page(&self) -> u32
         ensures { result ≡ cleared_page self.now }
     {
         match self {
@@ -122,7 +122,7 @@ impl Plan {
     }
 
     /// The row of that page's removal, or 0.
-    pub(crate) fn cleared_row(&self) -> u16
+    pub(crate) fn cleared_row(&self) -> u32
         ensures { result ≡ cleared_row self.now }
     {
         match self {

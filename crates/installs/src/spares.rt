@@ -15,8 +15,8 @@ pub const MAX_SPARES: usize = 2;
 /// A PID at most and the rows that an actor took and has not linked: its change uses the last rows.
 #[derive(Drop)]
 pub struct Spares {
-    pid: Option<u16>,
-    rows: ArrayVec<u16, MAX_SPARES>,
+    pid: Option<u32>,
+    rows: ArrayVec<u32, MAX_SPARES>,
 }
 
 impl Model for Spares {
@@ -39,48 +39,48 @@ impl Spares {
     }
 
     /// The spare PID, if there is one.
-    pub fn pid(&self) -> Option<u16>
+    pub fn pid(&self) -> Option<u32>
         ensures { result ≡ self.now.pid }
     {
         self.pid
     }
 
     /// The spare rows, the last one taken last.
-    pub fn rows(&self) -> &[u16]
+    pub fn rows(&self) -> &[u32]
         ensures { result.now ≡ self.now.rows }
     {
         self.rows.as_slice()
     }
 
     /// The spare PID, or 0.
-    pub(crate) fn pid_or_0(&self) -> u16
+    pub(crate) fn pid_or_0(&self) -> u32
         ensures { result ≡ pid_of self.now }
     {
         self.pid.unwrap_or(0)
     }
 
     /// The first spare row, or 0.
-    pub(crate) fn first_row(&self) -> u16
+    pub(crate) fn first_row(&self) -> u32
         ensures { result ≡ first_row self.now }
     {
         self.row_at(0)
     }
 
     /// The last spare row, or 0.
-    pub(crate) fn last_row(&self) -> u16
+    pub(crate) fn last_row(&self) -> u32
         ensures { result ≡ last_row self.now }
     {
         self.row_at(self.rows.len().saturating_sub(1))
     }
 
-    fn row_at(&self, place: usize) -> u16
+    fn row_at(&self, place: usize) -> u32
         ensures { result ≡ get_or self.now.rows place 0 }
     {
         self.rows.as_slice().get(place).copied().unwrap_or(0)
     }
 
     /// Keeps a number that was taken.
-    pub(crate) fn keep(&mut self, kind: Kind, number: u16)
+    pub(crate) fn keep(&mut self, kind: Kind, number: u32)
         requires { kind ≡ Kind.Row → length self.old.rows < MAX_SPARES }
         ensures { self.new ≡ with_number kind number self.old }
     {

@@ -4,10 +4,13 @@ ghost use Rattle.bw_model.specs.Answers.{answer_of};
 ghost use Rattle.bw_model.specs.Lent.{lent};
 ghost use Rattle.bw_model.specs.declared.step.Answer.TheVariants.{Number};
 ghost use Rattle.traces.specs.discipline.Fitting.{FitsWord};
-ghost use Rattle.installs.specs.Taking.{FitsTaking, IsSoundFound, IsSoundTaking, TellsWhether, count_of, found_after, wanted_number};
+ghost use Rattle.installs.specs.Taking.{FitsTaking, IsSoundFound, IsSoundTaking, TellsWhether, begun_at, count_of, first_word, found_after, wanted_number};
 
 use bw_model::{Limits, Step, Told};
 use deltas::Record;
+
+/// An odd number, whose products are spread over all words.
+const SCATTER: u64 = 2654435761;
 
 /// A kind of number.
 #[derive(Clone, Copy)]
@@ -16,11 +19,19 @@ pub(crate) enum Kind {
     Row,
 }
 
-/// Where a taking stands: each state is named by the step that it has asked for.
+/// Where a taking stands: each state is named by the step that it has asked for. It is whole where it began at word 0.
 #[derive(Clone, Copy)]
 pub(crate) enum Taking {
-    Bits { kind: Kind, word: u8 },
-    Take { kind: Kind, number: u16 },
+    Bits {
+        kind: Kind,
+        word: u32,
+        whole: bool,
+    },
+    Take {
+        kind: Kind,
+        number: u32,
+        whole: bool,
+    },
 }
 
 /// How a taking goes on.
@@ -29,7 +40,7 @@ pub(crate) enum Found {
     /// Nothing was found yet.
     Not(Taking),
     /// This number was taken.
-    Taken { kind: Kind, number: u16 },
+    Taken { kind: Kind, number: u32 },
     /// No number of the kind is free.
     Full,
 }
@@ -47,16 +58,28 @@ impl Kind {
 }
 
 impl Taking {
+    /// Where the taking of a number begins, for a page with this newest row.
+    pub(crate) fn begin(limits: &Limits, kind: Kind, head: u32) -> Taking
+        ensures { result ≡ begun_at limits.now kind head }
+    {
+        let word = first_word(limits, kind, head);
+        Taking::Bits {
+            kind,
+            word,
+            whole: word == 0,
+        }
+    }
+
     /// The step that the taking wants next.
     pub(crate) fn wanted<'a>(self) -> Step<&'a Record>
         ensures { lent result ≡ wanted_number self }
     {
         match self {
-            Taking::Bits { kind, word } => match kind {
+            Taking::Bits { kind, word, .. } => match kind {
                 Kind::Pid => Step::PidBits(word),
                 Kind::Row => Step::RowBits(word),
             },
-            Taking::Take { kind, number } => match kind {
+            Taking::Take { kind, number, .. } => match kind {
                 Kind::Pid => Step::TakePid(number),
                 Kind::Row => Step::TakeRow(number),
             },
@@ -71,38 +94,65 @@ impl Taking {
         ensures sound { IsSoundFound limits.now result }
     {
         match self {
-            Taking::Bits { kind, word } => choose(limits, kind, word, told.number()),
-            Taking::Take { kind, number } => {
+            Taking::Bits { kind, word, whole } => choose(limits, kind, word, whole, told.number()),
+            Taking::Take {
+                kind,
+                number,
+                whole,
+            } => {
                 if went(told) {
                     return Found::Taken { kind, number };
                 }
                 Found::Not(Taking::Bits {
                     kind,
-                    word: (number / 64) as u8,
+                    word: number / 64,
+                    whole,
                 })
             }
         }
     }
 }
 
+/// The word at which the taking of a number begins.
+fn first_word(limits: &Limits, kind: Kind, head: u32) -> u32
+    ensures { result ≡ first_word limits.now kind head }
+{
+    if !limits.is_large {
+        return 0;
+    }
+    (u64::from(head) * SCATTER % (kind.count(limits) / 64)) as u32
+}
+
 /// The lowest free number of a word of free bits is taken next; where there is none, the next word is read.
-fn choose(limits: &Limits, kind: Kind, word: u8, bits: u64) -> Found
+fn choose(limits: &Limits, kind: Kind, word: u32, whole: bool, bits: u64) -> Found
     requires word { 64 * word < count_of limits.now kind }
     requires fits { FitsWord (count_of limits.now kind) word bits }
-    ensures found { result ≡ found_after limits.now (Taking.Bits kind word) (Number bits) }
+    ensures found { result ≡ found_after limits.now (Taking.Bits kind word whole) (Number bits) }
     ensures sound { IsSoundFound limits.now result }
 {
     if bits != 0 {
-        let number = 64 * u16::from(word) + bits.trailing_zeros() as u16;
-        return Found::Not(Taking::Take { kind, number });
+        let number = 64 * word + bits.trailing_zeros();
+        return Found::Not(Taking::Take {
+            kind,
+            number,
+            whole,
+        });
     }
     if u64::from(word) + 1 < kind.count(limits) / 64 {
         return Found::Not(Taking::Bits {
             kind,
             word: word + 1,
+            whole,
         });
     }
-    Found::Full
+    if whole {
+        return Found::Full;
+    }
+    Found::Not(Taking::Bits {
+        kind,
+        word: 0,
+        whole: true,
+    })
 }
 
 /// Whether a step went.

@@ -29,8 +29,8 @@ fn rows<R: Abort + AllocGlobal>(rt: &R, deltas: &[Record], base: Page) -> ChainP
 /// The page of these deltas over the base, whose newest record stands in this row.
 pub(crate) fn page<R: Abort + AllocGlobal>(
     rt: &R,
-    pid: u16,
-    head: u16,
+    pid: u32,
+    head: u32,
     deltas: &[Record],
     base: Page,
 ) -> PageInHand

@@ -31,7 +31,7 @@ type Case = (
     Planned,
     (u8, u8, bool),
     &'static str,
-    (End, Option<u16>, &'static [u16]),
+    (End, Option<u32>, &'static [u32]),
 );
 
 /// The steps of a change: `rows 0` reads a word of free rows, `row 3` takes a row, `3=7` places a record in row 3 over row 7, and
@@ -80,15 +80,15 @@ fn told(world: &mut World, limits: &Limits, step: &Step<&Record>) -> Told
 }
 
 /// Adds a text and a number to the log.
-fn add(log: &mut Log, text: &str, number: u16) {
+fn add(log: &mut Log, text: &str, number: u32) {
     let _ = write!(log, "{text}{number}");
 }
 
 /// Adds a step to the log.
 fn show(log: &mut Log, step: &Step<&Record>) {
     match step {
-        Step::PidBits(word) => add(log, " pids ", u16::from(*word)),
-        Step::RowBits(word) => add(log, " rows ", u16::from(*word)),
+        Step::PidBits(word) => add(log, " pids ", *word),
+        Step::RowBits(word) => add(log, " rows ", *word),
         Step::TakePid(pid) => add(log, " pid ", *pid),
         Step::TakeRow(row) => add(log, " row ", *row),
         Step::Place(row, content) => {

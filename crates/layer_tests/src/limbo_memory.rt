@@ -10,7 +10,7 @@ type Heap<'a> = &'a Refusing<Global>;
 
 /// Whether all rows and PIDs below 64 come into limbo.
 fn fills(limbo: &mut Limbo<Heap<'_>>) -> bool {
-    for number in 1..64u16 {
+    for number in 1..64u32 {
         let (row, pid) = (Item::Row(number), Item::Pid(number));
         if !limbo.accepts(row) {
             return false;

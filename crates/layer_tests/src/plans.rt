@@ -40,7 +40,7 @@ fn ninth() -> Key
 }
 
 /// The record that adds the term of a child at that key.
-fn term_of(next: u16, child: u16) -> Record
+fn term_of(next: u32, child: u32) -> Record
     ensures { result ≡ kind.Term (record { level = 1; next = next; separator = codes "k09"; child = child }) }
 {
     Record::Term(Term {
@@ -52,7 +52,7 @@ fn term_of(next: u16, child: u16) -> Record
 }
 
 /// The record that holds it.
-fn hold_of(next: u16, child: u16) -> Record
+fn hold_of(next: u32, child: u32) -> Record
     ensures { result ≡ kind.Hold (record { level = 1; next = next; separator = codes "k09"; child = child }) }
 {
     Record::Hold(Hold {
@@ -80,7 +80,7 @@ pub(crate) fn leaf(low: Key, count: u8) -> Page
 }
 
 /// That leaf as it was read.
-pub(crate) fn leaf_of<R: Abort + AllocGlobal>(rt: &R, pid: u16, low: Key, count: u8) -> PageInHand
+pub(crate) fn leaf_of<R: Abort + AllocGlobal>(rt: &R, pid: u32, low: Key, count: u8) -> PageInHand
     requires pid { IsPid pid }
     ensures alive { is_removed result.chain ≡ false }
 {
@@ -90,7 +90,7 @@ pub(crate) fn leaf_of<R: Abort + AllocGlobal>(rt: &R, pid: u16, low: Key, count:
 /// The same under so many deltas, which change nothing, and twelve at most.
 fn leaf_under<R: Abort + AllocGlobal>(
     rt: &R,
-    pid: u16,
+    pid: u32,
     low: Key,
     count: u8,
     deltas: u8,
@@ -162,7 +162,7 @@ fn held<R: Abort + AllocGlobal>(rt: &R) -> PageInHand
 }
 
 /// Whether the parent gets a term of the page that has this level, row and child; or none.
-fn posts(parent: &PageInHand, page: &PageInHand, wanted: Option<(u8, u16, u16)>) -> bool {
+fn posts(parent: &PageInHand, page: &PageInHand, wanted: Option<(u8, u32, u32)>) -> bool {
     match plan_term(parent, page) {
         None => wanted.is_none(),
         Some(term) => wanted == Some((term.level, term.next, term.child)),
@@ -177,7 +177,7 @@ fn posts_once<R: Abort + AllocGlobal>(rt: &R) -> bool {
 }
 
 /// Whether the parent's term of the page may be held, if the page begins at the key.
-fn may_be_held<R: Abort + AllocGlobal>(rt: &R, parent: &PageInHand, pid: u16, low: &[u8]) -> bool
+fn may_be_held<R: Abort + AllocGlobal>(rt: &R, parent: &PageInHand, pid: u32, low: &[u8]) -> bool
     requires pid { IsPid pid }
     requires low { length low.now ≤ longest }
 {
@@ -192,7 +192,7 @@ fn holds_one<R: Abort + AllocGlobal>(rt: &R) -> bool {
 }
 
 /// Whether a leaf of so many items under so many deltas may be removed, below a parent that holds the term of page 2 there.
-fn removes<R: Abort + AllocGlobal>(rt: &R, pid: u16, items: u8, deltas: u8) -> bool
+fn removes<R: Abort + AllocGlobal>(rt: &R, pid: u32, items: u8, deltas: u8) -> bool
     requires pid { IsPid pid }
 {
     let page = leaf_under(rt, pid, key(b"k09"), items, deltas);

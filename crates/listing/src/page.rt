@@ -16,8 +16,8 @@ use deltas::{Record, apply};
 use row_chain::MAX_RECORDS;
 
 /// The page that the chain of a PID makes: the base, changed by each delta from the oldest on.
-pub fn page_of<M: Rows>(rows: &M, pid: u16) -> Page
-    requires there { pid < 4096 }
+pub fn page_of<M: Rows>(rows: &M, pid: u32) -> Page
+    requires there { pid < M.pids rows.now }
     requires stands { (memory : Memory) × (chain : List Record) × M.has rows.now memory × StandsAt memory pid chain }
     ensures makes { (memory : Memory) (chain : List Record) → M.has rows.now memory → StandsAt memory pid chain → Makes chain result }
     ensures ruled { IsRuled result }
@@ -32,8 +32,8 @@ pub fn page_of<M: Rows>(rows: &M, pid: u16) -> Page
 }
 
 /// The rows of a page's chain, the newest record's first and the base's last.
-pub fn rows_of<M: Rows>(rows: &M, pid: u16) -> ArrayVec<u16, MAX_RECORDS>
-    requires there { pid < 4096 }
+pub fn rows_of<M: Rows>(rows: &M, pid: u32) -> ArrayVec<u32, MAX_RECORDS>
+    requires there { pid < M.pids rows.now }
     requires stands { (memory : Memory) × (chain : List Record) × M.has rows.now memory × StandsAt memory pid chain }
     ensures { (memory : Memory) (chain : List Record) → M.has rows.now memory → StandsAt memory pid chain → result.items ≡ chain_rows (memory.slots pid) chain }
 {
@@ -50,7 +50,7 @@ pub fn rows_of<M: Rows>(rows: &M, pid: u16) -> ArrayVec<u16, MAX_RECORDS>
 }
 
 /// The page of the base in a row.
-fn base_at<M: Rows>(rows: &M, row: u16) -> Page
+fn base_at<M: Rows>(rows: &M, row: u32) -> Page
     requires { (memory : Memory) × (page : PageOf) × M.has rows.now memory × (memory.rows row ≡ Some (Base page)) }
     ensures { (memory : Memory) → M.has rows.now memory → memory.rows row ≡ Some (Base result) }
 {

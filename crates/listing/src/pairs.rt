@@ -19,6 +19,7 @@ pub fn add_pairs<M: Rows, B: Allocator>(
     rows: &M,
 ) -> Result<(), AllocError>
     requires empty { pairs.old.items ≡ [] }
+    requires pids { M.pids rows.now ≡ limits.now.pids }
     requires stand { (memory : Memory) × M.has rows.now memory × HasLeafPages limits.now memory }
     ensures ok { OnOk result ((memory : Memory) → M.has rows.now memory → (leaves : HasLeafPages limits.now memory) → HavePages leaves.pages pairs.new.items) }
     ensures err { OnErr result (vec_capacity pairs.old < 24 * limits.now.pids) }

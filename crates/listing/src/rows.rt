@@ -4,20 +4,23 @@ use deltas::Record;
 
 /// What keeps a memory: slots of pages, and rows of records.
 pub trait Rows {
-    ghost use Rattle.std.specs.Prelude.{◌≡◌, ◌<◌, Some};
+    ghost use Rattle.std.specs.Prelude.{◌≡◌, ◌<◌, ℕ, Some};
     ghost use Rattle.deltas.specs.Memory.{Memory};
     ghost use Rattle.deltas.specs.declared.record.Record.{Record};
 
     ghost has: { Self → Memory → Type 0 };
 
+    // how many PIDs there are
+    ghost pids: { Self → ℕ };
+
     /// The number in the slot of a PID, where it is a row with a record.
-    fn slot(&self, pid: u16) -> u16
-        requires range { pid < 4096 }
+    fn slot(&self, pid: u32) -> u32
+        requires range { pid < pids self.now }
         requires stands { (memory : Memory) × (content : Record) × has self.now memory × (memory.rows (memory.slots pid) ≡ Some content) }
         ensures { (memory : Memory) → has self.now memory → result ≡ memory.slots pid };
 
     /// The record that was placed last in a row.
-    fn record(&self, row: u16) -> Record
+    fn record(&self, row: u32) -> Record
         requires { (memory : Memory) × (content : Record) × has self.now memory × (memory.rows row ≡ Some content) }
         ensures { (memory : Memory) → has self.now memory → memory.rows row ≡ Some result };
 }

@@ -11,11 +11,13 @@ impl<A: Allocator> Rows for CoreTable<A> {
 
     ghost has = { λ table memory. memory ≡ memory_in table };
 
-    fn slot(&self, pid: u16) -> u16 {
+    ghost pids = { λ table. table.limits.pids };
+
+    fn slot(&self, pid: u32) -> u32 {
         self.slot(pid)
     }
 
-    fn record(&self, row: u16) -> Record {
+    fn record(&self, row: u32) -> Record {
         match self.record(row) {
             Some(record) => record,
             None => unreachable!(),

@@ -11,7 +11,7 @@ use Rattle.bw_model.specs.declared.step.Step.TheVariants as step
 use Rattle.deltas.specs.declared.record.Record.{Record}
 use Rattle.traces.specs.discipline.Fitting.{Fits}
 use Rattle.traces.specs.discipline.Knowledge.{Knowledge}
-use Rattle.traces.specs.discipline.Recalled.{Recalled, blank}
+use Rattle.traces.specs.discipline.Recalled.{Recalled, blank, cause_worth}
 use Rattle.op_machine.specs.machine.Hands.{Hand}
 use Rattle.op_machine.specs.machine.Bounded.{IsSpentLast}
 use Rattle.op_machine.specs.machine.Spending.{Spends, steps_left}
@@ -65,8 +65,8 @@ module _ (k : Knowledge) (had : Hand) (old : Op) (unswept : old.sweep ≡ None) 
     goes = subst (λ w. Goes (learn_last k w answer.Start) (recall_last blank w answer.Start) new has asked) none (o k blank shows fits_start);
   }
 
-  pub begun_few : (new : Op) (has : Hand) (asked : StepOf Record) → Spends old had answer.Start new has (Step asked) → ((r : Recalled) (hand : Hand) → steps_left r old hand < 2 ^ 18) → steps_left blank new has < 2 ^ 18
-  begun_few new has asked spends few = less (steps_left blank new has) (steps_left blank old had) (2 ^ 18) (subst (λ w. IsSpentLast blank w answer.Start (steps_left blank old had) (steps_left (recall_last blank w answer.Start) new has)) none (spends k blank shows fits_start)) (few blank had)
+  pub begun_few : (most : ℕ) (new : Op) (has : Hand) (asked : StepOf Record) → Spends old had answer.Start new has (Step asked) → ((r : Recalled) (hand : Hand) → steps_left r old hand < most) → steps_left blank new has < most
+  begun_few most new has asked spends few = less (steps_left blank new has) (steps_left blank old had) most (subst (λ w. IsSpentLast old.task.limits blank w answer.Start (steps_left blank old had) (steps_left (recall_last blank w answer.Start) new has)) none (spends k blank shows fits_start)) (few blank had)
 
 -- an operation that wants another step than the leave isn't at its leave
 stays_in : (task : Task) (spares : Spares) (limbo : Limbo) (k : Knowledge) (sweep : Option Sweep) (state : State) → HoldsLimbo task state limbo k sweep → asked_by sweep (wanted_at spares state) ≢ Some step.Leave → is_leaving state ≡ false
@@ -104,7 +104,7 @@ module _ (limits : Limits) (actor : ℕ) (k : Knowledge) (r : Recalled) (had has
       own_actor = same.actor ∙ running.own_actor;
       goes = subst (λ w. Goes (learn_last k w a) (recall_last r w a) new has asked) running.goes.wanted (o k r running.goes.shows fits_last);
     };
-    spends = spent_last r (wanted_of old.op had) old.wanted a (steps_left r old.op had) (λ q. steps_left q new has) running.goes.wanted (spends k r running.goes.shows fits_last);
+    spends = rw (← running.own_limits) (spent_last old.op.task.limits r (wanted_of old.op had) old.wanted a (steps_left r old.op had) (λ q. steps_left q new has) running.goes.wanted (spends k r running.goes.shows fits_last));
   }
 
   pub is_done : (reply : Reply) → Obeys old.op had a new has (Done reply) → ActsOn limits actor k r (at_work had old) old.wanted a (Some reply) (record { hand = has; running = None })
@@ -115,7 +115,7 @@ module _ (limits : Limits) (actor : ℕ) (k : Knowledge) (r : Recalled) (had has
       spares = rw (← running.own_limits) (rw last ends.rests);
       limbo = rw (← running.own_limits, ← running.own_actor) (subst (λ w. AreKept old.op.task.limits old.op.task.actor has.limbo (learn_last k w a).limbo) running.goes.wanted over.limbo);
     };
-    spends = spends_last r had has old a ends.is_last;
+    spends = rw (← running.own_limits) (spends_last r had has old a ends.is_last);
   }
     where
       over : IsOver old.op.task k (wanted_of old.op had) a has reply

@@ -1,5 +1,6 @@
 -- One step of an operation: how many steps it has left.
 use Rattle.std.proofs.Common.{◌≡◌, ◌<◌, ◌+◌, ◌*◌, ℕ, length, Option, Some, None, inl, subst, arith}
+use Rattle.tree_limits.specs.declared.limits.Limits.{Limits}
 use Rattle.bw_model.specs.declared.step.Answer.{Answer}
 use Rattle.bw_model.specs.declared.step.Step.{Step as StepOf}
 use Rattle.bw_model.specs.declared.step.Step.TheVariants as step
@@ -21,23 +22,23 @@ use Rattle.op_machine.specs.machine.UnderWay.{UnderWay}
 use Rattle.op_machine.specs.machine.UnderWay.{IsSpentBy}
 
 -- what an answer leaves, where the step that was wanted is known
-pub spent_last : (r : Recalled) (last : Option (StepOf Record)) (asked : StepOf Record) (a : Answer Record) (left : ℕ) (rest : Recalled → ℕ) → last ≡ Some asked → IsSpentLast r last a left (rest (recall_last r last a)) → IsStepSpent r asked a left (rest (recall r asked a))
-spent_last r last asked a left rest e spent = subst (λ w. IsSpentLast r w a left (rest (recall_last r w a))) e spent
+pub spent_last : (limits : Limits) (r : Recalled) (last : Option (StepOf Record)) (asked : StepOf Record) (a : Answer Record) (left : ℕ) (rest : Recalled → ℕ) → last ≡ Some asked → IsSpentLast limits r last a left (rest (recall_last r last a)) → IsStepSpent limits r asked a left (rest (recall r asked a))
+spent_last limits r last asked a left rest e spent = subst (λ w. IsSpentLast limits r w a left (rest (recall_last r w a))) e spent
 
 -- a state that has asked for Leave has a step left
-leaves : (r : Recalled) (spares : Spares) (state : State) → wanted_at spares state ≡ Some step.Leave → 0 < left_at r spares state
-leaves r spares (Leave reply) e = omega arith
-leaves r spares (Read round) e = omega arith
-leaves r spares (Write round) e = omega arith
-leaves r spares (Change now then) e = omega arith
-leaves r spares Begun e = cc
-leaves r spares Epoch e = cc
-leaves r spares (Enter epoch) e = cc
+leaves : (limits : Limits) (r : Recalled) (spares : Spares) (state : State) → wanted_at spares state ≡ Some step.Leave → 0 < left_at limits r spares state
+leaves limits r spares (Leave reply) e = omega arith
+leaves limits r spares (Read round) e = omega arith
+leaves limits r spares (Write round) e = omega arith
+leaves limits r spares (Change now then) e = omega arith
+leaves limits r spares Begun e = cc
+leaves limits r spares Epoch e = cc
+leaves limits r spares (Enter epoch) e = cc
 
 -- and so has a sweep, which asks for none
-stays : (r : Recalled) (spares : Spares) (sweep : Option Sweep) (state : State) → asked_by sweep (wanted_at spares state) ≡ Some step.Leave → 0 < sweep_left sweep state + left_at r spares state
-stays r spares None state e = let some = leaves r spares state e in omega (arith, some)
-stays r spares (Some sweep) state e = absurd (sweeps_on sweep.actor sweep.state e)
+stays : (limits : Limits) (r : Recalled) (spares : Spares) (sweep : Option Sweep) (state : State) → asked_by sweep (wanted_at spares state) ≡ Some step.Leave → 0 < sweep_left limits sweep state + left_at limits r spares state
+stays limits r spares None state e = let some = leaves limits r spares state e in omega (arith, some)
+stays limits r spares (Some sweep) state e = absurd (sweeps_on sweep.actor sweep.state e)
   where
     reuses : (reuse : Reuse) → Some (step_of reuse) ≡ Some step.Leave → ⊥
     reuses (Rows word bits) e = cc
@@ -53,5 +54,5 @@ more : (n m : ℕ) → 0 < n → 0 < n + m
 more n m some = omega arith
 
 -- it is done
-pub spends_last : (r : Recalled) (had has : Hand) (old : UnderWay) (a : Answer Record) → wanted_of old.op had ≡ Some step.Leave → IsSpentBy r had (Some old) old.wanted a has None
-spends_last r had has old a e = inl (more (sweep_left old.op.sweep old.op.state + left_at r had.spares old.op.state) (one_round * length old.op.task.errands) (stays r had.spares old.op.sweep old.op.state e))
+pub spends_last : (r : Recalled) (had has : Hand) (old : UnderWay) (a : Answer Record) → wanted_of old.op had ≡ Some step.Leave → IsSpentBy old.op.task.limits r had (Some old) old.wanted a has None
+spends_last r had has old a e = inl (more (sweep_left old.op.task.limits old.op.sweep old.op.state + left_at old.op.task.limits r had.spares old.op.state) (one_round old.op.task.limits * length old.op.task.errands) (stays old.op.task.limits r had.spares old.op.sweep old.op.state e))

@@ -13,7 +13,7 @@ use Rattle.deltas.specs.declared.record.Record.TheVariants as kind
 use Rattle.traces.specs.discipline.Discipline.{MayReply}
 use Rattle.traces.specs.discipline.Fitting.{Fits}
 use Rattle.traces.specs.discipline.Knowledge.{Knowledge, learn}
-use Rattle.traces.specs.discipline.Recalled.{IsStepSpent, Recalled, recall}
+use Rattle.traces.specs.discipline.Recalled.{IsStepSpent, Recalled, cause_worth, recall}
 use Rattle.installs.specs.Bounded as bound
 use Rattle.installs.specs.Changes as change
 use Rattle.installs.specs.Spares.{HaveRoom, Spares}
@@ -22,6 +22,7 @@ use Rattle.installs.specs.declared.change.End.TheVariants.{Won, Lost, Full}
 use Rattle.installs.specs.declared.plan.Plan.{Plan}
 use Rattle.installs.specs.declared.plan.Plan.TheVariants.{Install, Split, Root, Unlink}
 use Rattle.op_machine.specs.machine.Bounded.{left_for, one_round}
+use Rattle.op_machine.proofs.Worth.{enough}
 use Rattle.op_machine.specs.machine.Brings.{Brings, IsReadPlan, IsUpdateOf, IsUsefulOver, IsUsefulPlan}
 use Rattle.op_machine.specs.machine.Hands.{AreRowsOf, IsTakenBy}
 use Rattle.op_machine.specs.machine.Outcomes as outcome
@@ -141,10 +142,10 @@ module _ (task : Task) (had has : Spares) (k : Knowledge) (r : Recalled) (old ne
     recalls = recalls;
   }
 
-  pub change_left : bound.SpendsTo one_round r old had told new has None → IsStepSpent r (change.wanted old had) told (bound.steps_left one_round old had + 1) (bound.steps_left one_round new has + 1)
+  pub change_left : bound.SpendsTo (one_round task.limits) r old had told new has None → IsStepSpent task.limits r (change.wanted old had) told (bound.steps_left (one_round task.limits) old had + 1) (bound.steps_left (one_round task.limits) new has + 1)
   change_left spends = elim spends.1 [
     | inl less ↦ inl (omega (arith, less))
-    | inr paid ↦ let more = paid.1 in inr (paid.0, omega (arith, more))
+    | inr paid ↦ let more = paid.1 in let w = enough task.limits in let same : bound.few_steps old.limits ≡ bound.few_steps task.limits = ap bound.few_steps h.limits in inr (paid.0, omega (arith, more, w, same))
   ]
 
   -- where it has ended
@@ -198,26 +199,26 @@ module _ (task : Task) (had has : Spares) (k : Knowledge) (r : Recalled) (old ne
     rw (← h.limits) (elim over.decided [ inl pids ↦ inl pids.1 | inr rows ↦ inr rows.1 ]),
   )
 
-  won_left : (t : Then) (left : ℕ) → left_for (outcome.Changed Won t) < left + 262144
-  won_left (Reply answered) left = omega arith
-  won_left Round left = omega arith
-  won_left (Limbo unlinked) left = omega arith
-  won_left (Errand key) left = omega arith
+  won_left : (t : Then) (left : ℕ) → left_for task.limits (outcome.Changed Won t) < left + cause_worth task.limits
+  won_left (Reply answered) left = let w = enough task.limits in omega (arith, w)
+  won_left Round left = let w = enough task.limits in omega (arith, w)
+  won_left (Limbo unlinked) left = let w = enough task.limits in omega (arith, w)
+  won_left (Errand key) left = let w = enough task.limits in omega (arith, w)
 
   -- after a page is cleared a new round begins
-  cleared_left : (t : Then) → then ≡ t → change.clears old.plan ≡ true → left_for (outcome.Changed Won t) ≤ one_round
+  cleared_left : (t : Then) → then ≡ t → change.clears old.plan ≡ true → left_for task.limits (outcome.Changed Won t) ≤ one_round task.limits
   cleared_left (Reply answered) is clears = let b : IsUpdateOf k task.command old.plan answered = subst (λ t. Brings k task.command old.plan t) is h.brings in let e = sym clears ∙ ap change.clears b.is in cc
   cleared_left Round is clears = omega arith
   cleared_left (Limbo unlinked) is clears = omega arith
   cleared_left (Errand key) is clears = let b = subst (λ t. Brings k task.command old.plan t) is h.brings in let e = sym clears ∙ ap change.clears b.2 in cc
 
-  pub ended_left : (end : End) → bound.SpendsTo one_round r old had told new has (Some end) → IsStepSpent r (change.wanted old had) told (bound.steps_left one_round old had + 1) (left_for (outcome.Changed end then))
+  pub ended_left : (end : End) → bound.SpendsTo (one_round task.limits) r old had told new has (Some end) → IsStepSpent task.limits r (change.wanted old had) told (bound.steps_left (one_round task.limits) old had + 1) (left_for task.limits (outcome.Changed end then))
   ended_left Won spends = elim spends [
-    | inl paid ↦ inr (paid, won_left then (bound.steps_left one_round old had + 1))
+    | inl paid ↦ inr (paid, won_left then (bound.steps_left (one_round task.limits) old had + 1))
     | inr more ↦ inl (let after = cleared_left then refl more.0 in let left = more.1 in omega (arith, after, left))
   ]
   ended_left Lost spends = elim spends [
-    | inl paid ↦ inr (paid, omega arith)
+    | inl paid ↦ inr (paid, (let w = enough task.limits in omega (arith, w)))
     | inr more ↦ inl (omega (arith, more))
   ]
   ended_left Full some = inl (omega (arith, some))

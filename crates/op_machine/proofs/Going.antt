@@ -1,5 +1,6 @@
 -- How an operation goes on, from what its state makes of an answer and what its task makes of that.
 use Rattle.std.proofs.Common.{◌≡◌, ◌≤◌, inl, inr, ℕ, List, Option, Some, None, arith, refl, subst}
+use Rattle.tree_limits.specs.declared.limits.Limits.{Limits}
 use Rattle.bw_model.specs.declared.step.Answer.{Answer}
 use Rattle.bw_model.specs.declared.step.Step.{Step}
 use Rattle.deltas.specs.declared.record.Record.{Record}
@@ -23,9 +24,9 @@ pub told_change : (op : Op) (hand : Hand) (told : Answer Record) → IsToldWith 
 told_change op hand told is = record { told_at = told_at op hand.spares told is.told_on; kept = is.kept }
 
 -- the steps of errands come on top
-spent_with : (r : Recalled) (last : Option (Step Record)) (told : Answer Record) (left rest : ℕ) (errands now : List (List ℕ)) (more : ℕ) → IsSpentLast r last told left rest → with_errands now more ≤ with_errands errands rest → IsSpentLast r last told (with_errands errands left) (with_errands now more)
-spent_with r None told left rest errands now more spent few = omega (arith, spent, few)
-spent_with r (Some asked) told left rest errands now more spent few = elim spent [
+spent_with : (limits : Limits) (r : Recalled) (last : Option (Step Record)) (told : Answer Record) (left rest : ℕ) (errands now : List (List ℕ)) (more : ℕ) → IsSpentLast limits r last told left rest → with_errands limits now more ≤ with_errands limits errands rest → IsSpentLast limits r last told (with_errands limits errands left) (with_errands limits now more)
+spent_with limits r None told left rest errands now more spent few = omega (arith, spent, few)
+spent_with limits r (Some asked) told left rest errands now more spent few = elim spent [
   | inl less ↦ inl (omega (arith, less, few))
   | inr paid ↦ let enough = paid.1 in inr (paid.0, omega (arith, enough, few))
 ]
@@ -58,7 +59,7 @@ module _ (old : Op) (had has : Spares) (told : Answer Record) (is : IsToldOn old
   pub goes_on : outcome ≡ None → AsksOn old had told went has
   goes_on on = record {
     works = λ k r works fits. (here k r works fits).0;
-    spends = λ k r works fits. spent_with r last told _ _ errands errands _ (subst (λ o. LeavesFor r last told (left_at r had old.state) state has o) on (makes.leaves old.task k r works fits)) (omega arith);
+    spends = λ k r works fits. spent_with old.task.limits r last told _ _ errands errands _ (subst (λ o. LeavesFor old.task.limits r last told (left_at old.task.limits r had old.state) state has o) on (makes.leaves old.task k r works fits)) (omega arith);
     asks = (here is.k is.r is.works is.fits).1;
     same = record { limits = refl; actor = refl; command = refl };
     sweep = refl;
@@ -78,7 +79,7 @@ module _ (old : Op) (had has : Spares) (told : Answer Record) (is : IsToldOn old
     pub follows : (new : Op) → FollowsOutcome went has to new → AsksOn old had told new has
     follows new after = record {
       works = λ k r works fits. after.stands _ _ (faces k r works fits);
-      spends = λ k r works fits. spent_with r last told _ _ errands new.task.errands _ (subst (λ o. LeavesFor r last told (left_at r had old.state) state has o) come (makes.leaves old.task k r works fits)) (after.few _ _ (faces k r works fits));
+      spends = λ k r works fits. spent_with old.task.limits r last told _ _ errands new.task.errands _ (subst (λ o. LeavesFor old.task.limits r last told (left_at old.task.limits r had old.state) state has o) come (makes.leaves old.task k r works fits)) (after.few _ _ (faces k r works fits));
       asks = after.asks;
       same = after.same;
       sweep = after.sweep;

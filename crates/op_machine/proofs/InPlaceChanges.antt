@@ -36,17 +36,17 @@ module _ (old new : change.Change) (then : Then) (had has : Spares) (told : Answ
     comes = λ task k r h fits.
         let goes = follows task.actor k h.shows (rw h.limits fits) in
         let apart = taken_apart task had has k r old new then told h fits pid in
-        let spent = spends one_round r h.recalls apart in
+        let spent = spends (one_round task.limits) r h.recalls apart in
         (change_on task had has k r old new then told h fits pid same sound made goes spent.0, refl);
     leaves = λ task k r h fits.
         let apart = taken_apart task had has k r old new then told h fits pid in
-        change_left task had has k r old new then told h fits pid (spends one_round r h.recalls apart);
+        change_left task had has k r old new then told h fits pid (spends (one_round task.limits) r h.recalls apart);
   }
   changes_into (Some end) follows sound made room same pid spends = record {
     comes = λ task k r h fits. change_ended task had has k r old new then told h fits pid end room (follows task.actor k h.shows (rw h.limits fits));
     leaves = λ task k r h fits.
         let apart = taken_apart task had has k r old new then told h fits pid in
-        ended_left task had has k r old new then told h fits pid end (spends one_round r h.recalls apart);
+        ended_left task had has k r old new then told h fits pid end (spends (one_round task.limits) r h.recalls apart);
   }
 
   -- what is known to be in limbo then

@@ -142,7 +142,7 @@ module _ (old new : OpPlaces) (spares : Spares) (told : Answer Record) where
       let there : new.stand ≡ Read = ap (λ (p : OpPlaces). p.stand) reads.only ∙ is in
       rw (is, there) (record {
         comes = λ task k r h fits. read_comes task spares k r old.reader.round new.reader.round told h fits reads.same result (reading.follows_from old.reader.round new.reader.round told result reads.responds k r h.shows (rw h.limits fits));
-        leaves = λ task k r h fits. read_leaves task spares k r old.reader.round new.reader.round told h fits result (reading.spends_from old.reader.round new.reader.round told result reads.responds left_round one_round k r h.shows (rw h.limits fits));
+        leaves = λ task k r h fits. read_leaves task spares k r old.reader.round new.reader.round told h fits result (reading.spends_from old.reader.round new.reader.round told result reads.responds (left_round task.limits) (one_round task.limits) k r h.shows (rw h.limits fits));
       })
 
   pub writes_into : (result : Option WriteEnd) → old.stand ≡ Write → WritesOn old told new result → TurnsInto (state_of old) spares told (state_of new) spares (written_out result)
@@ -150,7 +150,7 @@ module _ (old new : OpPlaces) (spares : Spares) (told : Answer Record) where
       let there : new.stand ≡ Write = ap (λ (p : OpPlaces). p.stand) writes.only ∙ is in
       rw (is, there) (record {
         comes = λ task k r h fits. write_comes task spares k r old.writer.round new.writer.round told h fits writes.same result writes.responds (writing.follows_from old.writer.round new.writer.round told result writes.responds k r h.shows (rw h.round_of.limits fits));
-        leaves = λ task k r h fits. write_leaves task spares k r old.writer.round new.writer.round told h fits result (writing.spends_from old.writer.round new.writer.round told result writes.responds left_round one_round k r h.shows (rw h.round_of.limits fits));
+        leaves = λ task k r h fits. write_leaves task spares k r old.writer.round new.writer.round told h fits result (writing.spends_from old.writer.round new.writer.round told result writes.responds (left_round task.limits) (one_round task.limits) k r h.shows (rw h.round_of.limits fits));
       })
 
   -- with the limits that they had
@@ -161,7 +161,7 @@ module _ (old new : OpPlaces) (spares : Spares) (told : Answer Record) where
   writes_have limits result have writes = record { reader = ap (λ (p : OpPlaces). p.reader.round.limits) writes.only ∙ have.reader; writer = writes.same.limits ∙ have.writer }
 
 -- what an operation makes of what it has come to, where only its places change
-pub comes_to : (task : Task) (sweep : Option Sweep) (old new : State) (spares : Spares) (outcome : Outcome) → ((k : Knowledge) (r : Recalled) → Faces task spares k r outcome → ShowsState task spares k r new) → ((r : Recalled) → left_at r spares new ≤ left_for outcome) → IsSome (wanted_at spares new)
+pub comes_to : (task : Task) (sweep : Option Sweep) (old new : State) (spares : Spares) (outcome : Outcome) → ((k : Knowledge) (r : Recalled) → Faces task spares k r outcome → ShowsState task spares k r new) → ((r : Recalled) → left_at task.limits r spares new ≤ left_for task.limits outcome) → IsSome (wanted_at spares new)
     → FollowsOutcome (record { task = task; sweep = sweep; state = old }) spares outcome (record { task = task; sweep = sweep; state = new })
 comes_to task sweep old new spares outcome stands few asks = record {
   stands = stands;

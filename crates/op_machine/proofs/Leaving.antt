@@ -44,10 +44,10 @@ in_round descent.Root e = cc
 in_round (descent.Page visit) e = in_visit visit.pid visit.state e
 
 in_taking : (taken : Taking) → wanted_number taken ≢ step.Leave
-in_taking (taking.Bits kind.Pid word) e = cc
-in_taking (taking.Bits kind.Row word) e = cc
-in_taking (taking.Take kind.Pid number) e = cc
-in_taking (taking.Take kind.Row number) e = cc
+in_taking (taking.Bits kind.Pid word whole) e = cc
+in_taking (taking.Bits kind.Row word whole) e = cc
+in_taking (taking.Take kind.Pid number whole) e = cc
+in_taking (taking.Take kind.Row number whole) e = cc
 
 in_change : (plan : Plan) (spares : Spares) (state : ChangeState) → change.wanted_at plan spares state ≢ step.Leave
 in_change plan spares (change_state.Taking taken) e = in_taking taken e

@@ -1,3 +1,4 @@
+pub mod Worth
 pub mod FaithLaws
 pub mod Listed
 pub mod LogLaws

@@ -1,5 +1,6 @@
 -- What an operation and its hand are after a step, from what its work or its sweep is.
 use Rattle.std.proofs.Common.{◌≡◌, ◌<◌, ◌+◌, inl, ℕ, Option, Some, None, true, refl, sym, ap, subst, ◌∙◌, arith}
+use Rattle.tree_limits.specs.declared.limits.Limits.{Limits}
 use Rattle.bw_model.specs.declared.step.Answer.{Answer}
 use Rattle.bw_model.specs.declared.step.Answer.TheVariants.{Start}
 use Rattle.bw_model.specs.declared.step.Step.{Step as StepOf}
@@ -21,14 +22,14 @@ use Rattle.sweep.specs.Kept.{AreKept}
 use Rattle.sweep.specs.Sweeps.{Sweep}
 
 -- nothing of the sweep is left then
-pub nothing_left : (state : State) → has_begun state ≡ true → sweep_left None state ≡ 0
-nothing_left Begun e = cc
-nothing_left Epoch e = refl
-nothing_left (Enter epoch) e = refl
-nothing_left (Read round) e = refl
-nothing_left (Write round) e = refl
-nothing_left (Change now then) e = refl
-nothing_left (Leave reply) e = refl
+pub nothing_left : (limits : Limits) (state : State) → has_begun state ≡ true → sweep_left limits None state ≡ 0
+nothing_left limits Begun e = cc
+nothing_left limits Epoch e = refl
+nothing_left limits (Enter epoch) e = refl
+nothing_left limits (Read round) e = refl
+nothing_left limits (Write round) e = refl
+nothing_left limits (Change now then) e = refl
+nothing_left limits (Leave reply) e = refl
 
 -- An operation that has begun has no sweep, asks for what its work asks for, and goes ahead as its work does.
 module _ (old : Op) (had : Hand) (told : Answer Record) (begun : has_begun old.state ≡ true) where
@@ -36,8 +37,8 @@ module _ (old : Op) (had : Hand) (told : Answer Record) (begun : has_begun old.s
   swept_first k None holds = refl
   swept_first k (Some sweep) holds = let e = sym (ap has_begun holds.first) ∙ begun in cc
 
-  pub left_is : (op : Op) (hand : Hand) (r : Recalled) → op.sweep ≡ None → has_begun op.state ≡ true → steps_left r op hand ≡ with_errands op.task.errands (left_at r hand.spares op.state)
-  left_is op hand r none on = let zero : sweep_left op.sweep op.state ≡ 0 = rw none (nothing_left op.state on) in omega (arith, zero)
+  pub left_is : (op : Op) (hand : Hand) (r : Recalled) → op.sweep ≡ None → has_begun op.state ≡ true → steps_left r op hand ≡ with_errands op.task.limits op.task.errands (left_at op.task.limits r hand.spares op.state)
+  left_is op hand r none on = let zero : sweep_left op.task.limits op.sweep op.state ≡ 0 = rw none (nothing_left op.task.limits op.state on) in omega (arith, zero)
 
   module _ (k : Knowledge) (r : Recalled) (shows : Shows old had k r) where
     pub unswept : old.sweep ≡ None
@@ -72,11 +73,11 @@ module _ (old mid : Op) (spares : Spares) (limbo now : Limbo) (told : Answer Rec
   pub fits_swept : (k : Knowledge) → FitsLast old.task.limits k (wanted_of old had) told → FitsLast old.task.limits k (swept_by old) told
   fits_swept k fits = subst (λ w. FitsLast old.task.limits k w told) sweep_asks fits
 
-  pub fewer : (r : Recalled) (last : Option (StepOf Record)) (left rest : ℕ) → rest < left → IsSpentLast r last told left rest
+  pub fewer : (r : Recalled) (last : Option (StepOf Record)) (left rest : ℕ) → rest < left → IsSpentLast old.task.limits r last told left rest
   fewer r None left rest less = less
   fewer r (Some asked) left rest less = inl less
 
-  pub left_first : (r : Recalled) → steps_left r old had ≡ with_errands old.task.errands (sweep_left old.sweep Begun + (one_round + 3))
+  pub left_first : (r : Recalled) → steps_left r old had ≡ with_errands old.task.limits old.task.errands (sweep_left old.task.limits old.sweep Begun + (one_round old.task.limits + 3))
   left_first r = rw first refl
 
   -- the sweep is over, so that the work begins

@@ -1,8 +1,9 @@
 -- What the ends of a writer's rounds give the changes that follow.
-use Rattle.std.proofs.Common.{◌≡◌, ◌<◌, ◌≤◌, ◌+◌, inl, inr, ℕ, List, [], ◌∷◌, ◌-◌, length, take, Option, Some, None, false, refl, sym, ap, subst, ◌∙◌, arith}
-use Rattle.std.proofs.lemmas.List.{length-take}
+use Rattle.std.proofs.Common.{◌≡◌, ◌<◌, ◌≤◌, ◌+◌, ◌*◌, suc, inl, inr, ℕ, List, [], ◌∷◌, ◌++◌, ◌-◌, length, take, Bool, true, Option, Some, None, false, refl, sym, ap, subst, ◌∙◌, arith}
+use Rattle.std.proofs.Math.Nat.{mul-le-mul_left, mul-suc}
+use Rattle.std.proofs.lemmas.List.{length-append, length-take}
 use Rattle.std.specs.Option.{ForSome}
-use Rattle.std.specs.Prelude.{slice_get}
+use Rattle.std.specs.Prelude.{nat_lt, slice_get, if◌then◌else◌}
 use Rattle.tree_limits.specs.declared.limits.Limits.{Limits}
 use Rattle.base_page.specs.Pages.{Page}
 use Rattle.deltas.specs.Memory.{Memory}
@@ -19,8 +20,10 @@ use Rattle.descent.specs.WriteEnds as end
 use Rattle.installs.specs.Changes as change
 use Rattle.installs.specs.Spares.{Spares}
 use Rattle.rounds.specs.WriteRounds.{PlacedWrite}
+use Rattle.smo.specs.Sizes.{many_of}
 use Rattle.smo.specs.Versions.{Version}
 use Rattle.op_machine.specs.machine.Bounded.{few_changes, one_round, with_errands}
+use Rattle.op_machine.specs.machine.Errands.{with_errand}
 use Rattle.op_machine.specs.machine.Outcomes.{FacesWritten, IsAtLeafBelow}
 use Rattle.op_machine.specs.machine.Places.{left_round_of}
 use Rattle.op_machine.specs.machine.Shows.{IsRoundOf}
@@ -34,6 +37,14 @@ place_of limits k r page content alive next = record { page = page.is_pid.0; pid
 pub over_page : (limits : Limits) (k : Knowledge) (r : Recalled) (page : Version) (content : Record) → IsAlive limits k r page → next_row content ≡ Some page.head → change.IsTargetOver limits page.pid page.head content
 over_page limits k r page content alive e = place_of limits k r page content alive (λ next is. let same : next ≡ page.head = cc in rw same alive.in_hand.row)
 
+-- a page is consolidated at one delta or more
+some_many : (limits : Limits) → 0 < many_of limits
+some_many limits = by_test limits.is_large
+  where
+    by_test : (large : Bool) → 0 < (if large then 2 else 8)
+    by_test true = omega arith
+    by_test false = omega arith
+
 -- a base that fits by itself can be spelled
 pub spells_base : (page : Page) → IsFitted (kind.Base page ∷ []) → IsSpellablePage page
 spells_base page h = let is = h.1 in let same : page ≡ h.0 = cc in rw same h.2
@@ -42,7 +53,7 @@ module _ (task : Task) (spares : Spares) (k : Knowledge) (r : Recalled) where
   -- a page that is consolidated has deltas
   pub long_chain : (page : Version) → FacesWritten task spares k r (end.Consolidate page) → 1 < length page.chain
   long_chain page h = let some = h.round_of.some in elim h.ends.long [
-    | inl many ↦ omega (arith, many)
+    | inl many ↦ let more = some_many h.round.limits in omega (arith, many, more)
     | inr leaf ↦ let longer = leaf.1 in omega (arith, longer, some)
   ]
 
@@ -84,12 +95,30 @@ none_left [] e = refl
 none_left (key ∷ errands) e = absurd (last_some key errands (subst (λ n. slice_get (key ∷ errands) n ≡ None) (let n = length errands in omega arith) e))
 
 -- a round for one errand fewer takes no more steps than a change
-pub errand_less : (errands : List (List ℕ)) (key : List ℕ) (left : ℕ) → Some key ≡ slice_get errands (length errands - 1) → left ≤ one_round → with_errands (take (length errands - 1) errands) left ≤ with_errands errands (few_changes + 1)
-errand_less [] key left e few = cc
-errand_less (first ∷ errands) key left e few = let less = length-take (length (first ∷ errands) - 1) (first ∷ errands) in omega (arith, less)
+pub errand_less : (limits : Limits) (errands : List (List ℕ)) (key : List ℕ) (left : ℕ) → Some key ≡ slice_get errands (length errands - 1) → left ≤ one_round limits → with_errands limits (take (length errands - 1) errands) left ≤ with_errands limits errands (few_changes limits + 1)
+errand_less limits [] key left e few = cc
+errand_less limits (first ∷ errands) key left e few =
+    let less : length (take (length (first ∷ errands) - 1) (first ∷ errands)) ≡ length errands = omega (arith, length-take (length (first ∷ errands) - 1) (first ∷ errands)) in
+    let same : one_round limits * length (take (length (first ∷ errands) - 1) (first ∷ errands)) ≡ one_round limits * length errands = ap (λ n. one_round limits * n) less in
+    let more : one_round limits * suc (length errands) ≡ one_round limits * length errands + one_round limits = mul-suc (one_round limits) (length errands) in
+    omega (arith, few, same, more)
 
-pub errands_same : (errands : List (List ℕ)) (left most : ℕ) → left ≤ most → with_errands errands left ≤ with_errands errands most
-errands_same errands left most few = omega arith
+pub errands_same : (limits : Limits) (errands : List (List ℕ)) (left most : ℕ) → left ≤ most → with_errands limits errands left ≤ with_errands limits errands most
+errands_same limits errands left most few = omega (arith, few)
+
+longer_by_one : (key : List ℕ) (errands : List (List ℕ)) → length (with_errand key errands) ≤ suc (length errands)
+longer_by_one key errands = by_test (nat_lt (length errands) 16)
+  where
+    by_test : (room : Bool) → length (if room then errands ++ key ∷ [] else errands) ≤ suc (length errands)
+    by_test true = let longer = length-append errands (key ∷ []) in omega (arith, longer)
+    by_test false = omega arith
+
+-- a round with one errand more takes no more steps than two rounds
+pub errand_more : (limits : Limits) (errands : List (List ℕ)) (key : List ℕ) (left : ℕ) → left ≤ one_round limits → with_errands limits (with_errand key errands) left ≤ with_errands limits errands (one_round limits + one_round limits)
+errand_more limits errands key left few =
+    let product : one_round limits * length (with_errand key errands) ≤ one_round limits * suc (length errands) = mul-le-mul_left (one_round limits) (longer_by_one key errands) in
+    let more : one_round limits * suc (length errands) ≡ one_round limits * length errands + one_round limits = mul-suc (one_round limits) (length errands) in
+    omega (arith, few, product, more)
 
 pub one_more : (left most : ℕ) → left ≤ most → left + 1 ≤ most + 1
 one_more left most few = omega arith

@@ -1,5 +1,6 @@
 -- What a round's next step leaves an operation in.
 use Rattle.std.proofs.Common.{◌≡◌, inl, inr, refl, sym, ap, subst, Option, Some, None, ◌∙◌, arith}
+use Rattle.tree_limits.specs.declared.limits.Limits.{Limits}
 use Rattle.bw_model.specs.declared.step.Answer.{Answer}
 use Rattle.deltas.specs.declared.record.Record.{Record}
 use Rattle.traces.specs.discipline.Fitting.{Fits}
@@ -25,6 +26,7 @@ use Rattle.op_machine.specs.machine.Outcomes.{Comes, FacesRead, FacesWritten, Ha
 use Rattle.op_machine.specs.machine.Shows.{IsInReadRound, IsInWriteRound}
 use Rattle.op_machine.specs.machine.Tasks.{Task}
 use Rattle.op_machine.specs.machine.States as at
+use Rattle.op_machine.proofs.Worth.{enough}
 use Rattle.op_machine.proofs.Reading.{reader_reads, seeks_still, writer_reads}
 
 module _ (task : Task) (spares : Spares) (k : Knowledge) (r : Recalled) (round new : read.ReadRound) (told : Answer Record) (h : IsInReadRound task spares k r round) (fits : Fits task.limits k (read.wanted round) told) where
@@ -47,19 +49,22 @@ module _ (task : Task) (spares : Spares) (k : Knowledge) (r : Recalled) (round n
     ends = ends;
   }
 
+  same_pids : round.limits.pids ≡ task.limits.pids
+  same_pids = ap (λ (l : Limits). l.pids) h.limits
+
   -- where a page wasn't there
-  missed : (goal : ReadGoal) → round.goal ≡ goal → read.MissesRead left_round one_round r round told goal → IsStepSpent r (read.wanted round) told (left_at r spares (at.Read round)) one_round
-  missed read_to.Seek is either = elim either [ inl paid ↦ inr (paid, omega arith) | inr left ↦ inl (omega (arith, left)) ]
-  missed (read_to.Left removed) is either = elim either [ inl paid ↦ inr (paid, omega arith) | inr left ↦ inl (omega (arith, left)) ]
+  missed : (goal : ReadGoal) → round.goal ≡ goal → read.MissesRead (left_round task.limits) (one_round task.limits) r round told goal → IsStepSpent task.limits r (read.wanted round) told (left_at task.limits r spares (at.Read round)) (one_round task.limits)
+  missed read_to.Seek is either = elim either [ inl paid ↦ inr (paid, (let w = enough task.limits in omega (arith, w))) | inr left ↦ inl (omega (arith, left)) ]
+  missed (read_to.Left removed) is either = elim either [ inl paid ↦ inr (paid, (let w = enough task.limits in omega (arith, w))) | inr left ↦ inl (omega (arith, left)) ]
   missed read_to.Beyond is kept = inl (omega (arith, kept))
 
-  pub read_went : read.Spends left_round one_round r round told new None → IsStepSpent r (read.wanted round) told (left_at r spares (at.Read round)) (left_at (recall r (read.wanted round) told) spares (at.Read new))
+  pub read_went : read.Spends (left_round task.limits) (one_round task.limits) r round told new None → IsStepSpent task.limits r (read.wanted round) told (left_at task.limits r spares (at.Read round)) (left_at task.limits (recall r (read.wanted round) told) spares (at.Read new))
   read_went spends = elim spends [
     | inl less ↦ inl (omega (arith, less))
-    | inr paid ↦ let more = paid.1 in inr (paid.0, omega (arith, more))
+    | inr paid ↦ let more = paid.1 in let w = enough task.limits in let same = same_pids in inr (paid.0, omega (arith, more, w, same))
   ]
 
-  pub read_left : (end : ReadEnd) → read.Spends left_round one_round r round told new (Some end) → IsStepSpent r (read.wanted round) told (left_at r spares (at.Read round)) (left_for (outcome.Read end))
+  pub read_left : (end : ReadEnd) → read.Spends (left_round task.limits) (one_round task.limits) r round told new (Some end) → IsStepSpent task.limits r (read.wanted round) told (left_at task.limits r spares (at.Read round)) (left_for task.limits (outcome.Read end))
   read_left read_end.Again misses = missed round.goal refl misses
   read_left (read_end.Removed page) reserved = inl (omega (arith, reserved))
   read_left (read_end.Leaf leaf) some = inl (omega (arith, some))
@@ -70,7 +75,7 @@ module _ (task : Task) (spares : Spares) (k : Knowledge) (r : Recalled) (round n
   read_comes same None follows = (read_on same follows, refl)
   read_comes same (Some end) ends = read_ended end ends
 
-  pub read_leaves : (result : Option ReadEnd) → read.Spends left_round one_round r round told new result → LeavesFor r (Some (read.wanted round)) told (left_at r spares (at.Read round)) (at.Read new) spares (read_out result)
+  pub read_leaves : (result : Option ReadEnd) → read.Spends (left_round task.limits) (one_round task.limits) r round told new result → LeavesFor task.limits r (Some (read.wanted round)) told (left_at task.limits r spares (at.Read round)) (at.Read new) spares (read_out result)
   read_leaves None spends = read_went spends
   read_leaves (Some end) spends = read_left end spends
 
@@ -143,20 +148,23 @@ module _ (task : Task) (spares : Spares) (k : Knowledge) (r : Recalled) (round n
     ends = ends;
   }
 
+  written_pids : round.limits.pids ≡ task.limits.pids
+  written_pids = ap (λ (l : Limits). l.pids) h.round_of.limits
+
   -- where a page wasn't there
-  write_missed : (goal : write_to.WriteGoal) → write.MissesWrite left_round one_round r round told goal → IsStepSpent r (write.wanted round) told (left_at r spares (at.Write round)) one_round
-  write_missed Seek paid = inr (paid, omega arith)
-  write_missed (write_to.Left pid) misses = elim misses [ inl paid ↦ inr (paid, omega arith) | inr was ↦ let kept = was.1 in inl (omega (arith, kept)) ]
-  write_missed (write_to.Merge left) paid = inr (paid, omega arith)
+  write_missed : (goal : write_to.WriteGoal) → write.MissesWrite (left_round task.limits) (one_round task.limits) r round told goal → IsStepSpent task.limits r (write.wanted round) told (left_at task.limits r spares (at.Write round)) (one_round task.limits)
+  write_missed Seek paid = inr (paid, (let w = enough task.limits in omega (arith, w)))
+  write_missed (write_to.Left pid) misses = elim misses [ inl paid ↦ inr (paid, (let w = enough task.limits in omega (arith, w))) | inr was ↦ let kept = was.1 in inl (omega (arith, kept)) ]
+  write_missed (write_to.Merge left) paid = inr (paid, (let w = enough task.limits in omega (arith, w)))
   write_missed (write_to.Unterm parent left) kept = inl (omega (arith, kept))
 
-  pub write_went : write.Spends left_round one_round r round told new None → IsStepSpent r (write.wanted round) told (left_at r spares (at.Write round)) (left_at (recall r (write.wanted round) told) spares (at.Write new))
+  pub write_went : write.Spends (left_round task.limits) (one_round task.limits) r round told new None → IsStepSpent task.limits r (write.wanted round) told (left_at task.limits r spares (at.Write round)) (left_at task.limits (recall r (write.wanted round) told) spares (at.Write new))
   write_went spends = elim spends [
     | inl less ↦ inl (omega (arith, less))
-    | inr paid ↦ let more = paid.1 in inr (paid.0, omega (arith, more))
+    | inr paid ↦ let more = paid.1 in let w = enough task.limits in let same = written_pids in inr (paid.0, omega (arith, more, w, same))
   ]
 
-  pub write_left : (end : WriteEnd) → write.Spends left_round one_round r round told new (Some end) → IsStepSpent r (write.wanted round) told (left_at r spares (at.Write round)) (left_for (outcome.Written end))
+  pub write_left : (end : WriteEnd) → write.Spends (left_round task.limits) (one_round task.limits) r round told new (Some end) → IsStepSpent task.limits r (write.wanted round) told (left_at task.limits r spares (at.Write round)) (left_for task.limits (outcome.Written end))
   write_left write_end.Again misses = write_missed round.goal misses
   write_left write_end.Done kept = inl (omega (arith, kept))
   write_left (write_end.Removed page) reserved = inl (omega (arith, reserved))
@@ -174,6 +182,6 @@ module _ (task : Task) (spares : Spares) (k : Knowledge) (r : Recalled) (round n
   write_comes same None responds follows = (write_on responds same follows, refl)
   write_comes same (Some end) responds ends = write_ended end responds ends
 
-  pub write_leaves : (result : Option WriteEnd) → write.Spends left_round one_round r round told new result → LeavesFor r (Some (write.wanted round)) told (left_at r spares (at.Write round)) (at.Write new) spares (written_out result)
+  pub write_leaves : (result : Option WriteEnd) → write.Spends (left_round task.limits) (one_round task.limits) r round told new result → LeavesFor task.limits r (Some (write.wanted round)) told (left_at task.limits r spares (at.Write round)) (at.Write new) spares (written_out result)
   write_leaves None spends = write_went spends
   write_leaves (Some end) spends = write_left end spends

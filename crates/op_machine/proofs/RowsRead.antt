@@ -28,10 +28,10 @@ use Rattle.sweep.specs.declared.sweep.State.TheVariants as sweep_state
 module _ (limits : Limits) (k : Knowledge) (row : Record) where
   -- no change asks for one,
   in_taking : (taken : Taking) → Fits limits k (wanted_number taken) (Content row) → ⊥
-  in_taking (taking.Bits kind.Pid word) fits = fits
-  in_taking (taking.Bits kind.Row word) fits = fits
-  in_taking (taking.Take kind.Pid number) fits = fits
-  in_taking (taking.Take kind.Row number) fits = fits
+  in_taking (taking.Bits kind.Pid word whole) fits = fits
+  in_taking (taking.Bits kind.Row word whole) fits = fits
+  in_taking (taking.Take kind.Pid number whole) fits = fits
+  in_taking (taking.Take kind.Row number whole) fits = fits
 
   in_change : (plan : Plan) (spares : Spares) (state : ChangeState) → Fits limits k (change.wanted_at plan spares state) (Content row) → ⊥
   in_change plan spares (change_state.Taking taken) fits = in_taking taken fits

@@ -31,10 +31,10 @@ pub freely : (limits : Limits) (actor : ℕ) (k : Knowledge) (plan : Plan) (spar
 freely limits actor k plan spares (Taking taking) = of_taking taking
   where
     of_taking : (t : taken.Taking) → MayFree limits actor k (wanted_number t)
-    of_taking (Bits Pid word) = tt
-    of_taking (Bits Row word) = tt
-    of_taking (Take Pid number) = tt
-    of_taking (Take Row number) = tt
+    of_taking (Bits Pid word whole) = tt
+    of_taking (Bits Row word whole) = tt
+    of_taking (Take Pid number whole) = tt
+    of_taking (Take Row number whole) = tt
 freely limits actor k plan spares Base = tt
 freely limits actor k plan spares Ready = tt
 freely limits actor k plan spares Place = tt
@@ -67,10 +67,10 @@ pub usefully : (k : Knowledge) (plan : Plan) (spares : Spares) (state : State) �
 usefully k plan spares (Taking taking) useful shows = of_taking taking
   where
     of_taking : (t : taken.Taking) → IsUseful k (wanted_number t)
-    of_taking (Bits Pid word) = tt
-    of_taking (Bits Row word) = tt
-    of_taking (Take Pid number) = tt
-    of_taking (Take Row number) = tt
+    of_taking (Bits Pid word whole) = tt
+    of_taking (Bits Row word whole) = tt
+    of_taking (Take Pid number whole) = tt
+    of_taking (Take Row number whole) = tt
 usefully k plan spares Base useful shows = tt
 usefully k plan spares Ready useful shows = readies k (pid_of spares) (change.base_row plan spares)
 usefully k plan spares Place useful shows = tt

@@ -60,8 +60,8 @@ module _ (old : Op) (had : Hand) (told : Answer Record) (begun : has_begun old.s
       let fits = fits_on old had told begun k r h f in
       let none = unswept old had told begun k r h in
       let then = begun_if has.spares new.state after.asks in
-      subst (λ w. IsSpentLast r w told (steps_left r old had) (steps_left (recall_last r w told) new has)) (sym (asks old had told begun k r h))
-      (rw (left_is old had told begun old had r none begun, left_is old had told begun new has (recall_last r (asked_of old had.spares) told) (after.sweep ∙ none) then) (after.spends k r h.stands fits))
+      subst (λ w. IsSpentLast old.task.limits r w told (steps_left r old had) (steps_left (recall_last r w told) new has)) (sym (asks old had told begun k r h))
+      (rw (left_is old had told begun old had r none begun, left_is old had told begun new has (recall_last r (asked_of old had.spares) told) (after.sweep ∙ none) then, after.same.limits) (after.spends k r h.stands fits))
 
   pub takes_begun : IsToldOp old had told → Takes old had told new has
   takes_begun is = record {
@@ -93,7 +93,7 @@ module _ (old mid : Op) (spares : Spares) (limbo now : Limbo) (told : Answer Rec
         by : (o : Option Sweep) → mid.sweep ≡ o → SpendsSteps r old had told mid between (Step asked)
         by None over = let none = rw over at on in cc
         by (Some next) is =
-            let less : sweep.steps_left next.state < sweep_left old.sweep old.state = rw is at few in
+            let less : sweep.steps_left old.task.limits next.state < sweep_left old.task.limits old.sweep old.state = rw is at few in
             fewer old mid spares limbo now told first same r (wanted_of old had) (steps_left r old had) (steps_left (recall_last r (wanted_of old had) told) mid between)
             (rw (is, same.task, same.state, first) (let n = rw first at less in omega (arith, n)))
 
@@ -135,7 +135,7 @@ module _ (old mid : Op) (spares : Spares) (limbo now : Limbo) (told : Answer Rec
           let spent = after.spends _ _ rest.1.stands start in
           let less = rw nothing at spent in
           fewer old mid spares limbo now told first same r (wanted_of old had) (steps_left r old had) (steps_left (recall_last r (wanted_of old had) told) new has)
-          (rw (sweep_asks old mid spares limbo now told first same, left_first old mid spares limbo now told first same r, after.sweep, rest.0, nothing_left new.state (begun_if has.spares new.state after.asks)) (let n = rw (same.state ∙ first, same.task) at less in omega (arith, n)))
+          (rw (sweep_asks old mid spares limbo now told first same, left_first old mid spares limbo now told first same r, after.sweep, rest.0, nothing_left new.task.limits new.state (begun_if has.spares new.state after.asks), after.same.limits, same.task) (let n = rw (same.state ∙ first, same.task) at less in omega (arith, n)))
 
       pub takes_after : Takes old had told new has
       takes_after = record {

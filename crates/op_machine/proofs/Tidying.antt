@@ -58,7 +58,7 @@ pub may_call : (task : Task) (spares : Spares) (k : Knowledge) (r : Recalled) (p
 may_call task spares k r parent leaf old below idle last none =
     let at = below.at in
     let tidy = tidies task.command old at.writer none in
-    let due : due_of task.errands task.command ≡ 1 = rw (last, tidy.1) refl in
+    let due : due_of task.limits task.errands task.command ≡ 1 = rw (last, tidy.1) refl in
     let early = at.early in
     let base = alone leaf.chain at.page.in_hand.sound.is_chain.fitted (omega (arith, early, due)) in
     let level : level_in (Base base.0 ∷ []) ≡ 0 = subst (λ (chain : List Record). level_in chain ≡ 0) base.1 at.level in

@@ -7,7 +7,7 @@ ghost use Rattle.bw_model.specs.Lent.{lent};
 ghost use Rattle.tree_limits.specs.declared.limits.Limits.{Limits as LimitsSeen};
 ghost use Rattle.bw_model.specs.declared.step.Answer.TheVariants.{Content, Done};
 ghost use Rattle.traces.specs.discipline.Knowledge.{Knowledge, begun, nothing};
-ghost use Rattle.traces.specs.discipline.Recalled.{Recalled, blank};
+ghost use Rattle.traces.specs.discipline.Recalled.{Recalled, blank, cause_worth};
 
 use crate::{Hand, Operation};
 use bw_model::{Command, Key, Limits, OpenError, Reply, Step, Told};
@@ -130,7 +130,7 @@ impl<A: Allocator> Actor<A> {
         requires there { number < limits.now.actors }
         ensures shows { (k : Knowledge) (r : Recalled) → IsActor limits.now number k r self.old → IsActor limits.now number (begun k command) blank self.new }
         ensures command { running_command self.new ≡ Some command }
-        ensures bounded { steps_due blank self.new.hand self.new.running < 2 ^ 18 }
+        ensures bounded { steps_due blank self.new.hand self.new.running < cause_worth limits.now }
     {
         self.operation.begin(command, number, limits);
         self.operation.go_on(&mut self.hand, Told::Start);

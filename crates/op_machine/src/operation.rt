@@ -6,7 +6,7 @@ ghost use Rattle.bw_model.specs.declared.step.Answer.{Answer as AnswerOf};
 ghost use Rattle.bw_model.specs.declared.step.Answer.TheVariants.{Content};
 ghost use Rattle.traces.specs.discipline.Discipline.{May, MayFree};
 ghost use Rattle.traces.specs.discipline.Knowledge.{Knowledge, begun, learn};
-ghost use Rattle.traces.specs.discipline.Recalled.{Recalled, blank};
+ghost use Rattle.traces.specs.discipline.Recalled.{Recalled, blank, cause_worth};
 ghost use Rattle.traces.specs.discipline.Useful.{IsUseful};
 ghost use Rattle.traces.specs.trace.Within.{IsWithin};
 ghost use Rattle.deltas.specs.declared.record.Record.{Record as RecordOf};
@@ -92,7 +92,7 @@ impl<A: Allocator> Operation<A> {
         ensures task { self.new.task ≡ record { limits = limits.now; actor = actor; command = command; errands = [] } }
         ensures sweep { self.new.sweep ≡ None }
         ensures state { self.new.state ≡ State.Begun }
-        ensures few { (r : Recalled) (hand : HandSeen) → steps_left r self.new hand < 2 ^ 18 }
+        ensures few { (r : Recalled) (hand : HandSeen) → steps_left r self.new hand < cause_worth limits.now }
     {
         self.task.begin(command, actor, limits);
         self.sweep = None;
@@ -357,7 +357,7 @@ fn swept<A: Allocator>(sweep: Sweep, limbo: &mut Limbo<A>, told: Told) -> Option
     requires told { IsToldSweepAlone sweep (answer_of told) }
     ensures follows { (k : Knowledge) → ShowsSweep sweep limbo.old k → Fits sweep.limits k (sweep_wants sweep) (answer_of told) → FollowsSweep k (learn k (sweep_wants sweep) (answer_of told)) sweep result limbo.new }
     ensures sound { IfSome result (λ next. IsSoundSweep next limbo.new) }
-    ensures few { IfSome result (λ next. steps_of next.state < steps_of sweep.state) }
+    ensures few { IfSome result (λ next. steps_of sweep.limits next.state < steps_of sweep.limits sweep.state) }
     ensures same { IfSome result (λ next. (next.limits ≡ sweep.limits) × (next.actor ≡ sweep.actor)) }
 {
     let mut sweep = sweep;

@@ -210,7 +210,7 @@ impl<A: Allocator> Places<A> {
         requires spells { IsSpellablePlan plan }
         requires room { HaveRoom task.now.limits spares.now }
         ensures stands { (k : Knowledge) (r : Recalled) → MayBegin task.now spares.now k r plan then → ShowsState task.now spares.now k r (state_of self.new) }
-        ensures few { (r : Recalled) → left_at r spares.now (state_of self.new) ≤ few_changes + 1 }
+        ensures few { (r : Recalled) → left_at task.now.limits r spares.now (state_of self.new) ≤ few_changes task.now.limits + 1 }
         ensures asks { IsSome (wanted_at spares.now (state_of self.new)) }
         ensures reader { self.new.reader ≡ self.old.reader }
         ensures writer { self.new.writer ≡ self.old.writer }

@@ -27,7 +27,7 @@ impl Task {
     pub(crate) fn begin_round<A: Allocator>(&self, places: &mut Places<A>)
         requires have { HaveLimits self.now.limits places.old }
         ensures stands { (spares : Spares) (k : Knowledge) (r : Recalled) → Seeks self.now spares k → ShowsState self.now spares k r (state_of places.new) }
-        ensures few { (spares : Spares) (r : Recalled) → left_at r spares (state_of places.new) ≤ one_round }
+        ensures few { (spares : Spares) (r : Recalled) → left_at self.now.limits r spares (state_of places.new) ≤ one_round self.now.limits }
         ensures asks { (spares : Spares) → IsSome (wanted_at spares (state_of places.new)) }
         ensures have { HaveLimits self.now.limits places.new }
     {
@@ -45,7 +45,7 @@ impl Task {
         requires have { HaveLimits self.now.limits places.old }
         requires key { places.old.reader.round.key ≡ command_key self.now.command }
         ensures stands { (spares : Spares) (k : Knowledge) (r : Recalled) → FacesRead self.now spares k r (ended_read places.old.reader ended) → ShowsState self.now spares k r (state_of places.new) }
-        ensures few { (spares : Spares) (r : Recalled) → left_at r spares (state_of places.new) ≤ left_for (Outcome.Read (ended_read places.old.reader ended)) }
+        ensures few { (spares : Spares) (r : Recalled) → left_at self.now.limits r spares (state_of places.new) ≤ left_for self.now.limits (Outcome.Read (ended_read places.old.reader ended)) }
         ensures asks { (spares : Spares) → IsSome (wanted_at spares (state_of places.new)) }
         ensures have { HaveLimits self.now.limits places.new }
     {

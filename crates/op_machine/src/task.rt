@@ -1,5 +1,5 @@
 //! What an operation was asked, and what it makes of what it has come to.
-ghost use Rattle.std.specs.Prelude.{◌≡◌, ◌<◌, ◌-◌, ℕ, List, [], Option, Some, IfSome, IsSome, MatchOption, is_some, length, option_copied, slice_get, take, true};
+ghost use Rattle.std.specs.Prelude.{◌≡◌, ◌+◌, ◌<◌, ◌-◌, ℕ, List, [], Option, Some, IfSome, IsSome, MatchOption, is_some, length, option_copied, slice_get, take, true};
 ghost use Rattle.traces.specs.chain.Chains.{high_in};
 ghost use Rattle.traces.specs.discipline.Discipline.{found};
 ghost use Rattle.traces.specs.discipline.Knowledge.{Knowledge};
@@ -8,7 +8,7 @@ ghost use Rattle.bw_model.specs.Replies.{is_writer, update_of};
 ghost use Rattle.bw_model.specs.declared.command.Reply.TheVariants as reply;
 ghost use Rattle.op_machine.specs.machine.Brings.{update_over};
 ghost use Rattle.op_machine.specs.machine.Errands.{due_of, tends_of, way_key, with_errand};
-ghost use Rattle.sweep.specs.Bounded.{steps_left as steps_of};
+ghost use Rattle.sweep.specs.Bounded.{most_steps, steps_left as steps_of};
 ghost use Rattle.sweep.specs.Kept.{IsLimboOf};
 ghost use Rattle.sweep.specs.Moves.{IsEmpty};
 ghost use Rattle.sweep.specs.Sweeps.{IsSoundSweep, IsKeptOutside, Shows as ShowsSweep};
@@ -19,7 +19,7 @@ use bw_model::{Command, Key, Limits, Reply};
 use deltas::{Delete, Put, Record};
 use epochs::Limbo;
 use row_chain::Chain;
-use smo::MANY_DELTAS;
+use smo::many_deltas;
 use std::alloc::Allocator;
 use std::marker::Model;
 use sweep::Sweep;
@@ -117,7 +117,7 @@ impl Task {
         ensures shows { (k : Knowledge) → IsKeptOutside self.now.limits self.now.actor limbo.old k → MatchOption result (IsKeptOutside self.now.limits self.now.actor limbo.new k) (λ sweep. ShowsSweep sweep limbo.new k) }
         ensures sound { IfSome result (λ sweep. IsSoundSweep sweep limbo.new) }
         ensures same { IfSome result (λ sweep. (sweep.limits ≡ self.now.limits) × (sweep.actor ≡ self.now.actor)) }
-        ensures few { IfSome result (λ sweep. steps_of sweep.state < 338) }
+        ensures few { IfSome result (λ sweep. steps_of self.now.limits sweep.state < most_steps self.now.limits + 1) }
         ensures writer { IsSome result → is_writer self.now.command ≡ true }
         ensures all { is_writer self.now.command ≡ true → result ≡ None → IsEmpty limbo.old }
     {
@@ -139,12 +139,12 @@ impl Task {
 
     /// At how many deltas the leaf that is looked for is consolidated: a tidying leaves none at the leaf of its key.
     pub(crate) fn due(&self) -> usize
-        ensures due { result ≡ due_of self.now.errands self.now.command }
+        ensures due { result ≡ due_of self.now.limits self.now.errands self.now.command }
         ensures some { 0 < result }
     {
         match (&self.command, self.errands.newest()) {
             (Command::Tidy(_), None) => 1,
-            _ => MANY_DELTAS,
+            _ => many_deltas(&self.limits),
         }
     }
 
@@ -159,7 +159,7 @@ impl Task {
     }
 
     /// The record that a command which changes the map places over the row `next`.
-    pub(crate) fn update_over(&self, next: u16) -> Record
+    pub(crate) fn update_over(&self, next: u32) -> Record
         requires { (old : Option (List ℕ)) × (is_some (update_of 0 self.now.command old) ≡ true) }
         ensures { result ≡ update_over self.now.command next }
     {

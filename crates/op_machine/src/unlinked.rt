@@ -10,8 +10,8 @@ use std::alloc::Allocator;
 /// What a change takes out of the tree where it wins: the rows of a chain, and the page's PID where the page goes with it.
 #[derive(Drop)]
 pub(crate) struct Unlinked {
-    pub rows: ArrayVec<u16, MAX_RECORDS>,
-    pub pid: Option<u16>,
+    pub rows: ArrayVec<u32, MAX_RECORDS>,
+    pub pid: Option<u32>,
 }
 
 impl Unlinked {

@@ -41,7 +41,7 @@ impl Task {
         requires have { HaveLimits self.old.limits places.old }
         requires faced { (k : Knowledge) × (r : Recalled) × FacesWritten self.old spares.now k r (ended_write places.old.writer ended) }
         ensures stands { (k : Knowledge) (r : Recalled) → FacesWritten self.old spares.now k r (ended_write places.old.writer ended) → ShowsState self.new spares.now k r (state_of places.new) }
-        ensures few { (k : Knowledge) (r : Recalled) → FacesWritten self.old spares.now k r (ended_write places.old.writer ended) → with_errands self.new.errands (left_at r spares.now (state_of places.new)) ≤ with_errands self.old.errands (left_for (Outcome.Written (ended_write places.old.writer ended))) }
+        ensures few { (k : Knowledge) (r : Recalled) → FacesWritten self.old spares.now k r (ended_write places.old.writer ended) → with_errands self.old.limits self.new.errands (left_at self.old.limits r spares.now (state_of places.new)) ≤ with_errands self.old.limits self.old.errands (left_for self.old.limits (Outcome.Written (ended_write places.old.writer ended))) }
         ensures asks { IsSome (wanted_at spares.now (state_of places.new)) }
         ensures same { IsSameTask self.old self.new }
         ensures have { HaveLimits self.new.limits places.new }
@@ -65,7 +65,7 @@ impl Task {
         requires have { HaveLimits self.old.limits places.old }
         requires faced { (k : Knowledge) × (r : Recalled) × IsAtLeafBelow self.old spares.now k r places.old.writer.round.parent places.old.writer.page }
         ensures stands { (k : Knowledge) (r : Recalled) → IsAtLeafBelow self.old spares.now k r places.old.writer.round.parent places.old.writer.page → ShowsState self.new spares.now k r (state_of places.new) }
-        ensures few { (r : Recalled) → with_errands self.new.errands (left_at r spares.now (state_of places.new)) ≤ with_errands self.old.errands (few_changes + 1) }
+        ensures few { (r : Recalled) → with_errands self.old.limits self.new.errands (left_at self.old.limits r spares.now (state_of places.new)) ≤ with_errands self.old.limits self.old.errands (few_changes self.old.limits + 1) }
         ensures asks { IsSome (wanted_at spares.now (state_of places.new)) }
         ensures same { IsSameTask self.old self.new }
         ensures errands { self.new.errands ≡ take (length self.old.errands - 1) self.old.errands }
@@ -86,7 +86,7 @@ impl Task {
         requires faced { (k : Knowledge) × (r : Recalled) × IsAtLeafBelow self.now spares.now k r places.old.writer.round.parent places.old.writer.page }
         requires last { self.now.errands ≡ [] }
         ensures stands { (k : Knowledge) (r : Recalled) → IsAtLeafBelow self.now spares.now k r places.old.writer.round.parent places.old.writer.page → ShowsState self.now spares.now k r (state_of places.new) }
-        ensures few { (r : Recalled) → left_at r spares.now (state_of places.new) ≤ few_changes + 1 }
+        ensures few { (r : Recalled) → left_at self.now.limits r spares.now (state_of places.new) ≤ few_changes self.now.limits + 1 }
         ensures asks { IsSome (wanted_at spares.now (state_of places.new)) }
         ensures have { HaveLimits self.now.limits places.new }
     {
@@ -117,7 +117,7 @@ impl Task {
         requires faced { (k : Knowledge) × (r : Recalled) × IsAtLeaf self.now spares.now k r places.old.writer.page }
         requires last { self.now.errands ≡ [] }
         ensures stands { (parent : Option Version) (k : Knowledge) (r : Recalled) → IsAtLeafBelow self.now spares.now k r parent places.old.writer.page → IsIdleFor self.now.command parent places.old.writer.page → ShowsState self.now spares.now k r (state_of places.new) }
-        ensures few { (r : Recalled) → left_at r spares.now (state_of places.new) ≤ few_changes + 1 }
+        ensures few { (r : Recalled) → left_at self.now.limits r spares.now (state_of places.new) ≤ few_changes self.now.limits + 1 }
         ensures asks { IsSome (wanted_at spares.now (state_of places.new)) }
         ensures have { HaveLimits self.now.limits places.new }
     {
@@ -147,7 +147,7 @@ impl Task {
         requires have { HaveLimits self.now.limits places.old }
         requires faced { (k : Knowledge) × (r : Recalled) × FacesWritten self.now spares.now k r (end.Consolidate places.old.writer.page) }
         ensures stands { (k : Knowledge) (r : Recalled) → FacesWritten self.now spares.now k r (end.Consolidate places.old.writer.page) → ShowsState self.now spares.now k r (state_of places.new) }
-        ensures few { (r : Recalled) → left_at r spares.now (state_of places.new) ≤ few_changes + 1 }
+        ensures few { (r : Recalled) → left_at self.now.limits r spares.now (state_of places.new) ≤ few_changes self.now.limits + 1 }
         ensures asks { IsSome (wanted_at spares.now (state_of places.new)) }
         ensures have { HaveLimits self.now.limits places.new }
     {
@@ -170,7 +170,7 @@ impl Task {
         requires have { HaveLimits self.now.limits places.old }
         requires faced { (k : Knowledge) × (r : Recalled) × FacesWritten self.now spares.now k r (end.Split places.old.writer.page plan) }
         ensures stands { (k : Knowledge) (r : Recalled) → FacesWritten self.now spares.now k r (end.Split places.old.writer.page plan) → ShowsState self.now spares.now k r (state_of places.new) }
-        ensures few { (r : Recalled) → left_at r spares.now (state_of places.new) ≤ few_changes + 1 }
+        ensures few { (r : Recalled) → left_at self.now.limits r spares.now (state_of places.new) ≤ few_changes self.now.limits + 1 }
         ensures asks { IsSome (wanted_at spares.now (state_of places.new)) }
         ensures have { HaveLimits self.now.limits places.new }
     {
@@ -187,7 +187,7 @@ impl Task {
         requires have { HaveLimits self.now.limits places.old }
         requires faced { (k : Knowledge) × (r : Recalled) × FacesWritten self.now spares.now k r (end.Term places.old.writer.parent term) }
         ensures stands { (k : Knowledge) (r : Recalled) → FacesWritten self.now spares.now k r (end.Term places.old.writer.parent term) → ShowsState self.now spares.now k r (state_of places.new) }
-        ensures few { (r : Recalled) → left_at r spares.now (state_of places.new) ≤ few_changes + 1 }
+        ensures few { (r : Recalled) → left_at self.now.limits r spares.now (state_of places.new) ≤ few_changes self.now.limits + 1 }
         ensures asks { IsSome (wanted_at spares.now (state_of places.new)) }
         ensures have { HaveLimits self.now.limits places.new }
     {
@@ -207,7 +207,7 @@ impl Task {
         requires have { HaveLimits self.now.limits places.old }
         requires faced { (k : Knowledge) × (r : Recalled) × FacesWritten self.now spares.now k r (end.Root places.old.writer.left root) }
         ensures stands { (k : Knowledge) (r : Recalled) → FacesWritten self.now spares.now k r (end.Root places.old.writer.left root) → ShowsState self.now spares.now k r (state_of places.new) }
-        ensures few { (r : Recalled) → left_at r spares.now (state_of places.new) ≤ few_changes + 1 }
+        ensures few { (r : Recalled) → left_at self.now.limits r spares.now (state_of places.new) ≤ few_changes self.now.limits + 1 }
         ensures asks { IsSome (wanted_at spares.now (state_of places.new)) }
         ensures have { HaveLimits self.now.limits places.new }
     {
@@ -223,7 +223,7 @@ impl Task {
         requires have { HaveLimits self.now.limits places.old }
         requires faced { (k : Knowledge) × (r : Recalled) × FacesWritten self.now spares.now k r (end.Tend places.old.writer.parent places.old.writer.page upkeep) }
         ensures stands { (k : Knowledge) (r : Recalled) → FacesWritten self.now spares.now k r (end.Tend places.old.writer.parent places.old.writer.page upkeep) → ShowsState self.now spares.now k r (state_of places.new) }
-        ensures few { (r : Recalled) → left_at r spares.now (state_of places.new) ≤ few_changes + 1 }
+        ensures few { (r : Recalled) → left_at self.now.limits r spares.now (state_of places.new) ≤ few_changes self.now.limits + 1 }
         ensures asks { IsSome (wanted_at spares.now (state_of places.new)) }
         ensures have { HaveLimits self.now.limits places.new }
     {
@@ -238,7 +238,7 @@ impl Task {
         requires have { HaveLimits self.now.limits places.old }
         requires faced { (k : Knowledge) × (r : Recalled) × FacesWritten self.now spares.now k r (end.Merge places.old.writer.left places.old.writer.page merge) }
         ensures stands { (k : Knowledge) (r : Recalled) → FacesWritten self.now spares.now k r (end.Merge places.old.writer.left places.old.writer.page merge) → ShowsState self.now spares.now k r (state_of places.new) }
-        ensures few { (r : Recalled) → left_at r spares.now (state_of places.new) ≤ few_changes + 1 }
+        ensures few { (r : Recalled) → left_at self.now.limits r spares.now (state_of places.new) ≤ few_changes self.now.limits + 1 }
         ensures asks { IsSome (wanted_at spares.now (state_of places.new)) }
         ensures have { HaveLimits self.now.limits places.new }
     {
@@ -258,7 +258,7 @@ impl Task {
         requires have { HaveLimits self.now.limits places.old }
         requires faced { (k : Knowledge) × (r : Recalled) × FacesWritten self.now spares.now k r (end.Unterm places.old.writer.parent places.old.writer.left places.old.writer.page unterm) }
         ensures stands { (k : Knowledge) (r : Recalled) → FacesWritten self.now spares.now k r (end.Unterm places.old.writer.parent places.old.writer.left places.old.writer.page unterm) → ShowsState self.now spares.now k r (state_of places.new) }
-        ensures few { (r : Recalled) → left_at r spares.now (state_of places.new) ≤ few_changes + 1 }
+        ensures few { (r : Recalled) → left_at self.now.limits r spares.now (state_of places.new) ≤ few_changes self.now.limits + 1 }
         ensures asks { IsSome (wanted_at spares.now (state_of places.new)) }
         ensures have { HaveLimits self.now.limits places.new }
     {
@@ -279,7 +279,7 @@ impl Task {
     pub(crate) fn end_changing<A: Allocator>(&mut self, end: End, places: &mut Places<A>)
         requires have { HaveLimits self.old.limits places.old }
         ensures stands { (spares : SparesOf) (k : Knowledge) (r : Recalled) → FacesChanged self.old spares k end places.old.then → ShowsState self.new spares k r (state_of places.new) }
-        ensures few { (spares : SparesOf) (r : Recalled) → with_errands self.new.errands (left_at r spares (state_of places.new)) ≤ with_errands self.old.errands (left_for (Outcome.Changed end places.old.then)) }
+        ensures few { (spares : SparesOf) (r : Recalled) → with_errands self.old.limits self.new.errands (left_at self.old.limits r spares (state_of places.new)) ≤ with_errands self.old.limits self.old.errands (left_for self.old.limits (Outcome.Changed end places.old.then)) }
         ensures asks { (spares : SparesOf) → IsSome (wanted_at spares (state_of places.new)) }
         ensures same { IsSameTask self.old self.new }
         ensures errands { self.new.errands ≡ errands_after end places.old.then self.old.errands }

@@ -40,7 +40,7 @@ counts (Remove remove) = refl
 counts (Merge merge) = refl
 counts (Unterm unterm) = refl
 
-right_below : (right : Option ℕ) → IfSome right IsPid → unwrap_or right 0 < 4096
+right_below : (right : Option ℕ) → IfSome right IsPid → unwrap_or right 0 < 4194304
 right_below None h = omega arith
 right_below (Some page) h = h.1
 

@@ -69,8 +69,8 @@ pub record IsRowOfParts (row : Row) : Type 0 where
   pub kind : row.kind < 256
   pub level : row.level ≤ 15
   pub few : row.count ≤ 24
-  pub next : row.next < 16384
-  pub page : row.page < 4096
+  pub next : row.next < 67108864
+  pub page : row.page < 4194304
   pub first : IsShort row.first
   pub second : IfSome row.second IsShort
 

@@ -67,13 +67,13 @@ fn content_in(level: u8, held: bool, words: &[u64]) -> Result<Content, BadRow>
 }
 
 /// The PID of a child, with nothing behind it.
-fn child_in(words: &[u64]) -> Result<u16, BadRow>
+fn child_in(words: &[u64]) -> Result<u32, BadRow>
     requires { length words.now ≡ field_size }
     ensures { FindsOne (IsChildIn words.now) result }
 {
     let page = words[0];
-    if are_zeros(&words[1..]) && (1..4096).contains(&page) {
-        Ok(page as u16)
+    if are_zeros(&words[1..]) && (1..4194304).contains(&page) {
+        Ok(page as u32)
     } else {
         Err(BadRow)
     }

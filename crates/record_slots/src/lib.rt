@@ -14,6 +14,7 @@ mod read;
 mod records;
 mod row;
 mod rules;
+mod small;
 mod spelling_laws;
 mod texts;
 mod write;
@@ -22,7 +23,7 @@ pub use layout::{
     FIELD_WORDS, FIRST_ITEM, FIRST_KEY, FORM, FORM_UNIT, HELD, ITEM_CONTENT, ITEM_UNIT, ITEM_WORDS,
     LEVEL_UNIT, NO_BOUND, PART_LIMIT, ROW_WORDS, SECOND_KEY, TEXT_WORDS,
 };
-pub use read::from_words;
+pub use read::{from_words, read_words};
 pub use row::BadRow;
 pub use spelling_laws::{rows_have_words, spelling_is_one};
 pub use texts::{key_in, value_in};

@@ -205,8 +205,8 @@ fn is_empty_bound(bound: &Option<Key>) -> bool
 }
 
 /// The PID of the page to the right, where 0 is none.
-fn right_in(page: u16) -> Option<u16>
-    requires { page < 4096 }
+fn right_in(page: u32) -> Option<u32>
+    requires { page < 4194304 }
     ensures { IsRightIn page result }
 {
     if page == 0 { None } else { Some(page) }

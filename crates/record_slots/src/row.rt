@@ -22,8 +22,8 @@ pub struct Row {
     pub kind: u8,
     pub level: u8,
     pub count: usize,
-    pub next: u16,
-    pub page: u16,
+    pub next: u32,
+    pub page: u32,
     pub first: Key,
     pub second: Option<Key>,
 }
@@ -41,8 +41,8 @@ pub(crate) fn row_in(words: &[u64; ROW_WORDS]) -> Result<Row, BadRow>
     ensures { FindsOne (IsRowIn words.now) result }
 {
     let header = header_in(words[0])?;
-    let next = number_in(words[1], 16384)?;
-    let page = number_in(words[2], 4096)?;
+    let next = number_in(words[1], 67108864)?;
+    let page = number_in(words[2], 4194304)?;
     let first = field_in(&words[FIRST_KEY..SECOND_KEY])?;
     let second = bound_in(&words[SECOND_KEY..FIRST_ITEM])?;
     if !are_zeros(&words[FIRST_ITEM + ITEM_WORDS * header.count..]) {
@@ -76,12 +76,12 @@ fn header_in(word: u64) -> Result<Header, BadRow>
 }
 
 /// The number, which is to be below a limit.
-fn number_in(word: u64, limit: u64) -> Result<u16, BadRow>
-    requires { limit ≤ 65536 }
+fn number_in(word: u64, limit: u64) -> Result<u32, BadRow>
+    requires { limit ≤ 4294967296 }
     ensures { FindsOne (IsNumberIn word limit) result }
 {
     if word < limit {
-        Ok(word as u16)
+        Ok(word as u32)
     } else {
         Err(BadRow)
     }

@@ -15,7 +15,7 @@ pub(crate) fn keeps_rules(
     level: u8,
     low: &Key,
     high: &Option<Key>,
-    right: Option<u16>,
+    right: Option<u32>,
     items: &Items,
 ) -> bool
     requires ordered { AreItems items.now }

@@ -79,7 +79,7 @@ fn merge_words(merge: &Merge) -> [u64; ROW_WORDS]
 }
 
 /// A row with one key and no items.
-fn link_words(kind: u8, level: u8, next: u16, page: u16, first: &Key) -> [u64; ROW_WORDS]
+fn link_words(kind: u8, level: u8, next: u32, page: u32, first: &Key) -> [u64; ROW_WORDS]
     ensures words { result ≡ row_words kind level next page first.now (Some []) [] }
     ensures short { IsShort first.now }
 {
@@ -90,8 +90,8 @@ fn link_words(kind: u8, level: u8, next: u16, page: u16, first: &Key) -> [u64; R
 fn row_words(
     kind: u8,
     level: u8,
-    next: u16,
-    page: u16,
+    next: u32,
+    page: u32,
     first: &Key,
     second: Option<&Key>,
     items: &[Item],

@@ -1,11 +1,13 @@
 -- What a writer's round finds at a page: how long and how wide it is, and where the round goes.
-use Rattle.std.proofs.Common.{◌≡◌, ◌<◌, ◌≤◌, inl, ℕ, Bool, true, false, List, length, None, Some, refl, arith}
+use Rattle.std.proofs.Common.{◌≡◌, ◌<◌, ◌≤◌, inl, ℕ, suc, Bool, true, false, List, length, None, Some, refl, arith}
 use Rattle.std.proofs.Math.Nat.{lt_of_not-le}
+use Rattle.tree_limits.specs.declared.limits.Limits.{Limits}
 use Rattle.base_page.specs.declared.item.Item.{Item}
 use Rattle.deltas.specs.declared.record.Record.{Record}
 use Rattle.traces.specs.chain.Chains.{IsItemsOf}
 use Rattle.traces.specs.chain.Fitted.{IsFitted}
-use Rattle.smo.specs.Sizes.{HasFewDeltas, HasManyItems}
+use Rattle.smo.specs.Sizes.{HasFewDeltas, HasManyItems, many_of}
+use Rattle.smo.proofs.Few.{few_many}
 use Rattle.smo.proofs.Places.{made}
 use Rattle.descent.specs.Courses.{WriteGoal, Seek, Left, Merge, Unterm, removed_of}
 use Rattle.descent.specs.WriteRounds.{IsLong, SeeksLeaf, ends_at}
@@ -15,8 +17,8 @@ pub denied : (b : Bool) (P : Type 0) → (P → b ≡ true) → b ≡ false → 
 denied b P tells off h = let on = tells h in cc
 
 -- a page that isn't long has few deltas
-pub few_deltas : (due : ℕ) (chain : List Record) → ¬ IsLong due chain → HasFewDeltas chain
-few_deltas due chain short = let most = lt_of_not-le (λ (many : 9 ≤ length chain). short (inl many)) in omega (arith, most)
+pub few_deltas : (limits : Limits) (due : ℕ) (chain : List Record) → ¬ IsLong limits due chain → HasFewDeltas chain
+few_deltas limits due chain short = let few = few_many limits in let most = lt_of_not-le (λ (many : suc (many_of limits) ≤ length chain). short (inl many)) in omega (arith, few, most)
 
 -- how many items a chain has says whether they are many
 module _ (chain : List Record) (count : ℕ) (counted : (items : List Item) → IsItemsOf chain items → count ≡ length items) where

@@ -4,7 +4,7 @@
 #[derive(Clone, Copy)]
 pub enum Asked {
     /// The slot of a page.
-    Slot(u16),
+    Slot(u32),
     /// A row.
-    Row(u16),
+    Row(u32),
 }

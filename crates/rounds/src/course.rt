@@ -18,7 +18,7 @@ pub(crate) enum Aim {
     /// For the leaf of the key.
     Seek,
     /// For the page to the left of this removed one, which begins at the key.
-    Left(u16),
+    Left(u32),
     /// For the removed page, which is to come into the page in the left one's place.
     Merge,
     /// For the removed page, whose term the page in the parent's place is to lose, as the one in the left one's place shows.
@@ -73,7 +73,7 @@ impl<A: Allocator + Copy> Course<A> {
 
 impl<A: Allocator> Course<A> {
     /// Goes down to the page to the left of this removed page, or to the leaf of the key, and keeps no page.
-    pub(crate) fn restart(&mut self, removed: Option<u16>)
+    pub(crate) fn restart(&mut self, removed: Option<u32>)
         ensures { self.new ≡ record self.old { course = record { goal = down_to removed; parent = None; left = None } } }
     {
         self.aim = down(removed);
@@ -96,7 +96,7 @@ impl<A: Allocator> Course<A> {
     }
 
     /// The removed page to whose left a leaf is sought.
-    pub(crate) fn removed(&self) -> Option<u16>
+    pub(crate) fn removed(&self) -> Option<u32>
         ensures { result ≡ removed_of self.now.course.goal }
     {
         match self.aim {
@@ -176,7 +176,7 @@ impl<A: Allocator> Course<A> {
 }
 
 /// The aim of a round down to the page to the left of this removed page, or to the leaf of the key.
-fn down(removed: Option<u16>) -> Aim
+fn down(removed: Option<u32>) -> Aim
     ensures { (parent left : Version) → write_goal result parent left ≡ down_to removed }
 {
     match removed {

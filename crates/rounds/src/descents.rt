@@ -21,8 +21,8 @@ use std::mem;
 #[derive(Clone, Copy)]
 pub(crate) enum At {
     Root,
-    Slot { pid: u16 },
-    Row { pid: u16, head: u16, row: u16 },
+    Slot { pid: u32 },
+    Row { pid: u32, head: u32, row: u32 },
 }
 
 /// What an answer has shown.
@@ -97,8 +97,15 @@ impl<A: Allocator> Descent<A> {
         self.at = At::Root;
     }
 
+    /// How large the tree is.
+    pub(crate) fn limits(&self) -> &Limits
+        ensures { result.now ≡ self.now.way.limits }
+    {
+        &self.limits
+    }
+
     /// Goes on to a page.
-    pub(crate) fn go_to(&mut self, pid: u16)
+    pub(crate) fn go_to(&mut self, pid: u32)
         requires some { 0 < pid }
         requires below { pid < self.old.way.limits.pids }
         ensures { self.new ≡ record self.old { way = going_to pid self.old.way } }
@@ -145,12 +152,12 @@ impl<A: Allocator> Descent<A> {
     {
         match self.at {
             At::Root => {
-                self.go_to(number as u16);
+                self.go_to(number as u32);
                 Seen::On
             }
             At::Slot { .. } if number == 0 => Seen::Empty,
             At::Slot { pid } => {
-                self.begin(pid, number as u16);
+                self.begin(pid, number as u32);
                 Seen::On
             }
             At::Row { .. } => unreachable!(),
@@ -158,7 +165,7 @@ impl<A: Allocator> Descent<A> {
     }
 
     /// Goes on to the newest record of the page's chain.
-    fn begin(&mut self, pid: u16, head: u16)
+    fn begin(&mut self, pid: u32, head: u32)
         requires page { 0 < pid }
         requires page_below { pid < self.old.way.limits.pids }
         requires some { 0 < head }

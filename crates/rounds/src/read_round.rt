@@ -219,7 +219,7 @@ impl<A: Allocator> ReadRound<A> {
     }
 
     /// The page's right, where the page in hand ends on the way.
-    fn next_aside(&self) -> Option<u16>
+    fn next_aside(&self) -> Option<u32>
         ensures { MatchOption result (StaysLeft (read_way self.now.round.goal self.now.round.key) self.now.page.chain) (LeadsRight (read_way self.now.round.goal self.now.round.key) self.now.page.chain) }
     {
         match self.going {
@@ -230,7 +230,7 @@ impl<A: Allocator> ReadRound<A> {
 
     /// The same on the way to the left of the page that is kept aside.
     #[inline(never)]
-    fn right_to_the_left(&self) -> Option<u16>
+    fn right_to_the_left(&self) -> Option<u32>
         ensures { MatchOption result (StaysLeft (precedes (low_in self.now.aside.chain)) self.now.page.chain) (LeadsRight (precedes (low_in self.now.aside.chain)) self.now.page.chain) }
     {
         let low = KeyWords::of(&self.aside.chain().low());
@@ -251,7 +251,7 @@ impl<A: Allocator> ReadRound<A> {
     }
 
     /// The child of the greatest term on the way.
-    fn next_below(&self) -> u16
+    fn next_below(&self) -> u32
         requires index { 0 < level_in self.now.page.chain }
         requires reached { IsTrue (read_way self.now.round.goal self.now.round.key (low_in self.now.page.chain)) }
         ensures { LeadsDown (read_way self.now.round.goal self.now.round.key) self.now.page.chain result }
@@ -264,7 +264,7 @@ impl<A: Allocator> ReadRound<A> {
 
     /// The same on the way to the left of the page that is kept aside.
     #[inline(never)]
-    fn child_to_the_left(&self) -> u16
+    fn child_to_the_left(&self) -> u32
         requires index { 0 < level_in self.now.page.chain }
         requires reached { IsTrue (precedes (low_in self.now.aside.chain) (low_in self.now.page.chain)) }
         ensures { LeadsDown (precedes (low_in self.now.aside.chain)) self.now.page.chain result }
@@ -317,7 +317,7 @@ impl<A: Allocator> ReadRound<A> {
     }
 
     /// Goes on to a page on the way of the key, past the removed page.
-    fn go_beyond(&mut self, right: u16) -> Option<ReadEnded>
+    fn go_beyond(&mut self, right: u32) -> Option<ReadEnded>
         requires some { 0 < right }
         requires below { right < self.old.round.limits.pids }
         ensures goes { self.new ≡ record self.old { round = going_to right (on (level_on self.old.round.leg) (toward goal.Beyond self.old.round)) } }

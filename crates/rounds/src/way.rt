@@ -13,7 +13,7 @@ pub(crate) fn right_on_way<A: Allocator>(
     chain: &Chain<A>,
     key: &KeyWords,
     below: bool,
-) -> Option<u16>
+) -> Option<u32>
     ensures { MatchOption result (StaysLeft (passes below key.now) chain.now) (LeadsRight (passes below key.now) chain.now) }
 {
     chain.keeps_rules();
@@ -24,7 +24,7 @@ pub(crate) fn right_on_way<A: Allocator>(
 }
 
 /// The child of the greatest term on the way, also where the page ends on it.
-pub(crate) fn child_on_way<A: Allocator>(chain: &Chain<A>, key: &KeyWords, below: bool) -> u16
+pub(crate) fn child_on_way<A: Allocator>(chain: &Chain<A>, key: &KeyWords, below: bool) -> u32
     requires index { 0 < level_in chain.now }
     requires reached { IsTrue (passes below key.now (low_in chain.now)) }
     ensures { LeadsDown (passes below key.now) chain.now result }
@@ -43,7 +43,7 @@ pub(crate) fn child_on_way<A: Allocator>(chain: &Chain<A>, key: &KeyWords, below
 }
 
 /// The page's right, where the page ends on the way; else the child of its greatest term there.
-pub(crate) fn next_on_way<A: Allocator>(chain: &Chain<A>, key: &KeyWords, below: bool) -> u16
+pub(crate) fn next_on_way<A: Allocator>(chain: &Chain<A>, key: &KeyWords, below: bool) -> u32
     requires index { 0 < level_in chain.now }
     requires reached { IsTrue (passes below key.now (low_in chain.now)) }
     ensures { LeadsOn (passes below key.now) chain.now result }

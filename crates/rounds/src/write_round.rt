@@ -101,7 +101,7 @@ impl<A: Allocator> WriteRound<A> {
     }
 
     /// Begins a round to the left of a removed page of this level, which begins at the key.
-    pub fn restart_left(&mut self, key: &Key, removed: u16, level: u8)
+    pub fn restart_left(&mut self, key: &Key, removed: u32, level: u8)
         ensures { self.new ≡ record self.old { round = record { limits = self.old.round.limits; key = key.now; due = 8; tends = false; floor = level; goal = goal.Left removed; parent = None; left = None; state = Root } } }
     {
         self.key = KeyWords::of(key);
@@ -284,7 +284,7 @@ impl<A: Allocator> WriteRound<A> {
     }
 
     /// The page's right, where the page ends on the way.
-    fn next_aside(&self) -> Option<u16>
+    fn next_aside(&self) -> Option<u32>
         ensures { MatchOption result (StaysLeft (write_way self.now.round.goal self.now.round.key) self.now.page.chain) (LeadsRight (write_way self.now.round.goal self.now.round.key) self.now.page.chain) }
     {
         right_on_way(self.page().chain(), &self.key, self.is_left())
@@ -310,7 +310,7 @@ impl<A: Allocator> WriteRound<A> {
     fn go_on(&mut self) -> Option<WriteEnded>
         requires can { CanTreatWrite self.old.round self.old.page }
         requires here { IsHere self.old.round self.old.page }
-        requires fine { IsFine self.old.round.due self.old.page }
+        requires fine { IsFine self.old.round.limits self.old.round.due self.old.page }
         ensures treats { TreatsWrite self.old.round self.old.page self.new.round (option_map (ended_write self.new) result) }
         ensures same { IsSame self.old.round self.new.round }
     {
@@ -334,7 +334,7 @@ impl<A: Allocator> WriteRound<A> {
     fn tend(&mut self) -> Option<WriteEnded>
         requires can { CanTreatWrite self.old.round self.old.page }
         requires here { IsHere self.old.round self.old.page }
-        requires fine { IsFine self.old.round.due self.old.page }
+        requires fine { IsFine self.old.round.limits self.old.round.due self.old.page }
         requires index { ends_at self.old.round.goal self.old.round.floor < level_in self.old.page.chain }
         requires tends { self.old.round.tends ≡ true }
         ensures treats { TreatsWrite self.old.round self.old.page self.new.round (option_map (ended_write self.new) result) }
@@ -353,7 +353,7 @@ impl<A: Allocator> WriteRound<A> {
     fn go_below(&mut self)
         requires can { CanTreatWrite self.old.round self.old.page }
         requires here { IsHere self.old.round self.old.page }
-        requires fine { IsFine self.old.round.due self.old.page }
+        requires fine { IsFine self.old.round.limits self.old.round.due self.old.page }
         requires index { ends_at self.old.round.goal self.old.round.floor < level_in self.old.page.chain }
         requires idle { IsIdleOnWay self.old.round self.old.page }
         ensures treats { TreatsWrite self.old.round self.old.page self.new.round None }
@@ -365,7 +365,7 @@ impl<A: Allocator> WriteRound<A> {
     }
 
     /// The child of the greatest term on the way.
-    fn next_below(&self) -> u16
+    fn next_below(&self) -> u32
         requires index { 0 < level_in self.now.page.chain }
         requires reached { IsTrue (write_way self.now.round.goal self.now.round.key (low_in self.now.page.chain)) }
         requires stays { StaysLeft (write_way self.now.round.goal self.now.round.key) self.now.page.chain }
@@ -378,7 +378,7 @@ impl<A: Allocator> WriteRound<A> {
     fn end(&mut self) -> Option<WriteEnded>
         requires can { CanTreatWrite self.old.round self.old.page }
         requires here { IsHere self.old.round self.old.page }
-        requires fine { IsFine self.old.round.due self.old.page }
+        requires fine { IsFine self.old.round.limits self.old.round.due self.old.page }
         requires level { level_in self.old.page.chain ≡ ends_at self.old.round.goal self.old.round.floor }
         ensures treats { TreatsWrite self.old.round self.old.page self.new.round (option_map (ended_write self.new) result) }
         ensures same { IsSame self.old.round self.new.round }
@@ -391,7 +391,7 @@ impl<A: Allocator> WriteRound<A> {
 
     /// Reads the removed page again where it is the page's right, or the parent has its term; else nothing is due.
     #[inline(never)]
-    fn end_left(&mut self, pid: u16) -> Option<WriteEnded>
+    fn end_left(&mut self, pid: u32) -> Option<WriteEnded>
         requires some { 0 < pid }
         requires below { pid < self.old.round.limits.pids }
         requires left { IsAtLeft self.old.round self.old.page pid }

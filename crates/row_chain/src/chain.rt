@@ -131,7 +131,7 @@ impl<A: Allocator> Chain<A> {
     }
 
     /// The PID of the next page to the right on the level, or none.
-    pub fn right(&self) -> Option<u16>
+    pub fn right(&self) -> Option<u32>
         ensures { result ≡ right_in self.now }
     {
         for newest in self.as_slice() {

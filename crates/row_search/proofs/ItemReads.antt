@@ -44,7 +44,7 @@ abbrev page_word : Content → ℕ
 page_word (Value value) = 0
 page_word (Child page held) = page
 
-small_page : (content : Content) → HasPid content → page_word content < 4096
+small_page : (content : Content) → HasPid content → page_word content < 4194304
 small_page (Value value) h = omega arith
 small_page (Child page held) h = h.1
 
@@ -77,8 +77,8 @@ module _ (words : List ℕ) (content : Record) (h : IsSpelling content words) (p
       ∙ ap (λ b. if b then Value (field_in (drop field_size (drop at words))) else Child (get_or (drop at words) field_size 0) (nat_le held_mark (get_or (drop at words) 0 0))) (sym index)
       ∙ ap (λ (one : Item). one.content) read
 
-  pub page_fits : 0 < (row_of content).level → get_or words (at + field_size) 0 < 4096
-  page_fits above = subst (λ n. n < 4096) (sym (ap page_word (child_there above))) (small_page item.content is.child)
+  pub page_fits : 0 < (row_of content).level → get_or words (at + field_size) 0 < 4194304
+  page_fits above = subst (λ n. n < 4194304) (sym (ap page_word (child_there above))) (small_page item.content is.child)
 
   content_stands : take field_size (drop (at + field_size) words) ≡ content_words item.content
   content_stands = ap (take field_size) (sym (drop-drop field_size at words)) ∙ sym (window field_size field_size item_size (drop at words) (omega arith)) ∙ ap (λ ws. take field_size (drop field_size ws)) item_here ∙ content_of item.content

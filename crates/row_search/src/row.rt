@@ -11,7 +11,7 @@ mod names;
 mod says;
 
 use deltas::{Record, Remove};
-use record_slots::{LEVEL_UNIT, PART_LIMIT, ROW_WORDS, from_words, to_words};
+use record_slots::{LEVEL_UNIT, PART_LIMIT, ROW_WORDS, read_words, to_words};
 use std::marker::Model;
 
 /// A record as the words of its row.
@@ -62,7 +62,7 @@ impl Row {
     pub fn record(&self) -> Record
         ensures { result ≡ self.now }
     {
-        from_words(&self.words).unwrap()
+        read_words(&self.words).unwrap()
     }
 
     /// Shows that its record keeps the rules of what a row can spell, at no cost.
@@ -94,19 +94,19 @@ impl Row {
     }
 
     /// The row of the record under it.
-    pub fn next(&self) -> Option<u16>
+    pub fn next(&self) -> Option<u32>
         ensures { result ≡ next_row self.now }
     {
         if self.kind() == 1 {
             return None;
         }
-        Some(self.words[1] as u16)
+        Some(self.words[1] as u32)
     }
 
     /// The PID that stands in the row, or 0.
-    fn page(&self) -> u16
+    fn page(&self) -> u32
         ensures { result ≡ (row_of self.now).page }
     {
-        self.words[2] as u16
+        self.words[2] as u32
     }
 }

@@ -13,7 +13,7 @@ pub fn free_pids<A: Allocator>(table: &CoreTable<A>, pids: u64) -> u64
 {
     let mut count = 0;
     for pid in 0..pids {
-        if table.is_free_pid(pid as u16) {
+        if table.is_free_pid(pid as u32) {
             count += 1;
         }
     }
@@ -27,7 +27,7 @@ pub fn free_rows<A: Allocator>(table: &CoreTable<A>, rows: u64) -> u64
 {
     let mut count = 0;
     for row in 0..rows {
-        if table.is_free_row(row as u16) {
+        if table.is_free_row(row as u32) {
             count += 1;
         }
     }

@@ -24,20 +24,20 @@ impl<A: Allocator> Model for Level<A> {
 
     ghost view = { λ l. l.pages.items };
 
-    ghost invariant = { λ l. length l.pages.items ≤ 4096 };
+    ghost invariant = { λ l. length l.pages.items ≤ 4194304 };
 }
 
 impl<A: Allocator> Level<A> {
     /// The pages.
     pub fn pages(&self) -> &[ScenePage<A>]
         ensures pages { result.now ≡ self.now }
-        ensures few { length result.now ≤ 4096 }
+        ensures few { length result.now ≤ 4194304 }
     {
         self.pages.as_slice()
     }
 
     /// The child of the first page's low key, or none.
-    pub(crate) fn first_child(&self) -> Option<u16>
+    pub(crate) fn first_child(&self) -> Option<u32>
         ensures { result ≡ first_child self.now }
     {
         match self.pages.first() {
@@ -52,8 +52,9 @@ pub(crate) fn level_from<A: Allocator, B: Allocator + Copy>(
     alloc: B,
     limits: &Limits,
     table: &CoreTable<A>,
-    first: u16,
+    first: u32,
 ) -> Result<Level<B>, AllocError>
+    requires limits { table.now.limits ≡ limits.now }
     requires stands { (number : ℕ) × HasPagesOn limits.now (memory_in table.now) number first }
     ensures { IfOk result (λ level. (number : ℕ) (has : HasPagesOn limits.now (memory_in table.now) number first) → level ≡ has.pages) }
 {

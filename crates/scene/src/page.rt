@@ -16,7 +16,7 @@ use std::marker::Model;
 
 /// A page by its PID: the records of its chain, the newest first, and the page that they make.
 pub struct ScenePage<A: Allocator = Global> {
-    pid: u16,
+    pid: u32,
     records: Vec<Record, A>,
     page: Page,
 }
@@ -44,7 +44,7 @@ impl<A: Allocator> Model for ScenePage<A> {
 
 impl<A: Allocator> ScenePage<A> {
     /// Its PID.
-    pub fn pid(&self) -> u16
+    pub fn pid(&self) -> u32
         ensures { result ≡ self.now.pid }
     {
         self.pid
@@ -66,14 +66,14 @@ impl<A: Allocator> ScenePage<A> {
     }
 
     /// The PID of the next page to the right, or none.
-    pub(crate) fn right(&self) -> Option<u16>
+    pub(crate) fn right(&self) -> Option<u32>
         ensures { result ≡ right_in self.now.chain }
     {
         self.page.right()
     }
 
     /// The child of its low key, or none.
-    pub(crate) fn low_child(&self) -> Option<u16>
+    pub(crate) fn low_child(&self) -> Option<u32>
         ensures { result ≡ low_child self.now.chain }
     {
         self.page.items().child_at(self.page.low())
@@ -84,9 +84,9 @@ impl<A: Allocator> ScenePage<A> {
 pub(crate) fn page_at<A: Allocator, B: Allocator>(
     alloc: B,
     table: &CoreTable<A>,
-    pid: u16,
+    pid: u32,
 ) -> Result<ScenePage<B>, AllocError>
-    requires there { pid < 4096 }
+    requires there { pid < table.now.limits.pids }
     requires stands { (chain : List RecordSeen) × StandsAt (memory_in table.now) pid chain }
     ensures pid { IfOk result (λ page. page.pid ≡ pid) }
     ensures chain { IfOk result (λ page. (chain : List RecordSeen) → StandsAt (memory_in table.now) pid chain → page.chain ≡ chain) }
@@ -100,9 +100,9 @@ pub(crate) fn page_at<A: Allocator, B: Allocator>(
 fn records_at<A: Allocator, B: Allocator>(
     alloc: B,
     table: &CoreTable<A>,
-    pid: u16,
+    pid: u32,
 ) -> Result<Vec<Record, B>, AllocError>
-    requires there { pid < 4096 }
+    requires there { pid < table.now.limits.pids }
     requires stands { (chain : List RecordSeen) × StandsAt (memory_in table.now) pid chain }
     ensures { IfOk result (λ records. (chain : List RecordSeen) → StandsAt (memory_in table.now) pid chain → records.items ≡ chain) }
 {

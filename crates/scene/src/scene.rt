@@ -18,7 +18,7 @@ const MANY_LEVELS: u32 = 16;
 /// What stands in a tree.
 #[derive(Drop)]
 pub struct Scene<A: Allocator = Global> {
-    root: u16,
+    root: u32,
     levels: Vec<Level<A>, A>,
     free_pids: u64,
     free_rows: u64,
@@ -60,7 +60,7 @@ impl<A: Allocator + Copy> Scene<A> {
 
 impl<A: Allocator> Scene<A> {
     /// The PID in slot 0.
-    pub fn root(&self) -> u16
+    pub fn root(&self) -> u32
         ensures { result ≡ self.now.root }
     {
         self.root
@@ -102,7 +102,8 @@ fn levels_of<A: Allocator, B: Allocator + Copy>(
     limits: &Limits,
     table: &CoreTable<A>,
 ) -> Result<Vec<Level<B>, B>, AllocError>
-    requires { HasAllLevels limits.now (memory_in table.now) }
+    requires limits { table.now.limits ≡ limits.now }
+    requires stands { HasAllLevels limits.now (memory_in table.now) }
     ensures are { IfOk result (λ levels. AreLevels (memory_in table.now) levels.items) }
     ensures few { IfOk result (λ levels. length levels.items ≤ 16) }
 {

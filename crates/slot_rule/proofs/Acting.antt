@@ -17,10 +17,11 @@ use Rattle.deltas.specs.Memory.{Memory}
 use Rattle.traces.specs.declared.trace.Entry.{Entry}
 use Rattle.traces.specs.trace.Steps.{memory_after}
 use Rattle.traces.specs.trace.Trace.{memory_of}
-use Rattle.tree_words.specs.Changes.{HasWord, SetsBits, TellsNothing, changed_word, left_by, operation_of, told, word_after, words_after, SpellsParts, ChangesOneWord, OperationsLeaveWords, StepsChangeOneWord, StoresTellNothing, WordsStandFirst}
+use Rattle.tree_words.specs.Changes.{HasWord, SetsBits, TellsNothing, changed_word, left_by, operation_of, told, word_after, words_after, SpellsParts, ChangesOneWord, OperationsLeaveWords, StepsChangeOneWord, StoresTellNothing, WordsStandApart, HasOwnWord}
 use Rattle.tree_words.specs.declared.operations.Operation.{Operation}
 use Rattle.tree_words.specs.declared.operations.Operation.TheVariants as operation
-use Rattle.tree_words.specs.Layout.{row_at, rows_at}
+use Rattle.record_slots.specs.Layout.{row_size}
+use Rattle.tree_words.specs.Layout.{row_at}
 use Rattle.tree_words.specs.Words.{words_in, SpellsWhere}
 use Rattle.slot_rule.specs.declared.view.Reach.TheVariants.{Idle}
 use Rattle.slot_rule.specs.Running.{IsSettled}
@@ -30,7 +31,7 @@ use Rattle.slot_rule.proofs.Parts.{settled_back, spells_views}
 use Rattle.slot_rule.proofs.Turns.{TableState, Rule, Ready, event}
 
 -- the other parts are the memory's, and the rows are as they were
-with_rows : (limits : Limits) (words words' : List ℕ) (m m' : Memory) (settled : ℕ → Type 0) → ((row j : ℕ) → get_or words' (row_at row j) 0 ≡ get_or words (row_at row j) 0) → m'.rows ≡ m.rows
+with_rows : (limits : Limits) (words words' : List ℕ) (m m' : Memory) (settled : ℕ → Type 0) → ((row j : ℕ) → row < limits.rows → j < row_size → get_or words' (row_at row j) 0 ≡ get_or words (row_at row j) 0) → m'.rows ≡ m.rows
     → SpellsWhere limits words m settled → SpellsParts limits words' m' → SpellsWhere limits words' m' settled
 with_rows limits words words' m m' settled stay records sp parts = record {
   slots = parts.slots;
@@ -39,41 +40,41 @@ with_rows limits words words' m m' settled stay records sp parts = record {
   epoch = parts.epoch;
   announced = parts.announced;
   pads = parts.pads;
-  rows = λ row j within below is. stay row j ∙ sp.rows row j within below is ∙ ap (λ (rows : ℕ → Option Record). get_or (words_in (rows row)) j 0) (sym records);
+  rows = λ row j within below is. stay row j within below ∙ sp.rows row j within below is ∙ ap (λ (rows : ℕ → Option Record). get_or (words_in (rows row)) j 0) (sym records);
 }
 
-module _ (change : StepsChangeOneWord) (first : WordsStandFirst) (limits : Limits) (law : Limits → List Entry → Type 0) where
+module _ (change : StepsChangeOneWord) (first : WordsStandApart) (limits : Limits) (law : Limits → List Entry → Type 0) where
   step_ready : (s : TableState) (h : Rule limits law s) (id actor : ℕ) (seen : List Entry) (begun : Option Command) (step : Step Record) (reply : Option Reply)
-      → get_elem? s.views id ≡ some (alone limits actor seen Idle) → actor < 16 → HasWord step → SetsBits step
-      → Ready limits law s h id actor (changed_word actor step) (word_after step (get_or s.words (changed_word actor step) 0)) begun step (told step (get_or s.words (changed_word actor step) 0)) reply
+      → get_elem? s.views id ≡ some (alone limits actor seen Idle) → actor < 16 → HasWord limits step → SetsBits step
+      → Ready limits law s h id actor (changed_word limits actor step) (word_after step (get_or s.words (changed_word limits actor step) 0)) begun step (told step (get_or s.words (changed_word limits actor step) 0)) reply
   step_ready s h id actor seen begun step reply at few has bits =
       let m : Memory = memory_of limits h.run in
-      let low : changed_word actor step < rows_at = first actor step few has in
+      let own : HasOwnWord limits actor step = first limits actor step few has in
       let parts : SpellsParts limits s.words m = spells_views limits s.words m (IsSettled s.views) (λ row. ⊥) (λ row none. absurd none) h.spells in
       let c : ChangesOneWord limits s.words m actor step = change limits s.words m actor step h.wide parts few has bits in
-      let stay : (row j : ℕ) → get_or (words_after actor step s.words) (row_at row j) 0 ≡ get_or s.words (row_at row j) 0 = λ row j. get_or-set_other s.words (changed_word actor step) (row_at row j) _ 0 (omega arith) in
-      let spells : SpellsWhere limits (words_after actor step s.words) (memory_after actor step m) (IsSettled s.views)
-      = with_rows limits s.words (words_after actor step s.words) m (memory_after actor step m) (IsSettled s.views) stay c.records h.spells c.spells in
+      let stay : (row j : ℕ) → row < limits.rows → j < row_size → get_or (words_after limits actor step s.words) (row_at row j) 0 ≡ get_or s.words (row_at row j) 0 = λ row j below small. get_or-set_other s.words (changed_word limits actor step) (row_at row j) _ 0 (λ e. own.apart row j below small (sym e)) in
+      let spells : SpellsWhere limits (words_after limits actor step s.words) (memory_after actor step m) (IsSettled s.views)
+      = with_rows limits s.words (words_after limits actor step s.words) m (memory_after actor step m) (IsSettled s.views) stay c.records h.spells c.spells in
       record {
         answered = c.answers;
-        spells = λ view _. spells_views limits (words_after actor step s.words) (memory_after actor step m) (IsSettled s.views) (IsSettled (set s.views id view))
+        spells = λ view _. spells_views limits (words_after limits actor step s.words) (memory_after actor step m) (IsSettled s.views) (IsSettled (set s.views id view))
             (λ row is. settled_back s.views id limits actor seen Idle view row at tt is) spells;
         kept = λ row content is. h.kept row content (ap (λ (rows : ℕ → Option Record). rows row) (sym c.records) ∙ is);
-        writes = λ other row _ _ _ j _. stay row (j + 1);
+        writes = λ other row _ _ below j small. stay row (j + 1) below (omega (arith, small));
       }
 
   acts : (slots id actor : ℕ) (me : Mine) (begun : Option Command) (step : Step Record) (reply : Option Reply) → SitsAt limits actor Idle me → IsLawfulStep law limits actor (seen_of me) begun step reply
-      → actor < 16 → HasWord step → SetsBits step → Allows (Rule limits law) slots id me (changed_word actor step) (word_after step) (Acts law begun step reply me)
-  acts slots id actor me begun step reply is may few has bits = event limits law slots id actor me (changed_word actor step) (word_after step) begun step reply (told step) is may
+      → actor < 16 → HasWord limits step → SetsBits step → Allows (Rule limits law) slots id me (changed_word limits actor step) (word_after step) (Acts law begun step reply me)
+  acts slots id actor me begun step reply is may few has bits = event limits law slots id actor me (changed_word limits actor step) (word_after step) begun step reply (told step) is may
       (λ s h at. step_ready s h id actor (seen_of me) begun step reply at few has bits)
 
-module _ (change : StepsChangeOneWord) (first : WordsStandFirst) (law : Limits → List Entry → Type 0) (limits key : Limits) (table seat : TableId) (of : IsOf limits key table seat)
+module _ (change : StepsChangeOneWord) (first : WordsStandApart) (law : Limits → List Entry → Type 0) (limits key : Limits) (table seat : TableId) (of : IsOf limits key table seat)
     (slots id actor : ℕ) (me : Mine) (begun : Option Command) (reply : Option Reply) (is : SitsAt limits actor Idle me) (few : actor < 16)
-    (step : Step Record) (range : HasWord step) (bits : SetsBits step) (may : IsLawfulStep law limits actor (seen_of me) begun step reply) (i : ℕ) (e : i ≡ changed_word actor step) where
+    (step : Step Record) (range : HasWord limits step) (bits : SetsBits step) (may : IsLawfulStep law limits actor (seen_of me) begun step reply) (i : ℕ) (e : i ≡ changed_word limits actor step) where
   there : i < table.words
-  there = let low : changed_word actor step < rows_at = first actor step few range in let wide = of.wide in omega arith
+  there = let own = (first limits actor step few range).there in let wide = of.wide in omega arith
 
-  allowed : Allows (Rule limits law) slots id me (changed_word actor step) (word_after step) (Acts law begun step reply me)
+  allowed : Allows (Rule limits law) slots id me (changed_word limits actor step) (word_after step) (Acts law begun step reply me)
   allowed = acts change first limits law slots id actor me begun step reply is may few range bits
 
   -- an operation that leaves there what the step leaves

@@ -6,7 +6,7 @@ use Rattle.traces.specs.declared.trace.Entry.{Entry}
 use Rattle.traces.specs.discipline.Knowledge.{knows}
 use Rattle.traces.specs.trace.Steps.{IsWordOf}
 use Rattle.record_slots.specs.Layout.{row_size}
-use Rattle.tree_words.specs.Layout.{row_at, epoch_at, announced_at, pid_bits_at, row_bits_at}
+use Rattle.tree_words.specs.Layout.{row_at, slot_at, epoch_at, announced_at, pid_bits_at, row_bits_at}
 use Rattle.tree_words.specs.Words.{words_in, SpellsWhere}
 use Rattle.slot_rule.specs.declared.view.Reach.{Reach}
 use Rattle.slot_rule.specs.declared.view.Reach.TheVariants.{Idle, Writing, Noted}
@@ -68,13 +68,13 @@ module _ (limits : Limits) where
       (λ k. (same_limits limits limits' actor actor' (into_row row written) (into_row row' written') me is is' k, same_actor limits limits' actor actor' (into_row row written) (into_row row' written') me is is' k, rows k, same k)) p
 
   -- A word of a row changes, and so no word but this row's.
-  pub spells_row : (words : List ℕ) (memory memory' : Memory) (P Q : ℕ → Type 0) → SpellsWhere limits words memory P → (row k x : ℕ) → k < row_size → memory' ≡ record memory { rows = memory'.rows }
+  pub spells_row : (words : List ℕ) (memory memory' : Memory) (P Q : ℕ → Type 0) → SpellsWhere limits words memory P → (row k x : ℕ) → row < limits.rows → k < row_size → memory' ≡ record memory { rows = memory'.rows }
       → ((other j : ℕ) → other < limits.rows → j < row_size → Q other → get_or (set words (row_at row k) x) (row_at other j) 0 ≡ get_or (words_in (memory'.rows other)) j 0)
       → SpellsWhere limits (set words (row_at row k) x) memory' Q
-  spells_row words memory memory' P Q sp row k x small same rows = let at : ℕ = row_at row k in subst (λ z. SpellsWhere limits (set words at x) z Q) (sym same) (record {
-    slots = λ pid below. get_or-set_other words at pid x 0 (omega arith) ∙ sp.slots pid below;
-    pid_bits = λ word below. subst (IsWordOf memory.free_pids word) (sym (get_or-set_other words at (pid_bits_at word) x 0 (omega arith))) (sp.pid_bits word below);
-    row_bits = λ word below. subst (IsWordOf memory.free_rows word) (sym (get_or-set_other words at (row_bits_at word) x 0 (omega arith))) (sp.row_bits word below);
+  spells_row words memory memory' P Q sp row k x within small same rows = let at : ℕ = row_at row k in subst (λ z. SpellsWhere limits (set words at x) z Q) (sym same) (record {
+    slots = λ pid below. get_or-set_other words at (slot_at limits pid) x 0 (λ e. absurd (omega arith)) ∙ sp.slots pid below;
+    pid_bits = λ word below. subst (IsWordOf memory.free_pids word) (sym (get_or-set_other words at (pid_bits_at limits word) x 0 (λ e. absurd (omega arith)))) (sp.pid_bits word below);
+    row_bits = λ word below. subst (IsWordOf memory.free_rows word) (sym (get_or-set_other words at (row_bits_at limits word) x 0 (λ e. absurd (omega arith)))) (sp.row_bits word below);
     epoch = get_or-set_other words at epoch_at x 0 (omega arith) ∙ sp.epoch;
     announced = λ actor below. get_or-set_other words at (announced_at actor) x 0 (omega arith) ∙ sp.announced actor below;
     pads = λ i pad. get_or-set_other words at i x 0 (let high = pad.1 in omega arith) ∙ sp.pads i pad;

@@ -92,7 +92,7 @@ module _ (limits : Limits) (law : Limits → List Entry → Type 0) (apart : Kee
               }
               (extends_now s h there) h.kept h.begins h.actors
               (write_fits limits (set s.words at x) h.run actor row (written ++ x ∷ []) now within (omega arith) (stand_with s.words x (omega arith) (fits_write limits s.words h.run actor row written now_fits.reach)))
-              (spells_row limits s.words (memory_of limits h.run) (memory_of limits h.run) (IsSettled s.views) (IsSettled (set s.views id view)) h.spells row (length written + 1) x (omega arith) refl
+              (spells_row limits s.words (memory_of limits h.run) (memory_of limits h.run) (IsSettled s.views) (IsSettled (set s.views id view)) h.spells row (length written + 1) x within (omega arith) refl
               (λ other j below small st. other_row s h there at (length written + 1) x other j view refl (omega arith) below small (left_by_writer other row written x (st id view stands).0) st)),
           λ limits' actor' row' written' is' word.
               (at_each limits (λ l b q us. SitsAt l b (into_row q (us ++ x ∷ [])) (view, me.1)) actor row written me is (ap (λ (c : List (ℕ × Unit {0})). (view, c)) (ap (λ (z : Mine). z.1) is)) limits' actor' row' written' is' word, refl),
@@ -116,7 +116,7 @@ module _ (limits : Limits) (law : Limits → List Entry → Type 0) (apart : Kee
           Done,
           record {
             answered = refl;
-            spells = λ view _. spells_row limits s.words memory (record memory { rows = rows }) (IsSettled s.views) (IsSettled (set s.views id view)) h.spells row 0 header (omega arith) refl
+            spells = λ view _. spells_row limits s.words memory (record memory { rows = rows }) (IsSettled s.views) (IsSettled (set s.views id view)) h.spells row 0 header within (omega arith) refl
                 (λ other j below small st. dite (ℕ_discrete other row)
                 (λ e. subst (λ (z : ℕ). get_or (set s.words at header) (row_at z j) 0 ≡ get_or (words_in (rows z)) j 0) (sym e)
                 (placed_word s.words h.run header content j (fit s h there).reach h.wide small last spelt ∙ ap (λ o. get_or (words_in o) j 0) (sym (replaced_same row (Some content) memory.rows))))

@@ -13,9 +13,8 @@ use Rattle.deltas.specs.Memory.{Memory}
 use Rattle.traces.specs.declared.trace.Entry.{Entry}
 use Rattle.traces.specs.trace.Steps.{IsAnswer}
 use Rattle.traces.specs.trace.Trace.{memory_of}
-use Rattle.tree_words.specs.Changes.{HasWord, SetsBits, StepsChangeOneWord, WordsStandFirst, SpellsParts, changed_word, operation_of, told}
+use Rattle.tree_words.specs.Changes.{HasWord, SetsBits, StepsChangeOneWord, WordsStandApart, SpellsParts, changed_word, operation_of, told}
 use Rattle.tree_words.specs.declared.operations.Operation.TheVariants.{Load}
-use Rattle.tree_words.specs.Layout.{rows_at}
 use Rattle.slot_rule.specs.declared.view.Part.{Part}
 use Rattle.slot_rule.specs.declared.view.Reach.TheVariants.{Idle}
 use Rattle.slot_rule.specs.Running.{Each, IsSettled, PartFits}
@@ -43,33 +42,33 @@ reads_none (Retire epoch) is = tt
 reads_none (ReusePids word bits) is = cc
 reads_none (ReuseRows word bits) is = cc
 
-reads_number : (step : Step Record) (found : ℕ) → HasWord step → operation_of step ≡ Load → told step found ≡ Number found
-reads_number (Slot pid) found has is = refl
-reads_number (Row row) found has is = refl
-reads_number Epoch found has is = refl
-reads_number (Announce actor) found has is = refl
-reads_number (PidBits word) found has is = refl
-reads_number (RowBits word) found has is = refl
-reads_number (Place row content) found has is = absurd has
-reads_number (Exchange slot old new) found has is = cc
-reads_number (TakePid pid) found has is = cc
-reads_number (TakeRow row) found has is = cc
-reads_number (Enter epoch) found has is = cc
-reads_number Leave found has is = cc
-reads_number (Retire epoch) found has is = cc
-reads_number (ReusePids word bits) found has is = cc
-reads_number (ReuseRows word bits) found has is = cc
+reads_number : (limits : Limits) (step : Step Record) (found : ℕ) → HasWord limits step → operation_of step ≡ Load → told step found ≡ Number found
+reads_number limits (Slot pid) found has is = refl
+reads_number limits (Row row) found has is = refl
+reads_number limits Epoch found has is = refl
+reads_number limits (Announce actor) found has is = refl
+reads_number limits (PidBits word) found has is = refl
+reads_number limits (RowBits word) found has is = refl
+reads_number limits (Place row content) found has is = absurd has
+reads_number limits (Exchange slot old new) found has is = cc
+reads_number limits (TakePid pid) found has is = cc
+reads_number limits (TakeRow row) found has is = cc
+reads_number limits (Enter epoch) found has is = cc
+reads_number limits Leave found has is = cc
+reads_number limits (Retire epoch) found has is = cc
+reads_number limits (ReusePids word bits) found has is = cc
+reads_number limits (ReuseRows word bits) found has is = cc
 
 module _ (change : StepsChangeOneWord) (limits : Limits) (law : Limits → List Entry → Type 0) where
   -- what the memory answers after the longest run
-  answered : (s : TableState) (h : Rule limits law s) (actor i : ℕ) (step : Step Record) → actor < 16 → HasWord step → operation_of step ≡ Load → i ≡ changed_word actor step
+  answered : (s : TableState) (h : Rule limits law s) (actor i : ℕ) (step : Step Record) → actor < 16 → HasWord limits step → operation_of step ≡ Load → i ≡ changed_word limits actor step
       → IsAnswer (memory_of limits h.run) step (Number (get_or s.words i 0))
   answered s h actor i step few has reads at =
       let m : Memory = memory_of limits h.run in
       let parts : SpellsParts limits s.words m = spells_views limits s.words m (IsSettled s.views) (λ row. ⊥) (λ row none. absurd none) h.spells in
-      let found : ℕ = get_or s.words (changed_word actor step) 0 in
+      let found : ℕ = get_or s.words (changed_word limits actor step) 0 in
       let told_is : IsAnswer m step (told step found) = (change limits s.words m actor step h.wide parts few has (reads_none step reads)).answers in
-      let number : IsAnswer m step (Number found) = subst (IsAnswer m step) (reads_number step found has reads) told_is in
+      let number : IsAnswer m step (Number found) = subst (IsAnswer m step) (reads_number limits step found has reads) told_is in
       subst (λ (j : ℕ). IsAnswer m step (Number (get_or s.words j 0))) (sym at) number
 
   watches : (slots id : ℕ) (me : Mine) (i : ℕ) → Allows (Rule limits law) slots id me i (λ n. n) (Watches law (made slots i 0 0 none) me)
@@ -86,18 +85,18 @@ module _ (change : StepsChangeOneWord) (limits : Limits) (law : Limits → List 
             let saw : seen_of (view, me.1) ≡ run = ap seen_of now in (
               subst (λ (seen : List Entry). (view, me.1) ≡ (alone limits' actor seen Idle, [])) (sym saw) now,
               subst (λ (z : Limits × List Entry). Watched law z.0 actor (seen_of me) step (get_or s.words i 0) z.1) (λ k. (sym fits.own_limits k, sym saw k))
-                  record { legal = h.legal; extends = fits.extends; begins = h.begins; answered = answered s h actor i step few has reads word },
+                  record { legal = h.legal; extends = fits.extends; begins = h.begins; answered = answered s h actor i step few (subst (λ (l : Limits). HasWord l step) fits.own_limits has) reads (subst (λ (l : Limits). i ≡ changed_word l actor step) fits.own_limits word) },
             ),
       )
 
 -- the same as the function asks for it
-module _ (change : StepsChangeOneWord) (first : WordsStandFirst) (law : Limits → List Entry → Type 0) (limits key : Limits) (table seat : TableId) (of : IsOf limits key table seat) where
-  pub watches_at : (slots id : ℕ) (me : Mine) (actor i : ℕ) (step : Step Record) → actor < 16 → HasWord step → i ≡ changed_word actor step
+module _ (change : StepsChangeOneWord) (first : WordsStandApart) (law : Limits → List Entry → Type 0) (limits key : Limits) (table seat : TableId) (of : IsOf limits key table seat) where
+  pub watches_at : (slots id : ℕ) (me : Mine) (actor i : ℕ) (step : Step Record) → actor < 16 → HasWord limits step → i ≡ changed_word limits actor step
       → (seat ≡ table) × (i < table.words) × Allows (Rule key law) slots id me i (λ n. n) (Watches law (made slots i 0 0 none) me)
   watches_at slots id me actor i step few has at =
-      let low : changed_word actor step < rows_at = first actor step few has in
+      let own = (first limits actor step few has).there in
       let wide = of.wide in (
         of.same,
-        omega (arith, at, low, wide),
+        omega (arith, at, own, wide),
         watches change key law slots id me i,
       )

@@ -87,7 +87,7 @@ pub record Watched (law : Limits → List Entry → Type 0) (limits : Limits) (a
   pub answered : IsAnswer (memory_of limits later) step (Number word)
 
 abbrev pub Watches : (Limits → List Entry → Type 0) → Made (Unit {0}) → Mine → ℕ → Mine → Type 0
-Watches law made me found me' = (limits : Limits) (actor : ℕ) (step : StepOf Record) → SitsAt limits actor Idle me → actor < 16 → HasWord step → operation_of step ≡ Load → made.word ≡ changed_word actor step
+Watches law made me found me' = (limits : Limits) (actor : ℕ) (step : StepOf Record) → SitsAt limits actor Idle me → actor < 16 → HasWord limits step → operation_of step ≡ Load → made.word ≡ changed_word limits actor step
     → SitsAt limits actor Idle me' × Watched law limits actor (seen_of me) step found (seen_of me')
 
 -- A word of a row whose record was read is looked at, and the seat is as it was. No step is taken.

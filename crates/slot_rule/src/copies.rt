@@ -22,7 +22,7 @@ pub fn read_used<P: Law>(
     seat: &mut TableSeat,
     limits: &Limits,
     actor: u8,
-    row: u16,
+    row: u32,
     found: &mut [u64; ROW_WORDS],
 )
     requires law { KeepsRowsApart limits.now (P.law limits.now) }
@@ -45,7 +45,7 @@ fn copy_used<P: Law>(
     seat: &mut TableSeat,
     limits: &Limits,
     actor: u8,
-    row: u16,
+    row: u32,
     first: u64,
     found: &mut [u64; ROW_WORDS],
 )

@@ -24,7 +24,7 @@ pub fn place_row<P: Law>(
     seat: &mut TableSeat,
     limits: &Limits,
     actor: u8,
-    row: u16,
+    row: u32,
     content: &Record,
     spelt: &[u64; ROW_WORDS],
 )
@@ -54,7 +54,7 @@ fn place_header<P: Law, C: Telling>(
     seat: &mut TableSeat,
     limits: &Limits,
     actor: u8,
-    row: u16,
+    row: u32,
     content: &Record,
     spelt: &[u64; ROW_WORDS],
 )

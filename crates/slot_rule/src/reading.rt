@@ -22,7 +22,7 @@ pub fn read_first<P: Law>(
     seat: &mut TableSeat,
     limits: &Limits,
     actor: u8,
-    row: u16,
+    row: u32,
 ) -> u64
     requires law { KeepsRowsApart limits.now (P.law limits.now) }
     requires table { IsOf limits.now words.now.key words.now.table_id seat.old.table_id }
@@ -46,7 +46,7 @@ pub fn look_at<P: Law>(
     seat: &mut TableSeat,
     limits: &Limits,
     actor: u8,
-    row: u16,
+    row: u32,
     at: usize,
 ) -> u64
     requires law { KeepsRowsApart limits.now (P.law limits.now) }

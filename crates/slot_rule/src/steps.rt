@@ -28,7 +28,7 @@ pub fn act<P: Law>(
     reply: Option<&Reply>,
 ) -> Told
     requires table { IsOf limits.now words.now.key words.now.table_id seat.old.table_id }
-    requires range { HasWord (lent step.now) }
+    requires range { HasWord limits.now (lent step.now) }
     requires actor { actor < 16 }
     requires seat { SitsAt limits.now actor Idle seat.old.me }
     requires may { IsLawfulStep P.law limits.now actor (seen_of seat.old.me) (option_copied begun) (lent step.now) (option_copied reply) }
@@ -53,7 +53,7 @@ fn act_told<P: Law, C: Telling>(
     requires begun { option_copied begun ≡ C.begun }
     requires reply { option_copied reply ≡ C.reply }
     requires table { IsOf limits.now words.now.key words.now.table_id seat.old.table_id }
-    requires range { HasWord (lent step.now) }
+    requires range { HasWord limits.now (lent step.now) }
     requires actor { actor < 16 }
     requires seat { SitsAt limits.now actor Idle seat.old.me }
     requires may { IsLawfulStep P.law limits.now actor (seen_of seat.old.me) C.begun (lent step.now) C.reply }
@@ -63,16 +63,16 @@ fn act_told<P: Law, C: Telling>(
 {
     let _ = begun;
     let _ = reply;
-    let operation = made_by(step);
+    let operation = made_by(limits, step);
     let found = operate::<P, C>(
         words,
         seat,
         limits,
         actor,
-        word_place(actor, step),
+        word_place(limits, actor, step),
         operation,
     );
-    told_by(step, found)
+    told_by(limits, step, found)
 }
 
 /// Makes the operation that the step is, and answers the number that it found; of a store, the number that it wrote.
@@ -85,12 +85,12 @@ fn operate<P: Law, C: Telling>(
     operation: Operation,
 ) -> u64
     requires table { IsOf limits.now words.now.key words.now.table_id seat.old.table_id }
-    requires range { HasWord C.step }
+    requires range { HasWord limits.now C.step }
     requires bits { SetsBits C.step }
     requires actor { actor < 16 }
     requires seat { SitsAt limits.now actor Idle seat.old.me }
     requires may { IsLawfulStep P.law limits.now actor (seen_of seat.old.me) C.begun C.step C.reply }
-    requires place { at ≡ changed_word actor C.step }
+    requires place { at ≡ changed_word limits.now actor C.step }
     requires operation { operation ≡ operation_of C.step }
     ensures same { seat.new.table_id ≡ seat.old.table_id }
     ensures seat { SitsAt limits.now actor Idle seat.new.me }

@@ -9,7 +9,7 @@ pub enum Reach {
     /// Between two steps.
     Idle,
     /// In the midst of placing a record into this row, with the words that it has written there behind the header.
-    Writing(u16, LinkedList<u64>),
+    Writing(u32, LinkedList<u64>),
     /// Nowhere: this is a note of what the actor had seen, with which no step is taken.
     Noted,
 }

@@ -22,7 +22,7 @@ pub fn watch<P: Law>(
     step: &Step<&Record>,
 ) -> u64
     requires table { IsOf limits.now words.now.key words.now.table_id seat.old.table_id }
-    requires range { HasWord (lent step.now) }
+    requires range { HasWord limits.now (lent step.now) }
     requires reads { operation_of (lent step.now) ≡ Load }
     requires actor { actor < 16 }
     requires seat { SitsAt limits.now actor Idle seat.old.me }
@@ -30,7 +30,6 @@ pub fn watch<P: Law>(
     ensures seat { SitsAt limits.now actor Idle seat.new.me }
     ensures watched { Watched P.law limits.now actor (seen_of seat.old.me) (lent step.now) result (seen_of seat.new.me) }
 {
-    let _ = limits;
     steps_change_one_word();
-    words.load::<Watching<P>>(seat, word_place(actor, step))
+    words.load::<Watching<P>>(seat, word_place(limits, actor, step))
 }

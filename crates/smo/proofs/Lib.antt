@@ -8,6 +8,7 @@ pub mod RemoveFits
 pub mod MergeFits
 pub mod UntermFits
 pub mod Due
+pub mod Few
 pub mod Leaves
 pub mod MapKept
 pub mod TestedLeaves

@@ -29,7 +29,7 @@ pub use page_in_hand::{Name, PageInHand};
 pub use plan_laws::{links_keep_the_index, links_keep_the_map, plans_are_due};
 pub use remove::plan_remove;
 pub use root::plan_root;
-pub use sizes::{FEW_ITEMS, MANY_DELTAS, MANY_ITEMS, TOP_LEVEL};
+pub use sizes::{FEW_ITEMS, MANY_DELTAS, MANY_ITEMS, TOP_LEVEL, many_deltas};
 pub use split::{SplitPlan, plan_split};
 pub use term::plan_term;
 pub use unterm::plan_unterm;

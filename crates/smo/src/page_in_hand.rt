@@ -12,8 +12,8 @@ use std::marker::Model;
 /// Which page was read, and the row that its slot had.
 #[derive(Clone, Copy)]
 pub struct Name {
-    pub pid: u16,
-    pub head: u16,
+    pub pid: u32,
+    pub head: u32,
     pub ghost is_pid: { IsPid pid },
     pub ghost is_row: { IsRow head },
 }
@@ -48,14 +48,14 @@ impl<A: Allocator + Copy> PageInHand<A> {
 
 impl<A: Allocator> PageInHand<A> {
     /// The page's PID.
-    pub fn pid(&self) -> u16
+    pub fn pid(&self) -> u32
         ensures { result ≡ self.now.pid }
     {
         self.name.pid
     }
 
     /// The row that its slot had.
-    pub fn head(&self) -> u16
+    pub fn head(&self) -> u32
         ensures { result ≡ self.now.head }
     {
         self.name.head
@@ -69,7 +69,7 @@ impl<A: Allocator> PageInHand<A> {
     }
 
     /// Receives a page that was read whole, and gives the rows of the page that it was.
-    pub fn receive(&mut self, pid: u16, head: u16, part: &mut ChainPart<A>)
+    pub fn receive(&mut self, pid: u32, head: u32, part: &mut ChainPart<A>)
         requires pid { IsPid pid }
         requires head { IsRow head }
         requires chain { IsPageChain part.old }

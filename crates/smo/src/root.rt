@@ -36,7 +36,7 @@ pub fn plan_root<A: Allocator>(left: &PageInHand<A>, right: &PageInHand<A>) -> O
 }
 
 /// The terms of a page at the empty key, and of one at a key above.
-fn two_terms(left: u16, separator: Key, right: u16) -> Items
+fn two_terms(left: u32, separator: Key, right: u32) -> Items
     requires { IsTrue (is_below [] separator) }
     ensures { result ≡ record { key = []; content = Child left false } ∷ record { key = separator; content = Child right false } ∷ [] }
 {

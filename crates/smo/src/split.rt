@@ -14,12 +14,12 @@ use std::alloc::Allocator;
 #[derive(Drop)]
 pub struct SplitPlan {
     pub upper: Page,
-    pub next: u16,
+    pub next: u32,
 }
 
 impl SplitPlan {
     /// The split, where the new page has this PID.
-    pub fn split(&self, right: u16) -> Split
+    pub fn split(&self, right: u32) -> Split
         ensures { result ≡ split_to self.now right }
     {
         Split {

@@ -12,9 +12,9 @@ use std::alloc::Allocator;
 #[inline(never)]
 pub(crate) fn exchange_link<A: Allocator>(
     table: &CoreTable<A>,
-    slot: u16,
-    old: u16,
-    new: u16,
+    slot: u32,
+    old: u32,
+    new: u32,
 ) -> Option<Link>
     ensures { result ≡ link_of (memory_in table.now) slot old new }
 {

@@ -1,5 +1,5 @@
 -- A sweep stays sound, and has fewer steps left after each answer.
-use Rattle.std.proofs.Common.{◌≡◌, ◌<◌, ◌≤◌, ◌*◌, ◌-◌, ◌/◌, ◌^◌, ◌++◌, inl, inr, ℕ, suc, List, [], ◌∷◌, length, length-append, eqb, Some, None, true, false, refl, sym, ap, ◌∙◌, arith}
+use Rattle.std.proofs.Common.{◌+◌, ◌≡◌, ◌<◌, ◌≤◌, ◌*◌, ◌-◌, ◌/◌, ◌^◌, ◌++◌, inl, inr, ℕ, suc, List, [], ◌∷◌, length, length-append, eqb, Some, None, true, false, refl, sym, ap, ◌∙◌, arith}
 use Rattle.std.specs.Prelude.{◌&&◌}
 use Rattle.std.specs.List.{All, list_any}
 use Rattle.std.proofs.lemmas.Bool.{cases_Bool, cases_eq, cases_lt, eq-eqb, eqb-true, and_parts, or_parts}
@@ -18,7 +18,7 @@ use Rattle.epochs.specs.Limbo.{IsLimboList, Limbo, LimboList, all_restaged, comp
 use Rattle.epochs.specs.Words.{HandsNothingOn, HandsOn, HasNone, may_go}
 use Rattle.sweep.specs.declared.sweep.State.{State}
 use Rattle.sweep.specs.declared.sweep.State.TheVariants as state
-use Rattle.sweep.specs.Bounded.{reuses_left, steps_left}
+use Rattle.sweep.specs.Bounded.{most_steps, reuses_left, steps_left}
 use Rattle.sweep.specs.Kept.{IsLimboOf}
 use Rattle.sweep.specs.Moves.{BeginsSweep, Compares, Frees, IsEmpty, Moves, Stamps, has_unstamped}
 use Rattle.sweep.specs.Sweeps.{ComesFirst, HasPlace, IsInOrder, IsSame, IsSoundState, IsSoundSweep, Sweep}
@@ -73,7 +73,7 @@ pub record Follow (limits : Limits) (limbo : Limbo) (next : State) (few : ℕ) :
   pub lists : IsLimboOf limits limbo
   pub sound : IsSoundState limits next
   pub order : IsInOrder next limbo
-  pub fewer : steps_left next < few
+  pub fewer : steps_left limits next < few
 
 module _ (limits : Limits) where
   restaged_whole : (f : Stage → Stage) (limbo : Limbo) → IsWhole limits limbo → IsWhole limits (all_restaged f limbo)
@@ -84,7 +84,7 @@ module _ (limits : Limits) where
   }
 
   -- the first reuse
-  frees_follow : (limbo after : Limbo) (next : State) → IsWhole limits limbo → Frees limbo (Some next) after → Follow limits after next 321
+  frees_follow : (limbo after : Limbo) (next : State) → IsWhole limits limbo → Frees limbo (Some next) after → Follow limits after next (limits.rows / 64 + limits.pids / 64 + 1)
   frees_follow limbo after (state.Reuse (Rows word bits)) whole frees =
       let place = hands_place limbo.rows whole.rows word bits after.rows frees.0 in
       record {
@@ -106,17 +106,17 @@ module _ (limits : Limits) where
   frees_follow limbo after (state.Announce announces) whole frees = absurd frees
 
   -- the next one has a later word
-  later_follow : (limbo after : Limbo) (reuse : Reuse) (next : State) → IsWhole limits limbo → HasPlace limits reuse → ComesFirst reuse limbo → Frees limbo (Some next) after → Follow limits after next (reuses_left reuse)
+  later_follow : (limbo after : Limbo) (reuse : Reuse) (next : State) → IsWhole limits limbo → HasPlace limits reuse → ComesFirst reuse limbo → Frees limbo (Some next) after → Follow limits after next (reuses_left limits reuse)
   later_follow limbo after (Rows word bits) (state.Reuse (Rows word' bits')) whole place first frees =
       let h = frees_follow limbo after (state.Reuse (Rows word' bits')) whole frees in
       let some = frees.0.first.some in
       let beyond : word < some.0 / 64 = first some.0 some.2 in
       let at : some.0 / 64 ≡ word' = some.1 in
-      let few = limits.allowed.few_rows in
+      let few = limits.allowed.whole_rows in
       record { lists = h.lists; sound = h.sound; order = h.order; fewer = omega (arith, beyond, at, place, few) }
   later_follow limbo after (Rows word bits) (state.Reuse (Pids word' bits')) whole place first frees =
       let h = frees_follow limbo after (state.Reuse (Pids word' bits')) whole frees in
-      let few = limits.allowed.few_rows in
+      let few = limits.allowed.whole_rows in
       record { lists = h.lists; sound = h.sound; order = h.order; fewer = omega (arith, place, few) }
   later_follow limbo after (Pids word bits) (state.Reuse (Rows word' bits')) whole place first frees =
       let some = frees.0.first.some in
@@ -126,13 +126,13 @@ module _ (limits : Limits) where
       let some = frees.1.first.some in
       let beyond : word < some.0 / 64 = first.1 some.0 some.2 in
       let at : some.0 / 64 ≡ word' = some.1 in
-      let few = limits.allowed.few_pids in
+      let few = limits.allowed.whole_pids in
       record { lists = h.lists; sound = h.sound; order = h.order; fewer = omega (arith, beyond, at, place, few) }
   later_follow limbo after reuse state.Epoch whole place first frees = absurd frees
   later_follow limbo after reuse (state.Retire epoch) whole place first frees = absurd frees
   later_follow limbo after reuse (state.Announce announces) whole place first frees = absurd frees
 
-  pub compares_follow : (announces : List ℕ) (limbo after : Limbo) (next : State) → IsWhole limits limbo → length announces ≤ 15 → Compares limits announces limbo (Some next) after → Follow limits after next (suc (335 - length announces))
+  pub compares_follow : (announces : List ℕ) (limbo after : Limbo) (next : State) → IsWhole limits limbo → length announces ≤ 15 → Compares limits announces limbo (Some next) after → Follow limits after next (suc (limits.rows / 64 + limits.pids / 64 + 15 - length announces))
   compares_follow announces limbo after next whole short compares = elim (cases_lt (suc (length announces)) limits.actors) [
     | inl more ↦ reads next (compares.reads more) more
     | inr all ↦
@@ -140,7 +140,7 @@ module _ (limits : Limits) where
         record { lists = h.lists; sound = h.sound; order = h.order; fewer = (let few = h.fewer in omega (arith, few, short)) }
   ]
     where
-      reads : (next : State) → (Some next ≡ Some (state.Announce announces)) × (after ≡ limbo) → suc (length announces) < limits.actors → Follow limits after next (suc (335 - length announces))
+      reads : (next : State) → (Some next ≡ Some (state.Announce announces)) × (after ≡ limbo) → suc (length announces) < limits.actors → Follow limits after next (suc (limits.rows / 64 + limits.pids / 64 + 15 - length announces))
       reads (state.Announce others) is more =
           let same : others ≡ announces = cc (is.0) in
           rw (is.1, same) (record { lists = whole.lists; sound = more; order = tt; fewer = omega arith })
@@ -148,7 +148,7 @@ module _ (limits : Limits) where
       reads (state.Retire epoch) is more = absurd (cc (is.0))
       reads (state.Reuse reuse) is more = absurd (cc (is.0))
 
-  stamps_follow : (epoch : ℕ) (limbo after : Limbo) (next : State) → IsWhole limits limbo → Stamps limits epoch limbo (Some next) after → Follow limits after next 337
+  stamps_follow : (epoch : ℕ) (limbo after : Limbo) (next : State) → IsWhole limits limbo → Stamps limits epoch limbo (Some next) after → Follow limits after next (most_steps limits)
   stamps_follow epoch limbo after next whole stamps = elim (cases_lt epoch (2 ^ 62)) [
     | inl below ↦ retires next (stamps.retires below) below
     | inr last ↦
@@ -156,7 +156,7 @@ module _ (limits : Limits) where
         record { lists = h.lists; sound = h.sound; order = h.order; fewer = (let few = h.fewer in omega (arith, few)) }
   ]
     where
-      retires : (next : State) → (Some next ≡ Some (state.Retire epoch)) × (after ≡ all_restaged (stamped_by epoch) limbo) → epoch < 2 ^ 62 → Follow limits after next 337
+      retires : (next : State) → (Some next ≡ Some (state.Retire epoch)) × (after ≡ all_restaged (stamped_by epoch) limbo) → epoch < 2 ^ 62 → Follow limits after next (most_steps limits)
       retires (state.Retire other) is below =
           let same : other ≡ epoch = cc (is.0) in
           rw (is.1, same) (record { lists = record { rows = whole.lists.rows; pids = whole.lists.pids }; sound = below; order = tt; fewer = omega arith })
@@ -164,13 +164,15 @@ module _ (limits : Limits) where
       retires (state.Announce announces) is below = absurd (cc (is.0))
       retires (state.Reuse reuse) is below = absurd (cc (is.0))
 
-  moves_follow : (old next : State) (told : Answer Record) (limbo after : Limbo) → IsWhole limits limbo → IsSoundState limits old → IsInOrder old limbo → Moves limits old limbo told (Some next) after → Follow limits after next (steps_left old)
+  moves_follow : (old next : State) (told : Answer Record) (limbo after : Limbo) → IsWhole limits limbo → IsSoundState limits old → IsInOrder old limbo → Moves limits old limbo told (Some next) after → Follow limits after next (steps_left limits old)
   moves_follow state.Epoch next (answer.Number n) limbo after whole sound order moves = stamps_follow n limbo after next whole moves
   moves_follow state.Epoch next answer.Start limbo after whole sound order moves = absurd moves
   moves_follow state.Epoch next (answer.Content content) limbo after whole sound order moves = absurd moves
   moves_follow state.Epoch next (answer.Whether b) limbo after whole sound order moves = absurd moves
   moves_follow state.Epoch next answer.Done limbo after whole sound order moves = absurd moves
-  moves_follow (state.Retire epoch) next told limbo after whole sound order moves = compares_follow [] limbo after next whole (omega arith) moves
+  moves_follow (state.Retire epoch) next told limbo after whole sound order moves =
+      let h = compares_follow [] limbo after next whole (omega arith) moves in
+      record { lists = h.lists; sound = h.sound; order = h.order; fewer = (let fewer = h.fewer in omega (arith, fewer)) }
   moves_follow (state.Announce announces) next (answer.Number n) limbo after whole sound order moves =
       let more : length (announces ++ n ∷ []) ≡ suc (length announces) = (let long = length-append announces (n ∷ []) in omega (arith, long)) in
       let few = limits.allowed.few_actors in
@@ -184,7 +186,7 @@ module _ (limits : Limits) where
 
 -- a sweep that goes on
 pub goes_on : (old new : Sweep) (told : Answer Record) (limbo after : Limbo) → IsLimboList limbo.rows → IsLimboList limbo.pids → IsSoundState old.limits old.state → IsSoundSweep old limbo → IsSame old new → Moves old.limits old.state limbo told (Some new.state) after
-    → IsSoundState new.limits new.state × IsSoundSweep new after × (steps_left new.state < steps_left old.state)
+    → IsSoundState new.limits new.state × IsSoundSweep new after × (steps_left old.limits new.state < steps_left old.limits old.state)
 goes_on old new told limbo after rows pids sound swept same moves =
     let h = moves_follow old.limits old.state new.state told limbo after (whole old.limits limbo rows pids swept.lists) sound swept.order moves in
     (rw same.limits h.sound, record { lists = rw same.limits h.lists; order = h.order }, h.fewer)

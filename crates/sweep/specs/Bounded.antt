@@ -1,22 +1,27 @@
--- How many steps a sweep takes at most: the words come in ascending order, 256 of rows at most, and 64 of PIDs.
-use Rattle.std.specs.Prelude.{◌<◌, ◌-◌, ℕ, length, Bool, true, false}
+-- How many steps a sweep takes at most: the words come in ascending order.
+use Rattle.std.specs.Prelude.{◌<◌, ◌+◌, ◌-◌, ◌/◌, ℕ, length, Bool, true, false}
+use Rattle.tree_limits.specs.declared.limits.Limits.{Limits}
 use Rattle.epochs.specs.declared.item.Reuse.{Reuse}
 use Rattle.epochs.specs.declared.item.Reuse.TheVariants.{Rows, Pids}
 use Rattle.sweep.specs.declared.sweep.State.{State}
 use Rattle.sweep.specs.declared.sweep.State.TheVariants as state
 
-abbrev pub reuses_left : Reuse → ℕ
-reuses_left (Rows word bits) = 320 - word
-reuses_left (Pids word bits) = 64 - word
+abbrev pub reuses_left : Limits → Reuse → ℕ
+reuses_left limits (Rows word bits) = limits.rows / 64 + limits.pids / 64 - word
+reuses_left limits (Pids word bits) = limits.pids / 64 - word
+
+-- how many steps a sweep takes at most
+abbrev pub most_steps : Limits → ℕ
+most_steps limits = limits.rows / 64 + limits.pids / 64 + 17
 
 -- how many are left with the one that it has asked for
-abbrev pub steps_left : State → ℕ
-steps_left state.Epoch = 337
-steps_left (state.Retire epoch) = 336
-steps_left (state.Announce announces) = 335 - length announces
-steps_left (state.Reuse reuse) = reuses_left reuse
+abbrev pub steps_left : Limits → State → ℕ
+steps_left limits state.Epoch = most_steps limits
+steps_left limits (state.Retire epoch) = limits.rows / 64 + limits.pids / 64 + 16
+steps_left limits (state.Announce announces) = limits.rows / 64 + limits.pids / 64 + 15 - length announces
+steps_left limits (state.Reuse reuse) = reuses_left limits reuse
 
 -- A sweep that goes on has fewer steps left; one that has ended had one.
-abbrev pub Spends : Bool → State → State → Type 0
-Spends true old new = steps_left new < steps_left old
-Spends false old new = 0 < steps_left old
+abbrev pub Spends : Limits → Bool → State → State → Type 0
+Spends limits true old new = steps_left limits new < steps_left limits old
+Spends limits false old new = 0 < steps_left limits old

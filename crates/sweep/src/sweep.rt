@@ -7,7 +7,7 @@ ghost use Rattle.traces.specs.discipline.Knowledge.{Knowledge, learn};
 ghost use Rattle.traces.specs.discipline.Useful.{IsUseful};
 ghost use Rattle.epochs.specs.Limbo.{Limbo as LimboSeen};
 ghost use Rattle.traces.specs.trace.Within.{IsWithin};
-ghost use Rattle.sweep.specs.Bounded.{Spends, steps_left};
+ghost use Rattle.sweep.specs.Bounded.{Spends, most_steps, steps_left};
 ghost use Rattle.sweep.specs.Kept.{IsLimboOf};
 ghost use Rattle.sweep.specs.Moves.{BeginsSweep, Compares, Frees, IsEmpty, Moves, Stamps, state_if};
 ghost use Rattle.sweep.specs.Sweeps.{Follows, IsOfSweep, IsSame, IsSoundSweep, FitsSweep, IsKeptOutside, Shows, other_at, wanted};
@@ -30,7 +30,7 @@ pub(crate) enum State {
     Reuse { reuse: Reuse },
 }
 
-/// The sweep of an actor's limbo that is under way. It takes at most 337 steps.
+/// The sweep of an actor's limbo that is under way. It takes few steps: one for each word of free bits at most, and 17.
 #[derive(Drop)]
 pub struct Sweep {
     limits: Limits,
@@ -60,7 +60,7 @@ impl Sweep {
         ensures sound { IfSome result (λ sweep. IsSoundSweep sweep limbo.new) }
         ensures lists { IsLimboOf limits.now limbo.new }
         ensures shows { (k : Knowledge) → IsKeptOutside limits.now actor limbo.old k → MatchOption result (IsKeptOutside limits.now actor limbo.new k) (λ sweep. Shows sweep limbo.new k) }
-        ensures few { IfSome result (λ sweep. steps_left sweep.state ≤ 337) }
+        ensures few { IfSome result (λ sweep. steps_left limits.now sweep.state ≤ most_steps limits.now) }
     {
         limbo.has_each_once();
         let state = first(limits, limbo)?;
@@ -100,7 +100,7 @@ impl Sweep {
         ensures follows { (k : Knowledge) → Shows self.old limbo.old k → Fits self.old.limits k (wanted self.old) (answer_of told) → Follows k (learn k (wanted self.old) (answer_of told)) self.new limbo.new result }
         ensures sound { IsTrue result → IsSoundSweep self.new limbo.new }
         ensures lists { IsLimboOf self.old.limits limbo.new }
-        ensures spends { Spends result self.old.state self.new.state }
+        ensures spends { Spends self.old.limits result self.old.state self.new.state }
     {
         let _ = &self.limits;
         limbo.has_each_once();

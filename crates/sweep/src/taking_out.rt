@@ -6,7 +6,7 @@ use epochs::{Item, Limbo};
 use std::alloc::Allocator;
 
 /// These rows were unlinked, and the PID, if there is one.
-pub fn take_out<A: Allocator>(limbo: &mut Limbo<A>, rows: &[u16], pid: Option<u16>)
+pub fn take_out<A: Allocator>(limbo: &mut Limbo<A>, rows: &[u32], pid: Option<u32>)
     requires { AreNew rows.now pid limbo.old }
     ensures { limbo.new ≡ with_taken rows.now pid limbo.old }
 {

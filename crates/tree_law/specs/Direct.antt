@@ -19,7 +19,7 @@ use Rattle.traces.specs.declared.trace.Entry.TheVariants.{Begin, Step}
 use Rattle.traces.specs.discipline.Discipline.{IsAllowed}
 use Rattle.traces.specs.discipline.Disciplined.{IsDisciplined}
 use Rattle.traces.specs.discipline.Knowledge.{Ready, knows}
-use Rattle.traces.specs.discipline.Recalled.{Recalled, Walk, AnyNames, IsStepSpent, IsUnread, is_removal, recalls, removal_level}
+use Rattle.traces.specs.discipline.Recalled.{Recalled, Walk, AnyNames, IsStepSpent, IsUnread, cause_worth, is_removal, recalls, removal_level}
 use Rattle.traces.specs.trace.Steps.{IsAnswer}
 use Rattle.traces.specs.trace.Trace.{memory_of}
 use Rattle.traces.specs.discipline.Useful.{IsUseful}
@@ -61,7 +61,7 @@ module _ (limits : Limits) (entries : List Entry) (operation : Operation) where
     pub causes : List ℕ
     pub increasing : IsStrictlyIncreasing causes
     pub each : All (λ cause. (cause < length entries) × IsCause limits entries operation cause) causes
-    pub paid : count_by (is_step_of operation.actor) (drop operation.start entries) + left ≤ 2 ^ 18 * (length causes + 1)
+    pub paid : count_by (is_step_of operation.actor) (drop operation.start entries) + left ≤ cause_worth limits * (length causes + 1)
 
 -- The trace is direct. What an actor recalls, its last operation has read, and not in the slot of a page that it has made
 -- ready itself; and where that operation has linked an update, the actor knows of it.
@@ -84,21 +84,21 @@ pub record StaysDirect (limits : Limits) (entries : List Entry) (entry : Entry) 
 
 -- A begin keeps one, with 2^18 steps at most.
 abbrev pub BeginsDirectly : Type 0
-BeginsDirectly = (limits : Limits) (entries : List Entry) (actor left : ℕ) (command : Command) → IsDirectState limits entries → left ≤ 2 ^ 18 → StaysDirect limits entries (Begin actor command) actor left
+BeginsDirectly = (limits : Limits) (entries : List Entry) (actor left : ℕ) (command : Command) → IsDirectState limits entries → left ≤ cause_worth limits → StaysDirect limits entries (Begin actor command) actor left
 
 -- A step that is allowed, and of use, keeps one, where its operation has spent a step, or was paid.
 abbrev pub StepsDirectly : Type 0
 StepsDirectly = (limits : Limits) (entries : List Entry) (actor left rest : ℕ) (step : StepOf Record) (answer : Answer Record) (reply : Option Reply) → IsState limits entries
     → IsAllowed limits actor (knows entries actor) step reply → IsUseful (knows entries actor) step → IsAnswer (memory_of limits entries) step answer → IsDirectState limits entries → Accounts limits entries actor left
-    → IsStepSpent (recalls entries actor) step answer left rest → StaysDirect limits entries (Step actor step answer reply) actor rest
+    → IsStepSpent limits (recalls entries actor) step answer left rest → StaysDirect limits entries (Step actor step answer reply) actor rest
 
 -- Along these entries each operation says how many steps it has left: 2^18 at most when it begins; and with each step, which is
 -- of use, it has spent one, or was paid.
-abbrev pub SpendsFrom : (ℕ → ℕ) → List Entry → List Entry → Type 0
-SpendsFrom left before [] = ⊤
-SpendsFrom left before (Begin actor command ∷ entries) = (rest : ℕ) × (rest ≤ 2 ^ 18) × SpendsFrom (replaced_at actor rest left) (before ++ Begin actor command ∷ []) entries
-SpendsFrom left before (Step actor step answer reply ∷ entries) = (rest : ℕ) × IsUseful (knows before actor) step × IsStepSpent (recalls before actor) step answer (left actor) rest × SpendsFrom (replaced_at actor rest left) (before ++ Step actor step answer reply ∷ []) entries
+abbrev pub SpendsFrom : Limits → (ℕ → ℕ) → List Entry → List Entry → Type 0
+SpendsFrom limits left before [] = ⊤
+SpendsFrom limits left before (Begin actor command ∷ entries) = (rest : ℕ) × (rest ≤ cause_worth limits) × SpendsFrom limits (replaced_at actor rest left) (before ++ Begin actor command ∷ []) entries
+SpendsFrom limits left before (Step actor step answer reply ∷ entries) = (rest : ℕ) × IsUseful (knows before actor) step × IsStepSpent limits (recalls before actor) step answer (left actor) rest × SpendsFrom limits (replaced_at actor rest left) (before ++ Step actor step answer reply ∷ []) entries
 
 -- Then a trace in which each actor obeys its discipline is direct.
 abbrev pub DirectRuns : Type 0
-DirectRuns = (limits : Limits) (entries : List Entry) → IsDisciplined limits entries → SpendsFrom (λ actor. 0) [] entries → IsDirect limits entries
+DirectRuns = (limits : Limits) (entries : List Entry) → IsDisciplined limits entries → SpendsFrom limits (λ actor. 0) [] entries → IsDirect limits entries

@@ -12,3 +12,16 @@ pub record AreLimits (actors pids rows epoch : ℕ) : Type 0 where
   pub whole_rows : rows % 64 ≡ 0
   pub some_epoch : 1 ≤ epoch
   pub small_epoch : epoch ≤ 2 ^ 62
+
+-- The numbers that limits of a large tree may have.
+pub record AreLargeLimits (actors pids rows epoch : ℕ) : Type 0 where
+  pub some_actor : 1 ≤ actors
+  pub few_actors : actors ≤ 16
+  pub some_pids : 64 ≤ pids
+  pub few_pids : pids ≤ 4194304
+  pub whole_pids : pids % 64 ≡ 0
+  pub some_rows : 64 ≤ rows
+  pub few_rows : rows ≤ 67108864
+  pub whole_rows : rows % 64 ≡ 0
+  pub some_epoch : 1 ≤ epoch
+  pub small_epoch : epoch ≤ 2 ^ 62

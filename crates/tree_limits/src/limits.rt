@@ -1,6 +1,6 @@
 //! How large a tree is.
-ghost use Rattle.std.specs.Prelude.{◌≡◌, ◌≤◌, ◌%◌, ◌↔◌, IsOk, IfOk, IsTrue};
-ghost use Rattle.tree_limits.specs.Limits.{AreLimits};
+ghost use Rattle.std.specs.Prelude.{◌≡◌, ◌≤◌, ◌%◌, ◌^◌, ◌↔◌, IsOk, IfOk, IsTrue, true, false};
+ghost use Rattle.tree_limits.specs.Limits.{AreLargeLimits, AreLimits};
 
 use thiserror::Error;
 
@@ -12,6 +12,12 @@ pub(crate) const MAX_PIDS: u64 = 4096;
 
 /// How many rows there are at most.
 pub(crate) const MAX_ROWS: u64 = 16384;
+
+/// How many PIDs a large tree has at most.
+pub(crate) const MAX_LARGE_PIDS: u64 = 4194304;
+
+/// How many rows a large tree has at most.
+const MAX_LARGE_ROWS: u64 = 67108864;
 
 /// The last epoch that may open a tree.
 const MAX_EPOCH: u64 = 1 << 62;
@@ -36,13 +42,19 @@ pub enum OpenError {
 ///
 /// Actors: 1 to 16. PIDs: 64 to 4,096, a multiple of 64. Rows: 64 to 16,384, a multiple of 64.
 /// Epoch: 1 to 2^62.
+///
+/// Of a large tree: PIDs to 4,194,304, rows to 67,108,864, multiples of 64. Its pages are consolidated at two deltas in place of eight, and
+/// an actor that takes a free number begins at a word that the page's newest row scatters.
 #[derive(Clone, Copy, Debug, PartialEq, Eq)]
 pub struct Limits {
     pub actors: u64,
     pub pids: u64,
     pub rows: u64,
     pub epoch: u64,
-    pub ghost allowed: { AreLimits actors pids rows epoch },
+    /// Whether they are those of a large tree, whatever its numbers are.
+    pub is_large: bool,
+    pub ghost allowed: { AreLargeLimits actors pids rows epoch },
+    pub ghost small: { is_large ≡ false → AreLimits actors pids rows epoch },
 }
 
 /// Whether a count is a multiple of 64, from 64 to the most.
@@ -60,6 +72,7 @@ impl Limits {
         ensures pids { IfOk result (λ limits. limits.pids ≡ pids) }
         ensures rows { IfOk result (λ limits. limits.rows ≡ rows) }
         ensures epoch { IfOk result (λ limits. limits.epoch ≡ epoch) }
+        ensures kind { IfOk result (λ limits. limits.is_large ≡ false) }
     {
         let allowed = (1..=MAX_ACTORS).contains(&actors)
             && is_whole(pids, MAX_PIDS)
@@ -71,6 +84,55 @@ impl Limits {
                 pids,
                 rows,
                 epoch,
+                is_large: false,
+            })
+        } else {
+            Err(BadLimits)
+        }
+    }
+
+    /// These limits of a large tree: up to 4,194,304 PIDs and 67,108,864 rows. Refused exactly where a number is outside its range.
+    pub fn large(actors: u64, pids: u64, rows: u64, epoch: u64) -> Result<Limits, BadLimits>
+        ensures allowed { IsOk result ↔ AreLargeLimits actors pids rows epoch }
+        ensures actors { IfOk result (λ limits. limits.actors ≡ actors) }
+        ensures pids { IfOk result (λ limits. limits.pids ≡ pids) }
+        ensures rows { IfOk result (λ limits. limits.rows ≡ rows) }
+        ensures epoch { IfOk result (λ limits. limits.epoch ≡ epoch) }
+        ensures kind { IfOk result (λ limits. limits.is_large ≡ true) }
+    {
+        let allowed = (1..=MAX_ACTORS).contains(&actors)
+            && is_whole(pids, MAX_LARGE_PIDS)
+            && is_whole(rows, MAX_LARGE_ROWS)
+            && (1..=MAX_EPOCH).contains(&epoch);
+        if allowed {
+            Ok(Limits {
+                actors,
+                pids,
+                rows,
+                epoch,
+                is_large: true,
+            })
+        } else {
+            Err(BadLimits)
+        }
+    }
+
+    /// The same limits with another epoch that opens, refused exactly where that is outside its range.
+    pub fn opening_at(self, epoch: u64) -> Result<Limits, BadLimits>
+        ensures allowed { IsOk result ↔ (1 ≤ epoch) × (epoch ≤ 2 ^ 62) }
+        ensures actors { IfOk result (λ limits. limits.actors ≡ self.actors) }
+        ensures pids { IfOk result (λ limits. limits.pids ≡ self.pids) }
+        ensures rows { IfOk result (λ limits. limits.rows ≡ self.rows) }
+        ensures epoch { IfOk result (λ limits. limits.epoch ≡ epoch) }
+        ensures kind { IfOk result (λ limits. limits.is_large ≡ self.is_large) }
+    {
+        if (1..=MAX_EPOCH).contains(&epoch) {
+            Ok(Limits {
+                actors: self.actors,
+                pids: self.pids,
+                rows: self.rows,
+                epoch,
+                is_large: self.is_large,
             })
         } else {
             Err(BadLimits)

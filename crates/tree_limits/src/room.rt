@@ -1,8 +1,8 @@
 //! Limits by the number of keys. specs/Room.antt has the rule in one place, and docs/DECISIONS.md the reasons.
-ghost use Rattle.std.specs.Prelude.{◌≡◌, ◌≤◌, ◌^◌, ◌↔◌, ℕ, IsOk, IfOk, MatchOption};
-ghost use Rattle.tree_limits.specs.Room.{AreProposed, IsMostKeys, in_whole_words, pages_for, pids_for, rows_for};
+ghost use Rattle.std.specs.Prelude.{◌≡◌, ◌≤◌, ◌^◌, ◌↔◌, ℕ, IsOk, IfOk, MatchOption, true, false};
+ghost use Rattle.tree_limits.specs.Room.{AreProposed, AreProposedLarge, IsMostKeys, in_whole_words, large_pids_for, large_rows_for, pages_for, pids_for, rows_for};
 
-use crate::limits::{BadLimits, Limits, MAX_ACTORS, MAX_PIDS, MAX_ROWS};
+use crate::limits::{BadLimits, Limits, MAX_ACTORS, MAX_LARGE_PIDS, MAX_PIDS, MAX_ROWS};
 
 /// The bits of a word of free PIDs or rows.
 const WORD_BITS: u64 = 64;
@@ -23,6 +23,18 @@ const SEAT_PIDS: u64 = 11;
 /// How many rows a seat may hold back: two spare ones, and the most that one deletion in such a tree was measured to leave in limbo.
 const SEAT_ROWS: u64 = 120;
 
+/// The rows of the longest chain in a large tree: a base under as many deltas as make a consolidation due there.
+const LARGE_CHAIN_ROWS: u64 = 3;
+
+/// How many PIDs a seat may hold back in a large tree, whose root may be at a level twice as high.
+const LARGE_SEAT_PIDS: u64 = 22;
+
+/// How many rows a seat may hold back in a large tree.
+const LARGE_SEAT_ROWS: u64 = 240;
+
+/// In a large tree one page in so many has no keys, so that a free number is found near the word at which its taking begins.
+const LARGE_SPARE: u64 = 16;
+
 /// The epoch that opens.
 const FIRST_EPOCH: u64 = 1;
 
@@ -38,6 +50,7 @@ impl Limits {
         ensures pids { IfOk result (λ limits. limits.pids ≡ pids_for actors keys) }
         ensures rows { IfOk result (λ limits. limits.rows ≡ rows_for actors (pids_for actors keys)) }
         ensures epoch { IfOk result (λ limits. limits.epoch ≡ 1) }
+        ensures kind { IfOk result (λ limits. limits.is_large ≡ false) }
     {
         if actors > MAX_ACTORS {
             return Err(BadLimits);
@@ -47,6 +60,26 @@ impl Limits {
             return Err(BadLimits);
         }
         Limits::new(actors, pids, rows_for(actors, pids), FIRST_EPOCH)
+    }
+
+    /// The same for a large tree, whose pages have chains of three rows at most: some 1,900 bytes for each key. Refused exactly where that
+    /// is more than limits of a large tree may have.
+    pub fn for_many_keys(actors: u64, keys: u64) -> Result<Limits, BadLimits>
+        ensures allowed { IsOk result ↔ AreProposedLarge actors keys }
+        ensures actors { IfOk result (λ limits. limits.actors ≡ actors) }
+        ensures pids { IfOk result (λ limits. limits.pids ≡ large_pids_for actors keys) }
+        ensures rows { IfOk result (λ limits. limits.rows ≡ large_rows_for actors (large_pids_for actors keys)) }
+        ensures epoch { IfOk result (λ limits. limits.epoch ≡ 1) }
+        ensures kind { IfOk result (λ limits. limits.is_large ≡ true) }
+    {
+        if actors > MAX_ACTORS {
+            return Err(BadLimits);
+        }
+        let pids = large_pids_for(actors, keys);
+        if pids > MAX_LARGE_PIDS {
+            return Err(BadLimits);
+        }
+        Limits::large(actors, pids, large_rows_for(actors, pids), FIRST_EPOCH)
     }
 
     /// How many keys `for_keys` takes at most for so many actors: for one actor 12,199, for 4 11,535, for 16 9,751. None where limits
@@ -88,6 +121,24 @@ fn rows_for(actors: u64, pids: u64) -> u64
     ensures { result ≡ rows_for actors pids }
 {
     in_whole_words(CHAIN_ROWS * pids + SEAT_ROWS * actors)
+}
+
+/// The PIDs that so many keys can take in a large tree.
+fn large_pids_for(actors: u64, keys: u64) -> u64
+    requires few { actors ≤ 16 }
+    ensures { result ≡ large_pids_for actors keys }
+{
+    let pages = pages_for(keys);
+    in_whole_words(1 + pages + pages / LARGE_SPARE + LARGE_SEAT_PIDS * actors)
+}
+
+/// The rows that so many PIDs can take in a large tree.
+fn large_rows_for(actors: u64, pids: u64) -> u64
+    requires actors { actors ≤ 16 }
+    requires pids { pids ≤ 4194304 }
+    ensures { result ≡ large_rows_for actors pids }
+{
+    in_whole_words(LARGE_CHAIN_ROWS * pids + LARGE_SEAT_ROWS * actors)
 }
 
 /// As many, up to the end of the last word.

@@ -31,7 +31,7 @@ pub(crate) fn head(sheet: &mut Sheet, scene: &Scene, root_x: u32)
 }
 
 /// Slot 0, and its line to the root.
-fn slot_0(sheet: &mut Sheet, root: u16, root_x: u32)
+fn slot_0(sheet: &mut Sheet, root: u32, root_x: u32)
     ensures { sheet.new ≡ sheet.old }
 {
     sheet.rectangle(Rectangle {

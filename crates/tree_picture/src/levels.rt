@@ -18,7 +18,7 @@ fn level_row(
     sheet: &mut Sheet,
     level: &Level,
     above: Option<&Level>,
-    root: u16,
+    root: u32,
     x: u32,
     y: u32,
 ) -> Result<(), AllocError>
@@ -44,7 +44,7 @@ fn level_row(
 pub(crate) fn rows(
     sheet: &mut Sheet,
     levels: &[Level],
-    root: u16,
+    root: u32,
     width: u32,
     top: u32,
 ) -> Result<(), AllocError>

@@ -21,7 +21,7 @@ pub(crate) struct Drawn<'a> {
 }
 
 /// Whether the items have a term for the page, and whether it is held.
-fn term_in(items: &[Item], pid: u16) -> Option<bool> {
+fn term_in(items: &[Item], pid: u32) -> Option<bool> {
     for item in items {
         if let Content::Child { page, held } = &item.content {
             if *page == pid {
@@ -33,7 +33,7 @@ fn term_in(items: &[Item], pid: u16) -> Option<bool> {
 }
 
 /// Whether a level has a term for the page, and whether it is held.
-fn term_for(above: &Level, pid: u16) -> Option<bool> {
+fn term_for(above: &Level, pid: u32) -> Option<bool> {
     for page in above.pages() {
         if let Some(held) = term_in(page.page().items().as_slice(), pid) {
             return Some(held);
@@ -43,7 +43,7 @@ fn term_for(above: &Level, pid: u16) -> Option<bool> {
 }
 
 /// The mark of a page by the level above it, or of a page of the top level, of which slot 0 has the root.
-pub(crate) fn mark_of(page: &ScenePage, above: Option<&Level>, root: u16) -> Mark
+pub(crate) fn mark_of(page: &ScenePage, above: Option<&Level>, root: u32) -> Mark
     ensures { says_removed result ≡ is_removed page.now.chain }
 {
     if page.page().is_removed() {
@@ -63,7 +63,7 @@ pub(crate) fn mark_of(page: &ScenePage, above: Option<&Level>, root: u16) -> Mar
 }
 
 /// Where among some pages the one of a PID stands.
-fn place_of(pages: &[ScenePage], pid: u16) -> Option<usize> {
+fn place_of(pages: &[ScenePage], pid: u32) -> Option<usize> {
     pages.iter().position(|page| page.pid() == pid)
 }
 
@@ -130,7 +130,7 @@ fn terms(sheet: &mut Sheet, items: &[Item], x: u32, y: u32, below: Drawn<'_>)
 }
 
 /// The line of a term to its page, or the mark of a merged page, which is on no side chain any more.
-fn term(sheet: &mut Sheet, pid: u16, held: bool, x: u32, y: u32, below: Drawn<'_>)
+fn term(sheet: &mut Sheet, pid: u32, held: bool, x: u32, y: u32, below: Drawn<'_>)
     ensures { sheet.new ≡ sheet.old }
 {
     let Some(place) = place_of(below.level.pages(), pid) else {
@@ -148,7 +148,7 @@ fn term(sheet: &mut Sheet, pid: u16, held: bool, x: u32, y: u32, below: Drawn<'_
 }
 
 /// A merged page, whose term is still there.
-fn merged(sheet: &mut Sheet, pid: u16, x: u32, y: u32)
+fn merged(sheet: &mut Sheet, pid: u32, x: u32, y: u32)
     ensures { sheet.new ≡ sheet.old }
 {
     let top = y.saturating_add(24);

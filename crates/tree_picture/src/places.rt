@@ -39,7 +39,7 @@ pub(crate) fn pixels(count: usize) -> u32
 
 /// How wide some pages are beside each other.
 fn row_width(pages: usize) -> u32
-    ensures { pages ≤ 4096 → result ≡ pages * (PAGE_WIDTH + GAP) }
+    ensures { pages ≤ 4194304 → result ≡ pages * (PAGE_WIDTH + GAP) }
 {
     pixels(pages).saturating_mul(PAGE_WIDTH + GAP)
 }
@@ -47,7 +47,7 @@ fn row_width(pages: usize) -> u32
 /// How wide the picture of these levels is.
 pub(crate) fn width_of(levels: &[Level]) -> u32
     ensures wide { All (λ level. length level * (PAGE_WIDTH + GAP) + 2 * LEFT ≤ result) levels.now }
-    ensures few { result ≤ 4096 * (PAGE_WIDTH + GAP) + 2 * LEFT }
+    ensures few { result ≤ 4194304 * (PAGE_WIDTH + GAP) + 2 * LEFT }
 {
     let mut width = LEAST_WIDTH;
     for level in levels {
@@ -61,7 +61,7 @@ pub(crate) fn width_of(levels: &[Level]) -> u32
 
 /// Where the first page of a level stands, in the middle of a picture of this width.
 pub(crate) fn first_x(width: u32, pages: usize) -> u32
-    ensures { pages ≤ 4096 → pages * (PAGE_WIDTH + GAP) ≤ width → result + pages * (PAGE_WIDTH + GAP) ≤ width + GAP }
+    ensures { pages ≤ 4194304 → pages * (PAGE_WIDTH + GAP) ≤ width → result + pages * (PAGE_WIDTH + GAP) ≤ width + GAP }
 {
     width.saturating_sub(row_width(pages).saturating_sub(GAP)) / 2
 }

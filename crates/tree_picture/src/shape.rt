@@ -90,7 +90,7 @@ impl Mark {
 /// The box of a page. Its texts stand in it: its name, its mark's word and its range.
 #[derive(Drop)]
 pub struct PageBox {
-    pub pid: u16,
+    pub pid: u32,
     pub rectangle: Rectangle,
     pub mark: Mark,
     pub range: Words,

@@ -98,7 +98,7 @@ pub(crate) fn with_range(words: &mut Words, low: &Key, high: Option<&Key>)
 }
 
 /// A separator and a child.
-fn with_child(words: &mut Words, before: &[u8], separator: &Key, child: u16) {
+fn with_child(words: &mut Words, before: &[u8], separator: &Key, child: u32) {
     with_token(words, before, separator.as_slice());
     with_number(words, b" to PID ", u64::from(child));
 }

@@ -14,7 +14,7 @@ use Rattle.traces.specs.trace.Steps.{IsWordOf}
 use Rattle.record_slots.specs.Layout.{no_bound, row_size, second_at, text_size}
 use Rattle.record_slots.specs.Parts.{first_word}
 use Rattle.record_slots.specs.Spelling.{words_left, words_of}
-use Rattle.tree_words.specs.Layout.{pid_bits_at, row_bits_at, epoch_at, announced_at, row_at, rows_at, width}
+use Rattle.tree_words.specs.Layout.{slot_at, pid_bits_at, row_bits_at, epoch_at, announced_at, row_at, rows_at, width}
 use Rattle.tree_words.specs.Opening.{with_ones, with_free, opening_words}
 use Rattle.tree_words.specs.Words.{words_in, AreWordsOf}
 
@@ -122,16 +122,16 @@ module _ (limits : Limits) where
   L0 = replicate (width limits) 0
 
   abbrev L1 : List ℕ
-  L1 = with_free (pid_bits_at 0) (limits.pids / 64) L0
+  L1 = with_free (pid_bits_at limits 0) (limits.pids / 64) L0
 
   abbrev L2 : List ℕ
-  L2 = with_free (row_bits_at 0) (limits.rows / 64) L1
+  L2 = with_free (row_bits_at limits 0) (limits.rows / 64) L1
 
   abbrev L3 : List ℕ
-  L3 = set L2 0 1
+  L3 = set L2 (slot_at limits 0) 1
 
   abbrev L4 : List ℕ
-  L4 = set L3 1 1
+  L4 = set L3 (slot_at limits 1) 1
 
   abbrev L5 : List ℕ
   L5 = set L4 epoch_at limits.epoch
@@ -142,29 +142,29 @@ module _ (limits : Limits) where
   some_pids : 64 ≤ limits.pids
   some_pids = limits.allowed.some_pids
 
-  few_pids : limits.pids ≤ 4096
+  few_pids : limits.pids ≤ 4194304
   few_pids = limits.allowed.few_pids
 
   some_rows : 64 ≤ limits.rows
   some_rows = limits.allowed.some_rows
 
-  few_rows : limits.rows ≤ 16384
+  few_rows : limits.rows ≤ 67108864
   few_rows = limits.allowed.few_rows
 
   l0 : length L0 ≡ width limits
   l0 = length-replicate (width limits) 0
 
   l1 : length L1 ≡ width limits
-  l1 = free_length (pid_bits_at 0) (limits.pids / 64) L0 ∙ l0
+  l1 = free_length (pid_bits_at limits 0) (limits.pids / 64) L0 ∙ l0
 
   l2 : length L2 ≡ width limits
-  l2 = free_length (row_bits_at 0) (limits.rows / 64) L1 ∙ l1
+  l2 = free_length (row_bits_at limits 0) (limits.rows / 64) L1 ∙ l1
 
   l3 : length L3 ≡ width limits
-  l3 = length-set L2 0 1 ∙ l2
+  l3 = length-set L2 (slot_at limits 0) 1 ∙ l2
 
   l4 : length L4 ≡ width limits
-  l4 = length-set L3 1 1 ∙ l3
+  l4 = length-set L3 (slot_at limits 1) 1 ∙ l3
 
   l5 : length L5 ≡ width limits
   l5 = length-set L4 epoch_at limits.epoch ∙ l4
@@ -173,50 +173,40 @@ module _ (limits : Limits) where
   l6 = length-set L5 (row_at 1 0) (first_word 1 0 0) ∙ l5
 
   -- but for five words
-  else_where : (i : ℕ) → i ≢ 0 → i ≢ 1 → i ≢ epoch_at → i ≢ row_at 1 0 → i ≢ row_at 1 second_at → get_or (opening_words limits) i 0 ≡ get_or L2 i 0
-  else_where i a b c d e = get_or-set_other L6 (row_at 1 second_at) i no_bound 0 e ∙ get_or-set_other L5 (row_at 1 0) i (first_word 1 0 0) 0 d ∙ get_or-set_other L4 epoch_at i limits.epoch 0 c ∙ get_or-set_other L3 1 i 1 0 b ∙ get_or-set_other L2 0 i 1 0 a
+  else_where : (i : ℕ) → i ≢ slot_at limits 0 → i ≢ slot_at limits 1 → i ≢ epoch_at → i ≢ row_at 1 0 → i ≢ row_at 1 second_at → get_or (opening_words limits) i 0 ≡ get_or L2 i 0
+  else_where i a b c d e = get_or-set_other L6 (row_at 1 second_at) i no_bound 0 e ∙ get_or-set_other L5 (row_at 1 0) i (first_word 1 0 0) 0 d ∙ get_or-set_other L4 epoch_at i limits.epoch 0 c ∙ get_or-set_other L3 (slot_at limits 1) i 1 0 b ∙ get_or-set_other L2 (slot_at limits 0) i 1 0 a
 
   zero_at : (i : ℕ) → i < width limits → get_or L0 i 0 ≡ 0
   zero_at i h = get_or-replicate (width limits) i 0 0 h
 
-  nowhere : (i : ℕ) → i < width limits → i ≢ 0 → i ≢ 1 → i ≢ epoch_at → i ≢ row_at 1 0 → i ≢ row_at 1 second_at → ((k : ℕ) → k < 64 → i ≢ 4096 + k) → ((k : ℕ) → k < 256 → i ≢ 4160 + k) → get_or (opening_words limits) i 0 ≡ 0
+  nowhere : (i : ℕ) → i < width limits → i ≢ slot_at limits 0 → i ≢ slot_at limits 1 → i ≢ epoch_at → i ≢ row_at 1 0 → i ≢ row_at 1 second_at → ((k : ℕ) → k < limits.pids / 64 → i ≢ pid_bits_at limits k) → ((k : ℕ) → k < limits.rows / 64 → i ≢ row_bits_at limits k) → get_or (opening_words limits) i 0 ≡ 0
   nowhere i h a b c d e f g = else_where i a b c d e ∙ free2 i h f g
     where
-      free2 : (i : ℕ) → i < width limits → ((k : ℕ) → k < 64 → i ≢ 4096 + k) → ((k : ℕ) → k < 256 → i ≢ 4160 + k) → get_or L2 i 0 ≡ 0
+      free2 : (i : ℕ) → i < width limits → ((k : ℕ) → k < limits.pids / 64 → i ≢ pid_bits_at limits k) → ((k : ℕ) → k < limits.rows / 64 → i ≢ row_bits_at limits k) → get_or L2 i 0 ≡ 0
       free2 i h f g = let p = few_pids in let r = few_rows in let sp = some_pids in let sr = some_rows in
-          free_outside (row_bits_at 0) (limits.rows / 64) L1 i (omega arith) (λ k lt. g k (omega arith)) ∙ free_outside (pid_bits_at 0) (limits.pids / 64) L0 i (omega arith) (λ k lt. f k (omega arith)) ∙ zero_at i h
+          free_outside (row_bits_at limits 0) (limits.rows / 64) L1 i (omega arith) (λ k lt e. g k lt (omega (arith, e))) ∙ free_outside (pid_bits_at limits 0) (limits.pids / 64) L0 i (omega arith) (λ k lt e. f k lt (omega (arith, e))) ∙ zero_at i h
 
-  slot_word : (pid : ℕ) → pid < 4096 → get_or (opening_words limits) pid 0 ≡ (opening limits).slots pid
-  slot_word pid lt = elim (same_or_not pid 0) [
-    | inl zero_is ↦ rw zero_is (get_or-set_other L6 (row_at 1 second_at) 0 no_bound 0 (λ e. absurd (omega arith)) ∙ get_or-set_other L5 (row_at 1 0) 0 (first_word 1 0 0) 0 (λ e. absurd (omega arith)) ∙ get_or-set_other L4 epoch_at 0 limits.epoch 0 (λ e. absurd (omega arith)) ∙ get_or-set_other L3 1 0 1 0 (λ e. absurd (omega arith)) ∙ get_or-set_same L2 0 1 0 (let l = l2 in omega arith))
+  slot_word : (pid : ℕ) → pid < limits.pids → get_or (opening_words limits) (slot_at limits pid) 0 ≡ (opening limits).slots pid
+  slot_word pid lt = let sp = some_pids in let sr = some_rows in elim (same_or_not pid 0) [
+    | inl zero_is ↦ rw zero_is (get_or-set_other L6 (row_at 1 second_at) (slot_at limits 0) no_bound 0 (λ e. absurd (omega arith)) ∙ get_or-set_other L5 (row_at 1 0) (slot_at limits 0) (first_word 1 0 0) 0 (λ e. absurd (omega arith)) ∙ get_or-set_other L4 epoch_at (slot_at limits 0) limits.epoch 0 (λ e. absurd (omega arith)) ∙ get_or-set_other L3 (slot_at limits 1) (slot_at limits 0) 1 0 (λ e. absurd (omega arith)) ∙ get_or-set_same L2 (slot_at limits 0) 1 0 (let l = l2 in omega arith))
     | inr some ↦ elim (same_or_not pid 1) [
-      | inl one_is ↦ rw one_is (get_or-set_other L6 (row_at 1 second_at) 1 no_bound 0 (λ e. absurd (omega arith)) ∙ get_or-set_other L5 (row_at 1 0) 1 (first_word 1 0 0) 0 (λ e. absurd (omega arith)) ∙ get_or-set_other L4 epoch_at 1 limits.epoch 0 (λ e. absurd (omega arith)) ∙ get_or-set_same L3 1 1 0 (let l = l3 in omega arith))
-      | inr more ↦ rw (le_false pid 1 (omega arith)) (nowhere pid (omega arith) some more (λ e. absurd (omega arith)) (λ e. absurd (omega arith)) (λ e. absurd (omega arith)) (λ k h e. absurd (omega arith)) (λ k h e. absurd (omega arith)))
+      | inl one_is ↦ rw one_is (get_or-set_other L6 (row_at 1 second_at) (slot_at limits 1) no_bound 0 (λ e. absurd (omega arith)) ∙ get_or-set_other L5 (row_at 1 0) (slot_at limits 1) (first_word 1 0 0) 0 (λ e. absurd (omega arith)) ∙ get_or-set_other L4 epoch_at (slot_at limits 1) limits.epoch 0 (λ e. absurd (omega arith)) ∙ get_or-set_same L3 (slot_at limits 1) 1 0 (let l = l3 in omega arith))
+      | inr more ↦ rw (le_false pid 1 (omega arith)) (nowhere (slot_at limits pid) (omega arith) (λ e. some (omega arith)) (λ e. more (omega arith)) (λ e. absurd (omega arith)) (λ e. absurd (omega arith)) (λ e. absurd (omega arith)) (λ k h e. absurd (omega arith)) (λ k h e. absurd (omega arith)))
     ]
   ]
 
-  pid_word : (word : ℕ) → word < 64 → Free limits.pids word (get_or (opening_words limits) (pid_bits_at word) 0)
-  pid_word word lt = let p = few_pids in let sp = some_pids in let sr = some_rows in let r = few_rows in
-      let there : get_or (opening_words limits) (pid_bits_at word) 0 ≡ get_or L1 (pid_bits_at word) 0 =
-      else_where (pid_bits_at word) (λ e. absurd (omega arith)) (λ e. absurd (omega arith)) (λ e. absurd (omega arith)) (λ e. absurd (omega arith)) (λ e. absurd (omega arith))
-      ∙ free_outside (row_bits_at 0) (limits.rows / 64) L1 (pid_bits_at word) (omega arith) (λ k h e. absurd (omega arith)) in
-      subst (Free limits.pids word) (sym there) (elim (cases_lt word (limits.pids / 64)) [
-        | inl within ↦ subst (λ i. Free limits.pids word (get_or L1 i 0)) (omega arith) (free_inside limits.pids (pid_bits_at 0) word L0 limits.allowed.whole_pids sp within (let l = l0 in omega arith))
-        | inr past ↦ subst (Free limits.pids word) (sym (free_outside (pid_bits_at 0) (limits.pids / 64) L0 (pid_bits_at word) (omega arith) (λ k h e. absurd (omega arith)) ∙ zero_at (pid_bits_at word) (omega arith))) (past_word limits.pids word limits.allowed.whole_pids past)
-      ])
+  pid_word : (word : ℕ) → word < limits.pids / 64 → Free limits.pids word (get_or (opening_words limits) (pid_bits_at limits word) 0)
+  pid_word word lt = let sp = some_pids in let sr = some_rows in
+      let there : get_or (opening_words limits) (pid_bits_at limits word) 0 ≡ get_or L1 (pid_bits_at limits word) 0 =
+      else_where (pid_bits_at limits word) (λ e. absurd (omega arith)) (λ e. absurd (omega arith)) (λ e. absurd (omega arith)) (λ e. absurd (omega arith)) (λ e. absurd (omega arith))
+      ∙ free_outside (row_bits_at limits 0) (limits.rows / 64) L1 (pid_bits_at limits word) (omega arith) (λ k h e. absurd (omega arith)) in
+      subst (Free limits.pids word) (sym there) (subst (λ i. Free limits.pids word (get_or L1 i 0)) (omega arith) (free_inside limits.pids (pid_bits_at limits 0) word L0 limits.allowed.whole_pids sp lt (let l = l0 in omega arith)))
 
-  row_word : (word : ℕ) → word < 256 → Free limits.rows word (get_or (opening_words limits) (row_bits_at word) 0)
-  row_word word lt = let p = few_pids in let sp = some_pids in let sr = some_rows in let r = few_rows in
-      let there : get_or (opening_words limits) (row_bits_at word) 0 ≡ get_or L2 (row_bits_at word) 0 =
-      else_where (row_bits_at word) (λ e. absurd (omega arith)) (λ e. absurd (omega arith)) (λ e. absurd (omega arith)) (λ e. absurd (omega arith)) (λ e. absurd (omega arith)) in
-      subst (Free limits.rows word) (sym there) (elim (cases_lt word (limits.rows / 64)) [
-        | inl within ↦ subst (λ i. Free limits.rows word (get_or L2 i 0)) (omega arith) (free_inside limits.rows (row_bits_at 0) word L1 limits.allowed.whole_rows sr within (let l = l1 in omega arith))
-        | inr past ↦ subst (Free limits.rows word) (sym (free_outside (row_bits_at 0) (limits.rows / 64) L1 (row_bits_at word) (omega arith) (λ k h e. absurd (omega arith))
-            ∙ free_outside (pid_bits_at 0) (limits.pids / 64) L0 (row_bits_at word) (omega arith) (λ k h e. absurd (omega arith)) ∙ zero_at (row_bits_at word) (omega arith))) (past_word limits.rows word limits.allowed.whole_rows past)
-      ])
-
-  apart_from_bits : (i k : ℕ) → rows_at ≤ i → k < 256 → (i ≢ 4096 + k) × (i ≢ 4160 + k)
-  apart_from_bits i k h lt = ((λ e. absurd (omega arith)), (λ e. absurd (omega arith)))
+  row_word : (word : ℕ) → word < limits.rows / 64 → Free limits.rows word (get_or (opening_words limits) (row_bits_at limits word) 0)
+  row_word word lt = let sp = some_pids in let sr = some_rows in
+      let there : get_or (opening_words limits) (row_bits_at limits word) 0 ≡ get_or L2 (row_bits_at limits word) 0 =
+      else_where (row_bits_at limits word) (λ e. absurd (omega arith)) (λ e. absurd (omega arith)) (λ e. absurd (omega arith)) (λ e. absurd (omega arith)) (λ e. absurd (omega arith)) in
+      subst (Free limits.rows word) (sym there) (subst (λ i. Free limits.rows word (get_or L2 i 0)) (omega arith) (free_inside limits.rows (row_bits_at limits 0) word L1 limits.allowed.whole_rows sr lt (let l = l1 in omega arith)))
 
   record_word : (row j : ℕ) → row < limits.rows → j < row_size → get_or (opening_words limits) (row_at row j) 0 ≡ get_or (words_in ((opening limits).rows row)) j 0
   record_word row j rl jl = elim (same_or_not row 1) [

@@ -1,5 +1,5 @@
 -- The steps that are one atomic operation on a word: which word that is, what it says, and what the step leaves in it.
-use Rattle.std.specs.Prelude.{◌≡◌, ◌<◌, ℕ, ◌+◌, ◌/◌, ◌%◌, ◌^◌, ◌==◌, ⊤, not, if◌then◌else◌, List, length, slice_index, slice_set, bit_and, bit_or}
+use Rattle.std.specs.Prelude.{◌≡◌, ◌≢◌, ◌<◌, ℕ, ◌+◌, ◌/◌, ◌%◌, ◌^◌, ◌==◌, ⊤, not, if◌then◌else◌, List, length, slice_index, slice_set, bit_and, bit_or}
 use Rattle.std.specs.Int.{bit_not, w64}
 use Rattle.tree_limits.specs.declared.limits.Limits.{Limits}
 use Rattle.bw_model.specs.declared.step.Answer.{Answer}
@@ -9,6 +9,7 @@ use Rattle.bw_model.specs.declared.step.Step.TheVariants.{Slot, Row, Epoch, Anno
 use Rattle.deltas.specs.declared.record.Record.{Record}
 use Rattle.deltas.specs.Memory.{Memory}
 use Rattle.traces.specs.trace.Steps.{IsAnswer, memory_after}
+use Rattle.record_slots.specs.Layout.{row_size}
 use Rattle.tree_words.specs.Layout.{slot_at, pid_bits_at, row_bits_at, epoch_at, announced_at, row_at, width}
 use Rattle.tree_words.specs.Words.{SpellsWhere}
 use Rattle.tree_words.specs.declared.operations.Operation.{Operation}
@@ -16,22 +17,22 @@ use Rattle.tree_words.specs.declared.operations.Operation.TheVariants as operati
 use Rattle.tree_words.specs.declared.operations.Operation.TheVariants.{Load, Store, And, Or}
 
 -- a step that is one atomic operation on a word, and has one
-abbrev pub HasWord : Step Record → Type 0
-HasWord (Slot pid) = pid < 4096
-HasWord (Row row) = ⊥
-HasWord Epoch = ⊤
-HasWord (Announce actor) = actor < 16
-HasWord (PidBits word) = word < 64
-HasWord (RowBits word) = word < 256
-HasWord (Place row content) = ⊥
-HasWord (Exchange slot old new) = slot < 4096
-HasWord (TakePid pid) = pid < 4096
-HasWord (TakeRow row) = row < 16384
-HasWord (Enter epoch) = ⊤
-HasWord Leave = ⊤
-HasWord (Retire epoch) = epoch < 2 ^ 62
-HasWord (ReusePids word bits) = word < 64
-HasWord (ReuseRows word bits) = word < 256
+abbrev pub HasWord : Limits → Step Record → Type 0
+HasWord limits (Slot pid) = pid < limits.pids
+HasWord limits (Row row) = ⊥
+HasWord limits Epoch = ⊤
+HasWord limits (Announce actor) = actor < 16
+HasWord limits (PidBits word) = word < limits.pids / 64
+HasWord limits (RowBits word) = word < limits.rows / 64
+HasWord limits (Place row content) = ⊥
+HasWord limits (Exchange slot old new) = slot < limits.pids
+HasWord limits (TakePid pid) = pid < limits.pids
+HasWord limits (TakeRow row) = row < limits.rows
+HasWord limits (Enter epoch) = ⊤
+HasWord limits Leave = ⊤
+HasWord limits (Retire epoch) = epoch < 2 ^ 62
+HasWord limits (ReusePids word bits) = word < limits.pids / 64
+HasWord limits (ReuseRows word bits) = word < limits.rows / 64
 
 -- the bits that a step sets are those of one word
 abbrev pub SetsBits : Step Record → Type 0
@@ -40,22 +41,22 @@ SetsBits (ReuseRows word bits) = bits < 2 ^ 64
 SetsBits _ = ⊤
 
 -- The place of the word of an actor's step. A record has no one word, but a row of them, from here on.
-abbrev pub changed_word : ℕ → Step Record → ℕ
-changed_word actor (Slot pid) = slot_at pid
-changed_word actor (Row row) = row_at row 0
-changed_word actor Epoch = epoch_at
-changed_word actor (Announce other) = announced_at other
-changed_word actor (PidBits word) = pid_bits_at word
-changed_word actor (RowBits word) = row_bits_at word
-changed_word actor (Place row content) = row_at row 0
-changed_word actor (Exchange slot old new) = slot_at slot
-changed_word actor (TakePid pid) = pid_bits_at (pid / 64)
-changed_word actor (TakeRow row) = row_bits_at (row / 64)
-changed_word actor (Enter epoch) = announced_at actor
-changed_word actor Leave = announced_at actor
-changed_word actor (Retire epoch) = epoch_at
-changed_word actor (ReusePids word bits) = pid_bits_at word
-changed_word actor (ReuseRows word bits) = row_bits_at word
+abbrev pub changed_word : Limits → ℕ → Step Record → ℕ
+changed_word limits actor (Slot pid) = slot_at limits pid
+changed_word limits actor (Row row) = row_at row 0
+changed_word limits actor Epoch = epoch_at
+changed_word limits actor (Announce other) = announced_at other
+changed_word limits actor (PidBits word) = pid_bits_at limits word
+changed_word limits actor (RowBits word) = row_bits_at limits word
+changed_word limits actor (Place row content) = row_at row 0
+changed_word limits actor (Exchange slot old new) = slot_at limits slot
+changed_word limits actor (TakePid pid) = pid_bits_at limits (pid / 64)
+changed_word limits actor (TakeRow row) = row_bits_at limits (row / 64)
+changed_word limits actor (Enter epoch) = announced_at actor
+changed_word limits actor Leave = announced_at actor
+changed_word limits actor (Retire epoch) = epoch_at
+changed_word limits actor (ReusePids word bits) = pid_bits_at limits word
+changed_word limits actor (ReuseRows word bits) = row_bits_at limits word
 
 -- the number that such a step found in its word, as its answer
 abbrev pub told : Step Record → ℕ → Answer Record
@@ -115,8 +116,8 @@ abbrev pub StoresTellNothing : Type 0
 StoresTellNothing = (step : Step Record) → TellsNothing step (operation_of step)
 
 -- the words once the step has changed its word
-abbrev pub words_after : ℕ → Step Record → List ℕ → List ℕ
-words_after actor step words = slice_set words (changed_word actor step) (word_after step (slice_index words (changed_word actor step)))
+abbrev pub words_after : Limits → ℕ → Step Record → List ℕ → List ℕ
+words_after limits actor step words = slice_set words (changed_word limits actor step) (word_after step (slice_index words (changed_word limits actor step)))
 
 -- The words are those of the memory, but for the rows.
 abbrev pub SpellsParts : Limits → List ℕ → Memory → Type 0
@@ -124,15 +125,19 @@ SpellsParts limits words memory = SpellsWhere limits words memory (λ row. ⊥)
 
 -- Its word has the memory's answer, and once it is changed, the words are those of the memory after the step. No record is placed.
 pub record ChangesOneWord (limits : Limits) (words : List ℕ) (memory : Memory) (actor : ℕ) (step : Step Record) : Type 0 where
-  pub answers : IsAnswer memory step (told step (slice_index words (changed_word actor step)))
-  pub spells : SpellsParts limits (words_after actor step words) (memory_after actor step memory)
+  pub answers : IsAnswer memory step (told step (slice_index words (changed_word limits actor step)))
+  pub spells : SpellsParts limits (words_after limits actor step words) (memory_after actor step memory)
   pub records : (memory_after actor step memory).rows ≡ memory.rows
 
 -- So does each such step, wherever the words are the memory's.
 abbrev pub StepsChangeOneWord : Type 0
 StepsChangeOneWord = (limits : Limits) (words : List ℕ) (memory : Memory) (actor : ℕ) (step : Step Record) → length words ≡ width limits → SpellsParts limits words memory
-    → actor < 16 → HasWord step → SetsBits step → ChangesOneWord limits words memory actor step
+    → actor < 16 → HasWord limits step → SetsBits step → ChangesOneWord limits words memory actor step
 
--- The words of all of them stand before the rows.
-abbrev pub WordsStandFirst : Type 0
-WordsStandFirst = (actor : ℕ) (step : Step Record) → actor < 16 → HasWord step → changed_word actor step < row_at 0 0
+-- Each such step has a word that is there, and is none of a row.
+pub record HasOwnWord (limits : Limits) (actor : ℕ) (step : Step Record) : Type 0 where
+  pub there : changed_word limits actor step < width limits
+  pub apart : (row j : ℕ) → row < limits.rows → j < row_size → changed_word limits actor step ≢ row_at row j
+
+abbrev pub WordsStandApart : Type 0
+WordsStandApart = (limits : Limits) (actor : ℕ) (step : Step Record) → actor < 16 → HasWord limits step → HasOwnWord limits actor step

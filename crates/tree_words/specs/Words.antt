@@ -1,5 +1,5 @@
 -- The words that spell a memory.
-use Rattle.std.specs.Prelude.{◌≡◌, ◌<◌, ℕ, List, length, slice_index, Option, None, Some, replicate, ⊤}
+use Rattle.std.specs.Prelude.{◌≡◌, ◌<◌, ◌/◌, ℕ, List, length, slice_index, Option, None, Some, replicate, ⊤}
 use Rattle.tree_limits.specs.declared.limits.Limits.{Limits}
 use Rattle.deltas.specs.declared.record.Record.{Record}
 use Rattle.deltas.specs.Memory.{Memory}
@@ -16,9 +16,9 @@ words_in (Some content) = words_of content
 -- The words have the memory's numbers, its free bits, and the spellings of its records in the rows that are settled; each part
 -- has words of its own, and the words between the parts are 0.
 pub record SpellsWhere (limits : Limits) (words : List ℕ) (memory : Memory) (settled : ℕ → Type 0) : Type 0 where
-  pub slots : (pid : ℕ) → pid < 4096 → slice_index words (slot_at pid) ≡ memory.slots pid
-  pub pid_bits : (word : ℕ) → word < 64 → IsWordOf memory.free_pids word (slice_index words (pid_bits_at word))
-  pub row_bits : (word : ℕ) → word < 256 → IsWordOf memory.free_rows word (slice_index words (row_bits_at word))
+  pub slots : (pid : ℕ) → pid < limits.pids → slice_index words (slot_at limits pid) ≡ memory.slots pid
+  pub pid_bits : (word : ℕ) → word < limits.pids / 64 → IsWordOf memory.free_pids word (slice_index words (pid_bits_at limits word))
+  pub row_bits : (word : ℕ) → word < limits.rows / 64 → IsWordOf memory.free_rows word (slice_index words (row_bits_at limits word))
   pub epoch : slice_index words epoch_at ≡ memory.epoch
   pub announced : (actor : ℕ) → actor < 16 → slice_index words (announced_at actor) ≡ memory.announced actor
   pub pads : (i : ℕ) → IsPad i → slice_index words i ≡ 0

@@ -1,22 +1,16 @@
 //! What single steps find and leave: each function does nothing, and its contract computes it.
 ghost use Rattle.std.specs.Prelude.{◌≡◌, true, false};
+ghost use Rattle.tree_limits.specs.declared.limits.Limits.{Limits};
 ghost use Rattle.bw_model.specs.declared.step.Answer.TheVariants.{Number, Whether, Done};
 ghost use Rattle.bw_model.specs.declared.step.Step.TheVariants.{Slot, Announce, PidBits, RowBits, Exchange, TakePid, TakeRow, Enter, Leave, Retire, ReusePids, ReuseRows};
 ghost use Rattle.tree_words.specs.Changes.{changed_word, told, word_after};
 
-/// The words of steps of actor 3, as the table is laid out.
+/// The words of steps of actor 3, as a table of 4,096 PIDs and 16,384 rows is laid out.
 pub fn steps_have_words()
-    ensures slot { changed_word 3 (Slot 5) ≡ 5 }
-    ensures exchange { changed_word 3 (Exchange 4095 7 9) ≡ 4095 }
-    ensures pid_bits { changed_word 3 (PidBits 2) ≡ 4098 }
-    ensures pid { changed_word 3 (TakePid 130) ≡ 4098 }
-    ensures last_pid { changed_word 3 (TakePid 4095) ≡ 4159 }
-    ensures row_bits { changed_word 3 (RowBits 1) ≡ 4161 }
-    ensures row { changed_word 3 (TakeRow 127) ≡ 4161 }
-    ensures last_row { changed_word 3 (TakeRow 16383) ≡ 4415 }
-    ensures epoch { changed_word 3 (Retire 7) ≡ 4416 }
-    ensures other { changed_word 3 (Announce 0) ≡ 4424 }
-    ensures own { changed_word 3 Leave ≡ 4448 }
+    ensures slot { (limits : Limits) → limits.rows ≡ 64 → changed_word limits 3 (Slot 5) ≡ 33285 }
+    ensures epoch { (limits : Limits) → changed_word limits 3 (Retire 7) ≡ 0 }
+    ensures other { (limits : Limits) → changed_word limits 3 (Announce 0) ≡ 8 }
+    ensures own { (limits : Limits) → changed_word limits 3 Leave ≡ 32 }
 {}
 
 /// A number that is read is told and stays.

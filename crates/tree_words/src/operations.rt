@@ -5,7 +5,7 @@ ghost use Rattle.bw_model.specs.Lent.{lent};
 ghost use Rattle.tree_words.specs.Changes.{HasWord, SetsBits, changed_word, operation_of, told};
 
 use crate::places::{announced_place, epoch_place, pid_bits_place, row_bits_place, slot_place};
-use bw_model::{Step, Told};
+use bw_model::{Limits, Step, Told};
 use deltas::Record;
 
 /// An atomic operation on a word.
@@ -24,29 +24,30 @@ pub enum Operation {
 }
 
 /// The place of the word of an actor's step.
-pub fn word_place(actor: u8, step: &Step<&Record>) -> usize
-    requires { HasWord (lent step.now) }
-    ensures { result ≡ changed_word actor (lent step.now) }
+pub fn word_place(limits: &Limits, actor: u8, step: &Step<&Record>) -> usize
+    requires { HasWord limits.now (lent step.now) }
+    ensures { result ≡ changed_word limits.now actor (lent step.now) }
 {
     match step {
-        Step::Slot(pid) | Step::Exchange(pid, _, _) => slot_place(*pid),
+        Step::Slot(pid) | Step::Exchange(pid, _, _) => slot_place(limits, *pid),
         Step::Epoch | Step::Retire(_) => epoch_place(),
         Step::Announce(other) => announced_place(*other),
-        Step::PidBits(word) | Step::ReusePids(word, _) => pid_bits_place(*word),
-        Step::RowBits(word) | Step::ReuseRows(word, _) => row_bits_place(*word),
-        Step::TakePid(pid) => pid_bits_place((*pid / 64) as u8),
-        Step::TakeRow(row) => row_bits_place((*row / 64) as u8),
+        Step::PidBits(word) | Step::ReusePids(word, _) => pid_bits_place(limits, *word),
+        Step::RowBits(word) | Step::ReuseRows(word, _) => row_bits_place(limits, *word),
+        Step::TakePid(pid) => pid_bits_place(limits, *pid / 64),
+        Step::TakeRow(row) => row_bits_place(limits, *row / 64),
         Step::Enter(_) | Step::Leave => announced_place(actor),
         Step::Row(_) | Step::Place(_, _) => unreachable!(),
     }
 }
 
 /// The operation that a step is.
-pub fn made_by(step: &Step<&Record>) -> Operation
-    requires { HasWord (lent step.now) }
+pub fn made_by(limits: &Limits, step: &Step<&Record>) -> Operation
+    requires { HasWord limits.now (lent step.now) }
     ensures made { result ≡ operation_of (lent step.now) }
     ensures bits { SetsBits (lent step.now) }
 {
+    let _ = limits;
     match step {
         Step::Exchange(_, old, new) => Operation::Exchange(u64::from(*old), u64::from(*new)),
         Step::TakePid(number) | Step::TakeRow(number) => Operation::And(!bit(*number)),
@@ -59,10 +60,11 @@ pub fn made_by(step: &Step<&Record>) -> Operation
 }
 
 /// What a step is told by the number that it found in its word.
-pub fn told_by(step: &Step<&Record>, found: u64) -> Told
-    requires { HasWord (lent step.now) }
+pub fn told_by(limits: &Limits, step: &Step<&Record>, found: u64) -> Told
+    requires { HasWord limits.now (lent step.now) }
     ensures { answer_of result ≡ told (lent step.now) found }
 {
+    let _ = limits;
     match step {
         Step::Exchange(_, old, _) => Told::Whether(found == u64::from(*old)),
         Step::TakePid(number) | Step::TakeRow(number) => Told::Whether(found & bit(*number) != 0),
@@ -74,7 +76,7 @@ pub fn told_by(step: &Step<&Record>, found: u64) -> Told
 }
 
 /// The bit of a number in its word.
-fn bit(number: u16) -> u64
+fn bit(number: u32) -> u64
     ensures { result ≡ 2 ^ (number % 64) }
 {
     1 << (number % 64)

@@ -1,6 +1,6 @@
 -- Records of the first form, spread.
 use Rattle.std.proofs.Common.{◌≡◌, ◌<◌, ◌≤◌, ◌+◌, ◌*◌, ◌-◌, ℕ, zero, suc, List, [], ◌∷◌, ◌++◌, length, get_or, replicate, refl, sym, ap, subst, ◌∙◌, arith, append_assoc, length-append}
-use Rattle.std.specs.Prelude.{Option, None, Some, IfSome, unwrap_or}
+use Rattle.std.specs.Prelude.{Option, None, Some, IfSome, IsTrue, unwrap_or}
 use Rattle.std.specs.List.{All}
 use Rattle.std.proofs.lemmas.List.{length-replicate}
 use Rattle.std.proofs.lemmas.List.Elements.{All-nil, All-cons}
@@ -14,6 +14,7 @@ use Rattle.deltas.specs.declared.record.Record.TheVariants.{Base, Put, Delete, S
 use Rattle.record_slots.specs.declared.row.Row.{Row}
 use Rattle.record_slots.specs.Layout.{first_form, form_unit}
 use Rattle.record_slots.specs.Parts.{row_of, items_of}
+use Rattle.record_slots.specs.Small.{is_small}
 use Rattle.record_slots.specs.Spelling.{field_words, field_words_in, bound_words, bound_words_in, items_words, items_words_in, row_words, row_words_in, words_left_in, words_of, words_of_in}
 use Rattle.record_slots.specs.Spells.{HasItemTexts, HasTextIn, HasTexts, HasShortTexts, IsSpelling}
 use Rattle.record_slots.proofs.SpellingLaws.{counts, parts_fit}
@@ -160,8 +161,8 @@ first_head content words h =
     subst (λ ws. get_or ws 0 0 < form_unit) (same_first content ∙ h.are) below
 
 -- and only that is
-pub narrowed : (content : Record) (words : List ℕ) → length words ≡ 256 → IsSpelling content (spread words) → HasTexts IsFew content → IsFirstSpelling content words
-narrowed content words long h few =
+pub narrowed : (content : Record) (words : List ℕ) → length words ≡ 256 → IsSpelling content (spread words) → IsTrue (is_small content) → HasTexts IsFew content → IsFirstSpelling content words
+narrowed content words long h small few =
     let narrow = narrow_texts content h.short few in
     let items = few_items content h.spellable narrow in
     let row : Row = row_of content in
@@ -169,5 +170,6 @@ narrowed content words long h few =
     record {
       spellable = h.spellable;
       narrow = narrow;
+      small = small;
       are = spread_one (words_of_in first_form content) words size long (record_wide content items narrow ∙ h.are);
     }

@@ -69,7 +69,7 @@ impl Page {
     }
 
     /// The page up to the separator, with the page `right` to its right.
-    pub fn lower_part(self, separator: Key, right: u16) -> Page
+    pub fn lower_part(self, separator: Key, right: u32) -> Page
         requires { IsTrue (is_below self.low separator) }
         ensures page { IsPage result }
         ensures frame { result ≡ record self { high = Some separator; right = Some right; items = result.items } }
@@ -86,7 +86,7 @@ impl Page {
 
     /// The two parts of a split: the items before the place, and those from it on. The low key of the
     /// upper part is the separator; the PID of the upper part is to be `right`.
-    pub fn cut_at(self, place: usize, right: u16) -> (Page, Page)
+    pub fn cut_at(self, place: usize, right: u32) -> (Page, Page)
         requires { (0 < place) × (place < length self.items) }
         ensures pages { IsPage result.0 × IsPage result.1 }
         ensures separator { (d : Item) → (slice_index_or self.items place d).key ≡ result.1.low }

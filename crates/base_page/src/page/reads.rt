@@ -48,7 +48,7 @@ impl Page {
     }
 
     /// The child of the greatest term at or below the key, or none.
-    pub fn child_of(&self, key: &Key) -> Option<u16>
+    pub fn child_of(&self, key: &Key) -> Option<u32>
         ensures { MatchOption result
             (HasNoChild (content_at self.now.items) (λ q. not (is_below key.now q)))
             (IsGreatestChild (content_at self.now.items) (λ q. not (is_below key.now q))) }
@@ -60,7 +60,7 @@ impl Page {
     }
 
     /// The child of the greatest term below the key, or none.
-    pub fn child_below(&self, key: &Key) -> Option<u16>
+    pub fn child_below(&self, key: &Key) -> Option<u32>
         ensures { MatchOption result
             (HasNoChild (content_at self.now.items) (λ q. is_below q key.now))
             (IsGreatestChild (content_at self.now.items) (λ q. is_below q key.now)) }
@@ -76,7 +76,7 @@ impl Page {
     }
 
     /// The child of the last item before the place, or none.
-    fn child_before(&self, place: usize) -> Option<u16>
+    fn child_before(&self, place: usize) -> Option<u32>
         requires { place ≤ length self.now.items }
         ensures { MatchOption result
             ((place ≡ 0) ⊎ (self.now.level ≡ 0))

@@ -15,7 +15,7 @@ use smo::{PageInHand, plan_hold, plan_merge, plan_remove, plan_root, plan_split,
 use std::process::Abort;
 
 /// The page that has this base alone.
-pub(crate) fn based<R: Abort + AllocGlobal>(rt: &R, pid: u16, base: Page) -> PageInHand
+pub(crate) fn based<R: Abort + AllocGlobal>(rt: &R, pid: u32, base: Page) -> PageInHand
     requires pid { IsPid pid }
     requires stands { IsPageChain (Base base ∷ []) }
     ensures pid { result.pid ≡ pid }
@@ -55,10 +55,10 @@ pub(crate) fn thin<R: Abort + AllocGlobal>(rt: &R, page: &mut PageInHand, from: 
 /// The left part of a leaf of so many items from the low key on, which was split to this page.
 pub(crate) fn split<R: Abort + AllocGlobal>(
     rt: &R,
-    pid: u16,
+    pid: u32,
     low: Key,
     count: u8,
-    right: u16,
+    right: u32,
 ) -> PageInHand
     requires pid { IsPid pid }
     requires right { IsPid right }
@@ -87,7 +87,7 @@ fn with_child<R: Abort + AllocGlobal>(rt: &R, parent: &mut PageInHand, first: u8
     ensures alive { is_removed parent.new.chain ≡ false }
 {
     let low = key(&[first, place]);
-    post(rt, parent, &leaf_of(rt, u16::from(place) + 10, low, 0));
+    post(rt, parent, &leaf_of(rt, u32::from(place) + 10, low, 0));
 }
 
 /// The parent gets the terms of pages from 10 on, in a delta each; they begin at the keys that have these second bytes.
@@ -132,7 +132,7 @@ pub(crate) fn with_hold<R: Abort + AllocGlobal>(rt: &R, parent: &mut PageInHand,
     hold(
         rt,
         parent,
-        &leaf_of(rt, u16::from(place) + 10, at(place), 0),
+        &leaf_of(rt, u32::from(place) + 10, at(place), 0),
     );
 }
 

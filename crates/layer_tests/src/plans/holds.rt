@@ -24,7 +24,7 @@ fn holds_at(parent: &PageInHand, page: &PageInHand, place: u8) -> Option<bool> {
     match plan_hold(parent, page) {
         None => None,
         Some(hold) => {
-            let child = u16::from(place) + 10;
+            let child = u32::from(place) + 10;
             let named = (hold.level, hold.next, hold.child) == (1, 7, child);
             Some(named & (hold.separator == at(place)))
         }
@@ -33,7 +33,7 @@ fn holds_at(parent: &PageInHand, page: &PageInHand, place: u8) -> Option<bool> {
 
 /// The same of such a page.
 fn holds<R: Abort + AllocGlobal>(rt: &R, places: &[u8], place: u8) -> Option<bool> {
-    let page = leaf_of(rt, u16::from(place) + 10, at(place), 0);
+    let page = leaf_of(rt, u32::from(place) + 10, at(place), 0);
     holds_at(&sixteen(rt, places), &page, place)
 }
 

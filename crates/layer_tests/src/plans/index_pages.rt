@@ -13,7 +13,7 @@ use bw_model::Key;
 use smo::PageInHand;
 use std::process::Abort;
 
-fn term(page: u16) -> Content
+fn term(page: u32) -> Content
     ensures { result ≡ Child page false }
 {
     Content::Child { page, held: false }
@@ -47,7 +47,7 @@ pub(crate) fn read<R: Abort + AllocGlobal>(rt: &R, level: u8) -> PageInHand
 }
 
 /// An index page from a key on, that has this child there.
-pub(crate) fn index_from(level: u8, low: Key, child: u16) -> Page
+pub(crate) fn index_from(level: u8, low: Key, child: u32) -> Page
     requires index { 0 < level }
     requires top { level ≤ 15 }
     requires child { IsPid child }

@@ -23,7 +23,7 @@ fn brings(
     removed: &PageInHand,
     count: u8,
     high: Option<Key>,
-    right: Option<u16>,
+    right: Option<u32>,
 ) -> bool {
     match plan_merge(left, removed) {
         None => false,
@@ -46,7 +46,7 @@ fn loses(
     left: &PageInHand,
     removed: &PageInHand,
     place: u8,
-    child: u16,
+    child: u32,
 ) -> bool {
     match plan_unterm(parent, left, removed) {
         None => false,
@@ -145,7 +145,7 @@ fn merges_a_base<R: Abort + AllocGlobal>(rt: &R, pages: &Pages) -> bool {
 }
 
 /// Whether a page 4 that was split from so many items to this page gets the removed one.
-fn merges_into<R: Abort + AllocGlobal>(rt: &R, gone: &PageInHand, count: u8, right: u16) -> bool
+fn merges_into<R: Abort + AllocGlobal>(rt: &R, gone: &PageInHand, count: u8, right: u32) -> bool
     requires right { IsPid right }
 {
     merges(&split(rt, 4, Key::default(), count, right), gone)
@@ -211,7 +211,7 @@ fn loses_beside<R: Abort + AllocGlobal>(rt: &R, pages: &Pages) -> bool {
 }
 
 /// Whether the term of the last page ends once that was merged, at the key of this place.
-fn ends<R: Abort + AllocGlobal>(rt: &R, pages: &mut Pages, place: u8, child: u16) -> [bool; 3]
+fn ends<R: Abort + AllocGlobal>(rt: &R, pages: &mut Pages, place: u8, child: u32) -> [bool; 3]
     ensures root { pages.new.root ≡ pages.old.root }
 {
     let early = unterms(&pages.root, &pages.left, &pages.gone);

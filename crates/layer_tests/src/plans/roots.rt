@@ -18,7 +18,7 @@ fn is_over_both(root: &Page) -> bool {
 }
 
 /// Whether the page has this child at the key, and it isn't held.
-fn has(root: &Page, at: &Key, child: u16) -> bool {
+fn has(root: &Page, at: &Key, child: u32) -> bool {
     match root.content(at) {
         Some(Content::Child { page, held }) => (*page == child) & !*held,
         _ => false,

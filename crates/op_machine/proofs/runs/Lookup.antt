@@ -27,6 +27,7 @@ use Rattle.op_machine.specs.theorem.Answered.{IsAnswered}
 use Rattle.op_machine.specs.theorem.Quiet.{IsQuiet, HasMapOf}
 use Rattle.std.specs.Prelude.{slice_range}
 use Rattle.std.specs.List.{count_by}
+use Rattle.traces.specs.discipline.Recalled.{cause_worth}
 use Rattle.traces.specs.chain.Chains.{IsChainOf, level_in}
 use Rattle.traces.proofs.ChainLaws.{IsChainOf-unique}
 use Rattle.traces.proofs.Pushes.{slice_get_below}
@@ -209,7 +210,7 @@ is_faithful = record {
     }
 
 is_direct : IsDirect small lookup
-unfolding only_looks
+unfolding only_looks cause_worth
 is_direct = record {
   few = λ operation n is own. ([], λ k h. absurd (omega arith), λ k d h. absurd (omega arith), rw (only operation is) (bound n (at_most n own)));
   once = λ operation m n first second is a b. absurd (odd (looks m _ a.3.1.entry operation.actor _ _ (a.3.0, refl)));
@@ -222,8 +223,8 @@ is_direct = record {
     at_most : {operation : Operation} (n : ℕ) → IsOwnStep lookup operation n → n ≤ 6
     at_most n own = let lt : n < 7 = slice_get_below lookup n _ own.2.1.entry in omega arith
 
-    bound : (n : ℕ) → n ≤ 6 → count_by (is_step_of 0) (slice_range lookup 0 (suc n)) ≤ 2 ^ 18 * (0 + 1)
-    bound n h = UpTo-at (λ k. count_by (is_step_of 0) (slice_range lookup 0 (suc k)) ≤ 2 ^ 18 * (0 + 1)) 6 (lit≤ tt, (lit≤ tt, (lit≤ tt, (lit≤ tt, (lit≤ tt, (lit≤ tt, lit≤ tt)))))) n h
+    bound : (n : ℕ) → n ≤ 6 → count_by (is_step_of 0) (slice_range lookup 0 (suc n)) ≤ cause_worth small * (0 + 1)
+    bound n h = UpTo-at (λ k. count_by (is_step_of 0) (slice_range lookup 0 (suc k)) ≤ cause_worth small * (0 + 1)) 6 (lit≤ tt, (lit≤ tt, (lit≤ tt, (lit≤ tt, (lit≤ tt, (lit≤ tt, lit≤ tt)))))) n h
 
 is_exact_index : IsExactIndex small lookup
 is_exact_index = record {

@@ -99,4 +99,4 @@ pub record ActsOn (limits : Limits) (actor : ℕ) (k : Knowledge) (r : Recalled)
   pub allowed : IsAllowed limits actor k step reply
   pub useful : IsUseful k step
   pub shows : IsActor limits actor (knows_then k step answer reply) (recall r step answer) new
-  pub spends : IsSpentBy r old.hand old.running step answer new.hand new.running
+  pub spends : IsSpentBy limits r old.hand old.running step answer new.hand new.running

@@ -1,8 +1,10 @@
 -- For which key an operation's rounds look, and what is due there.
 use Rattle.std.specs.Prelude.{◌∷◌, [], ◌++◌, ◌-◌, ℕ, List, Bool, false, length, nat_lt, if◌then◌else◌, slice_get, unwrap_or}
+use Rattle.tree_limits.specs.declared.limits.Limits.{Limits}
 use Rattle.bw_model.specs.declared.command.Command.{Command}
 use Rattle.bw_model.specs.declared.command.Command.TheVariants.{Delete, Get, Insert, Page, Swap, Tidy, Upsert}
 use Rattle.bw_model.specs.Replies.{command_key}
+use Rattle.smo.specs.Sizes.{many_of}
 use Rattle.op_machine.specs.machine.Upkeep.{tidies}
 
 -- at most 16 errands are kept
@@ -14,15 +16,15 @@ abbrev pub way_key : List (List ℕ) → Command → List ℕ
 way_key errands command = unwrap_or (slice_get errands (length errands - 1)) (command_key command)
 
 -- At how many deltas a round consolidates the leaf that it looks for: at the leaf of its own key a tidying does at one.
-abbrev pub due_of : List (List ℕ) → Command → ℕ
-due_of [] (Tidy key) = 1
-due_of [] (Get key) = 8
-due_of [] (Insert key value) = 8
-due_of [] (Upsert key value) = 8
-due_of [] (Delete key) = 8
-due_of [] (Swap key expected value) = 8
-due_of [] (Page key) = 8
-due_of (key ∷ errands) command = 8
+abbrev pub due_of : Limits → List (List ℕ) → Command → ℕ
+due_of limits [] (Tidy key) = 1
+due_of limits [] (Get key) = many_of limits
+due_of limits [] (Insert key value) = many_of limits
+due_of limits [] (Upsert key value) = many_of limits
+due_of limits [] (Delete key) = many_of limits
+due_of limits [] (Swap key expected value) = many_of limits
+due_of limits [] (Page key) = many_of limits
+due_of limits (key ∷ errands) command = many_of limits
 
 -- Whether a round holds and removes small index pages on its way: that of a deletion or a tidying for its own key does.
 abbrev pub tends_of : List (List ℕ) → Command → Bool

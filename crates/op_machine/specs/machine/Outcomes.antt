@@ -82,7 +82,7 @@ pub record IsAtLeaf (task : Task) (spares : Spares) (k : Knowledge) (r : Recalle
   pub level : level_in leaf.chain ≡ 0
   pub covered : IsTrue (covers leaf.chain (way_key task.errands task.command))
   pub short : length leaf.chain ≤ 8
-  pub early : length leaf.chain ≤ due_of task.errands task.command
+  pub early : length leaf.chain ≤ due_of task.limits task.errands task.command
   pub few : HasFewItems leaf.chain
 
 -- The same, and the page above it, where one was read before it, which has its term.

@@ -39,7 +39,7 @@ pub record IsRoundOf (task : Task) (round : write.WriteRound) : Type 0 where
   pub limits : round.limits ≡ task.limits
   pub some : 0 < round.due
   pub key : round.goal ≡ Seek → round.key ≡ way_key task.errands task.command
-  pub due : round.goal ≡ Seek → round.due ≡ due_of task.errands task.command
+  pub due : round.goal ≡ Seek → round.due ≡ due_of task.limits task.errands task.command
   pub tends : round.goal ≡ Seek → round.tends ≡ tends_of task.errands task.command
 
 -- A writer's round is under way.

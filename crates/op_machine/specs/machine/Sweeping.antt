@@ -45,7 +45,7 @@ pub record FollowsSweep (k now : Knowledge) (old : Sweep) (next : Option Sweep) 
 
 -- A sweep that goes on has fewer steps left.
 abbrev pub HasFewer : Op → Op → Type 0
-HasFewer old new = IfSome new.sweep (λ next. steps_left next.state < sweep_left old.sweep old.state)
+HasFewer old new = IfSome new.sweep (λ next. steps_left old.task.limits next.state < sweep_left old.task.limits old.sweep old.state)
 
 -- All but the sweep stays.
 pub record IsSameWork (old new : Op) : Type 0 where

@@ -1,5 +1,6 @@
 -- An operation that is under way, with the step that it wants, and how many steps it has left.
 use Rattle.std.specs.Prelude.{ℕ, Bool, true, false, Option, Some, None, IsSome, ⊤}
+use Rattle.tree_limits.specs.declared.limits.Limits.{Limits}
 use Rattle.bw_model.specs.declared.step.Answer.{Answer}
 use Rattle.bw_model.specs.declared.step.Step.{Step as StepOf}
 use Rattle.deltas.specs.declared.record.Record.{Record}
@@ -33,5 +34,5 @@ steps_due r hand None = 0
 steps_due r hand (Some running) = steps_left r running.op hand
 
 -- A step is taken: of the steps that were left it has spent one, or a cause paid for more.
-abbrev pub IsSpentBy : Recalled → Hand → Option UnderWay → StepOf Record → Answer Record → Hand → Option UnderWay → Type 0
-IsSpentBy r had old step answer has new = IsStepSpent r step answer (steps_due r had old) (steps_due (recall r step answer) has new)
+abbrev pub IsSpentBy : Limits → Recalled → Hand → Option UnderWay → StepOf Record → Answer Record → Hand → Option UnderWay → Type 0
+IsSpentBy limits r had old step answer has new = IsStepSpent limits r step answer (steps_due r had old) (steps_due (recall r step answer) has new)

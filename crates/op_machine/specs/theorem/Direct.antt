@@ -14,6 +14,7 @@ use Rattle.deltas.specs.declared.record.Record.{Record}
 use Rattle.deltas.specs.declared.record.Record.TheVariants as delta
 use Rattle.deltas.specs.declared.record.Remove.{Remove}
 use Rattle.deltas.specs.NamedPages.{NamesPage}
+use Rattle.traces.specs.discipline.Recalled.{cause_worth}
 use Rattle.traces.specs.declared.trace.Entry.{Entry}
 use Rattle.traces.specs.declared.trace.Entry.TheVariants.{Begin, Step}
 use Rattle.traces.specs.chain.Chains.{IsChainOf}
@@ -70,7 +71,7 @@ is_step_of actor (Step other step answer reply) = other == actor
 pub record IsDirect (limits : Limits) (entries : List Entry) : Type 0 where
   pub few : (operation : Operation) (n : ℕ) → IsOperation entries operation → IsOwnStep entries operation n
       → (causes : List ℕ) × IsStrictlyIncreasing causes × All (λ cause. (cause ≤ n) × IsCause limits entries operation cause) causes
-      × (count_by (is_step_of operation.actor) (slice_range entries operation.start (suc n)) ≤ 2 ^ 18 * (length causes + 1))
+      × (count_by (is_step_of operation.actor) (slice_range entries operation.start (suc n)) ≤ cause_worth limits * (length causes + 1))
   pub once : (operation : Operation) (m n : ℕ) (first second : Link) → IsOperation entries operation → Links limits entries operation m first → Links limits entries operation n second
       → (first ≡ link.Put) ⊎ (first ≡ link.Delete) → (second ≡ link.Put) ⊎ (second ≡ link.Delete) → m ≡ n
   pub useful : (operation : Operation) (n slot old new : ℕ) (chain : List Record) → IsOperation entries operation → TakesOwnStep entries operation n (Exchange slot old new) (Whether true)

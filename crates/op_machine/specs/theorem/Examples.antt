@@ -1,7 +1,7 @@
 -- Small runs step by step, and traces that the definitions refuse.
 use Rattle.std.specs.Prelude.{codes, ◌^◌, ◌-◌, List, [], ◌∷◌, true, false, None, Some}
 use Rattle.std.proofs.Common.{lit≤, refl}
-use Rattle.tree_limits.specs.Limits.{AreLimits}
+use Rattle.tree_limits.specs.Limits.{AreLargeLimits, AreLimits}
 use Rattle.tree_limits.specs.declared.limits.Limits.{Limits}
 use Rattle.bw_model.specs.declared.command.Command.TheVariants.{Get, Insert}
 use Rattle.bw_model.specs.declared.command.Reply.TheVariants as reply
@@ -29,8 +29,22 @@ are_small = record {
   small_epoch = lit≤ tt;
 }
 
+pub small_allowed : AreLargeLimits 2 64 64 1
+small_allowed = record {
+  some_actor = are_small.some_actor;
+  few_actors = are_small.few_actors;
+  some_pids = are_small.some_pids;
+  few_pids = lit≤ tt;
+  whole_pids = are_small.whole_pids;
+  some_rows = are_small.some_rows;
+  few_rows = lit≤ tt;
+  whole_rows = are_small.whole_rows;
+  some_epoch = are_small.some_epoch;
+  small_epoch = are_small.small_epoch;
+}
+
 abbrev pub small : Limits
-small = record { actors = 2; pids = 64; rows = 64; epoch = 1; allowed = are_small }
+small = record { actors = 2; pids = 64; rows = 64; epoch = 1; is_large = false; allowed = small_allowed; small = λ _. are_small }
 
 abbrev pub opening_leaf : Record
 opening_leaf = delta.Base empty_leaf

@@ -37,7 +37,7 @@ impl<A: Allocator> ReadRound<A> {
     }
 
     /// The child of the greatest term below the page in hand that the page above has, where there is one.
-    fn left_of_page(&self) -> Option<u16>
+    fn left_of_page(&self) -> Option<u32>
         requires plain { IsPlain self.now.round.leg }
         ensures { MatchOption result (LacksLeft self.now.page self.now.round.leg) (LeadsLeft self.now.page self.now.round.leg) }
     {
@@ -122,7 +122,7 @@ impl<A: Allocator> ReadRound<A> {
     }
 
     /// The right of the page in hand, where that page ends to the left of the removed one.
-    fn right_before(&self) -> Option<u16>
+    fn right_before(&self) -> Option<u32>
         ensures { MatchOption result (StaysLeft (left_of self.now.met) self.now.page.chain) (LeadsRight (left_of self.now.met) self.now.page.chain) }
     {
         let low = KeyWords::of(&self.leg.page().chain().low());
@@ -140,7 +140,7 @@ impl<A: Allocator> ReadRound<A> {
     }
 
     /// The removed page's right, where it ends on the way; else the child of its greatest term there.
-    fn next_of_removed(&self) -> u16
+    fn next_of_removed(&self) -> u32
         requires index { 0 < level_in self.now.met.chain }
         requires on_way { IsTrue (read_way self.now.round.goal self.now.round.key (low_in self.now.met.chain)) }
         ensures { LeadsOn (read_way self.now.round.goal self.now.round.key) self.now.met.chain result }

@@ -19,7 +19,7 @@ use deltas::Term;
 use row_chain::Chain;
 use row_search::KeyWords;
 use smo::{
-    MANY_DELTAS, MANY_ITEMS, SplitPlan, Upkeep, plan_merge, plan_root, plan_split, plan_term,
+    MANY_ITEMS, SplitPlan, Upkeep, many_deltas, plan_merge, plan_root, plan_split, plan_term,
     plan_unterm, plan_upkeep,
 };
 use std::alloc::Allocator;
@@ -27,11 +27,11 @@ use std::alloc::Allocator;
 impl<A: Allocator> WriteRound<A> {
     /// Whether the page has many deltas, or is a leaf with those that are due.
     pub(super) fn is_long(&self) -> bool
-        ensures { Decides result (IsLong self.now.round.due self.now.page.chain) }
+        ensures { Decides result (IsLong self.now.round.limits self.now.round.due self.now.page.chain) }
     {
         let chain = self.page().chain();
         let deltas = chain.deltas();
-        deltas >= MANY_DELTAS || chain.level() == 0 && deltas >= self.due
+        deltas >= many_deltas(self.descent.limits()) || chain.level() == 0 && deltas >= self.due
     }
 
     /// Whether the page has many items.
@@ -110,7 +110,7 @@ impl<A: Allocator> WriteRound<A> {
     }
 
     /// Whether the parent, where one is kept, has this child's term at the key, held.
-    pub(super) fn has_term(&self, pid: u16) -> bool
+    pub(super) fn has_term(&self, pid: u32) -> bool
         ensures yes { result ≡ true → (self.now.round.parent ≡ Some self.now.parent) × (content_in self.now.parent.chain self.now.round.key ≡ Some (Child pid true)) }
         ensures no { result ≡ false → IfSome self.now.round.parent (λ parent. content_in parent.chain self.now.round.key ≢ Some (Child pid true)) }
     {
@@ -122,7 +122,7 @@ impl<A: Allocator> WriteRound<A> {
 }
 
 /// Whether the page has this child's term at the key, held.
-fn holds_term<A: Allocator>(chain: &Chain<A>, key: &KeyWords, pid: u16) -> bool
+fn holds_term<A: Allocator>(chain: &Chain<A>, key: &KeyWords, pid: u32) -> bool
     ensures { Decides result (content_in chain.now key.now ≡ Some (Child pid true)) }
 {
     match chain.content(key) {

@@ -8,7 +8,7 @@ use std::alloc::Allocator;
 
 impl<A: Allocator> Chain<A> {
     /// The row of each record, where the newest one stands in this row: each record names the row under it.
-    pub fn rows(&self, newest: u16) -> ArrayVec<u16, MAX_RECORDS>
+    pub fn rows(&self, newest: u32) -> ArrayVec<u32, MAX_RECORDS>
         ensures { result.items ≡ chain_rows newest self.now }
     {
         self.keeps_rules();

@@ -36,7 +36,7 @@ impl<A: Allocator> Chain<A> {
     }
 
     /// The child of the greatest term at or below the key, or none.
-    pub fn child_of(&self, key: &KeyWords) -> Option<u16>
+    pub fn child_of(&self, key: &KeyWords) -> Option<u32>
         ensures child { MatchOption result
             (HasNoChild (content_in self.now) (λ q. not (is_below key.now q)))
             (IsGreatestChild (content_in self.now) (λ q. not (is_below key.now q))) }
@@ -50,7 +50,7 @@ impl<A: Allocator> Chain<A> {
     }
 
     /// The child of the greatest term below the key, or none.
-    pub fn child_below(&self, key: &KeyWords) -> Option<u16>
+    pub fn child_below(&self, key: &KeyWords) -> Option<u32>
         ensures child { MatchOption result
             (HasNoChild (content_in self.now) (λ q. is_below q key.now))
             (IsGreatestChild (content_in self.now) (λ q. is_below q key.now)) }
@@ -64,7 +64,7 @@ impl<A: Allocator> Chain<A> {
     }
 
     /// The child that the page has at the key, which the newest record that names the key says, or none.
-    fn child_at(&self, key: &KeyWords) -> Option<u16>
+    fn child_at(&self, key: &KeyWords) -> Option<u32>
         ensures { result ≡ child_in (content_in self.now key.now) }
     {
         match newest_of(self.as_slice(), key) {

@@ -50,7 +50,7 @@ impl Row {
     }
 
     /// The right that it gives the page.
-    pub fn right(&self) -> Option<u16>
+    pub fn right(&self) -> Option<u32>
         ensures { result ≡ right_after self.now None }
     {
         let _ = &self.words;

@@ -47,7 +47,7 @@ impl Row {
     }
 
     /// The child that it says a key has that it names.
-    pub fn child_said(&self, key: &KeyWords) -> Option<u16>
+    pub fn child_said(&self, key: &KeyWords) -> Option<u32>
         ensures { result ≡ child_in (content_said self.now key.now) }
     {
         match self.content_said(key) {
@@ -73,7 +73,7 @@ impl Row {
     {
         let at = self.item_at(place);
         if self.level() > 0 {
-            let page = self.words[at + ITEM_CONTENT] as u16;
+            let page = self.words[at + ITEM_CONTENT] as u32;
             let held = self.words[at] >= HELD;
             return Content::Child { page, held };
         }

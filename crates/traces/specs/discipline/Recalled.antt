@@ -1,7 +1,8 @@
 -- What an operation recalls of its own reads, and which of its steps a cause pays for.
-use Rattle.std.specs.Prelude.{◌≡◌, ◌≢◌, ◌<◌, ◌+◌, ◌/◌, ◌%◌, ◌^◌, ◌⊎◌, ◌||◌, ◌&&◌, ltb, not, if◌then◌else◌, ℕ, zero, suc, List, [], ◌∷◌, Bool, true, false, Option, None, Some, IsTrue, IsFalse, ⊤}
+use Rattle.std.specs.Prelude.{◌≡◌, ◌≢◌, ◌<◌, ◌+◌, ◌*◌, ◌/◌, ◌%◌, ◌^◌, ◌⊎◌, ◌||◌, ◌&&◌, ltb, not, if◌then◌else◌, ℕ, zero, suc, List, [], ◌∷◌, Bool, true, false, Option, None, Some, IsTrue, IsFalse, ⊤}
 use Rattle.std.specs.Int.{bit_at}
 use Rattle.std.specs.List.{fold}
+use Rattle.tree_limits.specs.declared.limits.Limits.{Limits}
 use Rattle.bw_model.specs.declared.step.Answer.{Answer}
 use Rattle.bw_model.specs.declared.step.Answer.TheVariants.{Number, Content, Whether}
 use Rattle.bw_model.specs.declared.step.Step.{Step as StepOf}
@@ -118,6 +119,10 @@ IsPaid r step answer = ⊥
 abbrev pub IsSpentWith : ℕ → Recalled → StepOf Record → Answer Record → ℕ → ℕ → Type 0
 IsSpentWith worth r step answer left rest = (rest < left) ⊎ (IsPaid r step answer × (rest < left + worth))
 
--- of an operation: a cause is worth 2^18 steps
-abbrev pub IsStepSpent : Recalled → StepOf Record → Answer Record → ℕ → ℕ → Type 0
-IsStepSpent r step answer left rest = IsSpentWith (2 ^ 18) r step answer left rest
+-- how many steps a cause is worth: 2^18, and in a large tree 48 more for each PID, and one for each row
+unfoldable pub cause_worth : Limits → ℕ
+cause_worth limits = if limits.is_large then 2 ^ 18 + (48 * limits.pids + limits.rows) else 2 ^ 18
+
+-- of an operation: a cause is worth so many steps
+abbrev pub IsStepSpent : Limits → Recalled → StepOf Record → Answer Record → ℕ → ℕ → Type 0
+IsStepSpent limits r step answer left rest = IsSpentWith (cause_worth limits) r step answer left rest

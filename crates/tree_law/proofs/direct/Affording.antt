@@ -3,7 +3,7 @@ use Rattle.tree_law.proofs.Words.{false, ap, refl, Option, List, true, inl, ◌�
 use Rattle.tree_law.proofs.Words.{IsSome, Command, Reply, Limits, Answer, Whether, Content, Link, StepOf, Row, Exchange, replaced_at, Record, May, begun, knows, Knowledge, finished, Ready}
 use Rattle.tree_law.proofs.Words.{learn, recall, Recalled, blank, recalls, IsAnswer, memory_of, IsUseful, Entry, Begin, Step, is_step_of, Links, Operation, IsUpdateLink, Accounts}
 use Rattle.tree_law.proofs.Words.{IsLast, Affords, IsDirectState, Recollects, Walks, StaysDirect, IsState, Opens, []}
-use Rattle.traces.specs.discipline.Recalled.{IsStepSpent}
+use Rattle.traces.specs.discipline.Recalled.{IsStepSpent, cause_worth}
 use Rattle.tree_law.proofs.answering.Fitted.{fits}
 use Rattle.tree_law.proofs.shape.Puts.{at_place, by_equal}
 use Rattle.tree_law.proofs.direct.Appended.{knows-push, last_begun, last_cases, recalls-push, takes_below}
@@ -69,7 +69,7 @@ module _ (limits : Limits) (entries : List Entry) (a : ℕ) (c : Command) (kept 
   foreign_begun : (actor : ℕ) → AreForeign (recalls longer actor) (knows longer actor)
   foreign_begun actor = rw (recalls-push entries last) (rw (knows-push entries last) (by_equal actor a (λ same t. rw t λ page head base e f. absurd (cc)) (λ ne t. rw t (kept.foreign actor))))
 
-  pub begins : (left : ℕ) → left ≤ 2 ^ 18 → StaysDirect limits entries (Begin a c) a left
+  pub begins : (left : ℕ) → left ≤ cause_worth limits → StaysDirect limits entries (Begin a c) a left
   begins left few = record {
     state = record {
       direct = direct limits entries last kept (λ op s x reply latest is. absurd (cc)) (λ b slot old new reply is. absurd (cc));
@@ -168,7 +168,7 @@ module _ (limits : Limits) (entries : List Entry) (a : ℕ) (s : StepOf Record) 
   read_again row content before i j e =
       (rw j at (rw i at (fits limits entries state a s x may is_answer))).same before e
 
-  module _ (left rest : ℕ) (accounts : Accounts limits entries a left) (spent : IsStepSpent (recalls entries a) s x left rest) where
+  module _ (left rest : ℕ) (accounts : Accounts limits entries a left) (spent : IsStepSpent limits (recalls entries a) s x left rest) where
     afford : (op : Operation) → IsLast entries op → op.actor ≡ a → Affords limits grown op rest
     afford op latest same = elim spent [
       | inl less ↦ affords_less limits entries next op left rest latest.begun (accounts op latest same) less

@@ -15,7 +15,7 @@ afford_after limits before entry actor rest left each stays b = by_equal b actor
     (λ same t. rw (t, same) stays.account)
     (λ ne t. rw t (stays.others b (left b) ne (each b)))
 
-along : (limits : Limits) (before entries : List Entry) (left : ℕ → ℕ) → IsState limits before → IsDirectState limits before → AllAfford limits before left → IsDisciplinedFrom limits before entries → SpendsFrom left before entries → IsDirect limits (before ++ entries)
+along : (limits : Limits) (before entries : List Entry) (left : ℕ → ℕ) → IsState limits before → IsDirectState limits before → AllAfford limits before left → IsDisciplinedFrom limits before entries → SpendsFrom limits left before entries → IsDirect limits (before ++ entries)
 along limits before [] left state kept each h spends = rw (append-nil before) kept.direct
 along limits before (Begin actor command ∷ entries) left state kept each h (rest, few, more) =
     let stays = begins limits before actor command kept rest few in

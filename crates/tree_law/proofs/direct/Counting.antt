@@ -2,6 +2,8 @@
 use Rattle.tree_law.proofs.Words.{false, [], ap, cond, suc, List, true, inl, length, ◌++◌, ◌≤◌, inr, ◌∷◌, sym, ℕ, ◌≡◌, Bool, ◌∙◌, ◌<◌, arith, take, ◌+◌, ◌^◌, drop, ◌*◌, ◌-◌, cases_lt, All-weaker}
 use Rattle.tree_law.proofs.Words.{fold-append, All, count_by, IsStrictlyIncreasing, slice_range, Limits, Entry, is_step_of, IsCause, IsOperation, Operation, Affords}
 use Rattle.std.proofs.Common.{length-drop}
+use Rattle.std.proofs.Math.Nat.{mul-one, mul-suc}
+use Rattle.traces.specs.discipline.Recalled.{cause_worth}
 use Rattle.std.proofs.Math.Seq.{get_or-append_seam}
 use Rattle.std.proofs.lemmas.List.{drop-append-le, drop_at, get_or_append_left, take-append-le}
 use Rattle.std.proofs.lemmas.List.Elements.{All-push}
@@ -54,7 +56,7 @@ module _ (limits : Limits) (entries : List Entry) (last : Entry) (op : Operation
     each = causes_kept h.causes h.each;
     paid =
         let same : count_by (is_step_of op.actor) (drop op.start longer) ≡ count_by (is_step_of op.actor) (drop op.start entries) + 0 = counted begun ∙ ap (λ t. count_by (is_step_of op.actor) (drop op.start entries) + cond t 1 0) other in
-        let old : count_by (is_step_of op.actor) (drop op.start entries) + left ≤ 2 ^ 18 * (length h.causes + 1) = h.paid in
+        let old : count_by (is_step_of op.actor) (drop op.start entries) + left ≤ cause_worth limits * (length h.causes + 1) = h.paid in
         omega arith;
   }
 
@@ -67,12 +69,12 @@ module _ (limits : Limits) (entries : List Entry) (last : Entry) (op : Operation
     paid =
         let same : count_by (is_step_of op.actor) (drop op.start longer) ≡ count_by (is_step_of op.actor) (drop op.start entries) + cond (is_step_of op.actor last) 1 0 = counted begun in
         let one : cond (is_step_of op.actor last) 1 0 ≤ 1 = one_at_most (is_step_of op.actor last) in
-        let old : count_by (is_step_of op.actor) (drop op.start entries) + left ≤ 2 ^ 18 * (length h.causes + 1) = h.paid in
+        let old : count_by (is_step_of op.actor) (drop op.start entries) + left ≤ cause_worth limits * (length h.causes + 1) = h.paid in
         omega arith;
   }
 
   -- a cause more is worth 2^18 steps, itself among them
-  pub affords_cause : (left rest : ℕ) → IsOperation entries op → Affords limits entries op left → IsCause limits longer op (length entries) → rest < left + 2 ^ 18 → Affords limits longer op rest
+  pub affords_cause : (left rest : ℕ) → IsOperation entries op → Affords limits entries op left → IsCause limits longer op (length entries) → rest < left + cause_worth limits → Affords limits longer op rest
   affords_cause left rest begun h cause less = record {
     causes = h.causes ++ length entries ∷ [];
     increasing = increasing_push h.causes (length entries) h.increasing (All-weaker (λ c. (c < length entries) × IsCause limits entries op c) (λ c. c < length entries) (λ c g. g.0) h.causes h.each);
@@ -82,13 +84,16 @@ module _ (limits : Limits) (entries : List Entry) (last : Entry) (op : Operation
     paid =
         let same : count_by (is_step_of op.actor) (drop op.start longer) ≡ count_by (is_step_of op.actor) (drop op.start entries) + cond (is_step_of op.actor last) 1 0 = counted begun in
         let one : cond (is_step_of op.actor last) 1 0 ≤ 1 = one_at_most (is_step_of op.actor last) in
-        let old : count_by (is_step_of op.actor) (drop op.start entries) + left ≤ 2 ^ 18 * (length h.causes + 1) = h.paid in
+        let old : count_by (is_step_of op.actor) (drop op.start entries) + left ≤ cause_worth limits * (length h.causes + 1) = h.paid in
         let more : length (h.causes ++ length entries ∷ []) ≡ suc (length h.causes) = pushed_length h.causes (length entries) in
+        let place : length (h.causes ++ length entries ∷ []) + 1 ≡ suc (length h.causes + 1) = omega (arith, more) in
+        let grown : cause_worth limits * (length (h.causes ++ length entries ∷ []) + 1) ≡ cause_worth limits * (length h.causes + 1) + cause_worth limits
+            = ap (λ k. cause_worth limits * k) place ∙ mul-suc (cause_worth limits) (length h.causes + 1) in
         omega arith;
   }
 
   -- an operation that the last entry begins has taken no step
-  pub affords_begun : (left : ℕ) → op.start ≡ length entries → is_step_of op.actor last ≡ false → left ≤ 2 ^ 18 → Affords limits longer op left
+  pub affords_begun : (left : ℕ) → op.start ≡ length entries → is_step_of op.actor last ≡ false → left ≤ cause_worth limits → Affords limits longer op left
   affords_begun left at begins few = record {
     causes = [];
     increasing = λ j h. absurd (omega arith);
@@ -96,5 +101,6 @@ module _ (limits : Limits) (entries : List Entry) (last : Entry) (op : Operation
     paid =
         let rest : drop op.start longer ≡ last ∷ [] = drop_at entries (last ∷ []) op.start (sym at) in
         let none : count_by (is_step_of op.actor) (drop op.start longer) ≡ 0 = ap (count_by (is_step_of op.actor)) rest ∙ ap (λ t. 0 + cond {A = ℕ} t 1 0) begins in
+        let once : cause_worth limits * 1 ≡ cause_worth limits = mul-one (cause_worth limits) in
         omega arith;
   }

@@ -3,6 +3,7 @@ use Rattle.tree_law.proofs.Words.{[], ap, Option, suc, None, List, true, inl, le
 use Rattle.tree_law.proofs.Words.{All, count_by, IsStrictlyIncreasing, IsSome, slice_range, Reply, Limits, Answer, Whether, Link, StepOf, Exchange, Record, IsChainOf, knows, memory_at, memory_of}
 use Rattle.tree_law.proofs.Words.{IsUseful, Entry, Step, is_step_of, Links, IsCause, IsDirect, link_of, IsOperation, Operation, IsOwnStep, TakesOwnStep, IsUpdateLink, IsLast, Affords, IsDirectState}
 use Rattle.std.proofs.lemmas.List.{take_rest}
+use Rattle.traces.specs.discipline.Recalled.{cause_worth}
 use Rattle.bw_model.specs.declared.step.Link.TheVariants as link
 use Rattle.tree_law.proofs.trace.Owned.{pushed_length}
 use Rattle.tree_law.proofs.direct.Appended.{memory_kept, memory_last, operation_before, takes_below, takes_cases}
@@ -13,7 +14,7 @@ use Rattle.tree_law.proofs.direct.Counting.{range_kept}
 -- the causes until a step pay for the steps until then
 abbrev Few : Limits → List Entry → Operation → ℕ → Type 0
 Few limits trace op n = (causes : List ℕ) × IsStrictlyIncreasing causes × All (λ cause. (cause ≤ n) × IsCause limits trace op cause) causes
-    × (count_by (is_step_of op.actor) (slice_range trace op.start (suc n)) ≤ 2 ^ 18 * (length causes + 1))
+    × (count_by (is_step_of op.actor) (slice_range trace op.start (suc n)) ≤ cause_worth limits * (length causes + 1))
 
 -- an operation that can afford its last step has taken few
 few_last : (limits : Limits) (trace : List Entry) (op : Operation) (n rest : ℕ) → suc n ≡ length trace → Affords limits trace op rest → Few limits trace op n
@@ -24,7 +25,7 @@ few_last limits trace op n rest whole h = (
   (
       let same : slice_range trace op.start (suc n) ≡ drop op.start trace = ap (λ end. take (end - op.start) (drop op.start trace)) whole ∙ take_rest trace op.start in
       let counted : count_by (is_step_of op.actor) (slice_range trace op.start (suc n)) ≡ count_by (is_step_of op.actor) (drop op.start trace) = ap (count_by (is_step_of op.actor)) same in
-      let paid : count_by (is_step_of op.actor) (drop op.start trace) + rest ≤ 2 ^ 18 * (length h.causes + 1) = h.paid in
+      let paid : count_by (is_step_of op.actor) (drop op.start trace) + rest ≤ cause_worth limits * (length h.causes + 1) = h.paid in
       omega arith
       ),
 )

@@ -14,7 +14,7 @@ pub page_of-leaf-requires-clause-there : goal.page_of-leaf-requires-clause-there
 page_of-leaf-requires-clause-there g c =
     let (memory, has, leaves) = c.requires.stand in
     let below = leaf_below _ memory leaves _ _ _ (c.loop.invariant.listed memory has leaves) in
-    omega (arith, below, c.args.limits.now.allowed.few_pids)
+    omega (arith, below, c.requires.pids)
 
 pub page_of-leaf-requires-clause-stands : goal.page_of-leaf-requires-clause-stands
 page_of-leaf-requires-clause-stands g c =

@@ -1,4 +1,5 @@
-use Rattle.std.proofs.Common.{ap, length, sym, ◌∙◌, arith}
+use Rattle.std.proofs.Common.{ap, length, sym, ◌≡◌, ◌∙◌, arith}
+use Rattle.tree_limits.specs.declared.limits.Limits.{Limits}
 use Rattle.scene.proofs.Sides.{chain_at, is_more, no_front, page_last, page_more, pid_below}
 use Rattle.scene.proofs.level.level_from.Goals as goal
 
@@ -6,7 +7,8 @@ pub page_at-requires-clause-there : goal.page_at-requires-clause-there
 page_at-requires-clause-there g c =
     let (number, has) = c.requires.stands in
     let below = pid_below _ _ number _ has _ _ _ (c.loop.invariant number has) in
-    omega (arith, below, c.args.limits.now.allowed.few_pids)
+    let same : c.args.table.now.limits.pids ≡ c.args.limits.now.pids = ap (λ (l : Limits). l.pids) c.requires.limits in
+    omega (arith, below, same)
 
 pub page_at-requires-clause-stands : goal.page_at-requires-clause-stands
 page_at-requires-clause-stands g c =

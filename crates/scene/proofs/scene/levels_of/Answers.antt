@@ -5,13 +5,13 @@ use Rattle.scene.proofs.scene.levels_of.Goals as goal
 
 pub level_from-requires : goal.level_from-requires
 level_from-requires g c =
-    let at = c.loop.invariant.down c.requires in
-    record { stands = (at.number, stands_next _ _ c.requires _ _ _ at) }
+    let at = c.loop.invariant.down c.requires.stands in
+    record { limits = c.requires.limits; stands = (at.number, stands_next _ _ c.requires.stands _ _ _ at) }
 
 pub returns-in-None-clause-are : goal.returns-in-None-clause-are
 returns-in-None-clause-are g c =
-    let at = c.loop.invariant.down c.requires in
-    rw c.in_ok-push.ensures.items (levels_end _ _ c.requires _ _ _ at c.in_ok-level.level (c.in_ok-level.ensures at.number (stands_next _ _ c.requires _ _ _ at)) (sym c.first_child-child.ensures ∙ c.in-None.is))
+    let at = c.loop.invariant.down c.requires.stands in
+    rw c.in_ok-push.ensures.items (levels_end _ _ c.requires.stands _ _ _ at c.in_ok-level.level (c.in_ok-level.ensures at.number (stands_next _ _ c.requires.stands _ _ _ at)) (sym c.first_child-child.ensures ∙ c.in-None.is))
 
 pub loop-preserved : goal.loop-preserved
 loop-preserved g c = record {
@@ -23,5 +23,5 @@ loop-preserved g c = record {
 
 pub unreachable-requires : goal.unreachable-requires
 unreachable-requires g c =
-    let few = is_few _ _ c.requires _ _ _ (c.loop.invariant.down c.requires) in
+    let few = is_few _ _ c.requires.stands _ _ _ (c.loop.invariant.down c.requires.stands) in
     omega (arith, few, c.loop-test.false)

@@ -5,5 +5,5 @@ use Rattle.tree_picture.proofs.places.width_of.Given as goal
 abbrev pub invariant-loop-level : goal.invariant-loop-level
 invariant-loop-level l = record {
   wide : All (λ level. length level * 276 + 60 ≤ l.width) (take l.level-index l.levels);
-  few : l.width ≤ 4096 * 276 + 60;
+  few : l.width ≤ 4194304 * 276 + 60;
 }

@@ -16,19 +16,19 @@ pub returns-in_err-content-clause-refused : goal.returns-in_err-content-clause-r
 returns-in_err-content-clause-refused c =
     let words = c.args.words.now in
     refused c.from_residual.result ((content : Record) → IsFirstSpelling content words → ⊥) c.from_residual.ensures.0
-    (λ content h. c.in_err-content.ensures content (subst (IsSpelling content) (sym c.spread-wide.ensures) (widened content words h)))
+    (λ content h. c.in_err-content.ensures content (record { spelling = subst (IsSpelling content) (sym c.spread-wide.ensures) (widened content words h); small = h.small }))
 
 pub returns-then-is_narrow-clause-spelled : goal.returns-then-is_narrow-clause-spelled
 returns-then-is_narrow-clause-spelled c =
     let words = c.args.words.now in
     let content = c.in_ok-content.content in
-    (content, (narrowed content words c.told-words (subst (IsSpelling content) c.spread-wide.ensures c.in_ok-content.ensures) (c.is_narrow.ensures.0 c.if-is_narrow.true), c.in_ok-content.ensures))
+    (content, (narrowed content words c.told-words (subst (IsSpelling content) c.spread-wide.ensures c.in_ok-content.ensures.spelling) c.in_ok-content.ensures.small (c.is_narrow.ensures.0 c.if-is_narrow.true), c.in_ok-content.ensures.spelling))
 
 pub returns-else-is_narrow-clause-refused : goal.returns-else-is_narrow-clause-refused
 returns-else-is_narrow-clause-refused c content h =
     let words = c.args.words.now in
     let found = c.in_ok-content.content in
-    let same = spelling_one content found (spread words) (widened content words h) (subst (IsSpelling found) c.spread-wide.ensures c.in_ok-content.ensures) in
+    let same = spelling_one content found (spread words) (widened content words h) (subst (IsSpelling found) c.spread-wide.ensures c.in_ok-content.ensures.spelling) in
     let yes = c.is_narrow.ensures.1 (subst (HasTexts IsFew) same (few_texts content h.narrow)) in
     let no = c.if-is_narrow.false in
     cc

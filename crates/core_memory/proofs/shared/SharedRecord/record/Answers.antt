@@ -16,5 +16,5 @@ pub returns : goal.returns
 returns g c =
     let words = rc_slice_items c.self.inside.words in
     let row : c.write_row.new.row ≡ whole words = c.write_row.ensures ∙ ap whole c.as_slice.ensures.value in
-    let found = unwrapped (λ (content : Record). IsSpelling content c.write_row.new.row) c.from_words.result c.unwrap.result c.unwrap.ensures c.from_words.ensures in
+    let found = unwrapped (λ (content : Record). IsSpelling content c.write_row.new.row) c.read_words.result c.unwrap.result c.unwrap.ensures c.read_words.ensures in
     spelling_one c.unwrap.result (record_of words) (whole words) (subst (IsSpelling c.unwrap.result) row found) c.self.invariant ∙ c.self.view_is

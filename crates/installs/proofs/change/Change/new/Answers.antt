@@ -1,4 +1,5 @@
 use Rattle.installs.proofs.Sound.{first_sound}
+use Rattle.installs.proofs.Spending.{few_first}
 use Rattle.installs.proofs.Taken.{shows_first}
 use Rattle.installs.proofs.change.Change.new.Goals as goal
 
@@ -9,3 +10,6 @@ returns-clause-shows c actor k may keeps rest =
 
 pub returns-clause-sound : goal.returns-clause-sound
 returns-clause-sound c = record { room = c.requires.room; state = rw c.first_state-state.ensures (first_sound c.args.limits.now c.args.plan c.args.spares.now c.requires.target) }
+
+pub returns-clause-few : goal.returns-clause-few
+returns-clause-few c after = rw c.first_state-state.ensures (few_first c.args.limits.now after c.args.plan c.args.spares.now)

@@ -1,3 +1,4 @@
+use Rattle.traces.specs.discipline.Recalled.{cause_worth}
 use Rattle.std.proofs.Common.{Some, ap, sym, subst, Option, ◌∙◌}
 use Rattle.bw_model.specs.Lent.{lent}
 use Rattle.traces.specs.discipline.Knowledge.{begun}
@@ -39,4 +40,4 @@ returns-clause-bounded g c =
     let idle = idle_at _ _ k r c.self.inside.hand _ (rw (← c.self.view_is) at c.requires.idle) (rw (← c.self.view_is) at at) in
     let shown = shown_begun (begun k c.args.command) c.self.inside.hand c.begin.new.self c.begin.ensures.sweep c.begin.ensures.state (c.begin.ensures.shows _ _ idle) _ _ c.go_on.ensures in
     let asks = (c.wanted.ensures shown.0 shown.1 shown.2).wanted in
-    rw asks (begun_few (begun k c.args.command) c.self.inside.hand c.begin.new.self c.begin.ensures.sweep c.begin.ensures.state (c.begin.ensures.shows _ _ idle) c.go_on.new.self c.go_on.new.hand (lent c.wanted.result) (c.go_on.ensures.spends (lent c.wanted.result)) c.begin.ensures.few)
+    rw asks (begun_few (begun k c.args.command) c.self.inside.hand c.begin.new.self c.begin.ensures.sweep c.begin.ensures.state (c.begin.ensures.shows _ _ idle) (cause_worth c.args.limits.now) c.go_on.new.self c.go_on.new.hand (lent c.wanted.result) (c.go_on.ensures.spends (lent c.wanted.result)) c.begin.ensures.few)

@@ -25,4 +25,4 @@ pub new-self-inside-requires : goal.new-self-inside-requires
 new-self-inside-requires g c = record { target = rw c.limits.ensures c.requires.target; spells = c.requires.spells; room = rw c.limits.ensures c.requires.room }
 
 pub returns-clause-few : goal.returns-clause-few
-returns-clause-few g c r = one_more _ _ (c.new-self-inside.ensures.few one_round)
+returns-clause-few g c r = one_more _ _ (rw c.limits.ensures at (c.new-self-inside.ensures.few (one_round c.args.task.now.limits)))

@@ -16,7 +16,7 @@ pub returns-in-None-clause-stands : goal.returns-in-None-clause-stands
 returns-in-None-clause-stands g c = c.tend_leaf.ensures.stands
 
 pub returns-in-None-clause-few : goal.returns-in-None-clause-few
-returns-in-None-clause-few g c r = errands_same c.args.self.now.errands _ _ (c.tend_leaf.ensures.few r)
+returns-in-None-clause-few g c r = errands_same c.args.self.now.limits c.args.self.now.errands _ _ (c.tend_leaf.ensures.few r)
 
 pub returns-in-None-clause-asks : goal.returns-in-None-clause-asks
 returns-in-None-clause-asks g c = c.tend_leaf.ensures.asks
@@ -31,7 +31,7 @@ pub returns-in-None-clause-have : goal.returns-in-None-clause-have
 returns-in-None-clause-have g c = c.tend_leaf.ensures.have
 
 pub returns-in-Some-clause-few : goal.returns-in-Some-clause-few
-returns-in-Some-clause-few g c r = rw c.finish_errand.ensures (errand_less c.args.self.now.errands _ _ c.in-Some.ensures (c.begin_round.ensures.few c.args.spares.now r))
+returns-in-Some-clause-few g c r = rw c.finish_errand.ensures (errand_less c.args.self.now.limits c.args.self.now.errands _ _ c.in-Some.ensures (rw c.finish_errand.ensures at (c.begin_round.ensures.few c.args.spares.now r)))
 
 pub returns-in-Some-clause-asks : goal.returns-in-Some-clause-asks
 returns-in-Some-clause-asks g c = c.begin_round.ensures.asks c.args.spares.now

@@ -1,5 +1,9 @@
-use Rattle.std.proofs.Common.{inr, refl, arith}
-use Rattle.op_machine.proofs.Plans.{errands_same}
+use Rattle.std.proofs.Common.{◌≡◌, ◌≤◌, inr, refl, ap, sym, subst, ◌∙◌, arith}
+use Rattle.tree_limits.specs.declared.limits.Limits.{Limits}
+use Rattle.op_machine.specs.machine.Bounded.{left_at, one_round}
+use Rattle.op_machine.specs.machine.Places.{state_of}
+use Rattle.op_machine.specs.machine.Tasks.{Task}
+use Rattle.op_machine.proofs.Plans.{errand_more, errands_same}
 use Rattle.op_machine.proofs.task.Task.end_changing.Goals as goal
 
 pub returns-in-Full-default-clause-stands : goal.returns-in-Full-default-clause-stands
@@ -12,7 +16,7 @@ returns-in-Full-default-clause-stands g c spares k r h =
     )
 
 pub returns-in-Full-default-clause-few : goal.returns-in-Full-default-clause-few
-returns-in-Full-default-clause-few g c spares r = rw (c.leave-in-Full-default.ensures, c.in-Full-default.is-0) (errands_same c.args.self.now.errands _ _ (omega arith))
+returns-in-Full-default-clause-few g c spares r = rw (c.leave-in-Full-default.ensures, c.in-Full-default.is-0) (errands_same c.args.self.now.limits c.args.self.now.errands _ _ (omega arith))
 
 pub returns-in-Full-default-clause-asks : goal.returns-in-Full-default-clause-asks
 returns-in-Full-default-clause-asks g c spares = rw c.leave-in-Full-default.ensures refl
@@ -34,3 +38,9 @@ returns-in-Won-Errand-clause-asks g c = c.begin_round.ensures.asks
 
 pub returns-in-Won-Errand-clause-have : goal.returns-in-Won-Errand-clause-have
 returns-in-Won-Errand-clause-have g c = c.begin_round.ensures.have
+
+pub returns-in-Won-Errand-clause-few : goal.returns-in-Won-Errand-clause-few
+returns-in-Won-Errand-clause-few g c spares r =
+    let own : c.add_errand.new.self.limits ≡ c.args.self.now.limits = ap (λ (task : Task). task.limits) c.add_errand.ensures in
+    let few = subst (λ (limits : Limits). left_at limits r spares (state_of c.begin_round.new.places) ≤ one_round limits) own (c.begin_round.ensures.few spares r) in
+    rw (c.add_errand.ensures, c.in-Won-Errand.is-0, sym c.then.ensures ∙ c.in-Won-Errand.is-1) (errand_more c.args.self.now.limits c.args.self.now.errands c.copied-separator.result _ few)

@@ -50,7 +50,7 @@ pub returns-in-Consolidate-clause-stands : goal.returns-in-Consolidate-clause-st
 returns-in-Consolidate-clause-stands g c = rw c.in-Consolidate.is c.begin_consolidation.ensures.stands
 
 pub returns-in-Consolidate-clause-few : goal.returns-in-Consolidate-clause-few
-returns-in-Consolidate-clause-few g c k r h = rw c.in-Consolidate.is (errands_same c.args.self.now.errands _ _ (c.begin_consolidation.ensures.few r))
+returns-in-Consolidate-clause-few g c k r h = rw c.in-Consolidate.is (errands_same c.args.self.now.limits c.args.self.now.errands _ _ (c.begin_consolidation.ensures.few r))
 
 pub returns-in-Consolidate-clause-asks : goal.returns-in-Consolidate-clause-asks
 returns-in-Consolidate-clause-asks g c = c.begin_consolidation.ensures.asks
@@ -62,7 +62,7 @@ pub returns-in-Split-clause-stands : goal.returns-in-Split-clause-stands
 returns-in-Split-clause-stands g c = rw c.in-Split.is c.begin_split.ensures.stands
 
 pub returns-in-Split-clause-few : goal.returns-in-Split-clause-few
-returns-in-Split-clause-few g c k r h = rw c.in-Split.is (errands_same c.args.self.now.errands _ _ (c.begin_split.ensures.few r))
+returns-in-Split-clause-few g c k r h = rw c.in-Split.is (errands_same c.args.self.now.limits c.args.self.now.errands _ _ (c.begin_split.ensures.few r))
 
 pub returns-in-Split-clause-asks : goal.returns-in-Split-clause-asks
 returns-in-Split-clause-asks g c = c.begin_split.ensures.asks
@@ -74,7 +74,7 @@ pub returns-in-Term-clause-stands : goal.returns-in-Term-clause-stands
 returns-in-Term-clause-stands g c = rw c.in-Term.is c.begin_term.ensures.stands
 
 pub returns-in-Term-clause-few : goal.returns-in-Term-clause-few
-returns-in-Term-clause-few g c k r h = rw c.in-Term.is (errands_same c.args.self.now.errands _ _ (c.begin_term.ensures.few r))
+returns-in-Term-clause-few g c k r h = rw c.in-Term.is (errands_same c.args.self.now.limits c.args.self.now.errands _ _ (c.begin_term.ensures.few r))
 
 pub returns-in-Term-clause-asks : goal.returns-in-Term-clause-asks
 returns-in-Term-clause-asks g c = c.begin_term.ensures.asks
@@ -86,7 +86,7 @@ pub returns-in-Root-clause-stands : goal.returns-in-Root-clause-stands
 returns-in-Root-clause-stands g c = rw c.in-Root.is c.begin_root.ensures.stands
 
 pub returns-in-Root-clause-few : goal.returns-in-Root-clause-few
-returns-in-Root-clause-few g c k r h = rw c.in-Root.is (errands_same c.args.self.now.errands _ _ (c.begin_root.ensures.few r))
+returns-in-Root-clause-few g c k r h = rw c.in-Root.is (errands_same c.args.self.now.limits c.args.self.now.errands _ _ (c.begin_root.ensures.few r))
 
 pub returns-in-Root-clause-asks : goal.returns-in-Root-clause-asks
 returns-in-Root-clause-asks g c = c.begin_root.ensures.asks
@@ -98,7 +98,7 @@ pub returns-in-Tend-clause-stands : goal.returns-in-Tend-clause-stands
 returns-in-Tend-clause-stands g c = rw c.in-Tend.is c.begin_upkeep.ensures.stands
 
 pub returns-in-Tend-clause-few : goal.returns-in-Tend-clause-few
-returns-in-Tend-clause-few g c k r h = rw c.in-Tend.is (errands_same c.args.self.now.errands _ _ (c.begin_upkeep.ensures.few r))
+returns-in-Tend-clause-few g c k r h = rw c.in-Tend.is (errands_same c.args.self.now.limits c.args.self.now.errands _ _ (c.begin_upkeep.ensures.few r))
 
 pub returns-in-Tend-clause-asks : goal.returns-in-Tend-clause-asks
 returns-in-Tend-clause-asks g c = c.begin_upkeep.ensures.asks
@@ -110,7 +110,7 @@ pub returns-in-Merge-clause-stands : goal.returns-in-Merge-clause-stands
 returns-in-Merge-clause-stands g c = rw c.in-Merge.is c.begin_merge.ensures.stands
 
 pub returns-in-Merge-clause-few : goal.returns-in-Merge-clause-few
-returns-in-Merge-clause-few g c k r h = rw c.in-Merge.is (errands_same c.args.self.now.errands _ _ (c.begin_merge.ensures.few r))
+returns-in-Merge-clause-few g c k r h = rw c.in-Merge.is (errands_same c.args.self.now.limits c.args.self.now.errands _ _ (c.begin_merge.ensures.few r))
 
 pub returns-in-Merge-clause-asks : goal.returns-in-Merge-clause-asks
 returns-in-Merge-clause-asks g c = c.begin_merge.ensures.asks
@@ -122,7 +122,7 @@ pub returns-in-Unterm-clause-stands : goal.returns-in-Unterm-clause-stands
 returns-in-Unterm-clause-stands g c = rw c.in-Unterm.is c.begin_unlink.ensures.stands
 
 pub returns-in-Unterm-clause-few : goal.returns-in-Unterm-clause-few
-returns-in-Unterm-clause-few g c k r h = rw c.in-Unterm.is (errands_same c.args.self.now.errands _ _ (c.begin_unlink.ensures.few r))
+returns-in-Unterm-clause-few g c k r h = rw c.in-Unterm.is (errands_same c.args.self.now.limits c.args.self.now.errands _ _ (c.begin_unlink.ensures.few r))
 
 pub returns-in-Unterm-clause-asks : goal.returns-in-Unterm-clause-asks
 returns-in-Unterm-clause-asks g c = c.begin_unlink.ensures.asks

@@ -10,12 +10,12 @@ returns-then-is_long-clause-treats g c = record { is = refl; here = c.requires.h
 pub due_split-requires : goal.due_split-requires
 due_split-requires g c =
     let old = c.args.self.now in
-    record { alive = c.requires.here.alive; short = few_deltas old.round.due old.page.chain (denied c.is_long.result (IsLong old.round.due old.page.chain) c.is_long.ensures.1 c.if-is_long.false); wide = c.is_wide.ensures.0 c.if-is_wide.true }
+    record { alive = c.requires.here.alive; short = few_deltas old.round.limits old.round.due old.page.chain (denied c.is_long.result (IsLong old.round.limits old.round.due old.page.chain) c.is_long.ensures.1 c.if-is_long.false); wide = c.is_wide.ensures.0 c.if-is_wide.true }
 
 pub returns-then-is_wide-clause-treats : goal.returns-then-is_wide-clause-treats
 returns-then-is_wide-clause-treats g c =
     let old = c.args.self.now in
-    record { is = refl; here = c.requires.here; short = denied c.is_long.result (IsLong old.round.due old.page.chain) c.is_long.ensures.1 c.if-is_long.false; plan_due = c.due_split.ensures }
+    record { is = refl; here = c.requires.here; short = denied c.is_long.result (IsLong old.round.limits old.round.due old.page.chain) c.is_long.ensures.1 c.if-is_long.false; plan_due = c.due_split.ensures }
 
 pub go_on-requires : goal.go_on-requires
 go_on-requires g c =
@@ -24,7 +24,7 @@ go_on-requires g c =
       can = c.requires.can;
       here = c.requires.here;
       fine = record {
-        short = denied c.is_long.result (IsLong old.round.due old.page.chain) c.is_long.ensures.1 c.if-is_long.false;
+        short = denied c.is_long.result (IsLong old.round.limits old.round.due old.page.chain) c.is_long.ensures.1 c.if-is_long.false;
         narrow = λ can. denied c.is_wide.result (HasManyItems old.page.chain) c.is_wide.ensures.1 c.if-is_wide.false can.wide;
       };
     }

@@ -9,5 +9,5 @@ pub returns : goal.returns
 returns c =
     let words = c.self.inside.words in
     spelling_one c.unwrap.result c.args.self.now words
-    (unwrapped (λ (content : Record). IsSpelling content words) c.from_words.result c.unwrap.result c.unwrap.ensures c.from_words.ensures)
+    (unwrapped (λ (content : Record). IsSpelling content words) c.read_words.result c.unwrap.result c.unwrap.ensures c.read_words.ensures)
     (row_spells words c.args.self.now c.self.view_is c.self.invariant)
