@@ -1,3 +1,6 @@
+pub mod Fronts
 pub mod Lists
 pub mod Handing
 pub mod Leaving
+pub mod Queues
+pub mod Restaged

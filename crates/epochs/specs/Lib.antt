@@ -1,3 +1,4 @@
 pub mod Limbo
+pub mod Queue
 pub mod Reclamation
 pub mod Words

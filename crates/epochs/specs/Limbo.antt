@@ -1,5 +1,5 @@
 -- Limbo lists: what an actor has taken out of the tree, and has not freed yet.
-use Rattle.std.specs.Prelude.{◌≢◌, ◌<◌, ◌≤◌, ◌==◌, ℕ, Bool, true, false, if◌then◌else◌, IsFalse, List, [], ◌∷◌, ◌++◌, Option, None, Some, map}
+use Rattle.std.specs.Prelude.{◌≢◌, ◌<◌, ◌≤◌, ◌==◌, ℕ, Bool, true, false, if◌then◌else◌, IsFalse, List, [], ◌∷◌, ◌++◌, Option, None, Some, drop, map, take}
 use Rattle.std.specs.List.{All, AllPairs, list_any}
 use Rattle.epochs.specs.declared.entry.Entry.{Entry}
 use Rattle.epochs.specs.declared.entry.Stage.{Stage}
@@ -43,11 +43,22 @@ compared_with announces (Passed stamp) = if may_be_freed stamp announces then Pa
 abbrev pub restaged : (Stage → Stage) → List Entry → List Entry
 restaged stage_after entries = map {A = Entry} (λ entry. record entry { stage = stage_after entry.stage }) entries
 
--- the same in both lists
+-- Of the first entries alone, so many at most.
+abbrev pub first_restaged : ℕ → (Stage → Stage) → List Entry → List Entry
+first_restaged most stage_after entries = restaged stage_after (take most entries) ++ drop most entries
+
+-- all entries of both lists
 abbrev pub all_restaged : (Stage → Stage) → Limbo → Limbo
 all_restaged stage_after limbo = record {
   rows = record limbo.rows { entries = restaged stage_after limbo.rows.entries };
   pids = record limbo.pids { entries = restaged stage_after limbo.pids.entries };
+}
+
+-- the first entries of each list
+abbrev pub firsts_restaged : ℕ → (Stage → Stage) → Limbo → Limbo
+firsts_restaged most stage_after limbo = record {
+  rows = record limbo.rows { entries = first_restaged most stage_after limbo.rows.entries };
+  pids = record limbo.pids { entries = first_restaged most stage_after limbo.pids.entries };
 }
 
 abbrev pub is_in : LimboList → ℕ → Bool

@@ -1,7 +1,7 @@
 //! A number in limbo, and how far it is on its way to be used again.
 ghost use Rattle.std.specs.Prelude.{◌≡◌, ◌<◌, ◌/◌, ◌==◌, ◌&&◌, ◌⊎◌, ◌↔◌, IsTrue};
 ghost use Rattle.std.specs.List.{All};
-ghost use Rattle.epochs.specs.Limbo.{compared_with, is_passed, is_unstamped, restaged, stamped_by};
+ghost use Rattle.epochs.specs.Limbo.{compared_with, is_passed, is_unstamped, stamped_by};
 ghost use Rattle.epochs.specs.Reclamation.{may_be_freed};
 
 /// A number in a limbo list.
@@ -81,22 +81,4 @@ fn may_be_freed(stamp: u64, announces: &[u64]) -> bool
     announces
         .iter()
         .all(|&announced| announced == 0 || stamp < announced)
-}
-
-/// Gives the stamp to all entries that have none.
-pub(crate) fn stamp_all(entries: &mut [Entry], epoch: u64)
-    ensures { entries.new ≡ restaged (stamped_by epoch) entries.old }
-{
-    for entry in entries.iter_mut() {
-        entry.stage = entry.stage.stamped_by(epoch);
-    }
-}
-
-/// Finds out which entries may be freed.
-pub(crate) fn compare_all(entries: &mut [Entry], announces: &[u64])
-    ensures { entries.new ≡ restaged (compared_with announces.now) entries.old }
-{
-    for entry in entries.iter_mut() {
-        entry.stage = entry.stage.compared_with(announces);
-    }
 }

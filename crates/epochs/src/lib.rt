@@ -15,6 +15,8 @@ mod entry;
 mod item;
 mod limbo;
 mod list;
+mod queue;
+mod stages;
 mod words;
 
 pub use entry::{Entry, Stage};

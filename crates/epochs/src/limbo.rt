@@ -1,7 +1,7 @@
 //! The limbo lists of one actor.
 ghost use Rattle.std.specs.Prelude.{◌≡◌, ◌||◌, ◌↔◌, [], IfErr, IfOk, IsTrue};
 ghost use Rattle.std.specs.List.{list_any};
-ghost use Rattle.epochs.specs.Limbo.{IsLimboList, IsNewItem, all_restaged, compared_with, is_unstamped, stamped_by, with_item};
+ghost use Rattle.epochs.specs.Limbo.{IsLimboList, IsNewItem, all_restaged, compared_with, firsts_restaged, is_unstamped, stamped_by, with_item};
 ghost use Rattle.epochs.specs.Words.{IsHandedOn};
 
 use crate::list::LimboList;
@@ -83,8 +83,16 @@ impl<A: Allocator> Limbo<A> {
         self.pids.compare(announces);
     }
 
+    /// The same of the first items of each list alone, so many at most: it takes time over these, however many there are.
+    pub fn may_free_first(&mut self, most: usize, announces: &[u64])
+        ensures { self.new ≡ firsts_restaged most (compared_with announces.now) self.old }
+    {
+        self.rows.compare_first(most, announces);
+        self.pids.compare_first(most, announces);
+    }
+
     /// The next step that frees items, if any may be freed: those of the first word that has any, rows before PIDs. They
-    /// leave the limbo. It takes time over what is in limbo, not over all rows.
+    /// leave the limbo. It takes time over the items that were compared.
     pub fn next_word(&mut self) -> Option<Reuse>
         ensures { IsHandedOn self.old result self.new }
     {

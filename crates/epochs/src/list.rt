@@ -1,11 +1,12 @@
 //! The limbo list of one kind of numbers.
 ghost use Rattle.std.specs.Prelude.{◌≡◌, ◌≤◌, ◌↔◌, [], IfOk, IsTrue, MatchOption};
 ghost use Rattle.std.specs.List.{list_any};
-ghost use Rattle.epochs.specs.Limbo.{IsLimboList, IsNew, added, compared_with, is_in, is_unstamped, restaged, stamped_by};
+ghost use Rattle.epochs.specs.Limbo.{IsLimboList, IsNew, added, compared_with, first_restaged, is_in, is_unstamped, restaged, stamped_by};
 ghost use Rattle.epochs.specs.Words.{HandsNothingOn, HandsOn};
 
-use crate::entry::{compare_all, stamp_all};
-use crate::words::{bits_of, first_word, hand_on};
+use crate::queue::Queue;
+use crate::stages::{compare_first, first_unstamped, stamp_from};
+use crate::words::{bits_of, first_word};
 use crate::{Entry, Stage};
 use std::alloc::{AllocError, Allocator, Global};
 use std::marker::Model;
@@ -14,18 +15,20 @@ use std::marker::Model;
 #[derive(Drop)]
 pub(crate) struct LimboList<A: Allocator = Global> {
     limit: u64,
-    entries: Vec<Entry, A>,
+    /// How many of the first entries were compared: none of the others may be freed.
+    compared: usize,
+    entries: Queue<A>,
 }
 
 impl<A: Allocator> Model for LimboList<A> {
-    ghost use Rattle.std.specs.Prelude.{◌≤◌, vec_capacity};
-    ghost use Rattle.epochs.specs.Limbo.{IsLimboList, LimboList};
+    ghost use Rattle.epochs.specs.Limbo.{LimboList};
+    ghost use Rattle.epochs.specs.Queue.{IsKeptList};
 
     ghost Value = { LimboList };
 
-    ghost view = { λ list. record { limit = list.limit; entries = list.entries.items } };
+    ghost view = { λ list. record { limit = list.limit; entries = list.entries.entries } };
 
-    ghost invariant = { λ list. IsLimboList (record { limit = list.limit; entries = list.entries.items }) × (list.limit ≤ vec_capacity list.entries) };
+    ghost invariant = { λ list. IsKeptList list.limit list.compared list.entries };
 }
 
 impl<A: Allocator> LimboList<A> {
@@ -36,7 +39,8 @@ impl<A: Allocator> LimboList<A> {
     {
         Ok(LimboList {
             limit,
-            entries: Vec::with_capacity(alloc, limit as usize)?,
+            compared: 0,
+            entries: Queue::with_room(alloc, limit as usize)?,
         })
     }
 
@@ -51,7 +55,7 @@ impl<A: Allocator> LimboList<A> {
     fn contains(&self, number: u32) -> bool
         ensures { result ≡ is_in self.now number }
     {
-        self.entries.iter().any(|entry| entry.number == number)
+        self.entries().iter().any(|entry| entry.number == number)
     }
 
     /// Adds a number, without a stamp.
@@ -59,37 +63,46 @@ impl<A: Allocator> LimboList<A> {
         requires { IsNew self.old number }
         ensures { self.new ≡ added number self.old }
     {
-        let entry = Entry {
+        self.entries.push(Entry {
             number,
             stage: Stage::Unstamped,
-        };
-        match self.entries.push(entry) {
-            Ok(()) => {}
-            Err(_) => unreachable!(),
-        }
+        });
     }
 
     /// Gives the stamp to all numbers that have none.
     pub(crate) fn stamp(&mut self, epoch: u64)
         ensures { self.new ≡ record self.old { entries = restaged (stamped_by epoch) self.old.entries } }
     {
-        stamp_all(&mut self.entries, epoch);
+        let from = first_unstamped(self.entries.as_slice());
+        stamp_from(&mut self.entries, from, epoch);
     }
 
     /// Finds out which numbers may be freed.
     pub(crate) fn compare(&mut self, announces: &[u64])
         ensures { self.new ≡ record self.old { entries = restaged (compared_with announces.now) self.old.entries } }
     {
-        compare_all(&mut self.entries, announces);
+        let all = self.entries.as_slice().len();
+        compare_first(&mut self.entries, all, announces);
+        self.compared = all;
+    }
+
+    /// Finds out which of the first numbers may be freed, so many at most, and looks at no others.
+    pub(crate) fn compare_first(&mut self, most: usize, announces: &[u64])
+        ensures { self.new ≡ record self.old { entries = first_restaged most (compared_with announces.now) self.old.entries } }
+    {
+        let count = most.min(self.entries.as_slice().len());
+        compare_first(&mut self.entries, count, announces);
+        self.compared = self.compared.max(count);
     }
 
     /// Takes out the numbers of the first word with one that may be freed: the word's place, and their bits.
     pub(crate) fn next_word(&mut self) -> Option<(u32, u64)>
         ensures { MatchOption result (HandsNothingOn self.old self.new) (λ handed. HandsOn self.old handed.0 handed.1 self.new) }
     {
-        let word = first_word(&self.entries)?;
-        let bits = bits_of(&self.entries, word);
-        hand_on(&mut self.entries, word);
+        let front = &self.entries.as_slice()[..self.compared];
+        let word = first_word(front)?;
+        let bits = bits_of(front, word);
+        self.compared = self.entries.hand_on(self.compared, word);
         Some((word, bits))
     }
 
@@ -111,13 +124,16 @@ impl<A: Allocator> LimboList<A> {
     pub(crate) fn is_empty(&self) -> bool
         ensures { IsTrue result ↔ (self.now.entries ≡ []) }
     {
-        self.entries.is_empty()
+        self.entries().is_empty()
     }
 
     /// Whether a number has no stamp.
     pub(crate) fn has_unstamped(&self) -> bool
         ensures { result ≡ list_any (λ entry. is_unstamped entry.stage) self.now.entries }
     {
-        self.entries.iter().any(|entry| entry.stage.is_unstamped())
+        match self.entries.as_slice().last() {
+            Some(entry) => entry.stage.is_unstamped(),
+            None => false,
+        }
     }
 }

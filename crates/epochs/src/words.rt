@@ -1,10 +1,9 @@
 //! The words of free bits that entries have a part in.
-ghost use Rattle.std.specs.Prelude.{◌≡◌, ◌<◌, vec_capacity};
+ghost use Rattle.std.specs.Prelude.{◌≡◌, ◌<◌};
 ghost use Rattle.std.specs.List.{All};
-ghost use Rattle.epochs.specs.Words.{AreBitsOf, IsFirstPlace, lower, without};
+ghost use Rattle.epochs.specs.Words.{AreBitsOf, IsFirstPlace, lower};
 
 use crate::Entry;
-use std::alloc::Allocator;
 
 /// The place of the first word with a number that may be freed.
 pub(crate) fn first_word(entries: &[Entry]) -> Option<u32>
@@ -41,12 +40,4 @@ pub(crate) fn bits_of(entries: &[Entry], word: u32) -> u64
         }
     }
     bits
-}
-
-/// Takes out the numbers of a word that may be freed.
-pub(crate) fn hand_on<A: Allocator>(entries: &mut Vec<Entry, A>, word: u32)
-    ensures rest { entries.new.items ≡ without word entries.old.items }
-    ensures capacity { vec_capacity entries.new ≡ vec_capacity entries.old }
-{
-    entries.retain(|entry| !entry.goes_with(word));
 }

@@ -1,12 +1,12 @@
 use Rattle.std.proofs.Common.{arith}
-use Rattle.epochs.proofs.Lists.{added_is_list, has_room}
+use Rattle.epochs.proofs.Fronts.{added_kept}
+use Rattle.epochs.proofs.Lists.{has_room}
 use Rattle.epochs.proofs.list.LimboList.add.Goals as goal
 
-pub unreachable-requires : goal.unreachable-requires
-unreachable-requires g c =
-    let room = has_room _ c.args.number c.self.invariant.0 (rw (← c.self.view_is) at c.requires) in
-    omega (arith, room, c.self.invariant.1, c.self.inside.entries.ok.0, c.in-Err.ensures.full)
+pub push-requires : goal.push-requires
+push-requires g c =
+    let room = has_room _ c.args.number c.self.invariant.list (rw (← c.self.view_is) at c.requires) in
+    omega (arith, room, c.self.invariant.room)
 
 pub invariant_of-self : goal.invariant_of-self
-invariant_of-self g c =
-    (rw c.in-Ok.ensures.items (added_is_list _ c.args.number c.self.invariant.0 (rw (← c.self.view_is) at c.requires)), omega (arith, c.self.invariant.1, c.push.ensures.capacity))
+invariant_of-self g c = rw c.push.ensures (added_kept _ _ c.args.number _ c.self.invariant (rw (← c.self.view_is) at c.requires))

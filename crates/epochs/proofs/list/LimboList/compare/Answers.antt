@@ -1,7 +1,9 @@
-use Rattle.epochs.specs.Limbo.{compared_with}
-use Rattle.epochs.proofs.Lists.{restaged_is_list, rewritten}
+use Rattle.std.proofs.Common.{◌≡◌, length, ap, arith}
+use Rattle.epochs.proofs.Restaged.{compared_kept}
 use Rattle.epochs.proofs.list.LimboList.compare.Goals as goal
 
 pub invariant_of-self : goal.invariant_of-self
 invariant_of-self g c =
-    (rw (rewritten (compared_with c.args.announces.now) c.self.inside.entries.items c.deref_mut.result.now c.compare_all.new.entries c.self.inside.entries.len c.self.inside.entries.ok.0 c.deref_mut.ensures.value c.compare_all.ensures) (restaged_is_list (compared_with c.args.announces.now) _ c.self.invariant.0), c.self.invariant.1)
+    let all : length c.as_slice-all.result.now ≡ length c.self.inside.entries.entries = ap length c.as_slice-all.ensures in
+    let front = c.self.invariant.front in
+    rw c.compare_first.ensures (compared_kept _ _ (length c.as_slice-all.result.now) _ c.args.announces.now _ (omega (arith, all)) (omega arith) (omega (arith, all, front)) (omega (arith, all)) c.self.invariant)
