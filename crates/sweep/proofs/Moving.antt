@@ -17,15 +17,16 @@ use Rattle.epochs.specs.declared.entry.Entry.{Entry}
 use Rattle.epochs.specs.declared.entry.Stage.{Stage}
 use Rattle.epochs.specs.declared.entry.Stage.TheVariants.{Unstamped, Stamped, Passed}
 use Rattle.epochs.specs.declared.item.Reuse.TheVariants.{Rows, Pids}
-use Rattle.epochs.specs.Limbo.{Limbo, LimboList, all_restaged, compared_with, is_unstamped, stage_in, stage_of, stamped_by}
+use Rattle.epochs.specs.Limbo.{Limbo, LimboList, all_restaged, compared_with, firsts_restaged, is_unstamped, stage_in, stage_of, stamped_by}
 use Rattle.epochs.specs.Words.{HandsOn, may_go, without}
 use Rattle.sweep.specs.declared.sweep.State.{State}
 use Rattle.sweep.specs.declared.sweep.State.TheVariants as state
 use Rattle.sweep.specs.Kept.{Agrees, AreKept, IsLimboOf}
-use Rattle.sweep.specs.Moves.{BeginsSweep, Compares, Frees, Moves, Stamps, has_unstamped, state_if}
+use Rattle.sweep.specs.declared.sweep.TheConstants.{MOST_COMPARED}
+use Rattle.sweep.specs.Moves.{BeginsSweep, Compares, Frees, Moves, Stamps, compared, has_unstamped, state_if}
 use Rattle.sweep.specs.Sweeps.{AreTold, Follows, IsSame, Shows, ShowsState, ShowsThen, Sweep, Told, other_at, wanted, wanted_at}
 use Rattle.sweep.proofs.Agreeing.{announced_agrees, announced_told, compared_agrees, may_free, stamped_agrees, stamped_told}
-use Rattle.sweep.proofs.Stages.{kept_stage, no_item, no_stage, passed_stage, restaged_stage}
+use Rattle.sweep.proofs.Stages.{first_stage, kept_stage, no_item, no_stage, passed_stage, restaged_stage}
 
 -- what is shown by what follows, if anything does
 abbrev pub ShowsNext : Limits → ℕ → Option State → Limbo → Knowledge → Type 0
@@ -84,17 +85,36 @@ module _ (limits : Limits) (actor : ℕ) where
   frees_shows k limbo after (Some (state.Retire epoch)) kept frees = absurd frees
   frees_shows k limbo after (Some (state.Announce announces)) kept frees = absurd frees
 
-  compared_kept : (announces : List ℕ) (limbo : Limbo) (now : Limbos) → actor < limits.actors → limits.actors ≤ suc (length announces) → AreKept limits actor limbo now → AreTold actor announces limbo now → AreKept limits actor (all_restaged (compared_with announces) limbo) now
-  compared_kept announces limbo now inside all kept told = record {
+  all_kept : (announces : List ℕ) (limbo : Limbo) (now : Limbos) → actor < limits.actors → limits.actors ≤ suc (length announces) → AreKept limits actor limbo now → AreTold actor announces limbo now → AreKept limits actor (all_restaged (compared_with announces) limbo) now
+  all_kept announces limbo now inside all kept told = record {
     lists = record { rows = kept.lists.rows; pids = kept.lists.pids };
     rows = λ row. rw (restaged_stage (compared_with announces) limbo.rows.entries row) (compared_agrees limits actor now.epoch announces (stage_of limbo.rows row) (now.rows row) inside all (kept.rows row) (told.rows row));
     pids = λ pid. rw (restaged_stage (compared_with announces) limbo.pids.entries pid) (compared_agrees limits actor now.epoch announces (stage_of limbo.pids pid) (now.pids pid) inside all (kept.pids pid) (told.pids pid));
   }
 
+  first_kept : (most : ℕ) (announces : List ℕ) (limbo : Limbo) (now : Limbos) → actor < limits.actors → limits.actors ≤ suc (length announces) → AreKept limits actor limbo now → AreTold actor announces limbo now → AreKept limits actor (firsts_restaged most (compared_with announces) limbo) now
+  first_kept most announces limbo now inside all kept told = record {
+    lists = record { rows = kept.lists.rows; pids = kept.lists.pids };
+    rows = λ row. elim (first_stage (compared_with announces) most limbo.rows.entries row) [
+      | inl changed ↦ rw changed (compared_agrees limits actor now.epoch announces (stage_of limbo.rows row) (now.rows row) inside all (kept.rows row) (told.rows row))
+      | inr same ↦ rw same (kept.rows row)
+    ];
+    pids = λ pid. elim (first_stage (compared_with announces) most limbo.pids.entries pid) [
+      | inl changed ↦ rw changed (compared_agrees limits actor now.epoch announces (stage_of limbo.pids pid) (now.pids pid) inside all (kept.pids pid) (told.pids pid))
+      | inr same ↦ rw same (kept.pids pid)
+    ];
+  }
+
+  compared_kept : (announces : List ℕ) (limbo : Limbo) (now : Limbos) → actor < limits.actors → limits.actors ≤ suc (length announces) → AreKept limits actor limbo now → AreTold actor announces limbo now → AreKept limits actor (compared limits announces limbo) now
+  compared_kept announces limbo now inside all kept told = elim limits.is_large as (λ b. AreKept limits actor (if b then firsts_restaged MOST_COMPARED (compared_with announces) limbo else all_restaged (compared_with announces) limbo) now) [
+    | true ↦ first_kept MOST_COMPARED announces limbo now inside all kept told
+    | false ↦ all_kept announces limbo now inside all kept told
+  ]
+
   pub compares_shows : (k : Knowledge) (announces : List ℕ) (limbo after : Limbo) (next : Option State) → actor < limits.actors → AreKept limits actor limbo k.limbo → AreTold actor announces limbo k.limbo → Compares limits announces limbo next after → ShowsNext limits actor next after k
   compares_shows k announces limbo after next inside kept told compares = elim (cases_lt (suc (length announces)) limits.actors) [
     | inl more ↦ let is = compares.reads more in rw (is.0, is.1) (kept, told)
-    | inr all ↦ frees_shows k (all_restaged (compared_with announces) limbo) after next (compared_kept announces limbo k.limbo inside all kept told) (compares.frees all)
+    | inr all ↦ frees_shows k (compared limits announces limbo) after next (compared_kept announces limbo k.limbo inside all kept told) (compares.frees all)
   ]
 
   -- ---- the epoch was read

@@ -1,9 +1,9 @@
 -- A sweep stays sound, and has fewer steps left after each answer.
-use Rattle.std.proofs.Common.{◌+◌, ◌≡◌, ◌<◌, ◌≤◌, ◌*◌, ◌-◌, ◌/◌, ◌^◌, ◌++◌, inl, inr, ℕ, suc, List, [], ◌∷◌, length, length-append, eqb, Some, None, true, false, refl, sym, ap, ◌∙◌, arith}
-use Rattle.std.specs.Prelude.{◌&&◌}
+use Rattle.std.proofs.Common.{◌+◌, ◌≡◌, ◌<◌, ◌≤◌, ◌*◌, ◌-◌, ◌/◌, ◌^◌, ◌++◌, inl, inr, ℕ, suc, List, [], ◌∷◌, drop, length, length-append, take, eqb, Some, None, Bool, true, false, refl, sym, ap, ◌∙◌, arith}
+use Rattle.std.specs.Prelude.{◌&&◌, if◌then◌else◌}
 use Rattle.std.specs.List.{All, list_any}
 use Rattle.std.proofs.lemmas.Bool.{cases_Bool, cases_eq, cases_lt, eq-eqb, eqb-true, and_parts, or_parts}
-use Rattle.std.proofs.lemmas.List.Elements.{All-map}
+use Rattle.std.proofs.lemmas.List.Elements.{All-append, All-drop, All-map, All-take}
 use Rattle.std.proofs.lemmas.List.Folds.{Any-from_list_any}
 use Rattle.tree_limits.specs.declared.limits.Limits.{Limits}
 use Rattle.bw_model.specs.declared.step.Answer.{Answer}
@@ -14,13 +14,14 @@ use Rattle.epochs.specs.declared.entry.Stage.{Stage}
 use Rattle.epochs.specs.declared.entry.Stage.TheVariants.{Unstamped, Stamped, Passed}
 use Rattle.epochs.specs.declared.item.Reuse.{Reuse}
 use Rattle.epochs.specs.declared.item.Reuse.TheVariants.{Rows, Pids}
-use Rattle.epochs.specs.Limbo.{IsLimboList, Limbo, LimboList, all_restaged, compared_with, is_passed, is_unstamped, restaged, stamped_by}
+use Rattle.epochs.specs.Limbo.{IsLimboList, Limbo, LimboList, all_restaged, compared_with, first_restaged, firsts_restaged, is_passed, is_unstamped, restaged, stamped_by}
 use Rattle.epochs.specs.Words.{HandsNothingOn, HandsOn, HasNone, may_go}
 use Rattle.sweep.specs.declared.sweep.State.{State}
 use Rattle.sweep.specs.declared.sweep.State.TheVariants as state
 use Rattle.sweep.specs.Bounded.{most_steps, reuses_left, steps_left}
 use Rattle.sweep.specs.Kept.{IsLimboOf}
-use Rattle.sweep.specs.Moves.{BeginsSweep, Compares, Frees, IsEmpty, Moves, Stamps, has_unstamped}
+use Rattle.sweep.specs.declared.sweep.TheConstants.{MOST_COMPARED}
+use Rattle.sweep.specs.Moves.{BeginsSweep, Compares, Frees, IsEmpty, Moves, Stamps, compared, has_unstamped}
 use Rattle.sweep.specs.Sweeps.{ComesFirst, HasPlace, IsInOrder, IsSame, IsSoundState, IsSoundSweep, Sweep}
 use Rattle.sweep.proofs.Stages.{left_later, no_item}
 
@@ -33,6 +34,11 @@ are_below list is = is.within
 
 restaged_below : (f : Stage → Stage) (list : LimboList) → AreBelow list → AreBelow (record list { entries = restaged f list.entries })
 restaged_below f list below = All-map (λ (entry : Entry). entry.number < list.limit) (λ (entry : Entry). record entry { stage = f entry.stage }) list.entries below
+
+first_below : (most : ℕ) (f : Stage → Stage) (list : LimboList) → AreBelow list → AreBelow (record list { entries = first_restaged most f list.entries })
+first_below most f list below =
+    let is_below : Entry → Type 0 = λ entry. entry.number < list.limit in
+    All-append is_below (restaged f (take most list.entries)) (drop most list.entries) (restaged_below f (record list { entries = take most list.entries }) (All-take is_below most list.entries below)) (All-drop is_below most list.entries below)
 
 -- what may go is a number that there is
 number_below : (list : LimboList) → AreBelow list → (n : ℕ) → may_go list.entries n ≡ true → n < list.limit
@@ -82,6 +88,16 @@ module _ (limits : Limits) where
     pids = restaged_below f limbo.pids whole.pids;
     lists = record { rows = whole.lists.rows; pids = whole.lists.pids };
   }
+
+  compared_whole : (announces : List ℕ) (limbo : Limbo) → IsWhole limits limbo → IsWhole limits (compared limits announces limbo)
+  compared_whole announces limbo whole = elim limits.is_large as (λ b. IsWhole limits (if b then firsts_restaged MOST_COMPARED (compared_with announces) limbo else all_restaged (compared_with announces) limbo)) [
+    | true ↦ record {
+      rows = first_below MOST_COMPARED (compared_with announces) limbo.rows whole.rows;
+      pids = first_below MOST_COMPARED (compared_with announces) limbo.pids whole.pids;
+      lists = record { rows = whole.lists.rows; pids = whole.lists.pids };
+    }
+    | false ↦ restaged_whole (compared_with announces) limbo whole
+  ]
 
   -- the first reuse
   frees_follow : (limbo after : Limbo) (next : State) → IsWhole limits limbo → Frees limbo (Some next) after → Follow limits after next (limits.rows / 64 + limits.pids / 64 + 1)
@@ -136,7 +152,7 @@ module _ (limits : Limits) where
   compares_follow announces limbo after next whole short compares = elim (cases_lt (suc (length announces)) limits.actors) [
     | inl more ↦ reads next (compares.reads more) more
     | inr all ↦
-        let h = frees_follow (all_restaged (compared_with announces) limbo) after next (restaged_whole (compared_with announces) limbo whole) (compares.frees all) in
+        let h = frees_follow (compared limits announces limbo) after next (compared_whole announces limbo whole) (compares.frees all) in
         record { lists = h.lists; sound = h.sound; order = h.order; fewer = (let few = h.fewer in omega (arith, few, short)) }
   ]
     where
@@ -193,17 +209,27 @@ goes_on old new told limbo after rows pids sound swept same moves =
 
 -- ---- the begin
 -- what has a stamp may be freed where there is no other actor
-none_left : (entries : List Entry) → list_any (λ (entry : Entry). is_unstamped entry.stage) entries ≡ false → HasNone (restaged (compared_with []) entries) → entries ≡ []
-none_left [] stamped none = refl
-none_left (e ∷ es) stamped none = at_first e.stage refl
+none_first : (e : Entry) (rest : List Entry) → is_unstamped e.stage ≡ false → HasNone (record e { stage = compared_with [] e.stage } ∷ rest) → ⊥
+none_first e rest stamped none = at_first e.stage refl
   where
-    may : is_passed (compared_with [] e.stage) ≡ true → may_go (restaged (compared_with []) (e ∷ es)) e.number ≡ true
+    may : is_passed (compared_with [] e.stage) ≡ true → may_go (record e { stage = compared_with [] e.stage } ∷ rest) e.number ≡ true
     may passed = rw (eq-eqb e.number e.number refl, passed) refl
 
-    at_first : (stage : Stage) → e.stage ≡ stage → e ∷ es ≡ []
-    at_first Unstamped is = absurd (let h : true ≡ false = rw is at stamped in cc)
-    at_first (Stamped stamp) is = absurd (let h : true ≡ false = sym (may (ap (λ s. is_passed (compared_with [] s)) is)) ∙ none e.number in cc)
-    at_first (Passed stamp) is = absurd (let h : true ≡ false = sym (may (ap (λ s. is_passed (compared_with [] s)) is)) ∙ none e.number in cc)
+    at_first : (stage : Stage) → e.stage ≡ stage → ⊥
+    at_first Unstamped is = (let h : true ≡ false = rw is at stamped in cc)
+    at_first (Stamped stamp) is = (let h : true ≡ false = sym (may (ap (λ s. is_passed (compared_with [] s)) is)) ∙ none e.number in cc)
+    at_first (Passed stamp) is = (let h : true ≡ false = sym (may (ap (λ s. is_passed (compared_with [] s)) is)) ∙ none e.number in cc)
+
+none_left : (large : Bool) (entries : List Entry) → list_any (λ (entry : Entry). is_unstamped entry.stage) entries ≡ false → HasNone (if large then first_restaged MOST_COMPARED (compared_with []) entries else restaged (compared_with []) entries) → entries ≡ []
+none_left large [] stamped none = refl
+none_left true (e ∷ es) stamped none = absurd (none_first e _ (or_parts (is_unstamped e.stage) (list_any (λ (entry : Entry). is_unstamped entry.stage) es) stamped).0 none)
+none_left false (e ∷ es) stamped none = absurd (none_first e _ (or_parts (is_unstamped e.stage) (list_any (λ (entry : Entry). is_unstamped entry.stage) es) stamped).0 none)
+
+none_compared : (limits : Limits) (limbo : Limbo) → list_any (λ (entry : Entry). is_unstamped entry.stage) limbo.rows.entries ≡ false → list_any (λ (entry : Entry). is_unstamped entry.stage) limbo.pids.entries ≡ false → HasNone (compared limits [] limbo).rows.entries → HasNone (compared limits [] limbo).pids.entries → IsEmpty limbo
+none_compared limits limbo rows pids = elim limits.is_large as (λ b. HasNone (if b then firsts_restaged MOST_COMPARED (compared_with []) limbo else all_restaged (compared_with []) limbo).rows.entries → HasNone (if b then firsts_restaged MOST_COMPARED (compared_with []) limbo else all_restaged (compared_with []) limbo).pids.entries → IsEmpty limbo) [
+  | true ↦ λ no_rows no_pids. (none_left true limbo.rows.entries rows no_rows, none_left true limbo.pids.entries pids no_pids)
+  | false ↦ λ no_rows no_pids. (none_left false limbo.rows.entries rows no_rows, none_left false limbo.pids.entries pids no_pids)
+]
 
 -- a sweep that doesn't begin has nothing to sweep
 pub begins_not : (limits : Limits) (limbo after : Limbo) → BeginsSweep limits limbo None after → IsEmpty limbo
@@ -216,7 +242,7 @@ begins_not limits limbo after begins = elim (no_item limbo) [
       | inr alone ↦
           let frees = (begins.stamped some stamped).frees alone in
           let both = or_parts (list_any (λ (entry : Entry). is_unstamped entry.stage) limbo.rows.entries) (list_any (λ (entry : Entry). is_unstamped entry.stage) limbo.pids.entries) stamped in
-          (none_left limbo.rows.entries both.0 frees.0.none, none_left limbo.pids.entries both.1 frees.1.none)
+          none_compared limits limbo both.0 both.1 frees.0.none frees.1.none
     ]
   ]
 ]

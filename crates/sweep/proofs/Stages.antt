@@ -1,12 +1,12 @@
 -- The stages of the numbers in a limbo list.
-use Rattle.std.proofs.Common.{◌≡◌, ◌⊎◌, ◌/◌, ◌≢◌, ℕ, List, [], ◌∷◌, Option, Some, None, Bool, true, false, not, eqb, refl, ap, inl, inr}
+use Rattle.std.proofs.Common.{◌≡◌, ◌⊎◌, ◌/◌, ◌≢◌, ℕ, zero, suc, List, [], ◌∷◌, Option, Some, None, Bool, true, false, not, eqb, refl, ap, inl, inr}
 use Rattle.std.specs.Prelude.{◌&&◌, ◌||◌, if◌then◌else◌}
 use Rattle.std.specs.List.{list_any}
 use Rattle.std.proofs.lemmas.Bool.{cases_eq, eq-eqb, eqb-true, ne_eqb, or_right, or_cases, and_parts}
 use Rattle.epochs.specs.declared.entry.Entry.{Entry}
 use Rattle.epochs.specs.declared.entry.Stage.{Stage}
 use Rattle.epochs.specs.declared.entry.Stage.TheVariants.{Unstamped, Stamped, Passed}
-use Rattle.epochs.specs.Limbo.{Limbo, is_passed, restaged, stage_in}
+use Rattle.epochs.specs.Limbo.{Limbo, first_restaged, is_passed, restaged, stage_in}
 use Rattle.epochs.specs.Words.{may_go, without}
 use Rattle.sweep.specs.Moves.{IsEmpty}
 
@@ -20,6 +20,15 @@ restaged_stage f [] n = refl
 restaged_stage f (e ∷ es) n = elim (eqb e.number n) as (λ b. (if b then Some (f e.stage) else stage_in (restaged f es) n) ≡ after f (if b then Some e.stage else stage_in es n)) [
   | true ↦ refl
   | false ↦ restaged_stage f es n
+]
+
+-- the same of the first entries alone: the stage of a number changes, or stays
+pub first_stage : (f : Stage → Stage) (most : ℕ) (entries : List Entry) (n : ℕ) → (stage_in (first_restaged most f entries) n ≡ after f (stage_in entries n)) ⊎ (stage_in (first_restaged most f entries) n ≡ stage_in entries n)
+first_stage f zero entries n = inr refl
+first_stage f (suc most) [] n = inr refl
+first_stage f (suc most) (e ∷ es) n = elim (cases_eq e.number n) [
+  | inl same ↦ inl (rw (eq-eqb e.number n same) refl)
+  | inr other ↦ rw (ne_eqb e.number n other) (first_stage f most es n)
 ]
 
 -- a number that isn't in the list has no stage

@@ -1,13 +1,14 @@
 -- Where a sweep begins, and where an answer leads it.
-use Rattle.std.specs.Prelude.{◌≡◌, ◌<◌, ◌≤◌, ◌^◌, ◌++◌, ◌||◌, ℕ, suc, List, [], ◌∷◌, length, Bool, true, false, Option, None, Some, IsTrue, IsFalse}
+use Rattle.std.specs.Prelude.{◌≡◌, ◌<◌, ◌≤◌, ◌^◌, ◌++◌, ◌||◌, ℕ, suc, List, [], ◌∷◌, length, Bool, true, false, if◌then◌else◌, Option, None, Some, IsTrue, IsFalse}
 use Rattle.std.specs.List.{list_any}
 use Rattle.tree_limits.specs.declared.limits.Limits.{Limits}
 use Rattle.bw_model.specs.declared.step.Answer.{Answer}
 use Rattle.bw_model.specs.declared.step.Answer.TheVariants.{Number}
 use Rattle.deltas.specs.declared.record.Record.{Record}
-use Rattle.epochs.specs.Limbo.{Limbo, all_restaged, compared_with, is_unstamped, stamped_by}
+use Rattle.epochs.specs.Limbo.{Limbo, all_restaged, compared_with, firsts_restaged, is_unstamped, stamped_by}
 use Rattle.epochs.specs.Words.{IsHandedOn}
 use Rattle.sweep.specs.declared.sweep.State.{State}
+use Rattle.sweep.specs.declared.sweep.TheConstants.{MOST_COMPARED}
 use Rattle.sweep.specs.declared.sweep.State.TheVariants.{Epoch, Retire, Announce, Reuse}
 
 abbrev pub IsEmpty : Limbo → Type 0
@@ -24,11 +25,16 @@ Frees limbo (Some Epoch) after = ⊥
 Frees limbo (Some (Retire epoch)) after = ⊥
 Frees limbo (Some (Announce announces)) after = ⊥
 
+-- These epochs are what all other actors announced. In a large tree they are compared with the first items of each list alone, so that
+-- a sweep takes no longer where more is in limbo. What is freed makes room for others, which the next sweep compares.
+abbrev pub compared : Limits → List ℕ → Limbo → Limbo
+compared limits announces limbo = if limits.is_large then firsts_restaged MOST_COMPARED (compared_with announces) limbo else all_restaged (compared_with announces) limbo
+
 -- All that is in limbo has a stamp, and the first of the other actors announced these epochs: the next one is read, if there is one.
--- What all of them have passed may be freed.
+-- What all of them have passed may be freed, of what is compared.
 pub record Compares (limits : Limits) (announces : List ℕ) (limbo : Limbo) (next : Option State) (after : Limbo) : Type 0 where
   pub reads : suc (length announces) < limits.actors → (next ≡ Some (Announce announces)) × (after ≡ limbo)
-  pub frees : limits.actors ≤ suc (length announces) → Frees (all_restaged (compared_with announces) limbo) next after
+  pub frees : limits.actors ≤ suc (length announces) → Frees (compared limits announces limbo) next after
 
 -- The epoch was read. It is retired, unless it is the last one.
 pub record Stamps (limits : Limits) (epoch : ℕ) (limbo : Limbo) (next : Option State) (after : Limbo) : Type 0 where

@@ -9,7 +9,7 @@ ghost use Rattle.epochs.specs.Limbo.{Limbo as LimboSeen};
 ghost use Rattle.traces.specs.trace.Within.{IsWithin};
 ghost use Rattle.sweep.specs.Bounded.{Spends, most_steps, steps_left};
 ghost use Rattle.sweep.specs.Kept.{IsLimboOf};
-ghost use Rattle.sweep.specs.Moves.{BeginsSweep, Compares, Frees, IsEmpty, Moves, Stamps, state_if};
+ghost use Rattle.sweep.specs.Moves.{BeginsSweep, Compares, Frees, IsEmpty, Moves, Stamps, compared, state_if};
 ghost use Rattle.sweep.specs.Sweeps.{Follows, IsOfSweep, IsSame, IsSoundSweep, FitsSweep, IsKeptOutside, Shows, other_at, wanted};
 
 use crate::announces::Announces;
@@ -19,6 +19,9 @@ use epochs::{Limbo, Reuse};
 use std::alloc::Allocator;
 use std::marker::Model;
 use std::mem;
+
+/// How many items of each list a sweep of a large tree compares with what was announced, and so frees at most.
+pub(crate) const MOST_COMPARED: usize = 64;
 
 /// Where a sweep stands: each state is named by the step that it has asked for.
 #[derive(Drop)]
@@ -174,8 +177,19 @@ fn compare<A: Allocator>(
     if (announces.len() as u64) + 1 < limits.actors {
         return Some(State::Announce { announces });
     }
-    limbo.may_free(announces.as_slice());
+    may_free(limits, limbo, announces.as_slice());
     free(limbo)
+}
+
+/// Finds out what may be freed.
+fn may_free<A: Allocator>(limits: &Limits, limbo: &mut Limbo<A>, announces: &[u64])
+    ensures { limbo.new ≡ compared limits.now announces.now limbo.old }
+{
+    if limits.is_large {
+        limbo.may_free_first(MOST_COMPARED, announces);
+    } else {
+        limbo.may_free(announces);
+    }
 }
 
 /// Frees the next word.

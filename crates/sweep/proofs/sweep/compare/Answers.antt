@@ -1,0 +1,8 @@
+use Rattle.std.proofs.Common.{arith}
+use Rattle.sweep.proofs.sweep.compare.Goals as goal
+
+pub returns : goal.returns
+returns g c = record {
+  reads = λ more. absurd (omega (arith, more, c.if-len-limits.false, c.len.ensures));
+  frees = λ all. rw (c.may_free.ensures, c.as_slice.ensures) at c.free.ensures;
+}
