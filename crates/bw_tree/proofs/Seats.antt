@@ -42,7 +42,7 @@ pub without_begin : (run : List Entry) (a : ℕ) (step : StepOf Record) (told : 
 without_begin run a step told reply = ap (λ (before : List Entry). before ++ Step a step told reply ∷ []) (sym (append-nil run))
 
 -- An operation that has not ended has a step left.
-state_left : (task : Task) (hand : Hand) (k : Knowledge) (r : Recalled) (s : State) → ShowsState task hand.spares k r s → 0 < left_at r hand.spares s
+state_left : (task : Task) (hand : Hand) (k : Knowledge) (r : Recalled) (s : State) → ShowsState task hand.spares k r s → 0 < left_at task.limits r hand.spares s
 state_left task hand k r state.Begun h = omega arith
 state_left task hand k r state.Epoch h = omega arith
 state_left task hand k r (state.Enter epoch) h = omega arith
@@ -56,7 +56,7 @@ some_more m n o some = omega arith
 
 pub some_left : (limits : Limits) (a : ℕ) (k : Knowledge) (r : Recalled) (hand : Hand) (running : UnderWay) → IsRunning limits a k r hand running → 0 < steps_due r hand (Some running)
 some_left limits a k r hand running h =
-    some_more (sweep_left running.op.sweep running.op.state) (left_at r hand.spares running.op.state) _ (state_left running.op.task hand k r running.op.state h.goes.shows.stands)
+    some_more (sweep_left running.op.task.limits running.op.sweep running.op.state) (left_at running.op.task.limits r hand.spares running.op.state) _ (state_left running.op.task hand k r running.op.state h.goes.shows.stands)
 
 -- The actor has an operation, which wants the step.
 pub record Wants (limits : Limits) (a : ℕ) (k : Knowledge) (r : Recalled) (now : Actor) (asked : StepOf Record) : Type 0 where
