@@ -17,3 +17,4 @@ mod Upserting
 mod Kept
 mod Leaving
 mod Counting
+mod Holding

@@ -9,3 +9,4 @@ pub mod Loaded
 pub mod Examples
 pub mod Closed
 pub mod Room
+pub mod Held

@@ -6,7 +6,7 @@ use Rattle.tree_limits.specs.declared.limits.Limits.{Limits}
 use Rattle.op_machine.specs.machine.Actors.{Actor, IsActor, running_command}
 use Rattle.op_machine.specs.machine.UnderWay.{steps_due}
 use Rattle.traces.specs.declared.trace.Entry.{Entry}
-use Rattle.traces.specs.discipline.Knowledge.{knows}
+use Rattle.traces.specs.discipline.Knowledge.{Knowledge, knows}
 use Rattle.traces.specs.discipline.Recalled.{recalls}
 use Rattle.traces.specs.trace.Trace.{command_of}
 use Rattle.slot_rule.specs.declared.view.Reach.TheVariants.{Idle}
@@ -25,6 +25,10 @@ pub record Seat : Type 0 where
 -- the command that its operation has, if it has one
 abbrev pub unfinished_command : Seat → Option Command
 unfinished_command seat = command_of seat.seen seat.actor
+
+-- what its own entries let its actor know
+abbrev pub known_to : Seat → Knowledge
+known_to seat = knows seat.seen seat.actor
 
 -- What an actor keeps shows what its own entries let it know and recall; it runs what the run says that it has not finished, and
 -- causes pay for the steps that it has taken and those that it has left.

@@ -1,10 +1,10 @@
-//! How many PIDs and rows are free while a tree opens, fills, refuses, and empties again.
+//! How many PIDs and rows are free while a tree opens, fills, refuses, and empties again, and what seats hold back.
 ghost use Rattle.bw_tree.specs.Trees.{IsSeatOf};
 
 use crate::calls::{goes_to_its_end, stops_after};
 use crate::works::{Work, key};
 use bw_model::{Command, Limits, Reply};
-use bw_tree::{BwSeat, Room, Tree};
+use bw_tree::{BwSeat, Held, Room, Tree};
 use std::alloc::Global;
 use workers::{opened, reply, take_seat};
 
@@ -131,4 +131,42 @@ fn asks_when_busy(alloc: Global) -> Option<bool> {
 #[test]
 fn a_busy_seat_asks(rt: HostRuntime) {
     assert!(rt; asks_when_busy(rt.alloc()) == Some(true));
+}
+
+/// What a seat says that it holds back, if it is idle.
+fn held(seat: &BwSeat) -> Option<Held> {
+    if !seat.is_idle() {
+        return None;
+    }
+    Some(seat.held())
+}
+
+/// What a seat holds back at the opening, once it has inserted nine keys, and once it has tidied.
+fn holds(alloc: Global) -> Option<[Held; 3]> {
+    let limits = Limits::new(1, 64, 64, 1).ok()?;
+    let (tree, mut seats) = opened(alloc, limits).ok()?;
+    let mut seat = take_seat(&tree, &mut seats)?;
+    let opening = held(&seat)?;
+    works(&tree, &mut seat, Work::Insert, 0, 9);
+    let begun = held(&seat)?;
+    works(&tree, &mut seat, Work::Tidy, 0, 1);
+    let tidied = held(&seat)?;
+    Some([opening, begun, tidied])
+}
+
+/// So many rows in limbo, and nothing else.
+fn rows_in_limbo(limbo_rows: usize) -> Held {
+    Held {
+        spare_pids: 0,
+        spare_rows: 0,
+        limbo_pids: 0,
+        limbo_rows,
+    }
+}
+
+// The ninth insert finds a chain of nine rows, a base under eight deltas, and puts a base in its place.
+#[test]
+fn a_chain_waits_for_its_seat(rt: HostRuntime) {
+    let expected = [rows_in_limbo(0), rows_in_limbo(9), rows_in_limbo(2)];
+    assert!(rt; holds(rt.alloc()) == Some(expected));
 }
