@@ -1,0 +1,5 @@
+use Rattle.bw_tree.specs.Seats.{IsSame}
+use Rattle.bench.proofs.worker.shows.Given as goal
+
+abbrev pub invariant-loop : goal.invariant-loop
+invariant-loop l = record { same : IsSame l.initial.seat l.seat }
