@@ -1,0 +1,235 @@
+/* bwtree.h: an ordered map from byte strings to byte strings, in memory, for many threads, without locks.
+ *
+ * One handle stands for a tree, and all threads share it. A tree has 1 to 16 seats, numbered from 0. A call names the seat that it runs on;
+ * at any moment one call at most is inside a seat, and no call waits for another one. A thread that ends leaves nothing behind: its seat's
+ * number is free for the next one.
+ *
+ *     static bwtree tree;                                             // all bytes zero: it was never opened
+ *     bwtree_limits limits;
+ *     if (bwtree_limits_for_keys(4, 10000, &limits) != BWTREE_OK) ...
+ *     if (bwtree_open(&limits, &tree) != BWTREE_OK) ...
+ *     // thread i of 4: bwtree_upsert(&tree, i, key, key_length, value, value_length, &old)
+ *     bwtree_close(&tree);
+ *
+ * Every misuse of a tree that was opened is answered with a status, also where threads race: a tree that is closed, or closes while calls run, a
+ * seat that it doesn't have, a seat that another call is inside, a seat whose last operation isn't done, 65 bytes, null with a length.
+ *
+ * What the library relies on, and can't test:
+ *   - A handle's bytes are all zero before it is opened, and from then on only the library writes them. It is not copied: pass its address.
+ *   - While bwtree_open runs on a handle, no other call has that handle. Other threads get to know of an opened handle by a lock, a thread's
+ *     start, or a sequentially consistent atomic. All other calls may share a handle, at any time.
+ *   - Pointers point to what their types say. What a call writes (value, old, page, room, limits) no other call has meanwhile.
+ *   - A thread that calls has 512 KB of stack.
+ *   - The library calls malloc and free, when a tree is opened and closed, and never in another call. No call is made from a signal handler, nor,
+ *     in a process with threads, from a child that was forked.
+ *
+ * What an order of calls promises: docs/C.md. In short: there is one history of all calls of all threads on a tree. Calls on one seat stand in it in
+ * the order in which they were made.
+ */
+#ifndef BWTREE_H
+#define BWTREE_H
+
+#include <stddef.h>
+#include <stdint.h>
+
+#ifdef __cplusplus
+extern "C" {
+#endif
+
+#define BWTREE_MAX_LENGTH 64  /* bytes of a key or a value */
+#define BWTREE_MAX_SEATS 16   /* seats of a tree */
+#define BWTREE_PAGE_PAIRS 24  /* pairs of a page */
+
+/* What a call answers. Below 16 an operation took place; from 16 on nothing was done, and nothing that the call may write was written. */
+enum {
+    BWTREE_OK = 0,          /* done: the key had the value, or got one, or lost it */
+    BWTREE_ABSENT = 1,      /* the key has no value (get, delete, swap) */
+    BWTREE_EXISTS = 2,      /* the key has the value `old`, and keeps it (insert) */
+    BWTREE_REPLACED = 3,    /* done: the key had the value `old` before (upsert) */
+    BWTREE_DIFFERS = 4,     /* the key has the value `old`, which isn't the expected one, and keeps it (swap) */
+    BWTREE_FULL = 5,        /* nothing was free for a change, and no key was changed */
+    BWTREE_SPENT = 6,       /* after 65,536 steps, or as many as resume was given, the operation isn't done: it stays in the seat. Resume it */
+    BWTREE_CLOSED = 16,     /* the tree is closed, or was never opened */
+    BWTREE_NO_SEAT = 17,    /* the tree has no seat of this number */
+    BWTREE_BUSY = 18,       /* another call is inside the seat; of close: inside some seat */
+    BWTREE_UNFINISHED = 19, /* the seat's last operation isn't done: resume it first */
+    BWTREE_IDLE = 20,       /* the seat has no operation to resume */
+    BWTREE_TOO_LONG = 21,   /* a key or a value has more than 64 bytes */
+    BWTREE_BAD_LIMITS = 22, /* a limit is outside its range */
+    BWTREE_NO_MEMORY = 23,  /* malloc refused */
+    BWTREE_OPEN = 24,       /* a handle that is to be opened has a tree that isn't closed */
+    BWTREE_NULL = 25        /* a pointer is null (answered by this header, which calls nothing then) */
+};
+
+/* The handle of a tree. All zero: never opened. */
+typedef struct bwtree {
+    uint64_t held_;
+    const void *at_;
+} bwtree;
+
+/* How large a tree is. */
+typedef struct bwtree_limits {
+    uint64_t actors;  /* seats: 1 to 16 */
+    uint64_t pids;    /* pages: 64 to 4,096, a multiple of 64 */
+    uint64_t rows;    /* records: 64 to 16,384, a multiple of 64; one takes 4,096 bytes */
+    uint64_t epoch;   /* at which the tree opens: 1 to 2^62; 1 if nothing else is wanted */
+} bwtree_limits;
+
+/* At most 64 bytes: the first `length` of them count. */
+typedef struct bwtree_bytes {
+    uint64_t length;
+    uint8_t bytes[BWTREE_MAX_LENGTH];
+} bwtree_bytes;
+
+typedef struct bwtree_pair {
+    bwtree_bytes key;
+    bwtree_bytes value;
+} bwtree_pair;
+
+/* The pairs of one leaf from a key on, keys ascending, 0 to 24 of them. Where `more` is 1, the walk goes on from `next`; where it is 0, it is at its end. */
+typedef struct bwtree_page_pairs {
+    uint64_t count;
+    uint64_t more;
+    bwtree_bytes next;
+    bwtree_pair pairs[BWTREE_PAGE_PAIRS];
+} bwtree_page_pairs;
+
+/* How many pages and records are free. Those that a seat holds back are not among them. */
+typedef struct bwtree_room {
+    uint64_t free_pids;
+    uint64_t free_rows;
+} bwtree_room;
+
+/* ---- The library's own functions. They test no pointer: a slice is a pointer that isn't null, also where its length is 0, and its length in bytes.
+ * Each answers what its namesake below answers, but BWTREE_NULL. ---- */
+
+uint32_t bwtree_raw_limits_for_keys(uint64_t actors, uint64_t keys, bwtree_limits *limits);
+uint32_t bwtree_raw_open(const bwtree_limits *limits, bwtree *tree);
+uint32_t bwtree_raw_close(const bwtree *tree);
+uint32_t bwtree_raw_get(const bwtree *tree, uint32_t seat, const uint8_t *key, size_t key_length, bwtree_bytes *value);
+uint32_t bwtree_raw_insert(const bwtree *tree, uint32_t seat, const uint8_t *key, size_t key_length, const uint8_t *value, size_t value_length,
+                           bwtree_bytes *old);
+uint32_t bwtree_raw_upsert(const bwtree *tree, uint32_t seat, const uint8_t *key, size_t key_length, const uint8_t *value, size_t value_length,
+                           bwtree_bytes *old);
+uint32_t bwtree_raw_delete(const bwtree *tree, uint32_t seat, const uint8_t *key, size_t key_length, bwtree_bytes *old);
+uint32_t bwtree_raw_swap(const bwtree *tree, uint32_t seat, const uint8_t *key, size_t key_length, const uint8_t *expected, size_t expected_length,
+                         const uint8_t *value, size_t value_length, bwtree_bytes *old);
+uint32_t bwtree_raw_tidy(const bwtree *tree, uint32_t seat, const uint8_t *key, size_t key_length);
+uint32_t bwtree_raw_page(const bwtree *tree, uint32_t seat, const uint8_t *from, size_t from_length, bwtree_page_pairs *page);
+uint32_t bwtree_raw_resume(const bwtree *tree, uint32_t seat, uint32_t budget, bwtree_bytes *old, bwtree_page_pairs *page);
+uint32_t bwtree_raw_is_idle(const bwtree *tree, uint32_t seat);
+uint32_t bwtree_raw_room(const bwtree *tree, uint32_t seat, bwtree_room *room);
+
+/* ---- What a program calls. ---- */
+
+/* The bytes of a slice: any place will do for none. */
+static inline const uint8_t *bwtree_slice_(const void *bytes) {
+    return bytes ? (const uint8_t *)bytes : (const uint8_t *)"";
+}
+
+/* Limits for a tree with so many seats and so many different keys, all counted that it ever has. OK, BAD_LIMITS. */
+static inline uint32_t bwtree_limits_for_keys(uint64_t actors, uint64_t keys, bwtree_limits *limits) {
+    return limits ? bwtree_raw_limits_for_keys(actors, keys, limits) : (uint32_t)BWTREE_NULL;
+}
+
+/* Opens an empty tree. The handle was never opened, or its tree is closed. OK; BAD_LIMITS, OPEN, NO_MEMORY: the handle is as it was. */
+static inline uint32_t bwtree_open(const bwtree_limits *limits, bwtree *tree) {
+    return limits && tree ? bwtree_raw_open(limits, tree) : (uint32_t)BWTREE_NULL;
+}
+
+/* Closes a tree, and frees it. OK; CLOSED, BUSY: the tree stays open. A few bytes of a tree, 40 and 32 a seat, are never freed, so that a call that
+ * comes too late is answered CLOSED, whenever it comes. */
+static inline uint32_t bwtree_close(const bwtree *tree) {
+    return tree ? bwtree_raw_close(tree) : (uint32_t)BWTREE_NULL;
+}
+
+/* The value of a key. OK with `value`, ABSENT; SPENT, CLOSED, NO_SEAT, BUSY, UNFINISHED, TOO_LONG. */
+static inline uint32_t bwtree_get(const bwtree *tree, uint32_t seat, const void *key, size_t key_length, bwtree_bytes *value) {
+    if (!tree || !value || (!key && key_length)) return BWTREE_NULL;
+    return bwtree_raw_get(tree, seat, bwtree_slice_(key), key_length, value);
+}
+
+/* Gives a key a value where it has none. OK, EXISTS with `old`, FULL; SPENT, CLOSED, NO_SEAT, BUSY, UNFINISHED, TOO_LONG. */
+static inline uint32_t bwtree_insert(const bwtree *tree, uint32_t seat, const void *key, size_t key_length, const void *value, size_t value_length,
+                                     bwtree_bytes *old) {
+    if (!tree || !old || (!key && key_length) || (!value && value_length)) return BWTREE_NULL;
+    return bwtree_raw_insert(tree, seat, bwtree_slice_(key), key_length, bwtree_slice_(value), value_length, old);
+}
+
+/* Gives a key a value, in place of the one that it has. OK, REPLACED with `old`, FULL; SPENT, CLOSED, NO_SEAT, BUSY, UNFINISHED, TOO_LONG. */
+static inline uint32_t bwtree_upsert(const bwtree *tree, uint32_t seat, const void *key, size_t key_length, const void *value, size_t value_length,
+                                     bwtree_bytes *old) {
+    if (!tree || !old || (!key && key_length) || (!value && value_length)) return BWTREE_NULL;
+    return bwtree_raw_upsert(tree, seat, bwtree_slice_(key), key_length, bwtree_slice_(value), value_length, old);
+}
+
+/* Makes a key absent. OK with `old`, ABSENT, FULL; SPENT, CLOSED, NO_SEAT, BUSY, UNFINISHED, TOO_LONG. */
+static inline uint32_t bwtree_delete(const bwtree *tree, uint32_t seat, const void *key, size_t key_length, bwtree_bytes *old) {
+    if (!tree || !old || (!key && key_length)) return BWTREE_NULL;
+    return bwtree_raw_delete(tree, seat, bwtree_slice_(key), key_length, old);
+}
+
+/* Gives a key the value where it has the expected one. OK, DIFFERS with `old`, ABSENT, FULL; SPENT, CLOSED, NO_SEAT, BUSY, UNFINISHED, TOO_LONG. */
+static inline uint32_t bwtree_swap(const bwtree *tree, uint32_t seat, const void *key, size_t key_length, const void *expected,
+                                   size_t expected_length, const void *value, size_t value_length, bwtree_bytes *old) {
+    if (!tree || !old || (!key && key_length) || (!expected && expected_length) || (!value && value_length)) return BWTREE_NULL;
+    return bwtree_raw_swap(tree, seat, bwtree_slice_(key), key_length, bwtree_slice_(expected), expected_length, bwtree_slice_(value), value_length,
+                           old);
+}
+
+/* Does what upkeep is due at the leaf of a key; no value changes. OK, FULL; SPENT, CLOSED, NO_SEAT, BUSY, UNFINISHED, TOO_LONG. */
+static inline uint32_t bwtree_tidy(const bwtree *tree, uint32_t seat, const void *key, size_t key_length) {
+    if (!tree || (!key && key_length)) return BWTREE_NULL;
+    return bwtree_raw_tidy(tree, seat, bwtree_slice_(key), key_length);
+}
+
+/* The pairs of one leaf from a key on. A page may be empty and have more after it. OK with `page`; SPENT, CLOSED, NO_SEAT, BUSY, UNFINISHED, TOO_LONG. */
+static inline uint32_t bwtree_page(const bwtree *tree, uint32_t seat, const void *from, size_t from_length, bwtree_page_pairs *page) {
+    if (!tree || !page || (!from && from_length)) return BWTREE_NULL;
+    return bwtree_raw_page(tree, seat, bwtree_slice_(from), from_length, page);
+}
+
+/* Goes on with the seat's unfinished operation, for at most `budget` steps (0: for none, and SPENT). What that operation answers, with its value in
+ * `old` or its pairs in `page`; SPENT; CLOSED, NO_SEAT, BUSY, IDLE. */
+static inline uint32_t bwtree_resume(const bwtree *tree, uint32_t seat, uint32_t budget, bwtree_bytes *old, bwtree_page_pairs *page) {
+    return tree && old && page ? bwtree_raw_resume(tree, seat, budget, old, page) : (uint32_t)BWTREE_NULL;
+}
+
+/* Whether a call may begin on the seat: OK; CLOSED, NO_SEAT, BUSY, UNFINISHED. */
+static inline uint32_t bwtree_is_idle(const bwtree *tree, uint32_t seat) {
+    return tree ? bwtree_raw_is_idle(tree, seat) : (uint32_t)BWTREE_NULL;
+}
+
+/* How many pages and records are free, by one load for each 64 of them; also on a seat that is UNFINISHED. OK with `room`; CLOSED, NO_SEAT, BUSY. */
+static inline uint32_t bwtree_free_room(const bwtree *tree, uint32_t seat, bwtree_room *room) {
+    return tree && room ? bwtree_raw_room(tree, seat, room) : (uint32_t)BWTREE_NULL;
+}
+
+/* What a status means. */
+static inline const char *bwtree_text(uint32_t status) {
+    switch (status) {
+    case BWTREE_OK: return "done";
+    case BWTREE_ABSENT: return "the key has no value";
+    case BWTREE_EXISTS: return "the key has a value already";
+    case BWTREE_REPLACED: return "done, in place of another value";
+    case BWTREE_DIFFERS: return "the key has another value";
+    case BWTREE_FULL: return "the tree is full";
+    case BWTREE_SPENT: return "the steps are spent";
+    case BWTREE_CLOSED: return "the tree is closed";
+    case BWTREE_NO_SEAT: return "the tree has no such seat";
+    case BWTREE_BUSY: return "another call is inside the seat";
+    case BWTREE_UNFINISHED: return "the seat has an unfinished operation";
+    case BWTREE_IDLE: return "the seat has no unfinished operation";
+    case BWTREE_TOO_LONG: return "a key or a value is longer than 64 bytes";
+    case BWTREE_BAD_LIMITS: return "a limit is outside its range";
+    case BWTREE_NO_MEMORY: return "no memory";
+    case BWTREE_OPEN: return "the tree is open already";
+    case BWTREE_NULL: return "a pointer is null";
+    default: return "no status";
+    }
+}
+
+#ifdef __cplusplus
+}
+#endif
+#endif
