@@ -8,7 +8,8 @@ use bw_tree::{BwSeat, Called, Tree};
 use rand_core::SeedableRng;
 use rand_core::utils::NextWord;
 use rand_pcg::Pcg32;
-use seats::{Work, called, reply, resumed};
+use seat_threads::Work;
+use seats::{called, reply, resumed};
 
 /// More steps than an operation takes.
 const MOST_STEPS: u32 = 1 << 16;

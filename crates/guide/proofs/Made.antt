@@ -4,7 +4,7 @@ use Rattle.std.specs.Prelude.{slice_get}
 use Rattle.std.proofs.lemmas.Option.{same_Some}
 use Rattle.bw_tree.specs.Seats.{Seat}
 use Rattle.seats.specs.Gathered.{SeesOn}
-use Rattle.seats.specs.Works.{AreDone, AreEachDone, behind}
+use Rattle.seat_threads.specs.Works.{AreDone, AreEachDone, behind}
 
 -- An element stands at the same place before others, and the last one stands behind all.
 before_others : {X : Type 0} (xs ys : List X) (n : ℕ) (x : X) → slice_get xs n ≡ Some x → slice_get (xs ++ ys) n ≡ Some x

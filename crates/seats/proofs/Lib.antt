@@ -1,8 +1,6 @@
-pub mod Behind
 pub mod Fitting
 pub mod Fresh
 pub mod Gathering
-pub mod Going
 pub mod Pushed
 pub mod Resting
 pub mod Seeing

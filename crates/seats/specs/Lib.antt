@@ -1,4 +1,3 @@
 pub mod Gathered
 pub mod Idle
 pub mod Replies
-pub mod Works

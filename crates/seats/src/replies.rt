@@ -1,21 +1,19 @@
 //! Commands that run to their end.
-ghost use Rattle.std.specs.Prelude.{◌≡◌, ◌∷◌, ◌≤◌, [], IfErr, IfOk, IfSome, IsSome, IsTrue, None, Some};
+ghost use Rattle.std.specs.Prelude.{◌≡◌, ◌≤◌, IfErr, IfOk, IfSome, IsSome, IsTrue, None};
 ghost use Rattle.bw_tree.specs.Calls.{IsCalled, IsDone, IsResumed};
 ghost use Rattle.bw_tree.specs.Runs.{IsOneHistory};
 ghost use Rattle.bw_tree.specs.Seats.{IsSame, unfinished_command};
 ghost use Rattle.bw_tree.specs.Trees.{IsSeatOf};
 ghost use Rattle.map_laws.specs.Fits.{CameFitting, fits};
-ghost use Rattle.seats.specs.Replies.{CantBegin, GoesOn, HasNoReply, many};
+ghost use Rattle.seats.specs.Replies.{CantBegin, HasNoReply, many};
 
 use bw_model::{Command, Reply};
 use bw_tree::{BwSeat, Called, Tree};
 use map_laws::seats_replies_fit;
-use std::alloc::Allocator;
-use std::sync::Wait;
 use thiserror::Error;
 
-/// More steps than an operation takes in small trees.
-const BUDGET: u32 = 1 << 16;
+/// How many steps a command is given that is to run to its end: more than an operation takes in small trees.
+pub const BUDGET: u32 = 1 << 16;
 
 /// Why there is no reply.
 #[derive(Clone, Copy, Debug, PartialEq, Eq, Error)]
@@ -47,32 +45,6 @@ pub fn reply(tree: &Tree, seat: &mut BwSeat, command: Command) -> Result<Reply, 
         Called::Done(reply) => Ok(reply),
         Called::Spent => Err(NoReply::Spent),
     }
-}
-
-/// Runs a command to its end, whatever that takes. Nothing promises that others leave it to end.
-pub fn run_to_end<R: Wait, A: Allocator>(
-    rt: &R,
-    tree: &Tree<A>,
-    seat: &mut BwSeat<A>,
-    command: Command,
-) -> Reply
-    requires own { IsSeatOf tree.now seat.old }
-    requires idle { unfinished_command seat.old ≡ None }
-    ensures own { IsSeatOf tree.now seat.new }
-    ensures goes { GoesOn seat.old ((command, Some result) ∷ []) seat.new }
-    ensures fits { IsTrue (fits command result) }
-    ensures history { IsOneHistory seat.new.limits seat.new.seen }
-{
-    seats_replies_fit();
-    if let Called::Done(reply) = tree.call(seat, command, BUDGET) {
-        return reply;
-    }
-    for _ in rt.forever() {
-        if let Called::Done(reply) = tree.resume(seat, BUDGET) {
-            return reply;
-        }
-    }
-    unreachable!()
 }
 
 /// Goes on with the operation of a seat for so many steps; none where it has none, which changes nothing.

@@ -1,5 +1,5 @@
-//! Workers: jobs of commands on threads over one tree, a thread for each seat. What is simpler is passed on from `seats`: seats at hand,
-//! commands that run to their end, and works of the caller's own, each in a thread with a seat.
+//! Workers: jobs of commands on threads over one tree, a thread for each seat. What is simpler is passed on from `seats` and
+//! `seat_threads`: seats at hand, commands that run to their end, and works of the caller's own, each in a thread with a seat.
 //!
 //! Look first at `run_jobs`, then at `Job` and `JobResult`. `Gate` may hold a job up, and is asked how great each thread's stack is to
 //! be.
@@ -23,7 +23,7 @@ pub use check::are_ascending;
 pub use gate::{Gate, Ungated};
 pub use job::{Job, JobResult, JobsError, JobsRefusal};
 pub use run::run_jobs;
+pub use seat_threads::{Work, WorksError, WorksRefusal, run_to_end, work_in_threads};
 pub use seats::{
-    NoReply, Work, WorksError, WorksRefusal, are_idle, called, gather, give_seat, opened,
-    opened_from, reply, resumed, run_to_end, take_seat, work_in_threads,
+    NoReply, are_idle, called, gather, give_seat, opened, opened_from, reply, resumed, take_seat,
 };

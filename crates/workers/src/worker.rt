@@ -13,7 +13,7 @@ use crate::task::Task;
 use bw_model::{Command, Reply};
 use bw_tree::{BwSeat, Tree};
 use crossbeam_channel::Receiver;
-use seats::run_to_end;
+use seat_threads::run_to_end;
 use std::alloc::Allocator;
 use std::sync::Wait;
 

@@ -1,0 +1,4 @@
+pub mod Keeping
+pub mod Later
+pub mod Showing
+pub mod Values

@@ -1,0 +1,33 @@
+-- What a call from C comes to.
+use Rattle.std.specs.Prelude.{◌≡◌, ℕ, Option, ⊤}
+use Rattle.bw_model.specs.declared.command.Command.{Command}
+use Rattle.bw_tree_c.specs.Handles.{OnSeat}
+use Rattle.bw_tree_c.specs.Running.{IsRun, IsRunOn, IsRunToPage, IsTidied, IsWatched, TellsIdle}
+use Rattle.bw_tree_c.specs.declared.bytes.Bytes.{Bytes}
+use Rattle.bw_tree_c.specs.declared.bytes.FreeRoom.{FreeRoom}
+use Rattle.bw_tree_c.specs.declared.bytes.Page.{Page}
+use Rattle.bw_tree_c.specs.declared.shared.Shared.{Shared}
+
+-- a command whose reply may have a value
+abbrev pub Comes : Option Shared → ℕ → Command → ℕ → Bytes → Bytes → Type 0
+Comes kept number command status old new = OnSeat kept number status (new ≡ old) (λ before after. IsRun before command status old new after)
+
+-- one whose reply is a page
+abbrev pub ComesToPage : Option Shared → ℕ → Command → ℕ → Page → Page → Type 0
+ComesToPage kept number command status old new = OnSeat kept number status (new ≡ old) (λ before after. IsRunToPage before command status old new after)
+
+-- one whose reply has nothing
+abbrev pub ComesTidied : Option Shared → ℕ → Command → ℕ → Type 0
+ComesTidied kept number command status = OnSeat kept number status ⊤ (λ before after. IsTidied before command status after)
+
+-- an operation that goes on
+abbrev pub ComesOn : Option Shared → ℕ → ℕ → ℕ → Bytes → Bytes → Page → Page → Type 0
+ComesOn kept number budget status old new page shows = OnSeat kept number status ((new ≡ old) × (shows ≡ page)) (λ before after. IsRunOn before budget status old new page shows after)
+
+-- whether the seat is idle
+abbrev pub ComesIdle : Option Shared → ℕ → ℕ → Type 0
+ComesIdle kept number status = OnSeat kept number status ⊤ (λ before after. (after ≡ before) × TellsIdle before status)
+
+-- how much is free
+abbrev pub ComesWatched : Option Shared → ℕ → ℕ → FreeRoom → FreeRoom → Type 0
+ComesWatched kept number status old new = OnSeat kept number status (new ≡ old) (λ before after. IsWatched before status new after)

@@ -1,0 +1,10 @@
+pub mod Calls
+pub mod Handles
+pub mod Kept
+pub mod Opened
+pub mod Refused
+pub mod Running
+pub mod Seats
+pub mod Shown
+pub mod Statuses
+pub mod Told

@@ -1,0 +1,8 @@
+-- Why a seat can't be had though there is one.
+use Rattle.std.specs.Prelude.{◌≡◌, ◌⊎◌}
+use Rattle.bw_tree_c.specs.declared.refusal.Refusal.{Refusal}
+use Rattle.bw_tree_c.specs.declared.refusal.Refusal.TheVariants.{Busy, Closed}
+
+-- At this moment another call is inside the seat, or the tree is closed: both are a matter of time.
+abbrev pub IsPassing : Refusal → Type 0
+IsPassing refusal = (refusal ≡ Closed) ⊎ (refusal ≡ Busy)

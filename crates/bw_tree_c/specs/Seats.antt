@@ -1,0 +1,8 @@
+-- Seats that see on.
+use Rattle.bw_tree.specs.Runs.{StartsWith}
+use Rattle.bw_tree.specs.Seats.{IsSame, Seat}
+
+-- The same seat, which may have seen more.
+pub record IsLater (old new : Seat) : Type 0 where
+  pub same : IsSame old new
+  pub grows : StartsWith new.seen old.seen

@@ -1,0 +1,44 @@
+-- What C reads.
+use Rattle.std.specs.Prelude.{slice_get, ◌<◌, ◌≡◌, ℕ, List, Option, Some, None, take, length}
+use Rattle.bw_tree.specs.declared.room.Room.{Room}
+use Rattle.tree_limits.specs.declared.limits.Limits.{Limits}
+use Rattle.bw_tree_c.specs.declared.bytes.Bytes.{Bytes}
+use Rattle.bw_tree_c.specs.declared.bytes.FreeRoom.{FreeRoom}
+use Rattle.bw_tree_c.specs.declared.bytes.Page.{Page}
+use Rattle.bw_tree_c.specs.declared.bytes.Pair.{Pair}
+use Rattle.bw_tree_c.specs.declared.bytes.TreeLimits.{TreeLimits}
+
+-- the bytes that C may read
+abbrev pub shown : Bytes → List ℕ
+shown b = take b.length b.bytes
+
+-- The limits are shown.
+pub record ShowsLimits (limits : Limits) (shows : TreeLimits) : Type 0 where
+  pub actors : shows.actors ≡ limits.actors
+  pub pids : shows.pids ≡ limits.pids
+  pub rows : shows.rows ≡ limits.rows
+  pub epoch : shows.epoch ≡ limits.epoch
+
+-- The room is shown.
+abbrev pub ShowsRoom : Room → FreeRoom → Type 0
+ShowsRoom room shows = (shows.free_pids ≡ room.free_pids) × (shows.free_rows ≡ room.free_rows)
+
+-- The pair is shown.
+abbrev pub ShowsPair : List ℕ × List ℕ → Pair → Type 0
+ShowsPair pair at = (shown at.key ≡ pair.0) × (shown at.value ≡ pair.1)
+
+-- The first pairs are shown, each at its place.
+abbrev pub ShowFirst : ℕ → List (List ℕ × List ℕ) → List Pair → Type 0
+ShowFirst count pairs ats = (n : ℕ) (pair : List ℕ × List ℕ) → n < count → slice_get pairs n ≡ Some pair → (at : Pair) × (slice_get ats n ≡ Some at) × ShowsPair pair at
+
+-- All pairs are shown.
+abbrev pub ShowsPairs : List (List ℕ × List ℕ) → Page → Type 0
+ShowsPairs pairs page = (page.count ≡ length pairs) × ShowFirst (length pairs) pairs page.pairs
+
+-- The key from which the next page goes on is shown, or that there is none.
+abbrev pub ShowsNext : Option (List ℕ) → Page → Type 0
+ShowsNext None page = page.more ≡ 0
+ShowsNext (Some key) page = (page.more ≡ 1) × (shown page.next ≡ key)
+
+abbrev pub ShowsPage : List (List ℕ × List ℕ) → Option (List ℕ) → Page → Type 0
+ShowsPage pairs next page = ShowsPairs pairs page × ShowsNext next page

@@ -1,0 +1,123 @@
+//! Replies as C reads them: a status, and the value that goes with it.
+ghost use Rattle.std.specs.Prelude.{◌≡◌};
+ghost use Rattle.bw_tree_c.specs.Told.{HasTold, ShowsPageOf, ShowsValueOf};
+ghost use Rattle.bw_tree_c.specs.Statuses.{status_of, status_of_called};
+
+use crate::bytes::{Bytes, Page};
+use bw_model::Reply;
+use bw_tree::Called;
+
+/// The operation is done: the key had a value, or got one, or lost it.
+pub(crate) const OK: u32 = 0;
+
+/// The key has no value.
+pub(crate) const ABSENT: u32 = 1;
+
+/// The key has a value, and keeps it.
+pub(crate) const EXISTS: u32 = 2;
+
+/// The key had another value before.
+pub(crate) const REPLACED: u32 = 3;
+
+/// The key has a value that isn't the expected one, and keeps it.
+pub(crate) const DIFFERS: u32 = 4;
+
+/// Nothing was free for a change, and no key was changed.
+pub(crate) const FULL: u32 = 5;
+
+/// The steps are spent, and the operation stays in the seat: resume it.
+pub(crate) const SPENT: u32 = 6;
+
+/// The tree is closed, or was never opened.
+pub(crate) const CLOSED: u32 = 16;
+
+/// The tree has no seat of this number.
+pub(crate) const NO_SEAT: u32 = 17;
+
+/// Another call is inside the seat.
+pub(crate) const BUSY: u32 = 18;
+
+/// The seat has an unfinished operation.
+pub(crate) const UNFINISHED: u32 = 19;
+
+/// The seat has no unfinished operation.
+pub(crate) const IDLE: u32 = 20;
+
+/// A key or a value has more than 64 bytes.
+pub(crate) const TOO_LONG: u32 = 21;
+
+/// A limit is outside its range.
+pub(crate) const BAD_LIMITS: u32 = 22;
+
+/// A growth of memory was refused.
+pub(crate) const NO_MEMORY: u32 = 23;
+
+/// A handle that is to be opened has a tree that isn't closed.
+pub(crate) const OPEN: u32 = 24;
+
+/// The status of a reply.
+fn status_of(reply: &Reply) -> u32
+    ensures { result ≡ status_of reply.now }
+{
+    match reply {
+        Reply::Value(_) => OK,
+        Reply::None => ABSENT,
+        Reply::Inserted => OK,
+        Reply::Exists(_) => EXISTS,
+        Reply::Set => OK,
+        Reply::Replaced(_) => REPLACED,
+        Reply::Deleted(_) => OK,
+        Reply::Absent => ABSENT,
+        Reply::Swapped => OK,
+        Reply::Differs(_) => DIFFERS,
+        Reply::Page { items: _, next: _ } => OK,
+        Reply::Tidied => OK,
+        Reply::Full => FULL,
+    }
+}
+
+/// The status of what became of a call.
+pub(crate) fn status_of_called(called: &Called) -> u32
+    ensures { result ≡ status_of_called called.now }
+{
+    match called {
+        Called::Done(reply) => status_of(reply),
+        Called::Spent => SPENT,
+    }
+}
+
+/// Shows the value of a reply, if it has one.
+fn show_value(reply: &Reply, old: &mut Bytes)
+    ensures { HasTold reply.now old.old old.new }
+{
+    match reply {
+        Reply::Value(value) => old.set(value.as_slice()),
+        Reply::Exists(value) => old.set(value.as_slice()),
+        Reply::Replaced(value) => old.set(value.as_slice()),
+        Reply::Deleted(value) => old.set(value.as_slice()),
+        Reply::Differs(value) => old.set(value.as_slice()),
+        _ => {}
+    }
+}
+
+/// Tells what became of a call whose reply has a value, or none.
+pub(crate) fn tell_value(called: &Called, old: &mut Bytes) -> u32
+    ensures status { result ≡ status_of_called called.now }
+    ensures told { ShowsValueOf called.now old.old old.new }
+{
+    if let Called::Done(reply) = called {
+        show_value(reply, old);
+    }
+    status_of_called(called)
+}
+
+/// Tells what became of a call whose reply is a page.
+pub(crate) fn tell_page(called: &Called, page: &mut Page) -> u32
+    ensures status { result ≡ status_of_called called.now }
+    ensures told { ShowsPageOf called.now page.old page.new }
+{
+    if let Called::Done(Reply::Page { items, next }) = called {
+        page.set(items, next);
+    }
+    status_of_called(called)
+}

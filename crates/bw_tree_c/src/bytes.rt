@@ -1,0 +1,130 @@
+//! What C reads: short lists of bytes, pages of pairs, limits and counts.
+ghost use Rattle.std.specs.Prelude.{◌≡◌, ◌≤◌, length};
+ghost use Rattle.bw_tree_c.specs.Shown.{ShowsLimits, ShowsNext, ShowsPage, ShowsPair, ShowsPairs, ShowsRoom, shown};
+
+use bw_model::{Key, Limits, Pairs, Value};
+use bw_tree::Room;
+
+/// At most 64 bytes: the first `length` of them count.
+#[repr(C)]
+#[derive(Drop)]
+pub struct Bytes {
+    pub(crate) length: u64,
+    pub(crate) bytes: [u8; 64],
+}
+
+/// A key and its value.
+#[repr(C)]
+#[derive(Drop)]
+pub struct Pair {
+    pub(crate) key: Bytes,
+    pub(crate) value: Bytes,
+}
+
+/// The pairs of a page, and the key from which the next page goes on, if there is more.
+#[repr(C)]
+#[derive(Drop)]
+pub struct Page {
+    pub(crate) count: u64,
+    pub(crate) more: u64,
+    pub(crate) next: Bytes,
+    pub(crate) pairs: [Pair; 24],
+}
+
+/// How large a tree is.
+#[repr(C)]
+#[derive(Drop)]
+pub struct TreeLimits {
+    pub(crate) actors: u64,
+    pub(crate) pids: u64,
+    pub(crate) rows: u64,
+    pub(crate) epoch: u64,
+}
+
+/// How many PIDs and rows are free.
+#[repr(C)]
+#[derive(Drop)]
+pub struct FreeRoom {
+    pub(crate) free_pids: u64,
+    pub(crate) free_rows: u64,
+}
+
+impl Bytes {
+    /// These bytes from now on.
+    pub(crate) fn set(&mut self, bytes: &[u8])
+        requires { length bytes.now ≤ 64 }
+        ensures { shown self.new ≡ bytes.now }
+    {
+        self.bytes[..bytes.len()].copy_from_slice(bytes);
+        self.length = bytes.len() as u64;
+    }
+}
+
+impl Pair {
+    /// This pair from now on.
+    fn set(&mut self, key: &Key, value: &Value)
+        ensures { ShowsPair (key.now, value.now) self.new }
+    {
+        self.key.set(key.as_slice());
+        self.value.set(value.as_slice());
+    }
+}
+
+impl Page {
+    /// These pairs from now on, and the key from which the next page goes on.
+    pub(crate) fn set(&mut self, items: &Pairs, next: &Option<Key>)
+        ensures { ShowsPage items.now next.now self.new }
+    {
+        self.set_pairs(items.as_slice());
+        self.set_next(next);
+    }
+
+    /// These pairs from now on.
+    fn set_pairs(&mut self, items: &[(Key, Value)])
+        requires few { length items.now ≤ 24 }
+        ensures { ShowsPairs items.now self.new }
+    {
+        for place in 0..items.len() {
+            let (key, value) = &items[place];
+            self.pairs[place].set(key, value);
+        }
+        self.count = items.len() as u64;
+    }
+
+    /// The key from which the next page goes on, if there is one.
+    fn set_next(&mut self, next: &Option<Key>)
+        ensures pairs { self.new.pairs ≡ self.old.pairs }
+        ensures count { self.new.count ≡ self.old.count }
+        ensures next { ShowsNext next.now self.new }
+    {
+        match next {
+            Some(key) => {
+                self.more = 1;
+                self.next.set(key.as_slice());
+            }
+            None => self.more = 0,
+        }
+    }
+}
+
+impl TreeLimits {
+    /// These limits from now on.
+    pub(crate) fn set(&mut self, limits: &Limits)
+        ensures { ShowsLimits limits.now self.new }
+    {
+        self.actors = limits.actors;
+        self.pids = limits.pids;
+        self.rows = limits.rows;
+        self.epoch = limits.epoch;
+    }
+}
+
+impl FreeRoom {
+    /// This room from now on.
+    pub(crate) fn set(&mut self, room: &Room)
+        ensures { ShowsRoom room.now self.new }
+    {
+        self.free_pids = room.free_pids as u64;
+        self.free_rows = room.free_rows as u64;
+    }
+}

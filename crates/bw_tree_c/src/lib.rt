@@ -1,0 +1,27 @@
+//! The running tree for programs in C: a static library.
+//!
+//! Look first at `TreeHandle` (handle.rt), then at `bwtree_raw_get` (calls.rt). The handle of a tree lies in the C program's memory, and all
+//! its threads share it. It leads to a slot for each seat. A call takes its seat out of the slot, with a share of the tree, runs on it, and puts
+//! it back: so a call finds a seat of its own tree that nobody else uses, or is refused. It takes no lock and no memory, and waits for nobody.
+//!
+//! Called by c/bwtree.h, which has the same for readers of C, and by what stands on that. It may not know a thread or anything that waits: a
+//! static library may link neither.
+#![tactic(auto)]
+
+mod answers;
+mod asking;
+mod bytes;
+mod calls;
+mod closing;
+mod handle;
+mod kept;
+mod loose;
+mod opening;
+mod pages;
+mod place;
+mod refusal;
+mod running;
+mod shared;
+mod slot;
+#[cfg(test)]
+mod tests;

@@ -1,0 +1,93 @@
+//! A tree is opened.
+ghost use Rattle.std.specs.Prelude.{◌≡◌, ◌↔◌, IfSome, IsSome, IsTrue};
+ghost use Rattle.std.specs.Arc.{arc_value};
+ghost use Rattle.tree_limits.specs.Limits.{AreLimits};
+ghost use Rattle.tree_limits.specs.Room.{AreProposed};
+ghost use Rattle.bw_tree.specs.Trees.{AreSeatsOf};
+ghost use Rattle.bw_tree_c.specs.Opened.{HasOpened, IsOpenedAt, ProposesLimits};
+
+use crate::answers::{BAD_LIMITS, NO_MEMORY, OK, OPEN};
+use crate::bytes::TreeLimits;
+use crate::handle::TreeHandle;
+use crate::shared::Shared;
+use crate::slot::{Slot, are_closed, slot_of};
+use bw_model::Limits;
+use bw_tree::{BwSeat, Tree};
+use seats::opened;
+use std::alloc::Global;
+use std::sync::Arc;
+
+/// Limits for so many seats and keys.
+#[unsafe(no_mangle)]
+pub extern "C" fn bwtree_raw_limits_for_keys(
+    actors: u64,
+    keys: u64,
+    limits: &mut TreeLimits,
+) -> u32
+    ensures ok { (result ≡ OK) ↔ AreProposed actors keys }
+    ensures limits { result ≡ OK → ProposesLimits actors keys limits.new }
+    ensures bad { (result ≡ OK → ⊥) → (result ≡ BAD_LIMITS) × (limits.new ≡ limits.old) }
+{
+    match Limits::for_keys(actors, keys) {
+        Ok(proposed) => {
+            limits.set(&proposed);
+            OK
+        }
+        Err(_) => BAD_LIMITS,
+    }
+}
+
+/// Opens an empty tree.
+#[unsafe(no_mangle)]
+pub extern "C" fn bwtree_raw_open(alloc: Global, limits: &TreeLimits, tree: &mut TreeHandle) -> u32
+    ensures bad { (result ≡ BAD_LIMITS) ↔ (AreLimits limits.now.actors limits.now.pids limits.now.rows limits.now.epoch → ⊥) }
+    ensures ok { result ≡ OK → HasOpened limits.now tree.new.kept.value }
+    ensures open { result ≡ OPEN → IsSome tree.old.kept.value }
+    ensures same { (result ≡ OK → ⊥) → tree.new ≡ tree.old }
+{
+    let Ok(limits) = Limits::new(limits.actors, limits.pids, limits.rows, limits.epoch) else {
+        return BAD_LIMITS;
+    };
+    if tree.is_open() {
+        return OPEN;
+    }
+    let Some(shared) = shared_of(alloc, limits) else {
+        return NO_MEMORY;
+    };
+    *tree = TreeHandle::of(shared);
+    OK
+}
+
+impl TreeHandle {
+    /// Whether it has a tree that isn't closed.
+    fn is_open(&self) -> bool
+        ensures { IsTrue result → IsSome self.now.kept.value }
+    {
+        match self.shared() {
+            Some(shared) => !are_closed(shared.slots.as_slice()),
+            None => false,
+        }
+    }
+}
+
+/// A new tree, with its seats in their slots.
+fn shared_of(alloc: Global, limits: Limits) -> Option<Box<Shared>>
+    ensures { IfSome result (λ shared. IsOpenedAt limits shared.value.slots.items) }
+{
+    let (tree, seats) = opened(alloc, limits).ok()?;
+    let tree = Arc::new(alloc, tree).ok()?;
+    let slots = slots_of(alloc, &tree, seats)?;
+    Box::new(alloc, Shared { slots }).ok()
+}
+
+/// A slot for each seat, in order.
+fn slots_of(alloc: Global, tree: &Arc<Tree>, seats: Vec<BwSeat>) -> Option<Vec<Slot>>
+    requires own { AreSeatsOf (arc_value tree.now) seats.items }
+    ensures { IfSome result (λ slots. slots.items ≡ seats.items) }
+{
+    let mut slots = Vec::new(alloc);
+    for seat in seats {
+        slots.push(slot_of(alloc, tree, seat)?).ok()?;
+    }
+    Some(slots)
+}

@@ -1,0 +1,14 @@
+//! What a call has while it runs.
+ghost use Rattle.std.specs.Arc.{arc_value};
+ghost use Rattle.bw_tree.specs.Trees.{IsSeatOf};
+
+use bw_tree::{BwSeat, Tree};
+use std::sync::Arc;
+
+/// A seat, and a share of its tree.
+#[derive(Drop)]
+pub struct Place {
+    pub(crate) tree: Arc<Tree>,
+    pub(crate) seat: BwSeat,
+    pub(crate) ghost own: { IsSeatOf (arc_value tree) seat },
+}

@@ -1,0 +1,29 @@
+//! Why a call doesn't run.
+ghost use Rattle.std.specs.Prelude.{◌≡◌};
+ghost use Rattle.bw_tree_c.specs.Statuses.{status_of_refusal};
+
+use crate::answers::{BUSY, CLOSED, NO_SEAT};
+
+/// Why a call doesn't run.
+#[derive(Clone, Copy)]
+pub enum Refusal {
+    /// The tree is closed, or was never opened.
+    Closed,
+    /// The tree has no seat of this number.
+    NoSeat,
+    /// Another call is inside the seat.
+    Busy,
+}
+
+impl Refusal {
+    /// Its status.
+    pub(crate) fn status(self) -> u32
+        ensures { result ≡ status_of_refusal self }
+    {
+        match self {
+            Refusal::Closed => CLOSED,
+            Refusal::NoSeat => NO_SEAT,
+            Refusal::Busy => BUSY,
+        }
+    }
+}

@@ -1,0 +1,76 @@
+//! What runs on the seat that a call has.
+ghost use Rattle.std.specs.Prelude.{◌≡◌};
+ghost use Rattle.bw_model.specs.declared.command.Command.TheVariants as command;
+ghost use Rattle.bw_tree_c.specs.Running.{IsRun, IsRunOn, IsRunToPage, IsTidied, IsWatched, TellsIdle};
+ghost use Rattle.bw_tree_c.specs.Seats.{IsLater};
+
+use crate::answers::{IDLE, OK, UNFINISHED, status_of_called, tell_page, tell_value};
+use crate::bytes::{Bytes, FreeRoom, Page};
+use crate::place::Place;
+use bw_model::{Command, Key};
+use seats::{BUDGET, called, resumed};
+
+impl Place {
+    /// Runs a command, if the seat is idle.
+    pub(crate) fn run(&mut self, command: Command, old: &mut Bytes) -> u32
+        ensures later { IsLater self.old.seat self.new.seat }
+        ensures run { IsRun self.old.seat command result old.old old.new self.new.seat }
+    {
+        match called(&self.tree, &mut self.seat, command, BUDGET) {
+            Some(called) => tell_value(&called, old),
+            None => UNFINISHED,
+        }
+    }
+
+    /// Does upkeep, if the seat is idle.
+    pub(crate) fn tidy(&mut self, key: Key) -> u32
+        ensures later { IsLater self.old.seat self.new.seat }
+        ensures run { IsTidied self.old.seat (command.Tidy key) result self.new.seat }
+    {
+        match called(&self.tree, &mut self.seat, Command::Tidy(key), BUDGET) {
+            Some(called) => status_of_called(&called),
+            None => UNFINISHED,
+        }
+    }
+
+    /// Asks for a page, if the seat is idle.
+    pub(crate) fn page(&mut self, from: Key, page: &mut Page) -> u32
+        ensures later { IsLater self.old.seat self.new.seat }
+        ensures run { IsRunToPage self.old.seat (command.Page from) result page.old page.new self.new.seat }
+    {
+        match called(&self.tree, &mut self.seat, Command::Page(from), BUDGET) {
+            Some(called) => tell_page(&called, page),
+            None => UNFINISHED,
+        }
+    }
+
+    /// Goes on with the seat's operation, if it has one.
+    pub(crate) fn resume(&mut self, budget: u32, old: &mut Bytes, page: &mut Page) -> u32
+        ensures later { IsLater self.old.seat self.new.seat }
+        ensures run { IsRunOn self.old.seat budget result old.old old.new page.old page.new self.new.seat }
+    {
+        match resumed(&self.tree, &mut self.seat, budget) {
+            Some(called) => {
+                tell_page(&called, page);
+                tell_value(&called, old)
+            }
+            None => IDLE,
+        }
+    }
+
+    /// Whether the seat has no unfinished operation.
+    pub(crate) fn tell_idle(&self) -> u32
+        ensures { TellsIdle self.now.seat result }
+    {
+        if self.seat.is_idle() { OK } else { UNFINISHED }
+    }
+
+    /// How many PIDs and rows are free.
+    pub(crate) fn watch_room(&mut self, room: &mut FreeRoom) -> u32
+        ensures later { IsLater self.old.seat self.new.seat }
+        ensures room { IsWatched self.old.seat result room.new self.new.seat }
+    {
+        room.set(&self.tree.room(&mut self.seat));
+        OK
+    }
+}

@@ -1,0 +1,216 @@
+//! The exports, called from Rattle: what each answers, in turn.
+
+use crate::answers::{
+    ABSENT, BAD_LIMITS, BUSY, CLOSED, DIFFERS, EXISTS, IDLE, NO_SEAT, OK, OPEN, REPLACED, SPENT,
+    TOO_LONG, UNFINISHED,
+};
+use crate::asking::{bwtree_raw_is_idle, bwtree_raw_room};
+use crate::bytes::{Bytes, FreeRoom, Page, Pair, TreeLimits};
+use crate::calls::{
+    bwtree_raw_delete, bwtree_raw_get, bwtree_raw_insert, bwtree_raw_swap, bwtree_raw_tidy,
+    bwtree_raw_upsert,
+};
+use crate::closing::bwtree_raw_close;
+use crate::handle::TreeHandle;
+use crate::opening::{bwtree_raw_limits_for_keys, bwtree_raw_open};
+use crate::pages::{bwtree_raw_page, bwtree_raw_resume};
+use crate::slot::give;
+use bw_model::{Command, Key};
+use seats::called;
+use std::alloc::Global;
+use std::test::Fail;
+
+/// No bytes.
+fn no_bytes() -> Bytes {
+    Bytes {
+        length: 0,
+        bytes: [0; 64],
+    }
+}
+
+/// A pair of nothing.
+fn no_pair() -> Pair {
+    Pair {
+        key: no_bytes(),
+        value: no_bytes(),
+    }
+}
+
+/// A page of nothing.
+fn no_page() -> Page {
+    Page {
+        count: 0,
+        more: 0,
+        next: no_bytes(),
+        pairs: [
+            no_pair(),
+            no_pair(),
+            no_pair(),
+            no_pair(),
+            no_pair(),
+            no_pair(),
+            no_pair(),
+            no_pair(),
+            no_pair(),
+            no_pair(),
+            no_pair(),
+            no_pair(),
+            no_pair(),
+            no_pair(),
+            no_pair(),
+            no_pair(),
+            no_pair(),
+            no_pair(),
+            no_pair(),
+            no_pair(),
+            no_pair(),
+            no_pair(),
+            no_pair(),
+            no_pair(),
+        ],
+    }
+}
+
+/// Limits that aren't limits.
+fn no_limits() -> TreeLimits {
+    TreeLimits {
+        actors: 0,
+        pids: 0,
+        rows: 0,
+        epoch: 0,
+    }
+}
+
+/// A tree with two seats.
+fn two_seats(alloc: Global) -> TreeHandle {
+    let mut tree = TreeHandle::unopened();
+    let mut limits = no_limits();
+    bwtree_raw_limits_for_keys(2, 100, &mut limits);
+    bwtree_raw_open(alloc, &limits, &mut tree);
+    tree
+}
+
+/// What openings and closings answer.
+fn told_of_handles(alloc: Global) -> [u32; 10] {
+    let mut tree = TreeHandle::unopened();
+    let mut limits = no_limits();
+    let mut old = no_bytes();
+    [
+        bwtree_raw_get(&tree, 0, b"a", &mut old),
+        bwtree_raw_open(alloc, &limits, &mut tree),
+        bwtree_raw_limits_for_keys(17, 100, &mut limits),
+        bwtree_raw_limits_for_keys(2, 100, &mut limits),
+        bwtree_raw_open(alloc, &limits, &mut tree),
+        bwtree_raw_open(alloc, &limits, &mut tree),
+        bwtree_raw_close(&tree),
+        bwtree_raw_close(&tree),
+        bwtree_raw_get(&tree, 0, b"a", &mut old),
+        bwtree_raw_open(alloc, &limits, &mut tree),
+    ]
+}
+
+#[test]
+fn handles_are_opened_and_closed(rt: HostRuntime) {
+    let wanted = [
+        CLOSED, BAD_LIMITS, BAD_LIMITS, OK, OK, OPEN, OK, CLOSED, CLOSED, OK,
+    ];
+    assert!(rt; told_of_handles(rt.alloc()) == wanted);
+}
+
+/// What calls on both seats answer.
+fn told_of_calls(tree: &TreeHandle) -> [u32; 12] {
+    let mut old = no_bytes();
+    [
+        bwtree_raw_insert(tree, 0, b"a", b"x", &mut old),
+        bwtree_raw_insert(tree, 1, b"a", b"y", &mut old),
+        bwtree_raw_upsert(tree, 1, b"a", b"y", &mut old),
+        bwtree_raw_swap(tree, 0, b"a", b"x", b"z", &mut old),
+        bwtree_raw_swap(tree, 0, b"a", b"y", b"z", &mut old),
+        bwtree_raw_get(tree, 0, b"a", &mut old),
+        bwtree_raw_delete(tree, 1, b"a", &mut old),
+        bwtree_raw_get(tree, 0, b"a", &mut old),
+        bwtree_raw_tidy(tree, 0, b"a"),
+        bwtree_raw_get(tree, 2, b"a", &mut old),
+        bwtree_raw_get(tree, 0, &[0; 65], &mut old),
+        bwtree_raw_insert(tree, 0, b"a", &[0; 65], &mut old),
+    ]
+}
+
+#[test]
+fn calls_are_told(rt: HostRuntime) {
+    let wanted = [
+        OK, EXISTS, REPLACED, DIFFERS, OK, OK, OK, ABSENT, OK, NO_SEAT, TOO_LONG, TOO_LONG,
+    ];
+    assert!(rt; told_of_calls(&two_seats(rt.alloc())) == wanted);
+}
+
+/// Whether a page shows the one pair of a tree, and some room is free.
+fn shows_one_pair(tree: &TreeHandle) -> bool {
+    let mut old = no_bytes();
+    let mut page = no_page();
+    let mut room = FreeRoom {
+        free_pids: 0,
+        free_rows: 0,
+    };
+    let told = [
+        bwtree_raw_upsert(tree, 0, b"key", b"value", &mut old),
+        bwtree_raw_page(tree, 1, b"a", &mut page),
+        bwtree_raw_room(tree, 1, &mut room),
+    ];
+    told == [OK, OK, OK]
+        && page.count == 1
+        && page.more == 0
+        && page.pairs[0].key.length == 3
+        && page.pairs[0].value.length == 5
+        && page.pairs[0].value.bytes[..5] == *b"value"
+        && room.free_pids > 0
+        && room.free_rows > 0
+}
+
+#[test]
+fn pages_and_room_are_shown(rt: HostRuntime) {
+    assert!(rt; shows_one_pair(&two_seats(rt.alloc())));
+}
+
+/// What calls answer while another call is inside seat 0, and after that.
+fn told_of_seats(tree: &TreeHandle) -> Option<[u32; 11]> {
+    let mut old = no_bytes();
+    let mut page = no_page();
+    let (slot, mut place) = tree.take(0).ok()?;
+    let inside = [
+        bwtree_raw_get(tree, 0, b"a", &mut old),
+        bwtree_raw_is_idle(tree, 0),
+        bwtree_raw_close(tree),
+        bwtree_raw_is_idle(tree, 1),
+    ];
+    called(
+        &place.tree,
+        &mut place.seat,
+        Command::Get(Key::default()),
+        1,
+    )?;
+    give(slot, place);
+    let [first, second, third, fourth] = inside;
+    Some([
+        first,
+        second,
+        third,
+        fourth,
+        bwtree_raw_get(tree, 0, b"a", &mut old),
+        bwtree_raw_is_idle(tree, 0),
+        bwtree_raw_resume(tree, 0, 0, &mut old, &mut page),
+        bwtree_raw_resume(tree, 0, 65536, &mut old, &mut page),
+        bwtree_raw_resume(tree, 0, 1, &mut old, &mut page),
+        bwtree_raw_is_idle(tree, 0),
+        bwtree_raw_close(tree),
+    ])
+}
+
+#[test]
+fn seats_are_busy_and_unfinished(rt: HostRuntime) -> Result<(), Fail> {
+    let wanted = [
+        BUSY, BUSY, BUSY, OK, UNFINISHED, UNFINISHED, SPENT, ABSENT, IDLE, OK, OK,
+    ];
+    assert!(rt; told_of_seats(&two_seats(rt.alloc())).ok_or("no seat")? == wanted);
+    Ok(())
+}
