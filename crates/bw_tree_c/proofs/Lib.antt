@@ -1,4 +1,6 @@
+pub mod Coming
 pub mod Keeping
 pub mod Later
 pub mod Showing
 pub mod Values
+pub mod Yielded

@@ -34,7 +34,9 @@ impl Kept {
         ensures { result.value ≡ Some shared.now }
     {
         let at = shared as *const Shared;
-        Kept { at: at as *const u8 }
+        Kept {
+            at: at as *const u8,
+        }
     }
 
     /// What is shared, where there is something.

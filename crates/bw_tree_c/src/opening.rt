@@ -19,11 +19,7 @@ use std::sync::Arc;
 
 /// Limits for so many seats and keys.
 #[unsafe(no_mangle)]
-pub extern "C" fn bwtree_raw_limits_for_keys(
-    actors: u64,
-    keys: u64,
-    limits: &mut TreeLimits,
-) -> u32
+pub extern "C" fn bwtree_raw_limits_for_keys(actors: u64, keys: u64, limits: &mut TreeLimits) -> u32
     ensures ok { (result ≡ OK) ↔ AreProposed actors keys }
     ensures limits { result ≡ OK → ProposesLimits actors keys limits.new }
     ensures bad { (result ≡ OK → ⊥) → (result ≡ BAD_LIMITS) × (limits.new ≡ limits.old) }
@@ -74,10 +70,17 @@ impl TreeHandle {
 fn shared_of(alloc: Global, limits: Limits) -> Option<Box<Shared>>
     ensures { IfSome result (λ shared. IsOpenedAt limits shared.value.slots.items) }
 {
-    let (tree, seats) = opened(alloc, limits).ok()?;
-    let tree = Arc::new(alloc, tree).ok()?;
+    let Ok((tree, seats)) = opened(alloc, limits) else {
+        return None;
+    };
+    let Ok(tree) = Arc::new(alloc, tree) else {
+        return None;
+    };
     let slots = slots_of(alloc, &tree, seats)?;
-    Box::new(alloc, Shared { slots }).ok()
+    match Box::new(alloc, Shared { slots }) {
+        Ok(shared) => Some(shared),
+        Err(_) => None,
+    }
 }
 
 /// A slot for each seat, in order.

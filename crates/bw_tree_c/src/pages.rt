@@ -27,12 +27,7 @@ impl TreeHandle {
 
 /// The pairs of the leaf that has the key, from the key on.
 #[unsafe(no_mangle)]
-pub extern "C" fn bwtree_raw_page(
-    tree: &TreeHandle,
-    seat: u32,
-    from: &[u8],
-    page: &mut Page,
-) -> u32
+pub extern "C" fn bwtree_raw_page(tree: &TreeHandle, seat: u32, from: &[u8], page: &mut Page) -> u32
     ensures long { MAX_LENGTH < length from.now → (result ≡ TOO_LONG) × (page.new ≡ page.old) }
     ensures called { length from.now ≤ MAX_LENGTH → ComesToPage tree.now.kept.value seat (command.Page from.now) result page.old page.new }
 {

@@ -101,8 +101,12 @@ pub(crate) fn slot_of(alloc: Global, tree: &Arc<Tree>, seat: BwSeat) -> Option<S
     ensures { IfSome result (λ slot. slot ≡ seat) }
 {
     let slot = Counted::new(None, &seat);
-    let tree = Arc::try_clone(tree).ok()?;
-    let place = Box::new(alloc, Place { tree, seat }).ok()?;
+    let Ok(tree) = Arc::try_clone(tree) else {
+        return None;
+    };
+    let Ok(place) = Box::new(alloc, Place { tree, seat }) else {
+        return None;
+    };
     put(&slot, HOME, place);
     Some(slot)
 }
