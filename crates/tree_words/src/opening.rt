@@ -5,9 +5,7 @@ ghost use Rattle.deltas.specs.Memory.{opening};
 ghost use Rattle.tree_words.specs.Opening.{with_free, opening_words};
 ghost use Rattle.tree_words.specs.Words.{AreWordsOf};
 
-use crate::places::{
-    epoch_place, pid_bits_place, row_bits_place, row_place, slot_place, width,
-};
+use crate::places::{epoch_place, pid_bits_place, row_bits_place, row_place, slot_place, width};
 use bw_model::Limits;
 use record_slots::{FORM, FORM_UNIT, NO_BOUND, SECOND_KEY};
 use std::alloc::{AllocError, Allocator};
@@ -22,8 +20,16 @@ pub fn opening_words<A: Allocator>(alloc: A, limits: &Limits) -> Result<Vec<u64,
     ensures { IfOk result (λ words. words.items ≡ opening_words limits.now) }
 {
     let mut words = vec![in alloc; 0; width(limits)]?;
-    set_free(&mut words, pid_bits_place(limits, 0), (limits.pids / 64) as usize);
-    set_free(&mut words, row_bits_place(limits, 0), (limits.rows / 64) as usize);
+    set_free(
+        &mut words,
+        pid_bits_place(limits, 0),
+        (limits.pids / 64) as usize,
+    );
+    set_free(
+        &mut words,
+        row_bits_place(limits, 0),
+        (limits.rows / 64) as usize,
+    );
     words[slot_place(limits, 0)] = 1;
     words[slot_place(limits, 1)] = 1;
     words[epoch_place()] = limits.epoch;

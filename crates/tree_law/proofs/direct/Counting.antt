@@ -88,7 +88,7 @@ module _ (limits : Limits) (entries : List Entry) (last : Entry) (op : Operation
         let more : length (h.causes ++ length entries ∷ []) ≡ suc (length h.causes) = pushed_length h.causes (length entries) in
         let place : length (h.causes ++ length entries ∷ []) + 1 ≡ suc (length h.causes + 1) = omega (arith, more) in
         let grown : cause_worth limits * (length (h.causes ++ length entries ∷ []) + 1) ≡ cause_worth limits * (length h.causes + 1) + cause_worth limits
-            = ap (λ k. cause_worth limits * k) place ∙ mul-suc (cause_worth limits) (length h.causes + 1) in
+        = ap (λ k. cause_worth limits * k) place ∙ mul-suc (cause_worth limits) (length h.causes + 1) in
         omega arith;
   }
 
