@@ -14,6 +14,7 @@ use crate::closing::bwtree_raw_close;
 use crate::handle::TreeHandle;
 use crate::opening::{bwtree_raw_limits_for_keys, bwtree_raw_open};
 use crate::pages::{bwtree_raw_page, bwtree_raw_resume};
+use crate::place::Place;
 use crate::slot::give;
 use bw_model::{Command, Key};
 use seats::called;
@@ -162,7 +163,7 @@ fn shows_one_pair(tree: &TreeHandle) -> bool {
         && page.more == 0
         && page.pairs[0].key.length == 3
         && page.pairs[0].value.length == 5
-        && page.pairs[0].value.bytes[..5] == *b"value"
+        && page.pairs[0].value.bytes.starts_with(b"value")
         && room.free_pids > 0
         && room.free_rows > 0
 }
@@ -183,12 +184,8 @@ fn told_of_seats(tree: &TreeHandle) -> Option<[u32; 11]> {
         bwtree_raw_close(tree),
         bwtree_raw_is_idle(tree, 1),
     ];
-    called(
-        &place.tree,
-        &mut place.seat,
-        Command::Get(Key::default()),
-        1,
-    )?;
+    let Place { tree: of, seat } = &mut *place;
+    called(of, seat, Command::Get(Key::default()), 1)?;
     give(slot, place);
     let [first, second, third, fourth] = inside;
     Some([
