@@ -9,8 +9,9 @@ use Rattle.tree_picture.specs.declared.shape.Shape.{Shape}
 use Rattle.tree_picture.specs.Document.{IsWellFormed}
 use Rattle.tree_picture.specs.Elements.{document_text}
 use Rattle.tree_picture.specs.Layout.{AreLaidOut}
-use Rattle.tree_picture.specs.Pages.{boxes_of, pids_of, ranges_of, removed_of}
-use Rattle.tree_picture.specs.Pids.{all_pids, all_removed}
+use Rattle.tree_picture.specs.Marks.{AreMarked}
+use Rattle.tree_picture.specs.Pages.{boxes_of, marks_of, pids_of, ranges_of}
+use Rattle.tree_picture.specs.Pids.{all_pids}
 use Rattle.tree_picture.specs.Ranges.{all_ranges}
 use Rattle.bw_shell.specs.declared.refusal.Refusal.TheVariants.{Memory, NotOpened}
 use Rattle.bw_shell.specs.declared.refusal.RefusedLine.{RefusedLine}
@@ -20,14 +21,14 @@ use Rattle.bw_shell.specs.Turns.{Trace, IsOneMap, opening_trace}
 use Rattle.bw_shell.specs.Weave.{IsTranscriptFrom}
 
 -- The pages among the shapes are exactly those of the side chains of the memory after the trace, level by level from the root's level
--- down, each from left to right, and each has its range in words, and is marked as removed exactly if it is. Their boxes lie in a sheet of this width and height, each later one
--- to the right or below.
+-- down, each from left to right, and each has its range in words, and is marked by how it stands to the level above. Their boxes lie in a sheet of this
+-- width and height, each later one to the right or below. The texts of each box end in it (`PageBox`).
 pub record IsShown (trace : Trace) (width height : ℕ) (shapes : List Shape) : Type 0 where
   pub scene : Scene
   pub stands : IsSceneOf trace.limits (memory_of trace.limits trace.entries) scene
   pub pages : pids_of shapes ≡ all_pids scene.levels
   pub ranges : ranges_of shapes ≡ all_ranges scene.levels
-  pub removed : removed_of shapes ≡ all_removed scene.levels
+  pub marks : AreMarked scene.root [] scene.levels (marks_of shapes)
   pub laid : AreLaidOut width height (boxes_of shapes)
 
 -- The text is a well-formed document of that width and height, and of such shapes.

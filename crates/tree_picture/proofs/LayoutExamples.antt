@@ -9,7 +9,9 @@ use Rattle.tree_picture.specs.declared.shape.Rectangle.{Rectangle}
 use Rattle.tree_picture.specs.declared.shape.Shape.TheVariants.{Page, Box}
 use Rattle.tree_picture.specs.Layout.{IsBefore, IsWithin}
 use Rattle.tree_picture.specs.Pages.{boxes_of}
+use Rattle.tree_picture.specs.Texts.{EndInBox}
 use Rattle.tree_picture.specs.Sizes.{level_height, levels_height, page_height}
+use Rattle.tree_picture.proofs.Ranges.{ends_in_box}
 
 abbrev box : ℕ → ℕ → ℕ → ℕ → Rectangle
 box x y width height = record { x = x; y = y; width = width; height = height; fill = Paper; edge = Ink }
@@ -24,10 +26,16 @@ right = box 306 118 236 78
 abbrev under : Rectangle
 under = box 168 301 236 78
 
-abbrev page : ℕ → Rectangle → PageBox
-page pid r = record { pid = pid; rectangle = r; mark = Held; range = codes "from a to b" }
+abbrev page : (pid : ℕ) (r : Rectangle) → EndInBox r.width pid Held (codes "from a to b") → PageBox
+page pid r inside = record { pid = pid; rectangle = r; mark = Held; range = codes "from a to b"; inside = inside }
 
-boxes_are : boxes_of (Box (box 0 0 1000 440) ∷ Page (page 7 left) ∷ Box right ∷ Page (page 3 under) ∷ []) ≡ left ∷ under ∷ []
+seven_ends : EndInBox 236 7 Held (codes "from a to b")
+seven_ends = ends_in_box 7 Held (codes "from a to b") (omega arith) (omega arith)
+
+three_ends : EndInBox 236 3 Held (codes "from a to b")
+three_ends = ends_in_box 3 Held (codes "from a to b") (omega arith) (omega arith)
+
+boxes_are : boxes_of (Box (box 0 0 1000 440) ∷ Page (page 7 left seven_ends) ∷ Box right ∷ Page (page 3 under three_ends) ∷ []) ≡ left ∷ under ∷ []
 boxes_are = refl
 
 beside : IsBefore left right
@@ -83,3 +91,7 @@ level_is = refl
 
 levels_are : levels_height ((small ∷ []) ∷ (small ∷ middle ∷ []) ∷ []) ≡ 396
 levels_are = refl
+
+-- a range of 40 characters would end behind the box
+not_at_length : EndInBox 236 7 Held (codes "from 0123456789.. to 0123456789.. and on") → ⊥
+not_at_length ends = let ranged = ends.ranged in omega (arith, ranged)

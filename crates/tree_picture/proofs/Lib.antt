@@ -3,6 +3,7 @@ mod Escapes
 mod Heights
 mod LayoutExamples
 mod Layouts
+mod Marking
 mod Ranges
 mod Shapes
 mod TextExamples

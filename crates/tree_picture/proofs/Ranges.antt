@@ -1,12 +1,16 @@
--- How long the words for a range are, and how they come together.
-use Rattle.std.proofs.Common.{◌≡◌, ◌≤◌, ◌+◌, ◌*◌, ℕ, zero, suc, List, [], ◌∷◌, ◌++◌, Bool, true, false, Option, Some, None, ap, append_assoc, arith, length, take, ◌∙◌}
-use Rattle.std.specs.Prelude.{codes, if◌then◌else◌, nat_lt}
+-- How long the words for a range are, how they come together, and that they end in their box.
+use Rattle.std.proofs.Common.{◌≡◌, ◌≤◌, ◌<◌, ◌^◌, ℕ, zero, suc, List, [], ◌∷◌, ◌++◌, Bool, true, false, Option, Some, None, ap, append_assoc, arith, length, take, ◌∙◌}
+use Rattle.std.specs.Prelude.{codes, decimal, if◌then◌else◌, nat_lt}
 use Rattle.std.proofs.lemmas.List.{length-append}
+use Rattle.std.proofs.lemmas.Fmt.{length-decimal-le}
 use Rattle.hex.specs.Hex.{encode_lower, lower_digits}
 use Rattle.hex.proofs.HexLemmas.{length-encode_with}
 use Rattle.shell_lines.specs.Token.{is_word}
 use Rattle.tree_picture.specs.Adding.{Adds}
+use Rattle.tree_picture.specs.declared.shape.Mark.{Mark}
+use Rattle.tree_picture.specs.declared.shape.Mark.TheVariants.{Termed, Termless, Held, Removed}
 use Rattle.tree_picture.specs.Ranges.{dots, end_text, range_text, short_token}
+use Rattle.tree_picture.specs.Texts.{EndInBox, mark_text, name_text}
 
 pub adds_then : (old middle new more last : List ℕ) → Adds old middle more → Adds middle new last → Adds old new (more ++ last)
 adds_then old middle new more last one two = λ fits.
@@ -40,6 +44,26 @@ few_end None = omega arith
 -- the words for a range have room
 range_fits : (low : List ℕ) (high : Option (List ℕ)) → length (range_text low high) ≤ 35
 range_fits low high = omega (arith, length-append (short_token low) (end_text high), few_short low, few_end high)
+
+few_marked : (mark : Mark) → length (mark_text mark) ≤ 7
+few_marked Termed = omega arith
+few_marked Termless = omega arith
+few_marked Held = omega arith
+few_marked Removed = omega arith
+
+few_named : (pid : ℕ) → pid < 2 ^ 32 → length (name_text pid) ≤ 14
+few_named pid small = omega (arith, length-append (codes "PID ") (decimal pid), length-decimal-le 10 pid (omega arith) (omega (arith, small)) (omega (arith, small)))
+
+-- texts that are no longer end in the box of a page
+pub ends_in_box : (pid : ℕ) (mark : Mark) (range : List ℕ) → pid < 2 ^ 32 → length range ≤ 35 → EndInBox 236 pid mark range
+ends_in_box pid mark range small few = record {
+  named = let long = few_named pid small in omega (arith, long);
+  marked = let long = few_marked mark in omega (arith, long);
+  ranged = omega (arith, few);
+}
+
+pub page_ends : (pid : ℕ) (mark : Mark) (words low : List ℕ) (high : Option (List ℕ)) → pid < 2 ^ 32 → words ≡ range_text low high → EndInBox 236 pid mark words
+page_ends pid mark words low high small are = ends_in_box pid mark words small (let fits = range_fits low high in let same = ap length are in omega (arith, fits, same))
 
 -- the words, where none stood before
 pub whole_range : (old words low low_now : List ℕ) (high high_now : Option (List ℕ)) → Adds old words (range_text low high) → old ≡ [] → low ≡ low_now → high ≡ high_now → words ≡ range_text low_now high_now

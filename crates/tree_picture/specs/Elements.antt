@@ -4,14 +4,13 @@ use Rattle.std.specs.List.{flat_map}
 use Rattle.tree_picture.specs.declared.colour.Colour.TheVariants.{Ink, Missing}
 use Rattle.tree_picture.specs.declared.shape.TheConstants.{INSET, MARK_INSET, NAME_DROP, RANGE_DROP}
 use Rattle.tree_picture.specs.declared.shape.Line.{Line as LineOf}
-use Rattle.tree_picture.specs.declared.shape.Mark.{Mark}
-use Rattle.tree_picture.specs.declared.shape.Mark.TheVariants.{Termed, Termless, Held, Removed}
 use Rattle.tree_picture.specs.declared.shape.PageBox.{PageBox}
 use Rattle.tree_picture.specs.declared.shape.Rectangle.{Rectangle}
 use Rattle.tree_picture.specs.declared.shape.Shape.{Shape}
 use Rattle.tree_picture.specs.declared.shape.Shape.TheVariants.{Page, Box, Line, Text}
 use Rattle.tree_picture.specs.declared.shape.Text.{Text as TextOf}
 use Rattle.tree_picture.specs.Colours.{colour_text}
+pub use Rattle.tree_picture.specs.Texts.{mark_text, name_text}
 use Rattle.tree_picture.specs.Document.{Attribute, Element, element_text, open_text, close_text}
 
 abbrev pub attribute : List ℕ → List ℕ → Attribute
@@ -54,16 +53,9 @@ text_element text = record {
   content = text.words;
 }
 
--- the word for how a page stands to the level above it
-abbrev pub mark_text : Mark → List ℕ
-mark_text Termed = []
-mark_text Termless = codes "no term"
-mark_text Held = codes "held"
-mark_text Removed = codes "removed"
-
 -- the texts in a page's box
 abbrev pub name_in : PageBox → TextOf
-name_in page = record { x = page.rectangle.x + INSET; y = page.rectangle.y + NAME_DROP; size = 14; bold = true; colour = Ink; words = codes "PID " ++ decimal page.pid }
+name_in page = record { x = page.rectangle.x + INSET; y = page.rectangle.y + NAME_DROP; size = 14; bold = true; colour = Ink; words = name_text page.pid }
 
 abbrev pub mark_in : PageBox → TextOf
 mark_in page = record { x = page.rectangle.x + MARK_INSET; y = page.rectangle.y + NAME_DROP; size = 13; bold = true; colour = Missing; words = mark_text page.mark }

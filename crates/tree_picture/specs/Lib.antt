@@ -3,7 +3,9 @@ pub mod Colours
 pub mod Document
 pub mod Elements
 pub mod Layout
+pub mod Marks
 pub mod Pages
 pub mod Pids
 pub mod Ranges
 pub mod Sizes
+pub mod Texts

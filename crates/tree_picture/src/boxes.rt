@@ -1,7 +1,6 @@
 //! The box of a page.
 ghost use Rattle.std.specs.Prelude.{◌≡◌, ◌≤◌, ◌+◌, ◌∷◌, ◌++◌, [], ℕ, OnOk};
 ghost use Rattle.tree_picture.specs.Layout.{AreLaidTo};
-ghost use Rattle.tree_picture.specs.Pages.{says_removed};
 ghost use Rattle.tree_picture.specs.Ranges.{page_range};
 ghost use Rattle.tree_picture.specs.Sizes.{page_height};
 ghost use Rattle.tree_picture.specs.declared.places.TheConstants.{PAGE_WIDTH};
@@ -27,7 +26,7 @@ pub(crate) fn page_box(
 ) -> Result<(), AllocError>
     ensures pids { OnOk result (sheet.new.pids ≡ sheet.old.pids ++ page.now.pid ∷ []) }
     ensures ranges { OnOk result (sheet.new.ranges ≡ sheet.old.ranges ++ page_range page.now ∷ []) }
-    ensures removed { OnOk result (sheet.new.removed ≡ sheet.old.removed ++ says_removed mark ∷ []) }
+    ensures marks { OnOk result (sheet.new.marks ≡ sheet.old.marks ++ mark ∷ []) }
     ensures laid { OnOk result ((width bottom next : ℕ) → AreLaidTo width bottom x y sheet.old.boxes → x + PAGE_WIDTH ≤ width → x + PAGE_WIDTH ≤ next
         → y + page_height page.now ≤ bottom → AreLaidTo width bottom next y sheet.new.boxes) }
 {

@@ -1,23 +1,26 @@
 //! The levels one under another.
-ghost use Rattle.std.specs.Prelude.{◌≡◌, ◌≤◌, ◌<◌, ◌+◌, ◌-◌, ◌*◌, ◌^◌, ◌++◌, ℕ, All, length, OnOk};
+ghost use Rattle.std.specs.Prelude.{◌≡◌, ◌≤◌, ◌<◌, ◌+◌, ◌-◌, ◌*◌, ◌^◌, ◌++◌, [], ℕ, List, All, length, OnOk};
+ghost use Rattle.std.specs.List.{AllZip};
 ghost use Rattle.tree_picture.specs.Layout.{AreLaidTo};
-ghost use Rattle.tree_picture.specs.Pids.{all_pids, all_removed, level_pids, level_removed};
+ghost use Rattle.tree_picture.specs.Marks.{AreMarked, IsMarkFor};
+ghost use Rattle.tree_picture.specs.Pids.{all_pids, level_pids};
 ghost use Rattle.tree_picture.specs.Ranges.{all_ranges, level_ranges};
 ghost use Rattle.tree_picture.specs.Sizes.{level_height, levels_height};
+ghost use Rattle.tree_picture.specs.declared.shape.Mark.{Mark};
 ghost use Rattle.tree_picture.specs.declared.places.TheConstants.{DROP, GAP, PAGE_WIDTH};
 
 use crate::boxes::page_box;
 use crate::links::{Drawn, links, mark_of, side_link};
 use crate::places::{DROP, GAP, PAGE_WIDTH, first_x, level_height};
 use crate::sheet::Sheet;
-use scene::Level;
+use scene::{Level, ScenePage};
 use std::alloc::AllocError;
 
 /// A level: its pages from left to right, with their side links.
 fn level_row(
     sheet: &mut Sheet,
     level: &Level,
-    above: Option<&Level>,
+    above: &[ScenePage],
     root: u32,
     x: u32,
     y: u32,
@@ -25,7 +28,7 @@ fn level_row(
     requires { x + length level.now * (PAGE_WIDTH + GAP) < 2 ^ 32 }
     ensures pids { OnOk result (sheet.new.pids ≡ sheet.old.pids ++ level_pids level.now) }
     ensures ranges { OnOk result (sheet.new.ranges ≡ sheet.old.ranges ++ level_ranges level.now) }
-    ensures removed { OnOk result (sheet.new.removed ≡ sheet.old.removed ++ level_removed level.now) }
+    ensures marks { OnOk result ((own : List Mark) × (sheet.new.marks ≡ sheet.old.marks ++ own) × AllZip (IsMarkFor root above.now) level.now own) }
     ensures laid { OnOk result ((width : ℕ) → x + length level.now * (PAGE_WIDTH + GAP) ≤ width + GAP → AreLaidTo width (y + level_height level.now) x y sheet.old.boxes
         → AreLaidTo width (y + level_height level.now) (x + length level.now * (PAGE_WIDTH + GAP)) y sheet.new.boxes) }
 {
@@ -53,12 +56,12 @@ pub(crate) fn rows(
     requires high { top + levels_height levels.now < 2 ^ 32 }
     ensures pids { OnOk result (sheet.new.pids ≡ sheet.old.pids ++ all_pids levels.now) }
     ensures ranges { OnOk result (sheet.new.ranges ≡ sheet.old.ranges ++ all_ranges levels.now) }
-    ensures removed { OnOk result (sheet.new.removed ≡ sheet.old.removed ++ all_removed levels.now) }
+    ensures marks { OnOk result ((own : List Mark) × (sheet.new.marks ≡ sheet.old.marks ++ own) × AreMarked root [] levels.now own) }
     ensures laid { OnOk result (AreLaidTo width top 0 top sheet.old.boxes
         → AreLaidTo width (top + levels_height levels.now) 0 (top + levels_height levels.now) sheet.new.boxes) }
 {
     let mut y = top;
-    let mut above: Option<&Level> = None;
+    let mut above: &[ScenePage] = &[];
     for level in levels {
         level_row(
             sheet,
@@ -69,7 +72,7 @@ pub(crate) fn rows(
             y,
         )?;
         y += level_height(level) + DROP;
-        above = Some(level);
+        above = level.pages();
     }
     Ok(())
 }

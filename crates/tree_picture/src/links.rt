@@ -1,7 +1,7 @@
 //! Lines between pages: side links, terms, and what stands where a term is missing or its page is merged.
 ghost use Rattle.std.specs.Prelude.{◌≡◌};
-ghost use Rattle.traces.specs.chain.Chains.{is_removed};
-ghost use Rattle.tree_picture.specs.Pages.{says_removed};
+ghost use Rattle.base_page.specs.Pages.{AreItems};
+ghost use Rattle.tree_picture.specs.Marks.{FindsChild, FindsTerm, IsMarkFor, IsTermFor};
 
 use crate::colour::Colour;
 use crate::places::{GAP, PAGE_WIDTH, page_height, page_x};
@@ -20,21 +20,34 @@ pub(crate) struct Drawn<'a> {
     pub(crate) y: u32,
 }
 
+/// Whether the item is a term for the page, and whether it is held.
+fn term_of(item: &Item, pid: u32) -> Option<bool>
+    ensures { IsTermFor item.now pid result }
+{
+    match &item.content {
+        Content::Child { page, held } if *page == pid => Some(*held),
+        _ => None,
+    }
+}
+
 /// Whether the items have a term for the page, and whether it is held.
-fn term_in(items: &[Item], pid: u32) -> Option<bool> {
+fn term_in(items: &[Item], pid: u32) -> Option<bool>
+    requires { AreItems items.now }
+    ensures { FindsChild items.now pid result }
+{
     for item in items {
-        if let Content::Child { page, held } = &item.content {
-            if *page == pid {
-                return Some(*held);
-            }
+        if let Some(held) = term_of(item, pid) {
+            return Some(held);
         }
     }
     None
 }
 
 /// Whether a level has a term for the page, and whether it is held.
-fn term_for(above: &Level, pid: u32) -> Option<bool> {
-    for page in above.pages() {
+fn term_for(above: &[ScenePage], pid: u32) -> Option<bool>
+    ensures { FindsTerm above.now pid result }
+{
+    for page in above {
         if let Some(held) = term_in(page.page().items().as_slice(), pid) {
             return Some(held);
         }
@@ -42,9 +55,9 @@ fn term_for(above: &Level, pid: u32) -> Option<bool> {
     None
 }
 
-/// The mark of a page by the level above it, or of a page of the top level, of which slot 0 has the root.
-pub(crate) fn mark_of(page: &ScenePage, above: Option<&Level>, root: u32) -> Mark
-    ensures { says_removed result ≡ is_removed page.now.chain }
+/// The mark of a page by the pages of the level above it, if there is one. Slot 0 has the root.
+pub(crate) fn mark_of(page: &ScenePage, above: &[ScenePage], root: u32) -> Mark
+    ensures { IsMarkFor root above.now page.now result }
 {
     if page.page().is_removed() {
         return Mark::Removed;
@@ -52,9 +65,6 @@ pub(crate) fn mark_of(page: &ScenePage, above: Option<&Level>, root: u32) -> Mar
     if page.pid() == root {
         return Mark::Termed;
     }
-    let Some(above) = above else {
-        return Mark::Termless;
-    };
     match term_for(above, page.pid()) {
         None => Mark::Termless,
         Some(false) => Mark::Termed,
@@ -178,7 +188,7 @@ fn merged(sheet: &mut Sheet, pid: u32, x: u32, y: u32)
 fn missing(sheet: &mut Sheet, above: Drawn<'_>, page: &ScenePage, x: u32, y: u32)
     ensures { sheet.new ≡ sheet.old }
 {
-    if term_for(above.level, page.pid()).is_some() {
+    if term_for(above.level.pages(), page.pid()).is_some() {
         return;
     }
     let place = parent_of(above.level.pages(), page);

@@ -1,6 +1,6 @@
 //! Shapes. A place is told in pixels, from the left and from the top.
 ghost use Rattle.std.specs.Prelude.{◌≡◌};
-ghost use Rattle.tree_picture.specs.Elements.{mark_text};
+ghost use Rattle.tree_picture.specs.Texts.{EndInBox, mark_text};
 
 use crate::colour::Colour;
 use crate::words::Words;
@@ -16,6 +16,12 @@ pub const NAME_DROP: u32 = 18;
 
 /// How far under that corner its range stands.
 pub const RANGE_DROP: u32 = 35;
+
+/// How wide a character of a name or a mark is taken to be, in pixels. Letters of such a font are about so wide; a few are wider.
+pub const BOLD_WIDTH: u32 = 10;
+
+/// How wide a character of a range is taken to be.
+pub const PLAIN_WIDTH: u32 = 6;
 
 /// A rectangle, from its corner that is leftmost and topmost.
 #[derive(Clone, Copy)]
@@ -94,6 +100,8 @@ pub struct PageBox {
     pub rectangle: Rectangle,
     pub mark: Mark,
     pub range: Words,
+    /// Its texts end in it.
+    pub ghost inside: { EndInBox rectangle.width pid mark range },
 }
 
 /// One shape of a picture.

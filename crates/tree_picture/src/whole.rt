@@ -1,8 +1,9 @@
 //! The whole picture.
-ghost use Rattle.std.specs.Prelude.{◌≡◌, IfOk};
+ghost use Rattle.std.specs.Prelude.{◌≡◌, [], IfOk};
 ghost use Rattle.tree_picture.specs.Layout.{AreLaidOut};
-ghost use Rattle.tree_picture.specs.Pages.{boxes_of, pids_of, ranges_of, removed_of};
-ghost use Rattle.tree_picture.specs.Pids.{all_pids, all_removed};
+ghost use Rattle.tree_picture.specs.Marks.{AreMarked};
+ghost use Rattle.tree_picture.specs.Pages.{boxes_of, marks_of, pids_of, ranges_of};
+ghost use Rattle.tree_picture.specs.Pids.{all_pids};
 ghost use Rattle.tree_picture.specs.Ranges.{all_ranges};
 
 use crate::colour::Colour;
@@ -21,7 +22,7 @@ use step_core::Core;
 pub fn picture(alloc: Global, scene: &Scene, core: &Core) -> Result<Picture, AllocError>
     ensures pages { IfOk result (λ picture. pids_of picture.shapes.items ≡ all_pids scene.now.levels) }
     ensures ranges { IfOk result (λ picture. ranges_of picture.shapes.items ≡ all_ranges scene.now.levels) }
-    ensures removed { IfOk result (λ picture. removed_of picture.shapes.items ≡ all_removed scene.now.levels) }
+    ensures marks { IfOk result (λ picture. AreMarked scene.now.root [] scene.now.levels (marks_of picture.shapes.items)) }
     ensures laid { IfOk result (λ picture. AreLaidOut picture.width picture.height (boxes_of picture.shapes.items)) }
 {
     let levels = scene.levels();

@@ -1,8 +1,9 @@
-use Rattle.std.proofs.Common.{◌≡◌, [], ◌∷◌, ◌++◌, ap, arith, refl, subst, sym, ◌∙◌}
+use Rattle.std.proofs.Common.{[], ◌∷◌, ◌++◌, ap, arith, refl, subst, sym, ◌∙◌}
+use Rattle.traces.specs.chain.Chains.{high_in, low_in}
 use Rattle.tree_picture.specs.declared.colour.Colour.TheVariants.{Ink}
 use Rattle.tree_picture.specs.Layout.{AreLaidTo}
 use Rattle.tree_picture.proofs.Layouts.{one_more}
-use Rattle.tree_picture.proofs.Ranges.{whole_range}
+use Rattle.tree_picture.proofs.Ranges.{page_ends, whole_range}
 use Rattle.tree_picture.proofs.boxes.page_box.Goals as goal
 
 pub returns-clause-ranges : goal.returns-clause-ranges
@@ -17,3 +18,9 @@ returns-clause-laid c = λ width bottom next to right further high.
     subst (λ sheet. AreLaidTo width bottom next c.args.y sheet.boxes) (sym (c.records-2.ensures ∙ c.in_ok-page.ensures))
     (one_more to (record { x = c.args.x; y = c.args.y; width = 236; height = c.page_height.result; fill = c.colour.result; edge = Ink }) refl refl
     (record { wide = omega arith; high = omega (arith, exact); right = omega (arith, right); bottom = omega (arith, exact, high) }) next (omega (arith, further)))
+
+pub invariant_of-page : goal.invariant_of-page
+invariant_of-page c = record {
+  inside = page_ends c.pid.result c.args.mark c.with_range.new.words (low_in c.args.page.now.chain) (high_in c.args.page.now.chain) (let small = c.pid.type_inv in omega (arith, small))
+      (whole_range _ _ _ _ _ _ c.with_range.ensures c.new-range.ensures (c.low.ensures ∙ c.page.ensures.low) (c.high.ensures ∙ c.page-2.ensures.high));
+}

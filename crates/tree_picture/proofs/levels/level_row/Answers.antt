@@ -1,9 +1,12 @@
-use Rattle.std.proofs.Common.{◌≡◌, ◌≤◌, ◌+◌, ◌*◌, [], ◌∷◌, ◌++◌, ap, arith, length, subst, sym, ◌∙◌}
-use Rattle.traces.specs.chain.Chains.{is_removed}
+use Rattle.std.proofs.Common.{◌≡◌, ◌≤◌, ◌+◌, ◌*◌, [], ◌∷◌, ap, arith, length, subst, sym, ◌∙◌}
+use Rattle.std.specs.List.{AllZip}
+use Rattle.std.proofs.lemmas.List.{take_all}
+use Rattle.tree_picture.specs.Marks.{IsMarkFor}
 use Rattle.tree_picture.specs.Layout.{AreLaidTo}
 use Rattle.tree_picture.specs.Ranges.{page_range}
 use Rattle.tree_picture.specs.Sizes.{level_height, page_height}
 use Rattle.tree_picture.proofs.Heights.{map_next, page_in_level, told_next}
+use Rattle.tree_picture.proofs.Marking.{mark_next}
 use Rattle.tree_picture.proofs.levels.level_row.Goals.{then-is_some, else-is_some}
 use Rattle.tree_picture.proofs.levels.level_row.Goals as goal
 
@@ -23,8 +26,8 @@ loop-page-preserved c =
     record {
       pids = ap (λ sheet. sheet.pids) same ∙ c.in_ok-page_box.ensures.pids ∙ told_next _ _ _ _ (page.pid ∷ []) c.loop-page.invariant.pids (map_next (λ page. page.pid) pages c.loop-page.page-index page there c.page-item.is);
       ranges = ap (λ sheet. sheet.ranges) same ∙ c.in_ok-page_box.ensures.ranges ∙ told_next _ _ _ _ (page_range page ∷ []) c.loop-page.invariant.ranges (map_next page_range pages c.loop-page.page-index page there c.page-item.is);
-      removed = ap (λ sheet. sheet.removed) same ∙ c.in_ok-page_box.ensures.removed ∙ ap (λ one. c.loop-page.sheet.removed ++ one ∷ []) c.mark_of.ensures
-          ∙ told_next _ _ _ _ (is_removed page.chain ∷ []) c.loop-page.invariant.removed (map_next (λ page. is_removed page.chain) pages c.loop-page.page-index page there c.page-item.is);
+      marks = mark_next (IsMarkFor c.args.root c.args.above.now) pages c.loop-page.page-index page there c.page-item.is c.args.sheet.now.marks c.loop-page.sheet.marks _ c.mark_of.result c.loop-page.invariant.marks
+          (ap (λ sheet. sheet.marks) same ∙ c.in_ok-page_box.ensures.marks) c.mark_of.ensures;
       at = omega (arith, at);
       laid = λ width fits to. subst (λ sheet. AreLaidTo width (c.args.y + level_height c.args.level.now) (c.loop-page.x + 276) c.args.y sheet.boxes) (sym same)
           (c.in_ok-page_box.ensures.laid width (c.args.y + level_height c.args.level.now) (c.loop-page.x + 276) (c.loop-page.invariant.laid width fits to)
@@ -36,3 +39,11 @@ returns-clause-laid c = λ width fits to.
     let long = ap length c.pages-page-items.ensures.pages in
     let end : c.loop-page.x ≡ c.args.x + length c.args.level.now * 276 = omega (arith, c.loop-page.invariant.at, c.loop-page-test.false, c.loop-page.auto.page-index-end, long) in
     subst (λ x. AreLaidTo width (c.args.y + level_height c.args.level.now) x c.args.y c.loop-page.sheet.boxes) end (c.loop-page.invariant.laid width fits to)
+
+pub returns-clause-marks : goal.returns-clause-marks
+returns-clause-marks c =
+    let told = c.loop-page.invariant.marks in (
+      told.0,
+      told.1,
+      subst (λ pages. AllZip (IsMarkFor c.args.root c.args.above.now) pages told.0) (take_all c.loop-page.page-index c.pages-page-items.result.now c.loop-page-test.false ∙ c.pages-page-items.ensures.pages) told.2,
+    )

@@ -1,15 +1,19 @@
-use Rattle.std.proofs.Common.{◌≡◌, ◌+◌, ◌++◌, take}
+use Rattle.std.proofs.Common.{◌≡◌, ◌+◌, ◌++◌, [], List, take}
 use Rattle.tree_picture.specs.Layout.{AreLaidTo}
-use Rattle.tree_picture.specs.Pids.{all_pids, all_removed}
+use Rattle.tree_picture.specs.declared.shape.Mark.{Mark}
+use Rattle.tree_picture.specs.Marks.{AreMarked}
+use Rattle.tree_picture.specs.Pids.{all_pids}
 use Rattle.tree_picture.specs.Ranges.{all_ranges}
 use Rattle.tree_picture.specs.Sizes.{levels_height}
+use Rattle.tree_picture.proofs.Marking.{last_level}
 use Rattle.tree_picture.proofs.levels.rows.Given as goal
 
 abbrev pub invariant-loop-level : goal.invariant-loop-level
 invariant-loop-level l = record {
   pids : l.sheet.pids ≡ l.initial.sheet.pids ++ all_pids (take l.level-index l.levels);
   ranges : l.sheet.ranges ≡ l.initial.sheet.ranges ++ all_ranges (take l.level-index l.levels);
-  removed : l.sheet.removed ≡ l.initial.sheet.removed ++ all_removed (take l.level-index l.levels);
+  marks : (own : List Mark) × (l.sheet.marks ≡ l.initial.sheet.marks ++ own) × AreMarked l.root [] (take l.level-index l.levels) own;
+  above : l.above ≡ last_level [] (take l.level-index l.levels);
   at : l.y ≡ l.top + levels_height (take l.level-index l.levels);
   laid : AreLaidTo l.width l.top 0 l.top l.initial.sheet.boxes → AreLaidTo l.width l.y 0 l.y l.sheet.boxes;
 }
