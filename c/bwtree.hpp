@@ -1,0 +1,191 @@
+// bwtree.hpp: bwtree.h for C++17. A tree is moved, not copied, and lends its seats; what is no ordinary answer throws bw::error.
+//
+// Any number of threads may call a tree's functions. A seat is used by one thread at a time, and may go from thread to thread as any object does.
+// The tree is closed when the object and all its seats are gone, or by close(). What bwtree.h says of stacks, signals and forks holds here, too.
+#ifndef BWTREE_HPP
+#define BWTREE_HPP
+
+#include "bwtree.h"
+#include <atomic>
+#include <cstdint>
+#include <memory>
+#include <optional>
+#include <stdexcept>
+#include <string>
+#include <string_view>
+#include <utility>
+
+namespace bw {
+
+// Why nothing was done: a status of bwtree.h from BWTREE_FULL on.
+class error : public std::runtime_error {
+public:
+    explicit error(uint32_t status) : std::runtime_error(bwtree_text(status)), status_(status) {}
+    uint32_t status() const noexcept { return status_; }
+
+private:
+    uint32_t status_;
+};
+
+// What a swap found. It is true where the value was the expected one, and is the new one now; else `found` is the value that the key has, if it has one.
+struct swapped {
+    bool done;
+    std::optional<std::string> found;
+    explicit operator bool() const noexcept { return done; }
+};
+
+namespace detail {
+
+// The handle, which stays where it is, and which of its seats are free, a bit each.
+struct shared {
+    ::bwtree handle = {};
+    std::atomic<uint32_t> free{0};
+    uint32_t all = 0;
+    ~shared() { bwtree_close(&handle); }
+};
+
+inline void must(uint32_t status) {
+    if (status != BWTREE_OK) throw error(status);
+}
+
+} // namespace detail
+
+// A seat of a tree, which it gets back when this goes.
+class seat {
+public:
+    seat(seat &&other) noexcept : shared_(std::move(other.shared_)), number_(other.number_) {}
+    seat &operator=(seat &&other) noexcept {
+        if (this != &other) {
+            give_back();
+            shared_ = std::move(other.shared_);
+            number_ = other.number_;
+        }
+        return *this;
+    }
+    ~seat() { give_back(); }
+
+    uint32_t number() const noexcept { return number_; }
+
+    // The value of a key.
+    std::optional<std::string> get(std::string_view key) {
+        return shown(bwtree_get(handle(), number_, key.data(), key.size(), &old_), BWTREE_OK);
+    }
+    // Gives a key a value where it has none: the value that it has, if it has one.
+    std::optional<std::string> insert(std::string_view key, std::string_view value) {
+        return shown(bwtree_insert(handle(), number_, key.data(), key.size(), value.data(), value.size(), &old_), BWTREE_EXISTS);
+    }
+    // Gives a key a value: the one that it had before, if it had one.
+    std::optional<std::string> upsert(std::string_view key, std::string_view value) {
+        return shown(bwtree_upsert(handle(), number_, key.data(), key.size(), value.data(), value.size(), &old_), BWTREE_REPLACED);
+    }
+    // Makes a key absent: the value that it had.
+    std::optional<std::string> erase(std::string_view key) {
+        return shown(bwtree_delete(handle(), number_, key.data(), key.size(), &old_), BWTREE_OK);
+    }
+    // Gives a key the value where it has the expected one.
+    swapped swap(std::string_view key, std::string_view expected, std::string_view value) {
+        uint32_t status = done(bwtree_swap(handle(), number_, key.data(), key.size(), expected.data(), expected.size(), value.data(), value.size(), &old_));
+        if (status == BWTREE_DIFFERS) return {false, std::string(text(old_))};
+        return {status == BWTREE_OK, std::nullopt};
+    }
+    // Does what upkeep is due at the leaf of a key.
+    void tidy(std::string_view key) { done(bwtree_tidy(handle(), number_, key.data(), key.size())); }
+
+    // Calls each(key, value) for the pairs from a key on, keys ascending, until it answers false. Other threads may change the tree meanwhile: what
+    // is there throughout is shown, and what never is there isn't. Its arguments last as long as the call.
+    template <class Each> void walk(std::string_view from, Each each) {
+        auto page = std::make_unique<bwtree_page_pairs>();
+        std::string next(from);
+        do {
+            done(bwtree_page(handle(), number_, next.data(), next.size(), page.get()), page.get());
+            for (uint64_t i = 0; i < page->count; i++)
+                if (!each(text(page->pairs[i].key), text(page->pairs[i].value))) return;
+            if (page->more) next = text(page->next);
+        } while (page->more);
+    }
+
+    // How many pages and records are free.
+    bwtree_room free_room() {
+        bwtree_room room;
+        detail::must(bwtree_free_room(handle(), number_, &room));
+        return room;
+    }
+
+private:
+    friend class tree;
+    seat(std::shared_ptr<detail::shared> shared, uint32_t number) : shared_(std::move(shared)), number_(number) {}
+
+    const ::bwtree *handle() const noexcept { return shared_ ? &shared_->handle : nullptr; }
+    void give_back() noexcept {
+        if (shared_) shared_->free.fetch_or(uint32_t(1) << number_);
+        shared_.reset();
+    }
+    static std::string_view text(const bwtree_bytes &bytes) { return {reinterpret_cast<const char *>(bytes.bytes), size_t(bytes.length)}; }
+
+    // Resumes an operation until it is done, and throws what is no ordinary answer.
+    uint32_t done(uint32_t status, bwtree_page_pairs *page = nullptr) {
+        std::unique_ptr<bwtree_page_pairs> own;
+        if (status == BWTREE_SPENT && !page) own = std::make_unique<bwtree_page_pairs>(), page = own.get();
+        while (status == BWTREE_SPENT) status = bwtree_resume(handle(), number_, 1 << 16, &old_, page);
+        if (status >= BWTREE_FULL) throw error(status);
+        return status;
+    }
+    std::optional<std::string> shown(uint32_t status, uint32_t with_value) {
+        if (done(status) != with_value) return std::nullopt;
+        return std::string(text(old_));
+    }
+
+    std::shared_ptr<detail::shared> shared_;
+    uint32_t number_;
+    bwtree_bytes old_;
+};
+
+class tree {
+public:
+    explicit tree(const bwtree_limits &limits) : shared_(std::make_shared<detail::shared>()) {
+        detail::must(bwtree_open(&limits, &shared_->handle));
+        shared_->all = uint32_t((uint64_t(1) << limits.actors) - 1);
+        shared_->free = shared_->all;
+    }
+    // A tree with so many seats, for so many different keys, all counted that it ever has.
+    static tree for_keys(uint64_t seats, uint64_t keys) {
+        bwtree_limits limits;
+        detail::must(bwtree_limits_for_keys(seats, keys, &limits));
+        return tree(limits);
+    }
+    tree(tree &&) noexcept = default;
+    tree &operator=(tree &&) noexcept = default;
+
+    // A seat, if one is free.
+    std::optional<seat> try_lease() {
+        if (!shared_) throw error(BWTREE_CLOSED);
+        uint32_t free = shared_->free;
+        while (free) {
+            uint32_t lowest = free & (~free + 1), number = 0;
+            while (lowest >> number != 1) number++;
+            if (shared_->free.compare_exchange_weak(free, free & ~lowest)) return seat(shared_, number);
+        }
+        return std::nullopt;
+    }
+    // A seat; throws error(BWTREE_BUSY) where none is free.
+    seat lease() {
+        if (auto free = try_lease()) return std::move(*free);
+        throw error(BWTREE_BUSY);
+    }
+    // Closes the tree; throws error(BWTREE_BUSY) where a seat is lent, and error(BWTREE_CLOSED) where it is closed.
+    void close() {
+        auto lent = shared_;
+        if (!lent) throw error(BWTREE_CLOSED);
+        uint32_t all = lent->all;
+        if (!lent->free.compare_exchange_strong(all, 0)) throw error(BWTREE_BUSY);
+        uint32_t status = bwtree_close(&lent->handle);
+        lent->free.store(lent->all);
+        detail::must(status);
+    }
+
+private:
+    std::shared_ptr<detail::shared> shared_;
+};
+
+} // namespace bw
+#endif

@@ -1,0 +1,364 @@
+/* Tests of the library: what each call answers, misuse, a tree that is closed while calls run, and four threads against models of their own.
+ *   test_bwtree [OPERATIONS]: how many each thread makes (10,000) */
+#include "bwtree.h"
+#include <pthread.h>
+#include <stdio.h>
+#include <stdlib.h>
+#include <string.h>
+
+#define CHECK(x) do { if (!(x)) { fprintf(stderr, "%s:%d: %s\n", __FILE__, __LINE__, #x); exit(1); } } while (0)
+#define THREADS 4
+#define KEYS 400
+
+static int operations = 10000;
+static char long_text[65];
+static bwtree_page_pairs page;
+
+static int is(const bwtree_bytes *bytes, const char *text) { return bytes->length == strlen(text) && !memcmp(bytes->bytes, text, bytes->length); }
+
+static void layout(void) {
+    CHECK(sizeof(bwtree) == 16 && sizeof(bwtree_limits) == 32 && sizeof(bwtree_room) == 16);
+    CHECK(sizeof(bwtree_bytes) == 72 && sizeof(bwtree_pair) == 144 && sizeof(bwtree_page_pairs) == 8 + 8 + 72 + 24 * 144);
+}
+
+/* All calls on a seat that isn't to be had answer this, and write nothing. */
+static void all_answer(const bwtree *tree, uint32_t seat, uint32_t status) {
+    bwtree_bytes old, was;
+    bwtree_room room = {7, 7};
+    memset(&old, 0x55, sizeof old);
+    memset(&page, 0x55, sizeof page);
+    was = old;
+    CHECK(bwtree_get(tree, seat, "a", 1, &old) == status);
+    CHECK(bwtree_insert(tree, seat, "a", 1, "x", 1, &old) == status);
+    CHECK(bwtree_upsert(tree, seat, "a", 1, "x", 1, &old) == status);
+    CHECK(bwtree_delete(tree, seat, "a", 1, &old) == status);
+    CHECK(bwtree_swap(tree, seat, "a", 1, "x", 1, "y", 1, &old) == status);
+    CHECK(bwtree_tidy(tree, seat, "a", 1) == status);
+    CHECK(bwtree_page(tree, seat, "", 0, &page) == status);
+    CHECK(bwtree_resume(tree, seat, 1, &old, &page) == status);
+    CHECK(bwtree_is_idle(tree, seat) == status);
+    CHECK(bwtree_free_room(tree, seat, &room) == status);
+    CHECK(!memcmp(&old, &was, sizeof old) && room.free_pids == 7 && room.free_rows == 7);
+    for (size_t i = 0; i < sizeof page; i++) CHECK(((uint8_t *)&page)[i] == 0x55);
+}
+
+static void limits(void) {
+    static bwtree tree;
+    bwtree_limits limits = {1, 2, 3, 4};
+    CHECK(bwtree_limits_for_keys(0, 1, &limits) == BWTREE_BAD_LIMITS);
+    CHECK(bwtree_limits_for_keys(17, 1, &limits) == BWTREE_BAD_LIMITS);
+    CHECK(bwtree_limits_for_keys(1, 1000000000, &limits) == BWTREE_BAD_LIMITS);
+    CHECK(limits.actors == 1 && limits.pids == 2 && limits.rows == 3 && limits.epoch == 4);
+    CHECK(bwtree_limits_for_keys(3, 1000, &limits) == BWTREE_OK && limits.actors == 3 && limits.epoch == 1);
+    CHECK(limits.pids % 64 == 0 && limits.pids >= 64 && limits.rows % 64 == 0 && limits.rows >= 64);
+    static const bwtree_limits bad[] = {{0, 64, 64, 1},   {17, 64, 64, 1},    {1, 0, 64, 1},  {1, 65, 64, 1},
+                                        {1, 4160, 64, 1}, {1, 64, 16448, 1},  {1, 64, 63, 1}, {1, 64, 64, 0},
+                                        {1, 64, 0, 1},    {1, 64, 64, UINT64_MAX}, {UINT64_MAX, 64, 64, 1}};
+    for (size_t i = 0; i < sizeof bad / sizeof *bad; i++) CHECK(bwtree_open(&bad[i], &tree) == BWTREE_BAD_LIMITS);
+    all_answer(&tree, 0, BWTREE_CLOSED);
+    CHECK(bwtree_close(&tree) == BWTREE_CLOSED);
+}
+
+static void nulls(const bwtree *tree) {
+    bwtree_limits limits = {1, 64, 64, 1};
+    bwtree_bytes old;
+    bwtree_room room;
+    CHECK(bwtree_limits_for_keys(1, 1, NULL) == BWTREE_NULL && bwtree_open(NULL, NULL) == BWTREE_NULL && bwtree_open(&limits, NULL) == BWTREE_NULL);
+    CHECK(bwtree_close(NULL) == BWTREE_NULL);
+    all_answer(NULL, 0, BWTREE_NULL);
+    CHECK(bwtree_get(tree, 0, NULL, 1, &old) == BWTREE_NULL && bwtree_get(tree, 0, "a", 1, NULL) == BWTREE_NULL);
+    CHECK(bwtree_insert(tree, 0, NULL, 1, "x", 1, &old) == BWTREE_NULL && bwtree_insert(tree, 0, "a", 1, NULL, 1, &old) == BWTREE_NULL);
+    CHECK(bwtree_insert(tree, 0, "a", 1, "x", 1, NULL) == BWTREE_NULL);
+    CHECK(bwtree_upsert(tree, 0, NULL, 1, "x", 1, &old) == BWTREE_NULL && bwtree_upsert(tree, 0, "a", 1, NULL, 1, &old) == BWTREE_NULL);
+    CHECK(bwtree_upsert(tree, 0, "a", 1, "x", 1, NULL) == BWTREE_NULL);
+    CHECK(bwtree_delete(tree, 0, NULL, 1, &old) == BWTREE_NULL && bwtree_delete(tree, 0, "a", 1, NULL) == BWTREE_NULL);
+    CHECK(bwtree_swap(tree, 0, NULL, 1, "x", 1, "y", 1, &old) == BWTREE_NULL && bwtree_swap(tree, 0, "a", 1, NULL, 1, "y", 1, &old) == BWTREE_NULL);
+    CHECK(bwtree_swap(tree, 0, "a", 1, "x", 1, NULL, 1, &old) == BWTREE_NULL && bwtree_swap(tree, 0, "a", 1, "x", 1, "y", 1, NULL) == BWTREE_NULL);
+    CHECK(bwtree_tidy(tree, 0, NULL, 1) == BWTREE_NULL && bwtree_page(tree, 0, NULL, 1, &page) == BWTREE_NULL);
+    CHECK(bwtree_page(tree, 0, "", 0, NULL) == BWTREE_NULL && bwtree_resume(tree, 0, 1, NULL, &page) == BWTREE_NULL);
+    CHECK(bwtree_resume(tree, 0, 1, &old, NULL) == BWTREE_NULL && bwtree_free_room(tree, 0, NULL) == BWTREE_NULL);
+    CHECK(bwtree_free_room(tree, 0, &room) == BWTREE_OK);
+    /* null for no bytes is the empty key, and the empty value */
+    CHECK(bwtree_insert(tree, 0, NULL, 0, NULL, 0, &old) == BWTREE_OK && bwtree_get(tree, 0, NULL, 0, &old) == BWTREE_OK && old.length == 0);
+    CHECK(bwtree_swap(tree, 0, NULL, 0, NULL, 0, "x", 1, &old) == BWTREE_OK && bwtree_page(tree, 0, NULL, 0, &page) == BWTREE_OK && page.count == 1);
+    CHECK(bwtree_tidy(tree, 0, NULL, 0) == BWTREE_OK && bwtree_delete(tree, 0, NULL, 0, &old) == BWTREE_OK && is(&old, "x"));
+}
+
+static void lengths(const bwtree *tree) {
+    bwtree_bytes old = {0, {0}};
+    CHECK(bwtree_upsert(tree, 0, long_text, 64, long_text, 64, &old) == BWTREE_OK);
+    CHECK(bwtree_get(tree, 0, long_text, 64, &old) == BWTREE_OK && old.length == 64 && !memcmp(old.bytes, long_text, 64));
+    CHECK(bwtree_page(tree, 0, long_text, 64, &page) == BWTREE_OK && page.count == 1 && page.more == 0 && page.pairs[0].key.length == 64);
+    CHECK(bwtree_delete(tree, 0, long_text, 64, &old) == BWTREE_OK && old.length == 64);
+    old.length = 3;
+    CHECK(bwtree_get(tree, 0, long_text, 65, &old) == BWTREE_TOO_LONG);
+    CHECK(bwtree_insert(tree, 0, long_text, 65, "", 0, &old) == BWTREE_TOO_LONG && bwtree_insert(tree, 0, "a", 1, long_text, 65, &old) == BWTREE_TOO_LONG);
+    CHECK(bwtree_upsert(tree, 0, long_text, 65, "", 0, &old) == BWTREE_TOO_LONG && bwtree_upsert(tree, 0, "a", 1, long_text, 65, &old) == BWTREE_TOO_LONG);
+    CHECK(bwtree_delete(tree, 0, long_text, 65, &old) == BWTREE_TOO_LONG && bwtree_tidy(tree, 0, long_text, 65) == BWTREE_TOO_LONG);
+    CHECK(bwtree_swap(tree, 0, long_text, 65, "", 0, "", 0, &old) == BWTREE_TOO_LONG && bwtree_swap(tree, 0, "a", 1, long_text, 65, "", 0, &old) == BWTREE_TOO_LONG);
+    CHECK(bwtree_swap(tree, 0, "a", 1, "", 0, long_text, 65, &old) == BWTREE_TOO_LONG && bwtree_page(tree, 0, long_text, 65, &page) == BWTREE_TOO_LONG);
+    CHECK(old.length == 3 && bwtree_is_idle(tree, 0) == BWTREE_OK);
+}
+
+static void answers(void) {
+    static bwtree tree, other;
+    bwtree_limits limits = {2, 64, 256, 1};
+    bwtree_bytes old = {0, {0}};
+    bwtree_room before, after;
+    CHECK(bwtree_open(&limits, &tree) == BWTREE_OK);
+    bwtree was = tree;
+    CHECK(bwtree_open(&limits, &tree) == BWTREE_OPEN && !memcmp(&tree, &was, sizeof tree));
+    all_answer(&tree, 2, BWTREE_NO_SEAT);
+    all_answer(&tree, UINT32_MAX, BWTREE_NO_SEAT);
+    CHECK(bwtree_is_idle(&tree, 1) == BWTREE_OK && bwtree_free_room(&tree, 0, &before) == BWTREE_OK);
+    CHECK(before.free_pids > 0 && before.free_pids < limits.pids && before.free_rows > 0 && before.free_rows < limits.rows);
+    CHECK(bwtree_get(&tree, 0, "a", 1, &old) == BWTREE_ABSENT);
+    CHECK(bwtree_insert(&tree, 0, "a", 1, "x", 1, &old) == BWTREE_OK);
+    CHECK(bwtree_free_room(&tree, 1, &after) == BWTREE_OK && after.free_pids <= before.free_pids && after.free_rows < before.free_rows);
+    CHECK(bwtree_insert(&tree, 1, "a", 1, "y", 1, &old) == BWTREE_EXISTS && is(&old, "x"));
+    CHECK(bwtree_get(&tree, 1, "a", 1, &old) == BWTREE_OK && is(&old, "x"));
+    CHECK(bwtree_upsert(&tree, 0, "a", 1, "yy", 2, &old) == BWTREE_REPLACED && is(&old, "x"));
+    CHECK(bwtree_upsert(&tree, 0, "b", 1, "", 0, &old) == BWTREE_OK);
+    CHECK(bwtree_swap(&tree, 0, "a", 1, "x", 1, "z", 1, &old) == BWTREE_DIFFERS && is(&old, "yy"));
+    CHECK(bwtree_swap(&tree, 0, "a", 1, "yy", 2, "z", 1, &old) == BWTREE_OK);
+    CHECK(bwtree_swap(&tree, 0, "c", 1, "yy", 2, "z", 1, &old) == BWTREE_ABSENT);
+    CHECK(bwtree_tidy(&tree, 1, "a", 1) == BWTREE_OK);
+    CHECK(bwtree_page(&tree, 0, "", 0, &page) == BWTREE_OK && page.count == 2 && page.more == 0);
+    CHECK(is(&page.pairs[0].key, "a") && is(&page.pairs[0].value, "z") && is(&page.pairs[1].key, "b") && is(&page.pairs[1].value, ""));
+    CHECK(bwtree_page(&tree, 0, "aa", 2, &page) == BWTREE_OK && page.count == 1 && is(&page.pairs[0].key, "b"));
+    CHECK(bwtree_delete(&tree, 0, "a", 1, &old) == BWTREE_OK && is(&old, "z"));
+    CHECK(bwtree_delete(&tree, 0, "a", 1, &old) == BWTREE_ABSENT && bwtree_delete(&tree, 0, "b", 1, &old) == BWTREE_OK);
+    CHECK(bwtree_resume(&tree, 0, 1, &old, &page) == BWTREE_IDLE && bwtree_resume(&tree, 0, 0, &old, &page) == BWTREE_IDLE);
+    nulls(&tree);
+    lengths(&tree);
+    CHECK(bwtree_page(&tree, 1, "", 0, &page) == BWTREE_OK && page.count == 0 && page.more == 0);
+    /* another tree is another map */
+    CHECK(bwtree_open(&limits, &other) == BWTREE_OK && bwtree_insert(&other, 1, "a", 1, "o", 1, &old) == BWTREE_OK);
+    CHECK(bwtree_get(&tree, 1, "a", 1, &old) == BWTREE_ABSENT && bwtree_close(&other) == BWTREE_OK);
+    /* a closed one stays closed, and may be opened again: then it is empty */
+    CHECK(bwtree_insert(&tree, 0, "a", 1, "x", 1, &old) == BWTREE_OK && bwtree_close(&tree) == BWTREE_OK && bwtree_close(&tree) == BWTREE_CLOSED);
+    all_answer(&tree, 0, BWTREE_CLOSED);
+    static bwtree earlier; /* so that a leak checker finds what the first opening left */
+    earlier = tree;
+    limits.actors = 3;
+    CHECK(bwtree_open(&limits, &tree) == BWTREE_OK && bwtree_get(&tree, 2, "a", 1, &old) == BWTREE_ABSENT && bwtree_close(&tree) == BWTREE_OK);
+    CHECK(earlier.held_ == was.held_);
+    for (uint32_t status = 0; status <= BWTREE_NULL; status++)
+        CHECK(!strcmp(bwtree_text(status), "no status") == (status > BWTREE_SPENT && status < BWTREE_CLOSED));
+}
+
+static void full(void) {
+    static bwtree tree;
+    bwtree_limits limits = {1, 64, 64, 1};
+    bwtree_bytes old;
+    char key[16];
+    CHECK(bwtree_open(&limits, &tree) == BWTREE_OK);
+    uint32_t status = BWTREE_OK, count = 0, found = 0;
+    for (; status == BWTREE_OK && count < 100000; count++) {
+        snprintf(key, sizeof key, "%06u", count);
+        status = bwtree_insert(&tree, 0, key, 6, key, 6, &old);
+    }
+    CHECK(status == BWTREE_FULL && bwtree_get(&tree, 0, key, 6, &old) == BWTREE_ABSENT);
+    bwtree_bytes next = {0, {0}};
+    do {
+        CHECK(bwtree_page(&tree, 0, next.bytes, next.length, &page) == BWTREE_OK);
+        for (uint64_t i = 0; i < page.count; i++) {
+            snprintf(key, sizeof key, "%06u", found++);
+            CHECK(is(&page.pairs[i].key, key) && is(&page.pairs[i].value, key));
+        }
+        next = page.next;
+    } while (page.more);
+    CHECK(found == count - 1 && bwtree_close(&tree) == BWTREE_OK);
+}
+
+struct job { const bwtree *tree; uint32_t seat; uint64_t count; };
+
+/* Calls on one seat by two threads: each call is answered, or BUSY and without effect. */
+static int seen_busy;
+static void *raises(void *argument) {
+    struct job *job = argument;
+    bwtree_bytes old;
+    char key[16];
+    int length = snprintf(key, sizeof key, "%p", argument);
+    while (job->count < 1000000 && !__atomic_load_n(&seen_busy, __ATOMIC_SEQ_CST)) {
+        uint64_t next = job->count + 1;
+        uint32_t status = bwtree_upsert(job->tree, 0, key, (size_t)length, &next, 8, &old);
+        CHECK(status == BWTREE_BUSY || status == (job->count ? BWTREE_REPLACED : BWTREE_OK));
+        if (status == BWTREE_BUSY) {
+            __atomic_store_n(&seen_busy, 1, __ATOMIC_SEQ_CST);
+            continue;
+        }
+        CHECK(!job->count || !memcmp(old.bytes, &job->count, 8));
+        job->count = next;
+    }
+    return NULL;
+}
+
+static void busy(void) {
+    static bwtree tree;
+    static struct job jobs[2];
+    bwtree_limits limits = {1, 64, 256, 1};
+    pthread_t threads[2];
+    CHECK(bwtree_open(&limits, &tree) == BWTREE_OK);
+    for (int i = 0; i < 2; i++) {
+        jobs[i] = (struct job){&tree, 0, 0};
+        CHECK(pthread_create(&threads[i], NULL, raises, &jobs[i]) == 0);
+    }
+    for (int i = 0; i < 2; i++) CHECK(pthread_join(threads[i], NULL) == 0);
+    CHECK(seen_busy && bwtree_is_idle(&tree, 0) == BWTREE_OK && bwtree_close(&tree) == BWTREE_OK);
+}
+
+/* Calls until the tree is closed. */
+static void *calls(void *argument) {
+    struct job *job = argument;
+    bwtree_bytes old;
+    uint32_t status;
+    do {
+        status = bwtree_upsert(job->tree, job->seat, "key", 3, &job->seat, 4, &old);
+        CHECK(status == BWTREE_OK || status == BWTREE_REPLACED || status == BWTREE_BUSY || status == BWTREE_FULL || status == BWTREE_CLOSED);
+        __atomic_add_fetch(&job->count, 1, __ATOMIC_SEQ_CST);
+    } while (status != BWTREE_CLOSED);
+    all_answer(job->tree, job->seat, BWTREE_CLOSED);
+    return NULL;
+}
+
+static void closing(void) {
+    static bwtree tree;
+    static struct job job;
+    bwtree_limits limits = {2, 64, 256, 1};
+    pthread_t thread;
+    uint32_t status;
+    CHECK(bwtree_open(&limits, &tree) == BWTREE_OK);
+    job = (struct job){&tree, 1, 0};
+    CHECK(pthread_create(&thread, NULL, calls, &job) == 0);
+    while (__atomic_load_n(&job.count, __ATOMIC_SEQ_CST) < 3) {}
+    do CHECK((status = bwtree_close(&tree)) == BWTREE_OK || status == BWTREE_BUSY);
+    while (status != BWTREE_OK);
+    CHECK(pthread_join(thread, NULL) == 0 && bwtree_close(&tree) == BWTREE_CLOSED);
+}
+
+/* Each thread has keys of its own, whose values it knows. */
+struct own { const bwtree *tree; uint32_t seat; int known[KEYS]; uint64_t raised; };
+
+static int key_of(char *to, size_t size, uint32_t seat, int key) { return snprintf(to, size, "%u/%05d", seat, key); }
+
+/* One more, by a swap that may lose. */
+static void raise_counter(struct own *own) {
+    bwtree_bytes old;
+    uint64_t count, next;
+    CHECK(bwtree_get(own->tree, own->seat, "counter", 7, &old) == BWTREE_OK && old.length == 8);
+    memcpy(&count, old.bytes, 8);
+    next = count + 1;
+    uint32_t status = bwtree_swap(own->tree, own->seat, "counter", 7, &count, 8, &next, 8, &old);
+    CHECK(status == BWTREE_OK || status == BWTREE_DIFFERS);
+    own->raised += status == BWTREE_OK;
+}
+
+static void step(struct own *own, int kind, int key, int value) {
+    bwtree_bytes old;
+    char name[16], text[16], was[16];
+    size_t length = (size_t)key_of(name, sizeof name, own->seat, key), size = (size_t)snprintf(text, sizeof text, "%d", value);
+    snprintf(was, sizeof was, "%d", own->known[key]);
+    int there = own->known[key] >= 0;
+    uint32_t status;
+    switch (kind) {
+    case 0:
+        status = bwtree_get(own->tree, own->seat, name, length, &old);
+        CHECK(there ? status == BWTREE_OK && is(&old, was) : status == BWTREE_ABSENT);
+        break;
+    case 1:
+        status = bwtree_insert(own->tree, own->seat, name, length, text, size, &old);
+        CHECK(there ? status == BWTREE_EXISTS && is(&old, was) : status == BWTREE_OK);
+        if (!there) own->known[key] = value;
+        break;
+    case 2:
+        status = bwtree_upsert(own->tree, own->seat, name, length, text, size, &old);
+        CHECK(there ? status == BWTREE_REPLACED && is(&old, was) : status == BWTREE_OK);
+        own->known[key] = value;
+        break;
+    case 3:
+        status = bwtree_delete(own->tree, own->seat, name, length, &old);
+        CHECK(there ? status == BWTREE_OK && is(&old, was) : status == BWTREE_ABSENT);
+        own->known[key] = -1;
+        break;
+    default:
+        raise_counter(own);
+    }
+}
+
+/* A walk over the thread's own keys shows what it knows. */
+static void walk(const struct own *own) {
+    bwtree_page_pairs *pairs = malloc(sizeof *pairs);
+    char from[16], name[16], text[16];
+    bwtree_bytes next = {0, {0}};
+    int key = 0, ended = 0;
+    next.length = (uint64_t)snprintf(from, sizeof from, "%u/", own->seat);
+    memcpy(next.bytes, from, next.length);
+    do {
+        CHECK(bwtree_page(own->tree, own->seat, next.bytes, next.length, pairs) == BWTREE_OK);
+        for (uint64_t i = 0; i < pairs->count && !ended; i++) {
+            if (memcmp(pairs->pairs[i].key.bytes, from, 2)) {
+                ended = 1;
+                break;
+            }
+            while (key < KEYS && own->known[key] < 0) key++;
+            CHECK(key < KEYS);
+            key_of(name, sizeof name, own->seat, key), snprintf(text, sizeof text, "%d", own->known[key]);
+            CHECK(is(&pairs->pairs[i].key, name) && is(&pairs->pairs[i].value, text));
+            key++;
+        }
+        next = pairs->next;
+    } while (pairs->more && !ended);
+    while (key < KEYS && own->known[key] < 0) key++;
+    CHECK(key == KEYS);
+    free(pairs);
+}
+
+static void *work(void *argument) {
+    struct own *own = argument;
+    uint64_t random = 88172645463325252ull + own->seat * 7919ull;
+    for (int i = 0; i < operations; i++) {
+        random ^= random << 13, random ^= random >> 7, random ^= random << 17;
+        step(own, (int)(random % 5), (int)((random >> 8) % KEYS), (int)((random >> 32) % 1000));
+    }
+    walk(own);
+    return NULL;
+}
+
+static void threads(void) {
+    static bwtree tree;
+    static struct own owns[THREADS];
+    bwtree_limits limits;
+    bwtree_bytes old;
+    uint64_t zero = 0, count, raised = 0;
+    pthread_t ids[THREADS];
+    CHECK(bwtree_limits_for_keys(THREADS, THREADS * KEYS + 1, &limits) == BWTREE_OK && bwtree_open(&limits, &tree) == BWTREE_OK);
+    CHECK(bwtree_insert(&tree, 0, "counter", 7, &zero, 8, &old) == BWTREE_OK);
+    for (uint32_t i = 0; i < THREADS; i++) {
+        owns[i].tree = &tree, owns[i].seat = i;
+        memset(owns[i].known, -1, sizeof owns[i].known);
+        CHECK(pthread_create(&ids[i], NULL, work, &owns[i]) == 0);
+    }
+    for (int i = 0; i < THREADS; i++) {
+        CHECK(pthread_join(ids[i], NULL) == 0);
+        raised += owns[i].raised;
+    }
+    CHECK(bwtree_get(&tree, 3, "counter", 7, &old) == BWTREE_OK);
+    memcpy(&count, old.bytes, 8);
+    CHECK(count == raised && raised > 0 && bwtree_close(&tree) == BWTREE_OK);
+    printf("%d threads, %d operations each, the counter at %llu\n", THREADS, operations, (unsigned long long)count);
+}
+
+int main(int count, char **words) {
+    if (count > 1) operations = atoi(words[1]);
+    memset(long_text, 'k', sizeof long_text);
+    layout();
+    limits();
+    answers();
+    full();
+    busy();
+    closing();
+    threads();
+    puts("passed");
+    return 0;
+}

@@ -1,0 +1,84 @@
+// Tests of bwtree.hpp: what it answers and throws, leases, a tree that is moved, and threads.
+#include "bwtree.hpp"
+#include <cstdio>
+#include <cstdlib>
+#include <thread>
+#include <vector>
+
+#define CHECK(x) do { if (!(x)) { fprintf(stderr, "%s:%d: %s\n", __FILE__, __LINE__, #x); exit(1); } } while (0)
+
+template <class Call> static uint32_t thrown(Call call) {
+    try {
+        call();
+    } catch (const bw::error &error) {
+        CHECK(std::string(error.what()) == bwtree_text(error.status()));
+        return error.status();
+    }
+    return 0;
+}
+
+static void answers() {
+    auto tree = bw::tree::for_keys(2, 100);
+    auto one = tree.lease(), other = tree.lease();
+    const std::string longer(65, 'k');
+    CHECK(one.number() == 0 && other.number() == 1);
+    CHECK(!one.get("a") && !one.insert("a", "x") && *other.insert("a", "y") == "x" && *one.upsert("a", "z") == "x" && !one.upsert("", ""));
+    auto lost = one.swap("a", "x", "w");
+    CHECK(!lost && *lost.found == "z" && one.swap("a", "z", "w") && *other.get("a") == "w" && one.get("")->empty());
+    CHECK(!one.swap("b", "x", "w") && !one.swap("b", "x", "w").found && *one.erase("a") == "w" && !one.erase("a"));
+    one.tidy("a");
+    CHECK(one.free_room().free_rows > 0);
+    CHECK(thrown([&] { one.get(longer); }) == BWTREE_TOO_LONG && thrown([&] { one.upsert("a", longer); }) == BWTREE_TOO_LONG);
+    CHECK(thrown([&] { one.walk(longer, [](auto, auto) { return true; }); }) == BWTREE_TOO_LONG);
+    CHECK(thrown([] { bw::tree::for_keys(17, 1); }) == BWTREE_BAD_LIMITS);
+    CHECK(thrown([] { bw::tree(bwtree_limits{1, 63, 64, 1}); }) == BWTREE_BAD_LIMITS);
+}
+
+static void leases() {
+    auto tree = bw::tree::for_keys(1, 100);
+    {
+        auto seat = tree.lease();
+        seat.insert("a", "x");
+        CHECK(!tree.try_lease() && thrown([&] { tree.lease(); }) == BWTREE_BUSY && thrown([&] { tree.close(); }) == BWTREE_BUSY);
+        auto moved = std::move(seat);
+        CHECK(*moved.get("a") == "x" && thrown([&] { seat.get("a"); }) == BWTREE_NULL);
+    }
+    auto moved = std::move(tree);
+    CHECK(thrown([&] { tree.lease(); }) == BWTREE_CLOSED && *moved.lease().get("a") == "x");
+    moved.close();
+    CHECK(thrown([&] { moved.lease().get("a"); }) == BWTREE_CLOSED && thrown([&] { moved.close(); }) == BWTREE_CLOSED);
+    // a seat outlives its tree's object
+    std::optional<bw::seat> last;
+    {
+        auto gone = bw::tree::for_keys(2, 100);
+        last = gone.lease();
+        last->insert("a", "y");
+    }
+    CHECK(*last->get("a") == "y");
+}
+
+static void threads() {
+    auto tree = bw::tree::for_keys(4, 4000);
+    std::vector<std::thread> all;
+    for (int t = 0; t < 4; t++)
+        all.emplace_back([t, &tree] {
+            auto seat = tree.lease();
+            for (int i = 0; i < 2000; i++) {
+                auto old = seat.upsert(std::to_string(t) + "/" + std::to_string(i % 500), std::to_string(i));
+                CHECK(i < 500 ? !old : *old == std::to_string(i - 500));
+            }
+            int seen = 0;
+            seat.walk(std::to_string(t) + "/", [&](auto key, auto) { return key[0] - '0' == t && ++seen; });
+            CHECK(seen == 500);
+        });
+    for (auto &thread : all) thread.join();
+    // more threads than seats, one after another
+    for (int t = 0; t < 8; t++) std::thread([&tree] { CHECK(tree.lease().get("0/0")); }).join();
+}
+
+int main() {
+    answers();
+    leases();
+    threads();
+    puts("passed");
+}
