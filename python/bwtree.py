@@ -1,0 +1,317 @@
+"""An ordered map from byte strings to byte strings, in memory, for many threads, without locks: libbwtree by ctypes.
+
+    with bwtree.Tree(seats=4, keys=10_000) as tree:
+        tree[b"Bern"] = b"Switzerland"
+
+A tree is a mapping that all threads may share. Each of its calls leases one of the tree's seats, and waits where none is free. `tree.seat()` leases one for
+many calls: a `Seat` is a mapping, too, for one thread at a time. Keys and values have at most 64 bytes.
+
+The library is looked for where BWTREE_LIB says, a file or a folder, then where `./bwtree build` puts it, then where the system's loader looks.
+"""
+
+import ctypes
+import os
+import queue
+from collections.abc import Iterator, MutableMapping
+from typing import NamedTuple, Optional, Union
+
+__all__ = ["Error", "Full", "Room", "Seat", "Swapped", "Tree", "MAX_LENGTH"]
+
+MAX_LENGTH = 64
+
+_OK, _ABSENT, _EXISTS, _REPLACED, _DIFFERS, _FULL, _SPENT = range(7)
+_CLOSED, _NO_SEAT, _BUSY, _UNFINISHED, _IDLE, _TOO_LONG, _BAD_LIMITS, _NO_MEMORY, _OPEN = range(16, 25)
+_TEXTS = {
+    _FULL: "the tree is full",
+    _CLOSED: "the tree is closed",
+    _NO_SEAT: "the tree has no such seat",
+    _BUSY: "another call is inside the seat",
+    _UNFINISHED: "the seat has an unfinished operation",
+    _IDLE: "the seat has no unfinished operation",
+    _TOO_LONG: "a key or a value is longer than 64 bytes",
+    _BAD_LIMITS: "a limit is outside its range",
+    _NO_MEMORY: "no memory",
+    _OPEN: "the tree is open already",
+}
+_STEPS = 1 << 16
+
+
+class _Tree(ctypes.Structure):
+    _fields_ = [("held", ctypes.c_uint64), ("at", ctypes.c_void_p)]
+
+
+class _Limits(ctypes.Structure):
+    _fields_ = [("actors", ctypes.c_uint64), ("pids", ctypes.c_uint64), ("rows", ctypes.c_uint64), ("epoch", ctypes.c_uint64)]
+
+
+class _Room(ctypes.Structure):
+    _fields_ = [("free_pids", ctypes.c_uint64), ("free_rows", ctypes.c_uint64)]
+
+
+class _Bytes(ctypes.Structure):
+    _fields_ = [("length", ctypes.c_uint64), ("bytes", ctypes.c_uint8 * MAX_LENGTH)]
+
+    def taken(self) -> bytes:
+        return bytes(self.bytes[: self.length])
+
+
+class _Pair(ctypes.Structure):
+    _fields_ = [("key", _Bytes), ("value", _Bytes)]
+
+
+class _Page(ctypes.Structure):
+    _fields_ = [("count", ctypes.c_uint64), ("more", ctypes.c_uint64), ("next", _Bytes), ("pairs", _Pair * 24)]
+
+
+assert [ctypes.sizeof(it) for it in (_Tree, _Limits, _Room, _Bytes, _Pair, _Page)] == [16, 32, 16, 72, 144, 3544]
+
+
+def _load() -> ctypes.CDLL:
+    """The library, with the declarations of bwtree.h."""
+    built = os.path.join(os.path.dirname(os.path.abspath(__file__)), "..", "c", "out")
+    place = os.environ.get("BWTREE_LIB", built if os.path.isdir(built) else "libbwtree.so.0")
+    library = ctypes.CDLL(os.path.join(place, "libbwtree.so.0") if os.path.isdir(place) else place)
+    tree, seat, old, page = ctypes.POINTER(_Tree), ctypes.c_uint32, ctypes.POINTER(_Bytes), ctypes.POINTER(_Page)
+    text, size, count = ctypes.c_char_p, ctypes.c_size_t, ctypes.c_uint64
+    for name, kinds in {
+        "limits_for_keys": [count, count, ctypes.POINTER(_Limits)],
+        "open": [ctypes.POINTER(_Limits), tree],
+        "close": [tree],
+        "get": [tree, seat, text, size, old],
+        "insert": [tree, seat, text, size, text, size, old],
+        "upsert": [tree, seat, text, size, text, size, old],
+        "delete": [tree, seat, text, size, old],
+        "swap": [tree, seat, text, size, text, size, text, size, old],
+        "tidy": [tree, seat, text, size],
+        "page": [tree, seat, text, size, page],
+        "resume": [tree, seat, ctypes.c_uint32, old, page],
+        "room": [tree, seat, ctypes.POINTER(_Room)],
+    }.items():
+        call = getattr(library, "bwtree_raw_" + name)
+        call.argtypes, call.restype = kinds, ctypes.c_uint32
+    return library
+
+
+_library = _load()
+
+
+class Error(Exception):
+    """Nothing was done. `status` is the number that bwtree.h gives to the reason."""
+
+    def __init__(self, status: int):
+        super().__init__(_TEXTS.get(status, f"status {status}"))
+        self.status = status
+
+
+class Full(Error):
+    """Nothing was free for a change, and no key was changed."""
+
+
+class Swapped(NamedTuple):
+    """What a swap found: whether the value was the expected one, and is the new one now; else the value that the key has, if it has one."""
+
+    done: bool
+    found: Optional[bytes] = None
+
+
+class Room(NamedTuple):
+    """How many pages and records are free."""
+
+    free_pids: int
+    free_rows: int
+
+
+def _must(status: int) -> int:
+    """A status of an operation that took place; else raises what says why there is none."""
+    if status == _FULL:
+        raise Full(status)
+    if status == _TOO_LONG:
+        raise ValueError(_TEXTS[status])
+    if status > _SPENT:
+        raise Error(status)
+    return status
+
+
+class _Map(MutableMapping[bytes, bytes]):
+    """What a tree and a seat have in common: all but how they come to a seat's number."""
+
+    def _run(self, name: str, *texts: bytes) -> tuple[int, bytes]:
+        """The status of an operation, and the value that goes with it, if one does."""
+        raise NotImplementedError
+
+    def _page(self, start: bytes) -> tuple[list[tuple[bytes, bytes]], Optional[bytes]]:
+        """The pairs of a page, and the key from which the next one goes on, if there is more."""
+        raise NotImplementedError
+
+    def __getitem__(self, key: bytes) -> bytes:
+        status, value = self._run("get", key)
+        if status == _ABSENT:
+            raise KeyError(key)
+        return value
+
+    def __setitem__(self, key: bytes, value: bytes) -> None:
+        self._run("upsert", key, value)
+
+    def __delitem__(self, key: bytes) -> None:
+        if self._run("delete", key)[0] == _ABSENT:
+            raise KeyError(key)
+
+    def __contains__(self, key: object) -> bool:
+        return isinstance(key, (bytes, bytearray)) and self._run("get", bytes(key))[0] == _OK
+
+    def __iter__(self) -> Iterator[bytes]:
+        return (key for key, _ in self.pairs())
+
+    def __len__(self) -> int:
+        """How many keys a walk over all of them meets."""
+        return sum(1 for _ in self.pairs())
+
+    def insert(self, key: bytes, value: bytes) -> Optional[bytes]:
+        """Gives a key a value where it has none: the value that it has, if it has one."""
+        status, old = self._run("insert", key, value)
+        return old if status == _EXISTS else None
+
+    def upsert(self, key: bytes, value: bytes) -> Optional[bytes]:
+        """Gives a key a value: the one that it had before, if it had one."""
+        status, old = self._run("upsert", key, value)
+        return old if status == _REPLACED else None
+
+    def delete(self, key: bytes) -> Optional[bytes]:
+        """Makes a key absent: the value that it had."""
+        status, old = self._run("delete", key)
+        return old if status == _OK else None
+
+    def swap(self, key: bytes, expected: bytes, value: bytes) -> Swapped:
+        """Gives a key the value where it has the expected one."""
+        status, old = self._run("swap", key, expected, value)
+        return Swapped(status == _OK, old if status == _DIFFERS else None)
+
+    def tidy(self, key: bytes) -> None:
+        """Does what upkeep is due at the leaf of a key; no value changes."""
+        self._run("tidy", key)
+
+    def pairs(self, start: bytes = b"", stop: Optional[bytes] = None) -> Iterator[tuple[bytes, bytes]]:
+        """The pairs from a key on, below another one, keys ascending. What is there throughout the walk is shown, and what never is there isn't."""
+        after: Optional[bytes] = start
+        while after is not None:
+            found, after = self._page(after)
+            for key, value in found:
+                if stop is not None and key >= stop:
+                    return
+                yield key, value
+
+
+class Tree(_Map):
+    """A tree with so many seats, for so many different keys, all counted that it ever has; or with so many PIDs and rows."""
+
+    def __init__(self, seats: int = 4, keys: int = 1000, *, pids: Optional[int] = None, rows: Optional[int] = None):
+        limits = _Limits(seats, pids or 0, rows or 0, 1)
+        if pids is None and rows is None:
+            if not (0 <= seats < 1 << 64 and 0 <= keys < 1 << 64):
+                raise Error(_BAD_LIMITS)
+            _must(_library.bwtree_raw_limits_for_keys(seats, keys, ctypes.byref(limits)))
+        self._handle = _Tree()
+        self._free: "queue.LifoQueue[int]" = queue.LifoQueue()
+        self._seats = 0
+        _must(_library.bwtree_raw_open(ctypes.byref(limits), ctypes.byref(self._handle)))
+        self._seats = seats
+        for number in reversed(range(seats)):
+            self._free.put(number)
+
+    def seat(self, timeout: Optional[float] = None) -> "Seat":
+        """Leases a seat; waits for one where none is free, at most so many seconds, and then raises queue.Empty."""
+        return Seat(self, self._free.get(timeout=timeout))
+
+    def _run(self, name: str, *texts: bytes) -> tuple[int, bytes]:
+        with self.seat() as seat:
+            return seat._run(name, *texts)
+
+    def _page(self, start: bytes) -> tuple[list[tuple[bytes, bytes]], Optional[bytes]]:
+        with self.seat() as seat:
+            return seat._page(start)
+
+    def room(self) -> Room:
+        """How many pages and records are free."""
+        with self.seat() as seat:
+            return seat.room()
+
+    def close(self) -> None:
+        """Closes the tree and frees it. Raises Error where a seat is lent or the tree is closed."""
+        taken: list[int] = []
+        try:
+            while len(taken) < self._seats:
+                taken.append(self._free.get_nowait())
+            status = _library.bwtree_raw_close(ctypes.byref(self._handle))
+        except queue.Empty:
+            status = _BUSY
+        finally:
+            for number in taken:
+                self._free.put(number)
+        _must(status)
+
+    def __enter__(self) -> "Tree":
+        return self
+
+    def __exit__(self, *_: object) -> None:
+        self.close()
+
+    def __del__(self) -> None:
+        if getattr(self, "_seats", 0):
+            _library.bwtree_raw_close(ctypes.byref(self._handle))
+
+
+class Seat(_Map):
+    """A seat of a tree, for one thread at a time. It goes back to its tree by `close`, at the end of a `with`, or when nothing refers to it."""
+
+    def __init__(self, tree: Tree, number: int):
+        self._tree: Optional[Tree] = tree
+        self._number = number
+        self._old = _Bytes()
+
+    def _handle(self) -> "ctypes._Pointer[_Tree]":
+        if self._tree is None:
+            raise Error(_CLOSED)
+        return ctypes.pointer(self._tree._handle)
+
+    def _run(self, name: str, *texts: bytes) -> tuple[int, bytes]:
+        words: list[Union[bytes, int]] = []
+        for text in texts:
+            words += [bytes(text), len(text)]
+        handle, old = self._handle(), self._old
+        more = () if name == "tidy" else (ctypes.byref(old),)
+        status = getattr(_library, "bwtree_raw_" + name)(handle, self._number, *words, *more)
+        if status == _SPENT:
+            page = _Page()
+            while status == _SPENT:
+                status = _library.bwtree_raw_resume(handle, self._number, _STEPS, ctypes.byref(old), ctypes.byref(page))
+        return _must(status), old.taken()
+
+    def _page(self, start: bytes) -> tuple[list[tuple[bytes, bytes]], Optional[bytes]]:
+        handle, page = self._handle(), _Page()
+        status = _library.bwtree_raw_page(handle, self._number, bytes(start), len(start), ctypes.byref(page))
+        while status == _SPENT:
+            status = _library.bwtree_raw_resume(handle, self._number, _STEPS, ctypes.byref(self._old), ctypes.byref(page))
+        _must(status)
+        pairs = [(pair.key.taken(), pair.value.taken()) for pair in page.pairs[: page.count]]
+        return pairs, page.next.taken() if page.more else None
+
+    def room(self) -> Room:
+        """How many pages and records are free."""
+        room = _Room()
+        _must(_library.bwtree_raw_room(self._handle(), self._number, ctypes.byref(room)))
+        return Room(room.free_pids, room.free_rows)
+
+    def close(self) -> None:
+        """Gives the seat back to its tree."""
+        tree, self._tree = self._tree, None
+        if tree is not None:
+            tree._free.put(self._number)
+
+    def __enter__(self) -> "Seat":
+        return self
+
+    def __exit__(self, *_: object) -> None:
+        self.close()
+
+    def __del__(self) -> None:
+        self.close()

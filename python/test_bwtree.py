@@ -1,0 +1,99 @@
+"""Tests of bwtree.py: what a tree and its seats answer and raise, leases, and threads."""
+
+import queue
+import threading
+import unittest
+
+import bwtree
+
+
+class Calls(unittest.TestCase):
+    def answers(self, it):
+        self.assertIsNone(it.get(b"a"))
+        self.assertIsNone(it.insert(b"a", b"x"))
+        self.assertEqual(it.insert(b"a", b"y"), b"x")
+        self.assertEqual(it.upsert(b"a", b"z"), b"x")
+        self.assertEqual(it.swap(b"a", b"x", b"w"), (False, b"z"))
+        self.assertEqual(it.swap(b"a", b"z", b"w"), (True, None))
+        self.assertEqual(it.swap(b"c", b"z", b"w"), (False, None))
+        it[b"b\0"] = b""
+        it.tidy(b"a")
+        self.assertEqual(list(it.items()), [(b"a", b"w"), (b"b\0", b"")])
+        self.assertEqual(list(it.pairs(stop=b"b")), [(b"a", b"w")])
+        self.assertEqual(list(it.pairs(b"aa")), [(b"b\0", b"")])
+        self.assertEqual((len(it), list(it), b"a" in it, b"c" in it, "a" in it), (2, [b"a", b"b\0"], True, False, False))
+        self.assertEqual((it.pop(b"a"), it.delete(b"a"), it.delete(b"b\0")), (b"w", None, b""))
+        with self.assertRaises(KeyError):
+            it[b"a"]
+        with self.assertRaises(KeyError):
+            del it[b"a"]
+        for call in (lambda: it.get(b"k" * 65), lambda: it.insert(b"a", b"v" * 65), lambda: list(it.pairs(b"k" * 65))):
+            with self.assertRaises(ValueError):
+                call()
+        it[b"k" * 64] = b"v" * 64
+        self.assertEqual(it.pop(b"k" * 64), b"v" * 64)
+        self.assertGreater(it.room().free_rows, 0)
+
+    def test_answers(self):
+        with bwtree.Tree(seats=2, keys=100) as tree:
+            self.answers(tree)
+            with tree.seat() as seat:
+                self.answers(seat)
+
+    def test_limits(self):
+        for limits in ({"seats": 17}, {"seats": 0}, {"keys": 10**30}, {"pids": 63, "rows": 64}, {"pids": 64}):
+            with self.assertRaises(bwtree.Error) as raised:
+                bwtree.Tree(**limits)
+            self.assertEqual((raised.exception.status, str(raised.exception)), (22, "a limit is outside its range"))
+
+    def test_full(self):
+        with bwtree.Tree(seats=1, pids=64, rows=64) as tree, self.assertRaises(bwtree.Full):
+            for i in range(100000):
+                tree[i.to_bytes(4, "big")] = b""
+
+
+class Leases(unittest.TestCase):
+    def test_leases(self):
+        tree = bwtree.Tree(seats=1, keys=100)
+        seat = tree.seat()
+        with self.assertRaises(queue.Empty):
+            tree.seat(timeout=0.01)
+        with self.assertRaises(bwtree.Error) as raised:
+            tree.close()
+        self.assertEqual(raised.exception.status, 18)
+        seat.close()
+        seat.close()
+        with self.assertRaises(bwtree.Error):
+            seat.get(b"a")
+        tree.close()
+        with self.assertRaises(bwtree.Error) as raised:
+            tree.get(b"a")
+        self.assertEqual(raised.exception.status, 16)
+        with self.assertRaises(bwtree.Error):
+            tree.close()
+
+
+class Threads(unittest.TestCase):
+    def test_threads(self):
+        tree, faults = bwtree.Tree(seats=4, keys=6 * 300), []
+
+        def work(number):
+            try:
+                for i in range(900):
+                    key = bytes([number]) + (i % 300).to_bytes(4, "big")
+                    self.assertEqual(tree.upsert(key, i.to_bytes(4, "big")), (i - 300).to_bytes(4, "big") if i >= 300 else None)
+            except Exception as fault:
+                faults.append(fault)
+
+        threads = [threading.Thread(target=work, args=(number,)) for number in range(6)]
+        for it in threads:
+            it.start()
+        for it in threads:
+            it.join()
+        keys = list(tree)
+        self.assertEqual((faults, len(keys), keys), ([], 1800, sorted(keys)))
+        tree.close()
+
+
+if __name__ == "__main__":
+    unittest.main()

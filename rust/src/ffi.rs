@@ -1,0 +1,112 @@
+//! The declarations of c/bwtree.h.
+use std::mem::{align_of, size_of};
+
+pub(crate) const OK: u32 = 0;
+pub(crate) const EXISTS: u32 = 2;
+pub(crate) const REPLACED: u32 = 3;
+pub(crate) const DIFFERS: u32 = 4;
+pub(crate) const FULL: u32 = 5;
+pub(crate) const SPENT: u32 = 6;
+pub(crate) const TOO_LONG: u32 = 21;
+pub(crate) const BAD_LIMITS: u32 = 22;
+pub(crate) const NO_MEMORY: u32 = 23;
+
+#[repr(C)]
+pub(crate) struct RawTree {
+    pub held: u64,
+    pub at: *const u8,
+}
+
+#[repr(C)]
+pub(crate) struct RawLimits {
+    pub actors: u64,
+    pub pids: u64,
+    pub rows: u64,
+    pub epoch: u64,
+}
+
+#[repr(C)]
+pub(crate) struct RawRoom {
+    pub free_pids: u64,
+    pub free_rows: u64,
+}
+
+#[repr(C)]
+#[derive(Clone, Copy)]
+pub(crate) struct RawBytes {
+    pub length: u64,
+    pub bytes: [u8; 64],
+}
+
+#[repr(C)]
+#[derive(Clone, Copy)]
+pub(crate) struct RawPair {
+    pub key: RawBytes,
+    pub value: RawBytes,
+}
+
+#[repr(C)]
+#[derive(Clone, Copy)]
+pub(crate) struct RawPage {
+    pub count: u64,
+    pub more: u64,
+    pub next: RawBytes,
+    pub pairs: [RawPair; 24],
+}
+
+impl RawBytes {
+    pub const EMPTY: RawBytes = RawBytes { length: 0, bytes: [0; 64] };
+
+    pub fn as_slice(&self) -> &[u8] {
+        &self.bytes[..self.length as usize]
+    }
+}
+
+impl RawPage {
+    pub const EMPTY: RawPage =
+        RawPage { count: 0, more: 0, next: RawBytes::EMPTY, pairs: [RawPair { key: RawBytes::EMPTY, value: RawBytes::EMPTY }; 24] };
+}
+
+extern "C" {
+    pub(crate) fn bwtree_raw_limits_for_keys(actors: u64, keys: u64, limits: *mut RawLimits) -> u32;
+    pub(crate) fn bwtree_raw_open(limits: *const RawLimits, tree: *mut RawTree) -> u32;
+    pub(crate) fn bwtree_raw_close(tree: *const RawTree) -> u32;
+    pub(crate) fn bwtree_raw_get(tree: *const RawTree, seat: u32, key: *const u8, key_length: usize, value: *mut RawBytes) -> u32;
+    pub(crate) fn bwtree_raw_insert(
+        tree: *const RawTree,
+        seat: u32,
+        key: *const u8,
+        key_length: usize,
+        value: *const u8,
+        value_length: usize,
+        old: *mut RawBytes,
+    ) -> u32;
+    pub(crate) fn bwtree_raw_upsert(
+        tree: *const RawTree,
+        seat: u32,
+        key: *const u8,
+        key_length: usize,
+        value: *const u8,
+        value_length: usize,
+        old: *mut RawBytes,
+    ) -> u32;
+    pub(crate) fn bwtree_raw_delete(tree: *const RawTree, seat: u32, key: *const u8, key_length: usize, old: *mut RawBytes) -> u32;
+    pub(crate) fn bwtree_raw_swap(
+        tree: *const RawTree,
+        seat: u32,
+        key: *const u8,
+        key_length: usize,
+        expected: *const u8,
+        expected_length: usize,
+        value: *const u8,
+        value_length: usize,
+        old: *mut RawBytes,
+    ) -> u32;
+    pub(crate) fn bwtree_raw_tidy(tree: *const RawTree, seat: u32, key: *const u8, key_length: usize) -> u32;
+    pub(crate) fn bwtree_raw_page(tree: *const RawTree, seat: u32, from: *const u8, from_length: usize, page: *mut RawPage) -> u32;
+    pub(crate) fn bwtree_raw_resume(tree: *const RawTree, seat: u32, budget: u32, old: *mut RawBytes, page: *mut RawPage) -> u32;
+    pub(crate) fn bwtree_raw_room(tree: *const RawTree, seat: u32, room: *mut RawRoom) -> u32;
+}
+
+const _: () = assert!(size_of::<RawTree>() == 16 && size_of::<RawLimits>() == 32 && size_of::<RawRoom>() == 16);
+const _: () = assert!(size_of::<RawBytes>() == 72 && size_of::<RawPair>() == 144 && size_of::<RawPage>() == 3544 && align_of::<RawPage>() == 8);

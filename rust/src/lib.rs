@@ -1,0 +1,318 @@
+//! An ordered map from byte strings to byte strings, in memory, for many threads, without locks: a safe crate over libbwtree.
+//!
+//! A [`Tree`] is shared by threads, and lends its seats, 1 to 16 of them. A [`Seat`] is where calls are made: one thread at a time uses it, and
+//! gives it back by dropping it. Keys and values have at most 64 bytes.
+//!
+//! ```
+//! let tree = bwtree::Tree::for_keys(2, 100)?;
+//! std::thread::scope(|scope| {
+//!     scope.spawn(|| tree.seat().expect("one is free").upsert(b"Bern", b"Switzerland"));
+//! });
+//! let mut seat = tree.seat().expect("one is free");
+//! assert_eq!(seat.get(b"Bern")?, Some(b"Switzerland".to_vec()));
+//! # Ok::<(), bwtree::Error>(())
+//! ```
+//!
+//! All calls on a tree have one order, in which each answers as a plain ordered map does; calls on one seat stand in it as they were made. A thread
+//! that calls has 512 KB of stack, as Rust's own threads have.
+mod ffi;
+
+use ffi::*;
+use std::fmt;
+use std::iter::FusedIterator;
+use std::sync::atomic::{AtomicU32, Ordering::SeqCst};
+
+/// How many bytes a key or a value may have.
+pub const MAX_LENGTH: usize = 64;
+
+/// How many steps an operation is resumed for at a time.
+const STEPS: u32 = 1 << 16;
+
+/// Why nothing was done.
+#[derive(Clone, Copy, Debug, PartialEq, Eq)]
+pub enum Error {
+    /// A key or a value has more than 64 bytes.
+    TooLong,
+    /// Nothing was free for a change, and no key was changed.
+    Full,
+    /// A limit is outside its range.
+    BadLimits,
+    /// A growth of memory was refused.
+    NoMemory,
+}
+
+impl fmt::Display for Error {
+    fn fmt(&self, f: &mut fmt::Formatter<'_>) -> fmt::Result {
+        f.write_str(match self {
+            Error::TooLong => "a key or a value is longer than 64 bytes",
+            Error::Full => "the tree is full",
+            Error::BadLimits => "a limit is outside its range",
+            Error::NoMemory => "no memory",
+        })
+    }
+}
+
+impl std::error::Error for Error {}
+
+/// What was done, or why nothing was.
+pub type Result<T> = std::result::Result<T, Error>;
+
+/// What a swap came to.
+#[derive(Clone, Debug, PartialEq, Eq)]
+pub enum Swap {
+    /// The key had the expected value, and has the new one.
+    Swapped,
+    /// The key has this value, and keeps it.
+    Differs(Vec<u8>),
+    /// The key has no value.
+    Absent,
+}
+
+/// How large a tree is.
+#[derive(Clone, Copy, Debug, PartialEq, Eq)]
+pub struct Limits {
+    /// How many seats: 1 to 16.
+    pub actors: u64,
+    /// How many pages: 64 to 4,096, a multiple of 64.
+    pub pids: u64,
+    /// How many records, of 4,096 bytes each: 64 to 16,384, a multiple of 64.
+    pub rows: u64,
+}
+
+impl Limits {
+    /// For so many seats and so many different keys, all counted that the tree ever has.
+    pub fn for_keys(seats: u64, keys: u64) -> Result<Limits> {
+        let mut limits = RawLimits { actors: 0, pids: 0, rows: 0, epoch: 0 };
+        settled(unsafe { bwtree_raw_limits_for_keys(seats, keys, &mut limits) })?;
+        Ok(Limits { actors: limits.actors, pids: limits.pids, rows: limits.rows })
+    }
+}
+
+/// How many pages and records are free, but those that a seat holds back.
+#[derive(Clone, Copy, Debug, PartialEq, Eq)]
+pub struct Room {
+    pub free_pids: u64,
+    pub free_rows: u64,
+}
+
+/// An ordered map from byte strings to byte strings. It is closed when it is dropped.
+pub struct Tree {
+    handle: Box<RawTree>,
+    free: AtomicU32,
+}
+
+// The library's contract: all threads share a handle. What it points to, the library alone reads.
+unsafe impl Send for Tree {}
+unsafe impl Sync for Tree {}
+
+impl Tree {
+    /// An empty tree.
+    pub fn open(limits: Limits) -> Result<Tree> {
+        let raw = RawLimits { actors: limits.actors, pids: limits.pids, rows: limits.rows, epoch: 1 };
+        let mut handle = Box::new(RawTree { held: 0, at: std::ptr::null() });
+        settled(unsafe { bwtree_raw_open(&raw, &mut *handle) })?;
+        Ok(Tree { handle, free: AtomicU32::new((1 << limits.actors) - 1) })
+    }
+
+    /// An empty tree with so many seats, for so many different keys, all counted that it ever has.
+    pub fn for_keys(seats: u64, keys: u64) -> Result<Tree> {
+        Tree::open(Limits::for_keys(seats, keys)?)
+    }
+
+    /// A seat, if one is free. It is free again when it is dropped.
+    pub fn seat(&self) -> Option<Seat<'_>> {
+        let mut free = self.free.load(SeqCst);
+        while free != 0 {
+            let number = free.trailing_zeros();
+            match self.free.compare_exchange_weak(free, free & !(1 << number), SeqCst, SeqCst) {
+                Ok(_) => return Some(Seat { tree: self, number }),
+                Err(now) => free = now,
+            }
+        }
+        None
+    }
+}
+
+impl Drop for Tree {
+    fn drop(&mut self) {
+        // (all its seats were dropped, so no call is inside one)
+        unsafe { bwtree_raw_close(&*self.handle) };
+    }
+}
+
+impl fmt::Debug for Tree {
+    fn fmt(&self, f: &mut fmt::Formatter<'_>) -> fmt::Result {
+        f.debug_struct("Tree").field("free_seats", &self.free.load(SeqCst).count_ones()).finish_non_exhaustive()
+    }
+}
+
+/// A seat of a tree, where one thread at a time calls it.
+#[derive(Debug)]
+pub struct Seat<'tree> {
+    tree: &'tree Tree,
+    number: u32,
+}
+
+impl Drop for Seat<'_> {
+    fn drop(&mut self) {
+        self.tree.free.fetch_or(1 << self.number, SeqCst);
+    }
+}
+
+/// A status of an operation that took place, or why there is none. Those that aren't named come of misuse, which the types here rule out.
+fn settled(status: u32) -> Result<u32> {
+    match status {
+        OK..=DIFFERS => Ok(status),
+        FULL => Err(Error::Full),
+        TOO_LONG => Err(Error::TooLong),
+        BAD_LIMITS => Err(Error::BadLimits),
+        NO_MEMORY => Err(Error::NoMemory),
+        _ => panic!("libbwtree answers with status {status}"),
+    }
+}
+
+impl<'tree> Seat<'tree> {
+    fn handle(&self) -> *const RawTree {
+        &*self.tree.handle
+    }
+
+    /// What an operation came to; it is resumed until it is done.
+    fn done(&mut self, mut status: u32, old: &mut RawBytes) -> Result<u32> {
+        if status == SPENT {
+            let mut page = Box::new(RawPage::EMPTY);
+            while status == SPENT {
+                status = unsafe { bwtree_raw_resume(self.handle(), self.number, STEPS, old, &mut *page) };
+            }
+        }
+        settled(status)
+    }
+
+    /// The value that goes with one of the statuses.
+    fn shown(&mut self, status: u32, mut old: RawBytes, with_value: u32) -> Result<Option<Vec<u8>>> {
+        let status = self.done(status, &mut old)?;
+        Ok((status == with_value).then(|| old.as_slice().to_vec()))
+    }
+
+    /// The value of a key.
+    pub fn get(&mut self, key: &[u8]) -> Result<Option<Vec<u8>>> {
+        let mut value = RawBytes::EMPTY;
+        let status = unsafe { bwtree_raw_get(self.handle(), self.number, key.as_ptr(), key.len(), &mut value) };
+        self.shown(status, value, OK)
+    }
+
+    /// Gives a key a value where it has none: the value that it has, if it has one.
+    pub fn insert(&mut self, key: &[u8], value: &[u8]) -> Result<Option<Vec<u8>>> {
+        let mut old = RawBytes::EMPTY;
+        let status = unsafe { bwtree_raw_insert(self.handle(), self.number, key.as_ptr(), key.len(), value.as_ptr(), value.len(), &mut old) };
+        self.shown(status, old, EXISTS)
+    }
+
+    /// Gives a key a value: the one that it had before, if it had one.
+    pub fn upsert(&mut self, key: &[u8], value: &[u8]) -> Result<Option<Vec<u8>>> {
+        let mut old = RawBytes::EMPTY;
+        let status = unsafe { bwtree_raw_upsert(self.handle(), self.number, key.as_ptr(), key.len(), value.as_ptr(), value.len(), &mut old) };
+        self.shown(status, old, REPLACED)
+    }
+
+    /// Makes a key absent: the value that it had.
+    pub fn delete(&mut self, key: &[u8]) -> Result<Option<Vec<u8>>> {
+        let mut old = RawBytes::EMPTY;
+        let status = unsafe { bwtree_raw_delete(self.handle(), self.number, key.as_ptr(), key.len(), &mut old) };
+        self.shown(status, old, OK)
+    }
+
+    /// Gives a key the value where it has the expected one.
+    pub fn swap(&mut self, key: &[u8], expected: &[u8], value: &[u8]) -> Result<Swap> {
+        let mut old = RawBytes::EMPTY;
+        let status = unsafe {
+            bwtree_raw_swap(
+                self.handle(),
+                self.number,
+                key.as_ptr(),
+                key.len(),
+                expected.as_ptr(),
+                expected.len(),
+                value.as_ptr(),
+                value.len(),
+                &mut old,
+            )
+        };
+        Ok(match self.done(status, &mut old)? {
+            OK => Swap::Swapped,
+            DIFFERS => Swap::Differs(old.as_slice().to_vec()),
+            _ => Swap::Absent,
+        })
+    }
+
+    /// Does what upkeep is due at the leaf of a key; no value changes.
+    pub fn tidy(&mut self, key: &[u8]) -> Result<()> {
+        let status = unsafe { bwtree_raw_tidy(self.handle(), self.number, key.as_ptr(), key.len()) };
+        let mut old = RawBytes::EMPTY;
+        self.done(status, &mut old).map(drop)
+    }
+
+    /// The pairs from a key on, keys ascending. What is in the tree throughout the walk is shown, and what never is there isn't.
+    pub fn pairs_from(&mut self, from: &[u8]) -> Pairs<'_, 'tree> {
+        let mut page = Box::new(RawPage { more: 1, ..RawPage::EMPTY });
+        let is_long = from.len() > MAX_LENGTH;
+        if !is_long {
+            page.next.length = from.len() as u64;
+            page.next.bytes[..from.len()].copy_from_slice(from);
+        }
+        Pairs { seat: self, page, shown: 0, is_long }
+    }
+
+    /// How many pages and records are free.
+    pub fn room(&mut self) -> Room {
+        let mut room = RawRoom { free_pids: 0, free_rows: 0 };
+        let status = unsafe { bwtree_raw_room(self.handle(), self.number, &mut room) };
+        assert_eq!(status, OK, "libbwtree's status");
+        Room { free_pids: room.free_pids, free_rows: room.free_rows }
+    }
+}
+
+/// An iterator over the pairs of a tree.
+pub struct Pairs<'seat, 'tree> {
+    seat: &'seat mut Seat<'tree>,
+    page: Box<RawPage>,
+    shown: u64,
+    is_long: bool,
+}
+
+impl Pairs<'_, '_> {
+    /// Fills the page with the next pairs.
+    fn turn(&mut self) -> Result<()> {
+        let (seat, from, mut old) = (&mut *self.seat, self.page.next, RawBytes::EMPTY);
+        let mut status = unsafe { bwtree_raw_page(seat.handle(), seat.number, from.bytes.as_ptr(), from.length as usize, &mut *self.page) };
+        while status == SPENT {
+            status = unsafe { bwtree_raw_resume(seat.handle(), seat.number, STEPS, &mut old, &mut *self.page) };
+        }
+        self.shown = 0;
+        settled(status).map(drop)
+    }
+}
+
+impl Iterator for Pairs<'_, '_> {
+    type Item = Result<(Vec<u8>, Vec<u8>)>;
+
+    fn next(&mut self) -> Option<Self::Item> {
+        if std::mem::take(&mut self.is_long) {
+            self.page.more = 0;
+            return Some(Err(Error::TooLong));
+        }
+        while self.shown == self.page.count {
+            if self.page.more == 0 {
+                return None;
+            }
+            if let Err(error) = self.turn() {
+                (self.page.count, self.page.more, self.shown) = (0, 0, 0);
+                return Some(Err(error));
+            }
+        }
+        let pair = &self.page.pairs[self.shown as usize];
+        self.shown += 1;
+        Some(Ok((pair.key.as_slice().to_vec(), pair.value.as_slice().to_vec())))
+    }
+}
+
+impl FusedIterator for Pairs<'_, '_> {}

@@ -1,0 +1,89 @@
+use bwtree::{Error, Limits, Seat, Swap, Tree};
+
+#[test]
+fn calls_are_answered() {
+    let tree = Tree::for_keys(2, 100).unwrap();
+    let (mut seat, mut other) = (tree.seat().unwrap(), tree.seat().unwrap());
+    assert_eq!(seat.get(b"a"), Ok(None));
+    assert_eq!(seat.insert(b"a", b"x"), Ok(None));
+    assert_eq!(other.insert(b"a", b"y"), Ok(Some(b"x".to_vec())));
+    assert_eq!(seat.upsert(b"a", b"z"), Ok(Some(b"x".to_vec())));
+    assert_eq!(seat.swap(b"a", b"x", b"w"), Ok(Swap::Differs(b"z".to_vec())));
+    assert_eq!(seat.swap(b"a", b"z", b"w"), Ok(Swap::Swapped));
+    assert_eq!(seat.swap(b"b", b"z", b"w"), Ok(Swap::Absent));
+    assert_eq!(seat.tidy(b"a"), Ok(()));
+    assert_eq!(other.get(b"a"), Ok(Some(b"w".to_vec())));
+    assert_eq!(seat.delete(b"a"), Ok(Some(b"w".to_vec())));
+    assert_eq!(seat.delete(b"a"), Ok(None));
+    assert_eq!(seat.upsert(b"", b""), Ok(None));
+    assert_eq!(seat.get(b""), Ok(Some(Vec::new())));
+    assert!(seat.room().free_rows > 0);
+}
+
+#[test]
+fn lengths_are_tested() {
+    let tree = Tree::for_keys(1, 100).unwrap();
+    let mut seat = tree.seat().unwrap();
+    assert_eq!(seat.get(&[0; 65]), Err(Error::TooLong));
+    assert_eq!(seat.upsert(&[0; 64], &[1; 65]), Err(Error::TooLong));
+    assert_eq!(seat.upsert(&[0; 64], &[1; 64]), Ok(None));
+    assert_eq!(seat.pairs_from(&[0; 65]).collect::<Vec<_>>(), [Err(Error::TooLong)]);
+    assert_eq!(seat.pairs_from(&[0; 64]).collect::<Vec<_>>(), [Ok((vec![0; 64], vec![1; 64]))]);
+}
+
+#[test]
+fn limits_are_tested() {
+    assert_eq!(Limits::for_keys(17, 1), Err(Error::BadLimits));
+    assert_eq!(Tree::open(Limits { actors: 1, pids: 63, rows: 64 }).err(), Some(Error::BadLimits));
+    assert_eq!(Tree::open(Limits { actors: 0, pids: 64, rows: 64 }).err(), Some(Error::BadLimits));
+    assert_eq!(Tree::open(Limits { actors: u64::MAX, pids: 64, rows: 64 }).err(), Some(Error::BadLimits));
+}
+
+#[test]
+fn seats_are_lent() {
+    let tree = Tree::for_keys(2, 100).unwrap();
+    let (one, other) = (tree.seat(), tree.seat());
+    assert!(one.is_some() && other.is_some() && tree.seat().is_none());
+    drop(one);
+    assert!(tree.seat().is_some());
+}
+
+#[test]
+fn a_small_tree_is_full() {
+    let tree = Tree::open(Limits { actors: 1, pids: 64, rows: 64 }).unwrap();
+    let mut seat = tree.seat().unwrap();
+    let error = (0..100_000u32).find_map(|i| seat.insert(&i.to_be_bytes(), b"").err());
+    assert_eq!(error, Some(Error::Full));
+    assert!(seat.pairs_from(b"").all(|pair| pair.is_ok()));
+}
+
+#[test]
+fn threads_have_keys_of_their_own() {
+    let tree = Tree::for_keys(4, 4 * 500).unwrap();
+    std::thread::scope(|scope| {
+        for t in 0..4u8 {
+            let tree = &tree;
+            scope.spawn(move || {
+                let mut seat = tree.seat().unwrap();
+                for i in 0..2_500u32 {
+                    let key = [&[t][..], &(i % 500).to_be_bytes()].concat();
+                    let old = seat.upsert(&key, &i.to_be_bytes()).unwrap();
+                    assert_eq!(old, i.checked_sub(500).map(|was| was.to_be_bytes().to_vec()));
+                }
+            });
+        }
+    });
+    let mut seat = tree.seat().unwrap();
+    let pairs: Vec<_> = seat.pairs_from(b"").map(|pair| pair.unwrap()).collect();
+    assert_eq!(pairs.len(), 2_000);
+    assert!(pairs.windows(2).all(|two| two[0].0 < two[1].0));
+}
+
+fn is_shared<T: Send + Sync>() {}
+fn is_sent<T: Send>() {}
+
+#[test]
+fn types_cross_threads() {
+    is_shared::<Tree>();
+    is_sent::<Seat<'static>>();
+}
