@@ -1,10 +1,9 @@
 """An ordered map from byte strings to byte strings, in memory, for many threads, without locks: libbwtree by ctypes.
 
-    with bwtree.Tree(seats=4, keys=10_000) as tree:
-        tree[b"Bern"] = b"Switzerland"
+    with bwtree.Tree(seats=4, keys=10_000) as tree, tree.seat() as seat:
+        seat[b"Bern"] = b"Switzerland"
 
-A tree is a mapping that all threads may share. Each of its calls leases one of the tree's seats, and waits where none is free. `tree.seat()` leases one for
-many calls: a `Seat` is a mapping, too, for one thread at a time. Keys and values have at most 64 bytes.
+Threads share a tree, and each leases a seat of it: a mapping for one thread at a time. Keys and values have at most 64 bytes.
 
 The library is looked for where BWTREE_LIB says, a file or a folder, then where `./bwtree build` puts it, then where the system's loader looks.
 """
@@ -132,16 +131,88 @@ def _must(status: int) -> int:
     return status
 
 
-class _Map(MutableMapping[bytes, bytes]):
-    """What a tree and a seat have in common: all but how they come to a seat's number."""
+class Tree:
+    """A tree with so many seats, for so many different keys, all counted that it ever has; or with so many PIDs and rows."""
+
+    def __init__(self, seats: int = 4, keys: int = 1000, *, pids: Optional[int] = None, rows: Optional[int] = None):
+        limits = _Limits(seats, pids or 0, rows or 0, 1)
+        if pids is None and rows is None:
+            if not (0 <= seats < 1 << 64 and 0 <= keys < 1 << 64):
+                raise Error(_BAD_LIMITS)
+            _must(_library.bwtree_raw_limits_for_keys(seats, keys, ctypes.byref(limits)))
+        self._handle = _Tree()
+        self._free: "queue.SimpleQueue[int]" = queue.SimpleQueue()
+        self._seats = 0
+        _must(_library.bwtree_raw_open(ctypes.byref(limits), ctypes.byref(self._handle)))
+        self._seats = seats
+        for number in reversed(range(seats)):
+            self._free.put(number)
+
+    def seat(self, timeout: Optional[float] = None) -> "Seat":
+        """Leases a seat; waits for one where none is free, at most so many seconds, and then raises queue.Empty."""
+        return Seat(self, self._free.get(timeout=timeout))
+
+    def close(self) -> None:
+        """Closes the tree and frees it. Raises Error where a seat is lent or the tree is closed."""
+        taken: list[int] = []
+        try:
+            while len(taken) < self._seats:
+                taken.append(self._free.get_nowait())
+            status = _library.bwtree_raw_close(ctypes.byref(self._handle))
+        except queue.Empty:
+            status = _BUSY
+        finally:
+            for number in taken:
+                self._free.put(number)
+        _must(status)
+
+    def __enter__(self) -> "Tree":
+        return self
+
+    def __exit__(self, *_: object) -> None:
+        self.close()
+
+    def __del__(self) -> None:
+        if getattr(self, "_seats", 0):
+            _library.bwtree_raw_close(ctypes.byref(self._handle))
+
+
+class Seat(MutableMapping[bytes, bytes]):
+    """A seat of a tree, for one thread at a time. It goes back to its tree by `close`, at the end of a `with`, or when nothing refers to it."""
+
+    def __init__(self, tree: Tree, number: int):
+        self._tree: Optional[Tree] = tree
+        self._number = number
+        self._old = _Bytes()
+
+    def _handle(self) -> "ctypes._Pointer[_Tree]":
+        if self._tree is None:
+            raise Error(_CLOSED)
+        return ctypes.pointer(self._tree._handle)
 
     def _run(self, name: str, *texts: bytes) -> tuple[int, bytes]:
         """The status of an operation, and the value that goes with it, if one does."""
-        raise NotImplementedError
+        words: list[Union[bytes, int]] = []
+        for text in texts:
+            words += [bytes(text), len(text)]
+        handle, old = self._handle(), self._old
+        more = () if name == "tidy" else (ctypes.byref(old),)
+        status = getattr(_library, "bwtree_raw_" + name)(handle, self._number, *words, *more)
+        if status == _SPENT:
+            page = _Page()
+            while status == _SPENT:
+                status = _library.bwtree_raw_resume(handle, self._number, _STEPS, ctypes.byref(old), ctypes.byref(page))
+        return _must(status), old.taken()
 
     def _page(self, start: bytes) -> tuple[list[tuple[bytes, bytes]], Optional[bytes]]:
         """The pairs of a page, and the key from which the next one goes on, if there is more."""
-        raise NotImplementedError
+        handle, page = self._handle(), _Page()
+        status = _library.bwtree_raw_page(handle, self._number, bytes(start), len(start), ctypes.byref(page))
+        while status == _SPENT:
+            status = _library.bwtree_raw_resume(handle, self._number, _STEPS, ctypes.byref(self._old), ctypes.byref(page))
+        _must(status)
+        pairs = [(pair.key.taken(), pair.value.taken()) for pair in page.pairs[: page.count]]
+        return pairs, page.next.taken() if page.more else None
 
     def __getitem__(self, key: bytes) -> bytes:
         status, value = self._run("get", key)
@@ -199,101 +270,6 @@ class _Map(MutableMapping[bytes, bytes]):
                 if stop is not None and key >= stop:
                     return
                 yield key, value
-
-
-class Tree(_Map):
-    """A tree with so many seats, for so many different keys, all counted that it ever has; or with so many PIDs and rows."""
-
-    def __init__(self, seats: int = 4, keys: int = 1000, *, pids: Optional[int] = None, rows: Optional[int] = None):
-        limits = _Limits(seats, pids or 0, rows or 0, 1)
-        if pids is None and rows is None:
-            if not (0 <= seats < 1 << 64 and 0 <= keys < 1 << 64):
-                raise Error(_BAD_LIMITS)
-            _must(_library.bwtree_raw_limits_for_keys(seats, keys, ctypes.byref(limits)))
-        self._handle = _Tree()
-        self._free: "queue.LifoQueue[int]" = queue.LifoQueue()
-        self._seats = 0
-        _must(_library.bwtree_raw_open(ctypes.byref(limits), ctypes.byref(self._handle)))
-        self._seats = seats
-        for number in reversed(range(seats)):
-            self._free.put(number)
-
-    def seat(self, timeout: Optional[float] = None) -> "Seat":
-        """Leases a seat; waits for one where none is free, at most so many seconds, and then raises queue.Empty."""
-        return Seat(self, self._free.get(timeout=timeout))
-
-    def _run(self, name: str, *texts: bytes) -> tuple[int, bytes]:
-        with self.seat() as seat:
-            return seat._run(name, *texts)
-
-    def _page(self, start: bytes) -> tuple[list[tuple[bytes, bytes]], Optional[bytes]]:
-        with self.seat() as seat:
-            return seat._page(start)
-
-    def room(self) -> Room:
-        """How many pages and records are free."""
-        with self.seat() as seat:
-            return seat.room()
-
-    def close(self) -> None:
-        """Closes the tree and frees it. Raises Error where a seat is lent or the tree is closed."""
-        taken: list[int] = []
-        try:
-            while len(taken) < self._seats:
-                taken.append(self._free.get_nowait())
-            status = _library.bwtree_raw_close(ctypes.byref(self._handle))
-        except queue.Empty:
-            status = _BUSY
-        finally:
-            for number in taken:
-                self._free.put(number)
-        _must(status)
-
-    def __enter__(self) -> "Tree":
-        return self
-
-    def __exit__(self, *_: object) -> None:
-        self.close()
-
-    def __del__(self) -> None:
-        if getattr(self, "_seats", 0):
-            _library.bwtree_raw_close(ctypes.byref(self._handle))
-
-
-class Seat(_Map):
-    """A seat of a tree, for one thread at a time. It goes back to its tree by `close`, at the end of a `with`, or when nothing refers to it."""
-
-    def __init__(self, tree: Tree, number: int):
-        self._tree: Optional[Tree] = tree
-        self._number = number
-        self._old = _Bytes()
-
-    def _handle(self) -> "ctypes._Pointer[_Tree]":
-        if self._tree is None:
-            raise Error(_CLOSED)
-        return ctypes.pointer(self._tree._handle)
-
-    def _run(self, name: str, *texts: bytes) -> tuple[int, bytes]:
-        words: list[Union[bytes, int]] = []
-        for text in texts:
-            words += [bytes(text), len(text)]
-        handle, old = self._handle(), self._old
-        more = () if name == "tidy" else (ctypes.byref(old),)
-        status = getattr(_library, "bwtree_raw_" + name)(handle, self._number, *words, *more)
-        if status == _SPENT:
-            page = _Page()
-            while status == _SPENT:
-                status = _library.bwtree_raw_resume(handle, self._number, _STEPS, ctypes.byref(old), ctypes.byref(page))
-        return _must(status), old.taken()
-
-    def _page(self, start: bytes) -> tuple[list[tuple[bytes, bytes]], Optional[bytes]]:
-        handle, page = self._handle(), _Page()
-        status = _library.bwtree_raw_page(handle, self._number, bytes(start), len(start), ctypes.byref(page))
-        while status == _SPENT:
-            status = _library.bwtree_raw_resume(handle, self._number, _STEPS, ctypes.byref(self._old), ctypes.byref(page))
-        _must(status)
-        pairs = [(pair.key.taken(), pair.value.taken()) for pair in page.pairs[: page.count]]
-        return pairs, page.next.taken() if page.more else None
 
     def room(self) -> Room:
         """How many pages and records are free."""

@@ -1,19 +1,18 @@
-"""One thread sets values, another one looks one up; then the pairs are walked in order."""
+"""One thread sets values on a seat. When it has ended, another one goes on with that seat: it looks a key up, and walks the pairs in order."""
 
 import threading
 
 import bwtree
 
-with bwtree.Tree(seats=2, keys=100) as tree:
+with bwtree.Tree(seats=2, keys=100) as tree, tree.seat() as seat:
 
     def set_all() -> None:
-        with tree.seat() as seat:
-            seat.update({b"Bern": b"Switzerland", b"Vienna": b"Austria", b"Paris": b"France", b"Oslo": b"Norway"})
+        seat.update({b"Bern": b"Switzerland", b"Vienna": b"Austria", b"Paris": b"France", b"Oslo": b"Norway"})
 
     thread = threading.Thread(target=set_all)
     thread.start()
     thread.join()
 
-    print("Bern:", tree[b"Bern"].decode())
-    for key, value in tree.pairs():
+    print("Bern:", seat[b"Bern"].decode())
+    for key, value in seat.pairs():
         print(f"{key.decode()}, {value.decode()}")

@@ -8,10 +8,10 @@ import bwtree
 
 
 class Calls(unittest.TestCase):
-    def answers(self, it):
+    def answers(self, it, other):
         self.assertIsNone(it.get(b"a"))
         self.assertIsNone(it.insert(b"a", b"x"))
-        self.assertEqual(it.insert(b"a", b"y"), b"x")
+        self.assertEqual(other.insert(b"a", b"y"), b"x")
         self.assertEqual(it.upsert(b"a", b"z"), b"x")
         self.assertEqual(it.swap(b"a", b"x", b"w"), (False, b"z"))
         self.assertEqual(it.swap(b"a", b"z", b"w"), (True, None))
@@ -35,10 +35,8 @@ class Calls(unittest.TestCase):
         self.assertGreater(it.room().free_rows, 0)
 
     def test_answers(self):
-        with bwtree.Tree(seats=2, keys=100) as tree:
-            self.answers(tree)
-            with tree.seat() as seat:
-                self.answers(seat)
+        with bwtree.Tree(seats=2, keys=100) as tree, tree.seat() as seat, tree.seat() as other:
+            self.answers(seat, other)
 
     def test_limits(self):
         for limits in ({"seats": 17}, {"seats": 0}, {"keys": 10**30}, {"pids": 63, "rows": 64}, {"pids": 64}):
@@ -47,9 +45,9 @@ class Calls(unittest.TestCase):
             self.assertEqual((raised.exception.status, str(raised.exception)), (22, "a limit is outside its range"))
 
     def test_full(self):
-        with bwtree.Tree(seats=1, pids=64, rows=64) as tree, self.assertRaises(bwtree.Full):
+        with bwtree.Tree(seats=1, pids=64, rows=64) as tree, tree.seat() as seat, self.assertRaises(bwtree.Full):
             for i in range(100000):
-                tree[i.to_bytes(4, "big")] = b""
+                seat[i.to_bytes(4, "big")] = b""
 
 
 class Leases(unittest.TestCase):
@@ -67,7 +65,7 @@ class Leases(unittest.TestCase):
             seat.get(b"a")
         tree.close()
         with self.assertRaises(bwtree.Error) as raised:
-            tree.get(b"a")
+            tree.seat().get(b"a")
         self.assertEqual(raised.exception.status, 16)
         with self.assertRaises(bwtree.Error):
             tree.close()
@@ -79,9 +77,10 @@ class Threads(unittest.TestCase):
 
         def work(number):
             try:
-                for i in range(900):
-                    key = bytes([number]) + (i % 300).to_bytes(4, "big")
-                    self.assertEqual(tree.upsert(key, i.to_bytes(4, "big")), (i - 300).to_bytes(4, "big") if i >= 300 else None)
+                with tree.seat() as seat:
+                    for i in range(900):
+                        key = bytes([number]) + (i % 300).to_bytes(4, "big")
+                        self.assertEqual(seat.upsert(key, i.to_bytes(4, "big")), (i - 300).to_bytes(4, "big") if i >= 300 else None)
             except Exception as fault:
                 faults.append(fault)
 
@@ -90,7 +89,8 @@ class Threads(unittest.TestCase):
             it.start()
         for it in threads:
             it.join()
-        keys = list(tree)
+        with tree.seat() as seat:
+            keys = list(seat)
         self.assertEqual((faults, len(keys), keys), ([], 1800, sorted(keys)))
         tree.close()
 

@@ -1,19 +1,18 @@
-// One thread sets values by a seat that it leases; then one is looked up, and the pairs are walked in order.
+// One thread sets values on a seat. When it has ended, another one goes on with that seat: it looks a key up, and walks the pairs in order.
 #include "bwtree.hpp"
 #include <iostream>
 #include <thread>
 
 int main() {
     auto tree = bw::tree::for_keys(2, 100);
-    std::thread([&tree] {
-        auto seat = tree.lease();
+    auto seat = tree.lease();
+    std::thread([&seat] {
         seat.upsert("Bern", "Switzerland");
         seat.upsert("Vienna", "Austria");
         seat.upsert("Paris", "France");
         seat.upsert("Oslo", "Norway");
     }).join();
 
-    auto seat = tree.lease();
     if (auto value = seat.get("Bern")) std::cout << "Bern: " << *value << '\n';
     seat.walk("", [](auto key, auto value) {
         std::cout << key << ", " << value << '\n';

@@ -1,0 +1,292 @@
+// Package bwtree is an ordered map from byte strings to byte strings, in memory, for many goroutines, without locks: libbwtree by cgo.
+//
+// A Tree is shared by goroutines, and lends its seats, 1 to 16 of them. A Seat is where calls are made, by one goroutine at a time. Keys and values
+// have at most 64 bytes.
+//
+// cgo finds bwtree.h and libbwtree by pkg-config: PKG_CONFIG_PATH names the folder of bwtree.pc.
+package bwtree
+
+// #cgo pkg-config: bwtree
+// #include <stdlib.h>
+// #include "bwtree.h"
+import "C"
+
+import (
+	"runtime"
+	"unsafe"
+)
+
+// MaxLength is how many bytes a key or a value may have.
+const MaxLength = C.BWTREE_MAX_LENGTH
+
+// steps is how many steps an operation is resumed for at a time.
+const steps = 1 << 16
+
+// Error says why nothing was done. It is a status of bwtree.h.
+type Error uint32
+
+const (
+	Full      Error = C.BWTREE_FULL       // nothing was free for a change, and no key was changed
+	Closed    Error = C.BWTREE_CLOSED     // the tree is closed
+	Busy      Error = C.BWTREE_BUSY       // a seat is lent, or another call is inside it
+	TooLong   Error = C.BWTREE_TOO_LONG   // a key or a value has more than 64 bytes
+	BadLimits Error = C.BWTREE_BAD_LIMITS // a limit is outside its range
+	NoMemory  Error = C.BWTREE_NO_MEMORY  // malloc refused
+)
+
+func (e Error) Error() string {
+	return "bwtree: " + C.GoString(C.bwtree_text(C.uint32_t(e)))
+}
+
+// settled is nil for a status of an operation that took place, and else says why there is none.
+func settled(status C.uint32_t) error {
+	if status < C.BWTREE_FULL {
+		return nil
+	}
+	return Error(status)
+}
+
+// Limits say how large a tree is.
+type Limits struct {
+	Actors uint64 // seats: 1 to 16
+	Pids   uint64 // pages: 64 to 4,096, a multiple of 64
+	Rows   uint64 // records, of 4,096 bytes each: 64 to 16,384, a multiple of 64
+}
+
+// LimitsForKeys are for so many seats and so many different keys, all counted that the tree ever has.
+func LimitsForKeys(seats, keys uint64) (Limits, error) {
+	var limits C.bwtree_limits
+	if err := settled(C.bwtree_limits_for_keys(C.uint64_t(seats), C.uint64_t(keys), &limits)); err != nil {
+		return Limits{}, err
+	}
+	return Limits{uint64(limits.actors), uint64(limits.pids), uint64(limits.rows)}, nil
+}
+
+// Room says how many pages and records are free.
+type Room struct {
+	FreePids, FreeRows uint64
+}
+
+// Pair is a key and its value.
+type Pair struct {
+	Key, Value []byte
+}
+
+// A Tree is an ordered map that goroutines share.
+type Tree struct {
+	// the handle lies in C's memory, where it stays
+	handle *C.bwtree
+	// the numbers of the seats that are free
+	free chan uint32
+}
+
+// Open opens an empty tree. Close frees it; so does the collector, once nothing refers to the tree or a seat of it.
+func Open(limits Limits) (*Tree, error) {
+	handle := (*C.bwtree)(C.calloc(1, C.sizeof_bwtree))
+	if handle == nil {
+		return nil, NoMemory
+	}
+	raw := C.bwtree_limits{actors: C.uint64_t(limits.Actors), pids: C.uint64_t(limits.Pids), rows: C.uint64_t(limits.Rows), epoch: 1}
+	if err := settled(C.bwtree_open(&raw, handle)); err != nil {
+		C.free(unsafe.Pointer(handle))
+		return nil, err
+	}
+	tree := &Tree{handle, make(chan uint32, limits.Actors)}
+	for number := uint32(0); number < uint32(limits.Actors); number++ {
+		tree.free <- number
+	}
+	runtime.SetFinalizer(tree, func(tree *Tree) {
+		C.bwtree_close(tree.handle)
+		C.free(unsafe.Pointer(tree.handle))
+	})
+	return tree, nil
+}
+
+// Close closes the tree and frees it. It answers Busy where a seat is lent, and Closed where the tree is closed.
+func (tree *Tree) Close() error {
+	var taken []uint32
+	defer func() {
+		for _, number := range taken {
+			tree.free <- number
+		}
+	}()
+	for len(taken) < cap(tree.free) {
+		select {
+		case number := <-tree.free:
+			taken = append(taken, number)
+		default:
+			return Busy
+		}
+	}
+	err := settled(C.bwtree_close(tree.handle))
+	runtime.KeepAlive(tree)
+	return err
+}
+
+// Seat leases a seat, and waits for one where none is free. Release gives it back.
+func (tree *Tree) Seat() *Seat {
+	return &Seat{tree: tree, number: <-tree.free}
+}
+
+// TrySeat leases a seat, or is nil where none is free.
+func (tree *Tree) TrySeat() *Seat {
+	select {
+	case number := <-tree.free:
+		return &Seat{tree: tree, number: number}
+	default:
+		return nil
+	}
+}
+
+// A Seat is where one goroutine at a time calls a tree.
+type Seat struct {
+	tree   *Tree
+	number uint32
+}
+
+// Release gives the seat back to its tree. Other calls on it panic from then on; a second Release does nothing.
+func (seat *Seat) Release() {
+	if tree := seat.tree; tree != nil {
+		seat.tree = nil
+		tree.free <- seat.number
+	}
+}
+
+var none [1]byte
+
+// some is a slice itself where it has bytes, else one that has a place to point to. Go's memory may be passed to C for the time of a call; the calls
+// below name an element of a slice right there, so that cgo looks at that slice alone.
+func some(bytes []byte) []byte {
+	if len(bytes) == 0 {
+		return none[:]
+	}
+	return bytes
+}
+
+// taken is a copy of the bytes that the library wrote.
+func taken(bytes *C.bwtree_bytes) []byte {
+	return C.GoBytes(unsafe.Pointer(&bytes.bytes[0]), C.int(bytes.length))
+}
+
+// done resumes an operation until it is done, and says what it came to.
+func (seat *Seat) done(status C.uint32_t, old *C.bwtree_bytes) (C.uint32_t, error) {
+	for status == C.BWTREE_SPENT {
+		var page C.bwtree_page_pairs
+		status = C.bwtree_resume(seat.tree.handle, C.uint32_t(seat.number), steps, old, &page)
+	}
+	runtime.KeepAlive(seat.tree)
+	return status, settled(status)
+}
+
+// shown is the value that goes with one of the statuses.
+func (seat *Seat) shown(status C.uint32_t, old *C.bwtree_bytes, withValue C.uint32_t) ([]byte, bool, error) {
+	status, err := seat.done(status, old)
+	if err != nil || status != withValue {
+		return nil, false, err
+	}
+	return taken(old), true, nil
+}
+
+// Get is the value of a key, and whether it has one.
+func (seat *Seat) Get(key []byte) ([]byte, bool, error) {
+	var value C.bwtree_bytes
+	k := some(key)
+	status := C.bwtree_get(seat.tree.handle, C.uint32_t(seat.number), unsafe.Pointer(&k[0]), C.size_t(len(key)), &value)
+	return seat.shown(status, &value, C.BWTREE_OK)
+}
+
+// Insert gives a key a value where it has none; else it answers the value that the key has, and true.
+func (seat *Seat) Insert(key, value []byte) ([]byte, bool, error) {
+	var old C.bwtree_bytes
+	k := some(key)
+	v := some(value)
+	status := C.bwtree_insert(seat.tree.handle, C.uint32_t(seat.number), unsafe.Pointer(&k[0]), C.size_t(len(key)), unsafe.Pointer(&v[0]), C.size_t(len(value)), &old)
+	return seat.shown(status, &old, C.BWTREE_EXISTS)
+}
+
+// Upsert gives a key a value. It answers the value that the key had before, and whether it had one.
+func (seat *Seat) Upsert(key, value []byte) ([]byte, bool, error) {
+	var old C.bwtree_bytes
+	k := some(key)
+	v := some(value)
+	status := C.bwtree_upsert(seat.tree.handle, C.uint32_t(seat.number), unsafe.Pointer(&k[0]), C.size_t(len(key)), unsafe.Pointer(&v[0]), C.size_t(len(value)), &old)
+	return seat.shown(status, &old, C.BWTREE_REPLACED)
+}
+
+// Delete makes a key absent. It answers the value that the key had, and whether it had one.
+func (seat *Seat) Delete(key []byte) ([]byte, bool, error) {
+	var old C.bwtree_bytes
+	k := some(key)
+	status := C.bwtree_delete(seat.tree.handle, C.uint32_t(seat.number), unsafe.Pointer(&k[0]), C.size_t(len(key)), &old)
+	return seat.shown(status, &old, C.BWTREE_OK)
+}
+
+// Swap gives a key the value where it has the expected one, and says whether it had; else found is the value that the key has, nil where it has none.
+func (seat *Seat) Swap(key, expected, value []byte) (swapped bool, found []byte, err error) {
+	var old C.bwtree_bytes
+	k := some(key)
+	e := some(expected)
+	v := some(value)
+	status := C.bwtree_swap(seat.tree.handle, C.uint32_t(seat.number), unsafe.Pointer(&k[0]), C.size_t(len(key)),
+		unsafe.Pointer(&e[0]), C.size_t(len(expected)), unsafe.Pointer(&v[0]), C.size_t(len(value)), &old)
+	status, err = seat.done(status, &old)
+	if err == nil && status == C.BWTREE_DIFFERS {
+		found = taken(&old)
+	}
+	return err == nil && status == C.BWTREE_OK, found, err
+}
+
+// Tidy does what upkeep is due at the leaf of a key; no value changes.
+func (seat *Seat) Tidy(key []byte) error {
+	var old C.bwtree_bytes
+	k := some(key)
+	_, err := seat.done(C.bwtree_tidy(seat.tree.handle, C.uint32_t(seat.number), unsafe.Pointer(&k[0]), C.size_t(len(key))), &old)
+	return err
+}
+
+// Page is the pairs of one leaf from a key on, keys ascending, and where the next page begins, if there is more. A page may be empty and have more after it.
+func (seat *Seat) Page(from []byte) (pairs []Pair, next []byte, more bool, err error) {
+	var page C.bwtree_page_pairs
+	var old C.bwtree_bytes
+	k := some(from)
+	status := C.bwtree_page(seat.tree.handle, C.uint32_t(seat.number), unsafe.Pointer(&k[0]), C.size_t(len(from)), &page)
+	for status == C.BWTREE_SPENT {
+		status = C.bwtree_resume(seat.tree.handle, C.uint32_t(seat.number), steps, &old, &page)
+	}
+	runtime.KeepAlive(seat.tree)
+	if err := settled(status); err != nil {
+		return nil, nil, false, err
+	}
+	for i := range page.pairs[:page.count] {
+		pairs = append(pairs, Pair{taken(&page.pairs[i].key), taken(&page.pairs[i].value)})
+	}
+	if page.more != 0 {
+		next = taken(&page.next)
+	}
+	return pairs, next, page.more != 0, nil
+}
+
+// Walk calls each for the pairs from a key on, keys ascending, until it answers false. What is there throughout is shown, and what never is there isn't.
+func (seat *Seat) Walk(from []byte, each func(key, value []byte) bool) error {
+	for more := true; more; {
+		var pairs []Pair
+		var err error
+		if pairs, from, more, err = seat.Page(from); err != nil {
+			return err
+		}
+		for _, pair := range pairs {
+			if !each(pair.Key, pair.Value) {
+				return nil
+			}
+		}
+	}
+	return nil
+}
+
+// Room says how many pages and records are free.
+func (seat *Seat) Room() (Room, error) {
+	var room C.bwtree_room
+	err := settled(C.bwtree_free_room(seat.tree.handle, C.uint32_t(seat.number), &room))
+	runtime.KeepAlive(seat.tree)
+	return Room{uint64(room.free_pids), uint64(room.free_rows)}, err
+}

@@ -1,0 +1,143 @@
+package bwtree
+
+import (
+	"bytes"
+	"errors"
+	"fmt"
+	"sync"
+	"testing"
+)
+
+func opened(t *testing.T, seats, keys uint64) *Tree {
+	t.Helper()
+	limits, err := LimitsForKeys(seats, keys)
+	if err != nil {
+		t.Fatal(err)
+	}
+	tree, err := Open(limits)
+	if err != nil {
+		t.Fatal(err)
+	}
+	return tree
+}
+
+// is fails where an answer with a value isn't the wanted one; nil wants none.
+func is(t *testing.T, wanted []byte, got []byte, found bool, err error) {
+	t.Helper()
+	if err != nil || found != (wanted != nil) || !bytes.Equal(got, wanted) {
+		t.Fatalf("%q %v %v, not %q", got, found, err, wanted)
+	}
+}
+
+func TestAnswers(t *testing.T) {
+	tree := opened(t, 2, 100)
+	seat, other := tree.Seat(), tree.Seat()
+	a, x, y := []byte("a"), []byte("x"), []byte("y")
+	answer := func(wanted []byte) func([]byte, bool, error) {
+		return func(got []byte, found bool, err error) { t.Helper(); is(t, wanted, got, found, err) }
+	}
+	answer(nil)(seat.Get(a))
+	answer(nil)(seat.Insert(a, x))
+	answer(x)(other.Insert(a, y))
+	answer(x)(seat.Upsert(a, y))
+	answer(nil)(seat.Upsert(nil, nil))
+	answer([]byte{})(other.Get(nil))
+	if swapped, found, err := seat.Swap(a, x, y); swapped || !bytes.Equal(found, y) || err != nil {
+		t.Fatal(swapped, found, err)
+	}
+	if swapped, found, err := seat.Swap(a, y, x); !swapped || found != nil || err != nil {
+		t.Fatal(swapped, found, err)
+	}
+	if swapped, found, err := seat.Swap([]byte("b"), y, x); swapped || found != nil || err != nil {
+		t.Fatal(swapped, found, err)
+	}
+	if err := seat.Tidy(a); err != nil {
+		t.Fatal(err)
+	}
+	if room, err := seat.Room(); err != nil || room.FreeRows == 0 {
+		t.Fatal(room, err)
+	}
+	answer(x)(other.Delete(a))
+	answer(nil)(other.Delete(a))
+	if _, _, err := seat.Get(make([]byte, 65)); !errors.Is(err, TooLong) {
+		t.Fatal(err)
+	}
+	if _, _, err := seat.Upsert(a, make([]byte, 65)); !errors.Is(err, TooLong) {
+		t.Fatal(err)
+	}
+	if err := seat.Walk(make([]byte, 65), nil); !errors.Is(err, TooLong) {
+		t.Fatal(err)
+	}
+}
+
+func TestLimits(t *testing.T) {
+	if _, err := LimitsForKeys(17, 1); !errors.Is(err, BadLimits) {
+		t.Fatal(err)
+	}
+	if _, err := Open(Limits{1, 63, 64}); !errors.Is(err, BadLimits) {
+		t.Fatal(err)
+	}
+}
+
+func TestLeases(t *testing.T) {
+	tree := opened(t, 1, 100)
+	seat := tree.Seat()
+	if tree.TrySeat() != nil || !errors.Is(tree.Close(), Busy) {
+		t.Fatal("a seat is lent")
+	}
+	seat.Release()
+	seat.Release()
+	if err := tree.Close(); err != nil {
+		t.Fatal(err)
+	}
+	if _, _, err := tree.Seat().Get(nil); !errors.Is(err, Closed) {
+		t.Fatal(err)
+	}
+}
+
+func TestFull(t *testing.T) {
+	tree, err := Open(Limits{1, 64, 64})
+	if err != nil {
+		t.Fatal(err)
+	}
+	seat := tree.Seat()
+	for i := 0; i < 100000 && err == nil; i++ {
+		_, _, err = seat.Insert([]byte(fmt.Sprint(i)), nil)
+	}
+	if !errors.Is(err, Full) {
+		t.Fatal(err)
+	}
+}
+
+func TestGoroutines(t *testing.T) {
+	tree := opened(t, 4, 6*300)
+	var all sync.WaitGroup
+	for g := 0; g < 6; g++ {
+		all.Add(1)
+		go func(g int) {
+			defer all.Done()
+			seat := tree.Seat()
+			defer seat.Release()
+			for i := 0; i < 900; i++ {
+				old, found, err := seat.Upsert([]byte(fmt.Sprintf("%d/%04d", g, i%300)), []byte(fmt.Sprint(i)))
+				if err != nil || found != (i >= 300) || (found && string(old) != fmt.Sprint(i-300)) {
+					t.Errorf("%d %d: %s %v %v", g, i, old, found, err)
+					return
+				}
+			}
+		}(g)
+	}
+	all.Wait()
+	seat, count, last := tree.Seat(), 0, ""
+	err := seat.Walk(nil, func(key, _ []byte) bool {
+		if string(key) <= last {
+			t.Errorf("%s after %s", key, last)
+		}
+		last = string(key)
+		count++
+		return true
+	})
+	if err != nil || count != 1800 {
+		t.Fatal(count, err)
+	}
+}

@@ -1,0 +1,3 @@
+module bwtree
+
+go 1.19
