@@ -68,36 +68,47 @@ public:
 
     // The value of a key.
     std::optional<std::string> get(std::string_view key) {
-        return shown(bwtree_get(handle(), number_, key.data(), key.size(), &old_), BWTREE_OK);
+        bwtree_bytes value;
+        return shown(bwtree_get(handle(), number_, key.data(), key.size(), &value), value, BWTREE_OK);
     }
     // Gives a key a value where it has none: the value that it has, if it has one.
     std::optional<std::string> insert(std::string_view key, std::string_view value) {
-        return shown(bwtree_insert(handle(), number_, key.data(), key.size(), value.data(), value.size(), &old_), BWTREE_EXISTS);
+        bwtree_bytes old;
+        return shown(bwtree_insert(handle(), number_, key.data(), key.size(), value.data(), value.size(), &old), old, BWTREE_EXISTS);
     }
     // Gives a key a value: the one that it had before, if it had one.
     std::optional<std::string> upsert(std::string_view key, std::string_view value) {
-        return shown(bwtree_upsert(handle(), number_, key.data(), key.size(), value.data(), value.size(), &old_), BWTREE_REPLACED);
+        bwtree_bytes old;
+        return shown(bwtree_upsert(handle(), number_, key.data(), key.size(), value.data(), value.size(), &old), old, BWTREE_REPLACED);
     }
     // Makes a key absent: the value that it had.
     std::optional<std::string> erase(std::string_view key) {
-        return shown(bwtree_delete(handle(), number_, key.data(), key.size(), &old_), BWTREE_OK);
+        bwtree_bytes old;
+        return shown(bwtree_delete(handle(), number_, key.data(), key.size(), &old), old, BWTREE_OK);
     }
     // Gives a key the value where it has the expected one.
     swapped swap(std::string_view key, std::string_view expected, std::string_view value) {
-        uint32_t status = done(bwtree_swap(handle(), number_, key.data(), key.size(), expected.data(), expected.size(), value.data(), value.size(), &old_));
-        if (status == BWTREE_DIFFERS) return {false, std::string(text(old_))};
+        bwtree_bytes old;
+        uint32_t status =
+            bwtree_swap(handle(), number_, key.data(), key.size(), expected.data(), expected.size(), value.data(), value.size(), &old);
+        status = done(status, old);
+        if (status == BWTREE_DIFFERS) return {false, std::string(text(old))};
         return {status == BWTREE_OK, std::nullopt};
     }
     // Does what upkeep is due at the leaf of a key.
-    void tidy(std::string_view key) { done(bwtree_tidy(handle(), number_, key.data(), key.size())); }
+    void tidy(std::string_view key) {
+        bwtree_bytes old;
+        done(bwtree_tidy(handle(), number_, key.data(), key.size()), old);
+    }
 
     // Calls each(key, value) for the pairs from a key on, keys ascending, until it answers false. Other threads may change the tree meanwhile: what
     // is there throughout is shown, and what never is there isn't. Its arguments last as long as the call.
     template <class Each> void walk(std::string_view from, Each each) {
         auto page = std::make_unique<bwtree_page_pairs>();
         std::string next(from);
+        bwtree_bytes old;
         do {
-            done(bwtree_page(handle(), number_, next.data(), next.size(), page.get()), page.get());
+            done(bwtree_page(handle(), number_, next.data(), next.size(), page.get()), old, page.get());
             for (uint64_t i = 0; i < page->count; i++)
                 if (!each(text(page->pairs[i].key), text(page->pairs[i].value))) return;
             if (page->more) next = text(page->next);
@@ -123,21 +134,21 @@ private:
     static std::string_view text(const bwtree_bytes &bytes) { return {reinterpret_cast<const char *>(bytes.bytes), size_t(bytes.length)}; }
 
     // Resumes an operation until it is done, and throws what is no ordinary answer.
-    uint32_t done(uint32_t status, bwtree_page_pairs *page = nullptr) {
+    uint32_t done(uint32_t status, bwtree_bytes &old, bwtree_page_pairs *page = nullptr) {
         std::unique_ptr<bwtree_page_pairs> own;
         if (status == BWTREE_SPENT && !page) own = std::make_unique<bwtree_page_pairs>(), page = own.get();
-        while (status == BWTREE_SPENT) status = bwtree_resume(handle(), number_, 1 << 16, &old_, page);
+        while (status == BWTREE_SPENT) status = bwtree_resume(handle(), number_, 1 << 16, &old, page);
         if (status >= BWTREE_FULL) throw error(status);
         return status;
     }
-    std::optional<std::string> shown(uint32_t status, uint32_t with_value) {
-        if (done(status) != with_value) return std::nullopt;
-        return std::string(text(old_));
+    // The value that goes with one of the statuses.
+    std::optional<std::string> shown(uint32_t status, bwtree_bytes &old, uint32_t with_value) {
+        if (done(status, old) != with_value) return std::nullopt;
+        return std::string(text(old));
     }
 
     std::shared_ptr<detail::shared> shared_;
     uint32_t number_;
-    bwtree_bytes old_;
 };
 
 class tree {

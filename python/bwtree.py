@@ -183,7 +183,6 @@ class Seat(MutableMapping[bytes, bytes]):
     def __init__(self, tree: Tree, number: int):
         self._tree: Optional[Tree] = tree
         self._number = number
-        self._old = _Bytes()
 
     def _handle(self) -> "ctypes._Pointer[_Tree]":
         if self._tree is None:
@@ -195,7 +194,7 @@ class Seat(MutableMapping[bytes, bytes]):
         words: list[Union[bytes, int]] = []
         for text in texts:
             words += [bytes(text), len(text)]
-        handle, old = self._handle(), self._old
+        handle, old = self._handle(), _Bytes()
         more = () if name == "tidy" else (ctypes.byref(old),)
         status = getattr(_library, "bwtree_raw_" + name)(handle, self._number, *words, *more)
         if status == _SPENT:
@@ -206,10 +205,10 @@ class Seat(MutableMapping[bytes, bytes]):
 
     def _page(self, start: bytes) -> tuple[list[tuple[bytes, bytes]], Optional[bytes]]:
         """The pairs of a page, and the key from which the next one goes on, if there is more."""
-        handle, page = self._handle(), _Page()
+        handle, page, old = self._handle(), _Page(), _Bytes()
         status = _library.bwtree_raw_page(handle, self._number, bytes(start), len(start), ctypes.byref(page))
         while status == _SPENT:
-            status = _library.bwtree_raw_resume(handle, self._number, _STEPS, ctypes.byref(self._old), ctypes.byref(page))
+            status = _library.bwtree_raw_resume(handle, self._number, _STEPS, ctypes.byref(old), ctypes.byref(page))
         _must(status)
         pairs = [(pair.key.taken(), pair.value.taken()) for pair in page.pairs[: page.count]]
         return pairs, page.next.taken() if page.more else None

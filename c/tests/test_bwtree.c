@@ -9,6 +9,16 @@
 #define CHECK(x) do { if (!(x)) { fprintf(stderr, "%s:%d: %s\n", __FILE__, __LINE__, #x); exit(1); } } while (0)
 #define THREADS 4
 #define KEYS 400
+#define STACK (512 * 1024)
+
+/* A sanitizer's own records want room on a thread's stack, too. */
+#if defined(__SANITIZE_ADDRESS__) || defined(__SANITIZE_THREAD__)
+#define SANITIZED 1
+#elif defined(__has_feature)
+#if __has_feature(address_sanitizer) || __has_feature(thread_sanitizer)
+#define SANITIZED 1
+#endif
+#endif
 
 static int operations = 10000;
 static char long_text[65];
@@ -332,12 +342,17 @@ static void threads(void) {
     bwtree_bytes old;
     uint64_t zero = 0, count, raised = 0;
     pthread_t ids[THREADS];
+    pthread_attr_t attributes;
+    CHECK(pthread_attr_init(&attributes) == 0);
+#ifndef SANITIZED
+    CHECK(pthread_attr_setstacksize(&attributes, STACK) == 0);
+#endif
     CHECK(bwtree_limits_for_keys(THREADS, THREADS * KEYS + 1, &limits) == BWTREE_OK && bwtree_open(&limits, &tree) == BWTREE_OK);
     CHECK(bwtree_insert(&tree, 0, "counter", 7, &zero, 8, &old) == BWTREE_OK);
     for (uint32_t i = 0; i < THREADS; i++) {
         owns[i].tree = &tree, owns[i].seat = i;
         memset(owns[i].known, -1, sizeof owns[i].known);
-        CHECK(pthread_create(&ids[i], NULL, work, &owns[i]) == 0);
+        CHECK(pthread_create(&ids[i], &attributes, work, &owns[i]) == 0);
     }
     for (int i = 0; i < THREADS; i++) {
         CHECK(pthread_join(ids[i], NULL) == 0);

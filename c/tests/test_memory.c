@@ -1,0 +1,84 @@
+/* Tests of what the library takes of memory: each growth that an opening asks for is refused in turn, which is answered, and leaves nothing; no other
+ * call takes any; and what a closed tree leaves is a few bytes. Link it with -Wl,--wrap=malloc,--wrap=realloc,--wrap=free. */
+#include "bwtree.h"
+#include <stdio.h>
+#include <stdlib.h>
+#include <string.h>
+
+#define CHECK(x) do { if (!(x)) { fprintf(stderr, "%s:%d: %s\n", __FILE__, __LINE__, #x); exit(1); } } while (0)
+
+void *__real_malloc(size_t size);
+void *__real_realloc(void *old, size_t size);
+void __real_free(void *old);
+void *__wrap_malloc(size_t size);
+void *__wrap_realloc(void *old, size_t size);
+void __wrap_free(void *old);
+
+/* How many growths there were, which one is refused, and how many blocks are held. */
+static long growths, refused, held;
+
+static int refuses(void) { return ++growths == refused; }
+
+void *__wrap_malloc(size_t size) {
+    void *block = refuses() ? NULL : __real_malloc(size);
+    held += block != NULL;
+    return block;
+}
+
+void *__wrap_realloc(void *old, size_t size) {
+    void *block = refuses() ? NULL : __real_realloc(old, size);
+    held += block != NULL && old == NULL;
+    return block;
+}
+
+void __wrap_free(void *old) {
+    held -= old != NULL;
+    __real_free(old);
+}
+
+/* Some calls of each kind. */
+static void call(const bwtree *tree) {
+    static bwtree_page_pairs page;
+    bwtree_bytes old;
+    bwtree_room room;
+    char key[16];
+    for (unsigned i = 0; i < 2000; i++) {
+        size_t length = (size_t)snprintf(key, sizeof key, "%u", i % 150);
+        uint32_t seat = i % 2;
+        CHECK(bwtree_upsert(tree, seat, key, length, key, length, &old) <= BWTREE_REPLACED);
+        CHECK(bwtree_get(tree, seat, key, length, &old) == BWTREE_OK);
+        CHECK(bwtree_swap(tree, seat, key, length, "x", 1, "y", 1, &old) == BWTREE_DIFFERS);
+        if (i % 3 == 0) CHECK(bwtree_delete(tree, seat, key, length, &old) == BWTREE_OK);
+        if (i % 5 == 0) CHECK(bwtree_insert(tree, seat, key, length, key, length, &old) <= BWTREE_EXISTS);
+        CHECK(bwtree_tidy(tree, seat, key, length) == BWTREE_OK);
+        CHECK(bwtree_page(tree, seat, key, length, &page) == BWTREE_OK);
+    }
+    CHECK(bwtree_is_idle(tree, 0) == BWTREE_OK && bwtree_free_room(tree, 1, &room) == BWTREE_OK);
+    CHECK(bwtree_resume(tree, 0, 1, &old, &page) == BWTREE_IDLE);
+}
+
+int main(void) {
+    static bwtree tree, none;
+    bwtree_limits limits;
+    CHECK(bwtree_limits_for_keys(2, 200, &limits) == BWTREE_OK && growths == 0);
+    uint32_t status;
+    for (refused = 1;; refused++) {
+        growths = 0;
+        status = bwtree_open(&limits, &tree);
+        if (status == BWTREE_OK) break;
+        CHECK(status == BWTREE_NO_MEMORY && held == 0 && !memcmp(&tree, &none, sizeof tree));
+        CHECK(bwtree_is_idle(&tree, 0) == BWTREE_CLOSED);
+    }
+    CHECK(growths == refused - 1);
+    call(&tree);
+    CHECK(growths == refused - 1);
+    CHECK(bwtree_close(&tree) == BWTREE_OK);
+    long left = held;
+    CHECK(bwtree_is_idle(&tree, 0) == BWTREE_CLOSED);
+    /* each opening leaves as much */
+    refused = 0;
+    for (int i = 0; i < 5; i++) CHECK(bwtree_open(&limits, &tree) == BWTREE_OK && bwtree_close(&tree) == BWTREE_OK);
+    CHECK(held == 6 * left && left <= 4);
+    fprintf(stderr, "%ld growths, a closed tree leaves %ld blocks\n", growths, left);
+    return 0;
+}
