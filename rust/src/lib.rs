@@ -29,6 +29,7 @@ pub const MAX_LENGTH: usize = 64;
 const STEPS: u32 = 1 << 16;
 
 /// Why nothing was done.
+#[non_exhaustive]
 #[derive(Clone, Copy, Debug, PartialEq, Eq)]
 pub enum Error {
     /// A key or a value has more than 64 bytes.
