@@ -23,4 +23,5 @@ pub record HasRunProgram (settings : Settings) (in_old in_new : Option (List ℕ
   pub pids : limits.pids ≡ settings.pids
   pub rows : limits.rows ≡ settings.rows
   pub epoch : limits.epoch ≡ settings.epoch
+  pub kind : limits.is_large ≡ settings.is_large
   pub runs : IsProgramRun settings.program limits in_old in_new read_failed out_old out_new write_failed status

@@ -1,7 +1,7 @@
 //! A run of the program: from the words of a command line to an exit status.
 
 ghost use Rattle.std.specs.Prelude.{◌≡◌, ◌⊎◌};
-ghost use Rattle.tree_limits.specs.Limits.{AreLimits};
+ghost use Rattle.shell_options.specs.Words.{MayOpen};
 
 use crate::programs::run_settings;
 use bw_shell::Refusal;
@@ -64,8 +64,8 @@ fn refuse(rt: &HostRuntime, error: OptionsError) -> u8 {
 /// Runs a program from standard input to standard output, and answers the status: 2 exactly where the limits aren't allowed. A race's
 /// threads are those of `threads`.
 fn started<R: Threads + Wait + Sync>(rt: &HostRuntime, threads: &R, settings: Settings) -> u8
-    ensures allowed { AreLimits settings.actors settings.pids settings.rows settings.epoch → (result ≡ 0) ⊎ (result ≡ 1) }
-    ensures refused { (AreLimits settings.actors settings.pids settings.rows settings.epoch → ⊥) → result ≡ 2 }
+    ensures allowed { MayOpen settings → (result ≡ 0) ⊎ (result ≡ 1) }
+    ensures refused { (MayOpen settings → ⊥) → result ≡ 2 }
 {
     let mut input = Reader::new(rt.reader());
     let mut output = Writer::new(io::writer(rt));

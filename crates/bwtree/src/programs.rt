@@ -1,7 +1,7 @@
 //! The four programs, over any input and output.
 
 ghost use Rattle.std.specs.Prelude.{◌≡◌, ◌≤◌, ◌^◌, ◌↔◌, [], IfSome, IsSome, None, false};
-ghost use Rattle.tree_limits.specs.Limits.{AreLimits};
+ghost use Rattle.shell_options.specs.Words.{MayOpen};
 ghost use Rattle.bwtree.specs.Runs.{HasRunProgram, IsProgramRun};
 
 use bw_model::Limits;
@@ -27,7 +27,7 @@ pub(crate) fn run_settings<R: Threads + Wait + Sync, I: Input, O: Output>(
     requires bounded { I.reads_left input.old ≤ 2 ^ 31 }
     requires sound_out { (O.state out.old).failed ≡ false }
     requires fresh { (O.state out.old).held ≡ [] }
-    ensures some { IsSome result ↔ AreLimits settings.actors settings.pids settings.rows settings.epoch }
+    ensures some { IsSome result ↔ MayOpen settings }
     ensures runs { IfSome result (HasRunProgram settings (I.remaining input.old) (I.remaining input.new) (I.failed input.new)
         (O.state out.old).contents (O.state out.new).contents (O.state out.new).failed) }
     ensures none { result ≡ None → (I.remaining input.new ≡ I.remaining input.old) × (O.state out.new ≡ O.state out.old) }

@@ -1,5 +1,5 @@
 -- What a number that was read says of the words.
-use Rattle.std.proofs.Common.{◌≡◌, ℕ, List, [], Option, Some, None, Result, Ok, Err, sym, refl, ap, ◌∙◌, subst, true, MatchOption, IfOk, Box}
+use Rattle.std.proofs.Common.{◌≡◌, ℕ, Bool, List, [], Option, Some, None, Result, Ok, Err, sym, refl, ap, ◌∙◌, subst, codes, false, true, MatchBool, MatchOption, IfOk, Box}
 use Rattle.std.specs.Prelude.{option_map}
 use Rattle.std.specs.Option.{option_map_or}
 use Rattle.std.specs.Str.Parse.{digits_value, without_leading_plus}
@@ -16,7 +16,7 @@ use Rattle.clap.specs.declared.parser.matches.SubCommand.{SubCommand}
 use Rattle.shell_options.specs.declared.words.OptionsError.{OptionsError}
 use Rattle.shell_options.specs.declared.words.Program.{Program}
 use Rattle.shell_options.specs.declared.words.Settings.{Settings}
-use Rattle.shell_options.specs.Words.{bwtree_app, name_of, AreTaken, HasNumbers, IsNamedBy, SpellsOr}
+use Rattle.shell_options.specs.Words.{bwtree_app, name_of, AreTaken, HasNumbers, IsNamedBy, SpellsFlag, SpellsOr}
 
 abbrev pub Reads : ℕ → ℕ → Option Text → Type 0
 Reads default n o = MatchOption o (n ≡ default) (λ text. digits_value 10 (without_leading_plus text) ≡ n)
@@ -31,6 +31,23 @@ reads_given default n (Some t) none some = sym (some t refl)
 pub reads_default : (default : ℕ) (o : Option Text) → ((t : Text) → o ≡ Some t → ⊥) → Reads default default o
 reads_default default None some = refl
 reads_default default (Some t) some = absurd (some t refl)
+
+abbrev pub IsFlagWord : Bool → Text → Type 0
+IsFlagWord is_there text = MatchBool is_there (text ≡ codes "true") (text ≡ codes "false")
+
+abbrev pub ReadsFlag : Bool → Option Text → Type 0
+ReadsFlag is_there o = MatchOption o (is_there ≡ false) (IsFlagWord is_there)
+
+pub spells_flag : (found : Found) (id : Text) (is_there : Bool) → ReadsFlag is_there (one_text found id) → SpellsFlag (rows_of found) id is_there
+spells_flag found id is_there r = subst (ReadsFlag is_there) (one_text-rows found id) r
+
+pub reads_flag : (is_there : Bool) (o : Option Text) → (o ≡ None → ⊥) → ((t : Text) → o ≡ Some t → IsFlagWord is_there t) → ReadsFlag is_there o
+reads_flag is_there None none some = absurd (none refl)
+reads_flag is_there (Some t) none some = some t refl
+
+pub reads_no_flag : (o : Option Text) → ((t : Text) → o ≡ Some t → ⊥) → ReadsFlag false o
+reads_no_flag None some = refl
+reads_no_flag (Some t) some = absurd (some t refl)
 
 pub is_simple-bwtree_app : is_simple bwtree_app ≡ true
 unfolding clap_on_literals

@@ -1,5 +1,5 @@
 -- what the words of a command line mean, by clap's own words
-use Rattle.std.specs.Prelude.{◌≡◌, ℕ, List, [], IfOk, Option, Result, Some, false, true, MatchOption, codes, option_map}
+use Rattle.std.specs.Prelude.{◌≡◌, ℕ, Bool, List, [], IfOk, Option, Result, Some, false, true, MatchBool, MatchOption, codes, option_map}
 use Rattle.std.specs.Option.{option_map_or}
 use Rattle.std.specs.Str.Parse.{digits_value, without_leading_plus}
 use Rattle.clap.specs.Words.{IsAmong, app_of, fault_of, kind_of, App, Row, Rule, Text, new_app, new_rule, one_of, subcommand_of, takes, with_rule, with_subcommand}
@@ -8,7 +8,9 @@ use Rattle.clap.specs.declared.builder.command.Command.{Command}
 use Rattle.clap.specs.declared.builder.command.Command.TheViews.{out-Command as fields_of}
 use Rattle.clap.specs.declared.parser.matches.ArgMatches.{ArgMatches}
 use Rattle.clap.specs.declared.parser.matches.ArgMatches.TheViews.{out-ArgMatches}
+use Rattle.clap.specs.declared.builder.action.ArgAction.TheVariants as action
 use Rattle.clap.specs.declared.builder.value_parser.ValueParser.TheVariants as vp
+use Rattle.tree_limits.specs.Limits.{AreLargeLimits, AreLimits}
 use Rattle.shell_options.specs.declared.words.Program.{Program}
 use Rattle.shell_options.specs.declared.words.Program.TheVariants.{Script, Weave, Draw, Race}
 use Rattle.shell_options.specs.declared.words.Settings.{Settings}
@@ -19,9 +21,15 @@ use Rattle.shell_options.specs.declared.words.OptionsError.TheVariants.{Clap, Me
 abbrev pub number_rule : Text → Rule
 number_rule id = record (new_rule id) { long = Some id; parser = Some (vp.Unsigned 0 18446744073709551615) }
 
+-- an option without a value
+abbrev pub flag_rule : Text → Rule
+flag_rule id = record (new_rule id) { long = Some id; action = Some action.SetTrue }
+
 -- the options of the limits, but for the number of actors
 abbrev pub limits_rules : App → App
-limits_rules app = with_rule (with_rule (with_rule app (number_rule (codes "pids"))) (number_rule (codes "rows"))) (number_rule (codes "epoch"))
+limits_rules app =
+    let numbers = with_rule (with_rule app (number_rule (codes "pids"))) (number_rule (codes "rows")) in
+    with_rule (with_rule numbers (flag_rule (codes "large"))) (number_rule (codes "epoch"))
 
 abbrev pub script_app : App
 script_app = limits_rules (new_app (codes "script"))
@@ -51,6 +59,11 @@ abbrev pub SpellsOr : List Row → Text → ℕ → ℕ → Type 0
 SpellsOr rows id default n =
     MatchOption (one_of id rows) (n ≡ default) (λ text. digits_value 10 (without_leading_plus text) ≡ n)
 
+-- The flag is there, or it isn't: the word that is read of it is `true` or `false`, or there is none and it isn't.
+abbrev pub SpellsFlag : List Row → Text → Bool → Type 0
+SpellsFlag rows id is_there =
+    MatchOption (one_of id rows) (is_there ≡ false) (λ text. MatchBool is_there (text ≡ codes "true") (text ≡ codes "false"))
+
 -- the number of actors: a script has one, and a race one for each seat
 abbrev pub HasActors : Program → List Row → ℕ → Type 0
 HasActors Script rows n = n ≡ 1
@@ -76,7 +89,13 @@ pub record HasNumbers (rows_read : List Row) (line : Settings) : Type 0 where
   pub actors : HasActors line.program rows_read line.actors
   pub pids : SpellsOr rows_read (codes "pids") (default_pids_of line.program) line.pids
   pub rows : SpellsOr rows_read (codes "rows") (default_rows_of line.program) line.rows
+  pub is_large : SpellsFlag rows_read (codes "large") line.is_large
   pub epoch : SpellsOr rows_read (codes "epoch") 1 line.epoch
+
+-- A tree may be opened with these numbers: they are those of a large tree, or limits of any other.
+abbrev pub MayOpen : Settings → Type 0
+MayOpen line =
+    MatchBool line.is_large (AreLargeLimits line.actors line.pids line.rows line.epoch) (AreLimits line.actors line.pids line.rows line.epoch)
 
 -- a program's name
 abbrev pub name_of : Program → Text

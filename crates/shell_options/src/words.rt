@@ -1,13 +1,12 @@
 //! The command line's words.
 
 ghost use Rattle.std.specs.Prelude.{◌≡◌, ◌↔◌, IfErr, IfOk, IfSome, IsOk, map, false};
-ghost use Rattle.tree_limits.specs.Limits.{AreLimits};
 ghost use Rattle.std.specs.String.{string_bytes};
 ghost use Rattle.clap.specs.Words.{App, found_of, new_app, rows_of, rule_of, with_rule, with_subcommand};
-ghost use Rattle.shell_options.specs.Words.{number_rule, limits_rules, actors_app, draw_app, script_app, weave_app, race_app, bwtree_app, SpellsOr, HasActors, HasNumbers, IsApp, MakesApp, default_pids_of, default_rows_of, told_by, HasNoFault, IsSpelled, IsNamedBy, MayRefuse};
+ghost use Rattle.shell_options.specs.Words.{flag_rule, number_rule, limits_rules, actors_app, draw_app, script_app, weave_app, race_app, bwtree_app, SpellsFlag, SpellsOr, HasActors, HasNumbers, IsApp, MakesApp, default_pids_of, default_rows_of, told_by, HasNoFault, IsSpelled, IsNamedBy, MayRefuse, MayOpen};
 
 use clap::error::ErrorKind;
-use clap::{Arg, ArgMatches, Command, Error, value_parser};
+use clap::{Arg, ArgAction, ArgMatches, Command, Error, value_parser};
 use std::alloc::{AllocError, Global};
 use tree_limits::{BadLimits, Limits};
 
@@ -31,19 +30,26 @@ pub struct Settings {
     pub actors: u64,
     pub pids: u64,
     pub rows: u64,
+    /// Whether the limits are those of a large tree.
+    pub is_large: bool,
     pub epoch: u64,
 }
 
 impl Settings {
-    /// The limits of these numbers, refused exactly where one is outside its range.
+    /// The limits of these numbers, of a large tree where they are said to be, refused exactly where one is outside its range.
     pub fn limits(&self) -> Result<Limits, BadLimits>
-        ensures allowed { IsOk result ↔ AreLimits self.now.actors self.now.pids self.now.rows self.now.epoch }
+        ensures allowed { IsOk result ↔ MayOpen self.now }
         ensures actors { IfOk result (λ limits. limits.actors ≡ self.now.actors) }
         ensures pids { IfOk result (λ limits. limits.pids ≡ self.now.pids) }
         ensures rows { IfOk result (λ limits. limits.rows ≡ self.now.rows) }
         ensures epoch { IfOk result (λ limits. limits.epoch ≡ self.now.epoch) }
+        ensures kind { IfOk result (λ limits. limits.is_large ≡ self.now.is_large) }
     {
-        Limits::new(self.actors, self.pids, self.rows, self.epoch)
+        if self.is_large {
+            Limits::large(self.actors, self.pids, self.rows, self.epoch)
+        } else {
+            Limits::new(self.actors, self.pids, self.rows, self.epoch)
+        }
     }
 }
 
@@ -88,6 +94,26 @@ fn with_number<'a>(
     command?.arg(number(alloc, name, help))
 }
 
+// A flag: an option without a value.
+fn flag<'a>(alloc: Global, name: &'a str) -> Arg<'a>
+    ensures rule { rule_of result ≡ flag_rule name.entry.now }
+    ensures local { result.global ≡ false }
+{
+    Arg::new(alloc, name).long(name).action(ArgAction::SetTrue)
+}
+
+// The command with one flag more, if there is a command.
+fn with_flag<'a>(
+    alloc: Global,
+    command: Result<Command<'a>, AllocError>,
+    name: &'a str,
+    help: &'a str,
+) -> Result<Command<'a>, AllocError>
+    ensures { (app : App) → MakesApp app command.entry → MakesApp (with_rule app (flag_rule name.entry.now)) result }
+{
+    command?.arg(flag(alloc, name).help(help))
+}
+
 // A program's words: a command with the options of its limits, but for the number of actors.
 fn with_limits<'a>(
     alloc: Global,
@@ -99,6 +125,9 @@ fn with_limits<'a>(
 {
     let command = with_number(alloc, command, "pids", pids_help);
     let command = with_number(alloc, command, "rows", rows_help);
+    let large_help =
+        "A large tree, with the larger ranges: its pages are consolidated at two deltas in place of eight";
+    let command = with_flag(alloc, command, "large", large_help);
     let epoch_help = "The opening epoch, 1 to 4611686018427387904 [default: 1]";
     with_number(alloc, command, "epoch", epoch_help)
 }
@@ -113,8 +142,8 @@ fn with_few<'a>(
     with_limits(
         alloc,
         command,
-        "Page identifiers, 64 to 4096, a multiple of 64 [default: 64]",
-        "Rows for records, 64 to 16384, a multiple of 64; below nine a page a map may be full for good [default: 256]",
+        "Page identifiers, 64 to 4096, with --large to 4194304, a multiple of 64 [default: 64]",
+        "Rows for records, 64 to 16384, with --large to 67108864, a multiple of 64; below nine a page, with --large three, a map may be full for good [default: 256]",
     )
 }
 
@@ -192,8 +221,8 @@ fn race_command<'a>(alloc: Global) -> Result<Command<'a>, AllocError>
     with_limits(
         alloc,
         race,
-        "Page identifiers, 64 to 4096, a multiple of 64 [default: 4096]",
-        "Rows for records, 64 to 16384, a multiple of 64; below nine a page a map may be full for good [default: 16384]",
+        "Page identifiers, 64 to 4096, with --large to 4194304, a multiple of 64 [default: 4096]",
+        "Rows for records, 64 to 16384, with --large to 67108864, a multiple of 64; below nine a page, with --large three, a map may be full for good [default: 16384]",
     )
 }
 
@@ -227,6 +256,17 @@ fn chosen(matches: &ArgMatches<'_>, name: &str, default: u64) -> Option<u64>
     match matches.try_get_one::<u64>(name) {
         Ok(Some(number)) => Some(number),
         Ok(None) => Some(default),
+        Err(_) => None,
+    }
+}
+
+// Whether the flag `name` is there.
+fn has_flag(matches: &ArgMatches<'_>, name: &str) -> Option<bool>
+    ensures { IfSome result (SpellsFlag (rows_of (found_of matches.now)) name.now) }
+{
+    match matches.try_get_one::<bool>(name) {
+        Ok(Some(is_there)) => Some(is_there),
+        Ok(None) => Some(false),
         Err(_) => None,
     }
 }
@@ -277,6 +317,9 @@ fn numbers(program: Program, matches: &ArgMatches<'_>) -> Result<Settings, Optio
     let Some(rows) = chosen(matches, "rows", default_rows(program)) else {
         return Err(OptionsError::Memory);
     };
+    let Some(is_large) = has_flag(matches, "large") else {
+        return Err(OptionsError::Memory);
+    };
     let Some(epoch) = chosen(matches, "epoch", 1) else {
         return Err(OptionsError::Memory);
     };
@@ -285,6 +328,7 @@ fn numbers(program: Program, matches: &ArgMatches<'_>) -> Result<Settings, Optio
         actors,
         pids,
         rows,
+        is_large,
         epoch,
     })
 }

@@ -9,6 +9,8 @@ use std::alloc::{AllocError, Global};
 enum Said {
     /// A program with its numbers: actors, PIDs, rows, epoch.
     Numbers(Program, [u64; 4]),
+    /// The same, for a large tree.
+    Large(Program, [u64; 4]),
     /// The same, but one of the numbers isn't allowed.
     BadLimits,
     /// They are refused.
@@ -20,12 +22,14 @@ enum Said {
 
 /// What these settings come to.
 fn said_by(settings: &Settings) -> Said {
-    match settings.limits() {
-        Ok(limits) => Said::Numbers(
-            settings.program,
-            [limits.actors, limits.pids, limits.rows, limits.epoch],
-        ),
-        Err(_) => Said::BadLimits,
+    let Ok(limits) = settings.limits() else {
+        return Said::BadLimits;
+    };
+    let numbers = [limits.actors, limits.pids, limits.rows, limits.epoch];
+    if limits.is_large {
+        Said::Large(settings.program, numbers)
+    } else {
+        Said::Numbers(settings.program, numbers)
     }
 }
 
@@ -109,10 +113,36 @@ const NUMBERS: [(&str, Program, [u64; 4]); 11] = [
     ("race --seats 1", Program::Race, [1, 4096, 16384, 1]),
 ];
 
+/// Lines for large trees, and the numbers of their programs.
+const LARGE: [(&str, Program, [u64; 4]); 5] = [
+    ("weave --large", Program::Weave, [2, 64, 256, 1]),
+    ("draw --large --pids 4160", Program::Draw, [2, 4160, 256, 1]),
+    (
+        "script --rows=16448 --large",
+        Program::Script,
+        [1, 64, 16448, 1],
+    ),
+    (
+        "script --large --pids 4194304 --rows=67108864 --epoch 4611686018427387904",
+        Program::Script,
+        [1, 4194304, 67108864, 1 << 62],
+    ),
+    (
+        "race --rows 64 --large --seats 16",
+        Program::Race,
+        [16, 4096, 64, 1],
+    ),
+];
+
 /// Whether each line comes to its numbers.
 fn all_have_numbers(alloc: Global) -> bool {
     for (line, program, numbers) in NUMBERS {
         if !says(alloc, line, Said::Numbers(program, numbers)) {
+            return false;
+        }
+    }
+    for (line, program, numbers) in LARGE {
+        if !says(alloc, line, Said::Large(program, numbers)) {
             return false;
         }
     }
@@ -124,8 +154,8 @@ fn numbers_of_options(rt: HostRuntime) {
     assert!(rt; all_have_numbers(rt.alloc()));
 }
 
-/// Numbers that are none of 64 bits, words that are none, and options that stand twice.
-const REFUSED: [&str; 21] = [
+/// Numbers that are none of 64 bits, words that are none, a flag with a value, and options that stand twice.
+const REFUSED: [&str; 26] = [
     "weave --rows x",
     "weave --rows -1",
     "weave --rows 64.0",
@@ -147,10 +177,15 @@ const REFUSED: [&str; 21] = [
     "race --seats -1",
     "weave --seats 2",
     "race --seats 2 --seats 2",
+    "script --large 1",
+    "weave --large=true",
+    "race --large=",
+    "draw --large --large",
+    "--large script",
 ];
 
 /// Numbers outside their ranges.
-const BAD_LIMITS: [&str; 19] = [
+const BAD_LIMITS: [&str; 24] = [
     "weave --actors 0",
     "weave --actors 17",
     "weave --actors 18446744073709551615",
@@ -170,6 +205,11 @@ const BAD_LIMITS: [&str; 19] = [
     "race --pids 0",
     "race --pids 63",
     "race --pids 4160",
+    "script --large --pids 4194368",
+    "weave --large --rows 67108928",
+    "draw --pids 4161 --large",
+    "race --rows 0 --large",
+    "race --large --seats 17",
 ];
 
 /// Words that ask for help.
