@@ -6,7 +6,7 @@ use crate::by_hand::{let_go, replies};
 use crate::numbered::{key, value};
 use crate::plain_map::{ABSENT, VALUES};
 use crate::schedules::{Asked, KINDS, Kind, Mix, Schedule, Twin, agrees, asks, steps};
-use crate::scripts::opened;
+use crate::scripts::Size;
 use crate::tally::Tally;
 use bw_model::{Command, Reply};
 use rand_core::SeedableRng;
@@ -50,7 +50,7 @@ fn is_filled(core: &mut Core, twin: &mut Twin, end: u32) -> bool {
 
 /// How many pages of each level go while four actors delete most of the keys in a seeded order; none where anything is wrong, also with rows
 /// or PIDs.
-fn removed(alloc: Global, end: u32, (pids, rows): (u64, u64)) -> Option<[u32; 5]> {
+fn removed(alloc: Global, end: u32, size: Size) -> Option<[u32; 5]> {
     let schedule = Schedule {
         seed: 15,
         actors: 4,
@@ -59,7 +59,7 @@ fn removed(alloc: Global, end: u32, (pids, rows): (u64, u64)) -> Option<[u32; 5]
         keys: DRAWN,
     };
     let mut twin = Twin::new(alloc).ok()?;
-    let mut core = opened(alloc, 4, pids, rows, 1)?;
+    let mut core = size.opened(alloc, 4)?;
     let right = is_filled(&mut core, &mut twin, end)
         && agrees(alloc, &mut core, &mut twin, &schedule);
     let trace = settled(core, &key(0))?;
@@ -69,8 +69,13 @@ fn removed(alloc: Global, end: u32, (pids, rows): (u64, u64)) -> Option<[u32; 5]
 
 #[test]
 fn drawn_deletes_on_four_and_five_levels(rt: HostRuntime) {
-    for (end, room) in [(1_100, (320, 8_192)), (8_200, (2_048, 16_384))] {
-        let removed = removed(rt.alloc(), end, room);
+    for (end, size) in [
+        (1_100, Size::Small(320, 8_192)),
+        (1_100, Size::Large(320, 8_192)),
+        (8_200, Size::Small(2_048, 16_384)),
+        (8_200, Size::Large(2_048, 16_384)),
+    ] {
+        let removed = removed(rt.alloc(), end, size);
         assert!(rt;
             removed.is_some_and(|removed| removed[2] > 0),
             "{removed:?}"
@@ -168,9 +173,9 @@ fn all_stop(core: &mut Core, twin: &mut Twin) -> bool {
 }
 
 /// Whether they do on a tree of four levels.
-fn all_stop_anew(alloc: Global) -> Option<bool> {
+fn all_stop_anew(alloc: Global, size: Size) -> Option<bool> {
     let mut twin = Twin::new(alloc).ok()?;
-    let mut core = opened(alloc, 2, 320, 8_192, 1)?;
+    let mut core = size.opened(alloc, 2)?;
     let right = is_filled(&mut core, &mut twin, 1_100) && all_stop(&mut core, &mut twin);
     let_go(core);
     Some(right)
@@ -178,5 +183,7 @@ fn all_stop_anew(alloc: Global) -> Option<bool> {
 
 #[test]
 fn all_commands_beside_one_that_stands(rt: HostRuntime) {
-    assert!(rt; all_stop_anew(rt.alloc()) == Some(true));
+    for size in [Size::Small(320, 8_192), Size::Large(320, 8_192)] {
+        assert!(rt; all_stop_anew(rt.alloc(), size) == Some(true));
+    }
 }

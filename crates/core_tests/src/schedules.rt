@@ -3,7 +3,7 @@
 use crate::accounts::is_settled;
 use crate::numbered::{key, value};
 use crate::plain_map::{ABSENT, PlainMap, VALUES};
-use crate::scripts::opened;
+use crate::scripts::Size;
 use bw_model::{Command, Key, Link, Pairs, Reply};
 use rand_core::SeedableRng;
 use rand_core::utils::NextWord;
@@ -347,12 +347,12 @@ pub(crate) fn agrees(alloc: Global, core: &mut Core, twin: &mut Twin, schedule: 
 }
 
 /// What was seen of a schedule; none where anything was wrong, also with rows or PIDs. It has these commands over so many keys, by its
-/// seed, how many actors take how many turns, and how many PIDs and rows there are.
+/// seed, how many actors take how many turns, and the size of the tree.
 fn watch(
     alloc: Global,
     (mix, keys): (Mix, u32),
     (seed, actors, turns): (u64, u32, u32),
-    (pids, rows): (u64, u64),
+    size: Size,
 ) -> Option<Seen> {
     let schedule = Schedule {
         seed,
@@ -362,43 +362,60 @@ fn watch(
         keys,
     };
     let mut twin = Twin::new(alloc).ok()?;
-    let mut core = opened(alloc, u64::from(actors), pids, rows, 1)?;
+    let mut core = size.opened(alloc, u64::from(actors))?;
     let agrees = agrees(alloc, &mut core, &mut twin, &schedule);
     let settled = is_settled(core, &key(1023));
     (agrees && settled).then_some(twin.seen)
 }
 
 /// How many roots came, whether room was wanted, and whether a key was changed after that.
-fn told(seen: Option<Seen>) -> Option<(u32, bool, bool)> {
+type Told = Option<(u32, bool, bool)>;
+
+fn told(seen: Option<Seen>) -> Told {
     seen.map(|seen| (seen.roots, seen.full, seen.changed_since))
+}
+
+/// What is told of a schedule in a tree with so many PIDs and rows, and in a large one with as many.
+fn in_both(
+    alloc: Global,
+    mix: (Mix, u32),
+    turns: (u64, u32, u32),
+    (pids, rows): (u64, u64),
+) -> [Told; 2] {
+    [Size::Small(pids, rows), Size::Large(pids, rows)].map(|size| told(watch(
+        alloc, mix, turns, size,
+    )))
 }
 
 // All rows but one leaf's are used again and again.
 #[test]
 fn few_keys(rt: HostRuntime) {
-    let four = watch(rt.alloc(), (Mix::Four, 8), (7, 3, 20_000), (64, 64));
-    let seven = watch(rt.alloc(), (Mix::Seven, 8), (12, 3, 20_000), (64, 64));
-    assert!(rt; [told(four), told(seven)] == [Some((0, false, false)); 2]);
+    let four = in_both(rt.alloc(), (Mix::Four, 8), (7, 3, 20_000), (64, 64));
+    let seven = in_both(rt.alloc(), (Mix::Seven, 8), (12, 3, 20_000), (64, 64));
+    assert!(rt;
+        [four, seven] == [[Some((0, false, false)); 2]; 2],
+        "{four:?} {seven:?}"
+    );
 }
 
 #[test]
 fn keys_for_three_levels(rt: HostRuntime) {
-    let four = watch(rt.alloc(), (Mix::Four, 676), (8, 3, 50_000), (256, 2048));
-    assert!(rt; told(four) == Some((2, false, false)));
+    let four = in_both(rt.alloc(), (Mix::Four, 676), (8, 3, 50_000), (256, 2048));
+    assert!(rt; four == [Some((2, false, false)); 2], "{four:?}");
 }
 
 #[test]
 fn seven_commands_on_three_levels(rt: HostRuntime) {
-    let seven = watch(rt.alloc(), (Mix::Seven, 676), (13, 5, 40_000), (256, 2048));
-    assert!(rt; told(seven) == Some((2, false, false)));
+    let seven = in_both(rt.alloc(), (Mix::Seven, 676), (13, 5, 40_000), (256, 2048));
+    assert!(rt; seven == [Some((2, false, false)); 2], "{seven:?}");
 }
 
 /// How many slots four seeds clear, each without a fault.
-fn cleared(alloc: Global, first: u64) -> Option<u32> {
+fn cleared(alloc: Global, size: Size, first: u64) -> Option<u32> {
     let mut cleared = 0u32;
     for more in 0..4u64 {
         let seed = first.wrapping_add(more);
-        let seen = watch(alloc, (Mix::Swaps, 64), (seed, 4, 20_000), (256, 4096))?;
+        let seen = watch(alloc, (Mix::Swaps, 64), (seed, 4, 20_000), size)?;
         cleared = cleared.saturating_add(seen.cleared);
     }
     Some(cleared)
@@ -406,29 +423,42 @@ fn cleared(alloc: Global, first: u64) -> Option<u32> {
 
 #[test]
 fn seeds_1_to_8(rt: HostRuntime) {
-    assert!(rt; cleared(rt.alloc(), 1) > Some(0) && cleared(rt.alloc(), 5) > Some(0));
+    for (size, first) in [
+        (Size::Small(256, 4096), 1),
+        (Size::Small(256, 4096), 5),
+        (Size::Large(256, 4096), 1),
+        (Size::Large(64, 4096), 5),
+    ] {
+        assert!(rt; cleared(rt.alloc(), size, first) > Some(0), "{first}");
+    }
 }
 
 #[test]
 fn many_actors(rt: HostRuntime) {
-    let four = watch(rt.alloc(), (Mix::Four, 40), (9, 16, 30_000), (64, 512));
-    assert!(rt; told(four) == Some((1, false, false)));
+    let four = in_both(rt.alloc(), (Mix::Four, 40), (9, 16, 30_000), (64, 512));
+    assert!(rt; four == [Some((1, false, false)); 2], "{four:?}");
 }
 
 #[test]
 fn few_pids(rt: HostRuntime) {
-    let four = watch(
+    let four = in_both(
         rt.alloc(),
         (Mix::FewDeletes, 1024),
         (10, 4, 60_000),
         (64, 1024),
     );
-    assert!(rt; told(four) == Some((2, true, true)));
+    assert!(rt; four == [Some((2, true, true)); 2], "{four:?}");
 }
 
+// The chains of a large tree are short, so that it takes more keys to use up all rows.
 #[test]
 fn few_rows(rt: HostRuntime) {
-    let four = watch(rt.alloc(), (Mix::Four, 100), (11, 6, 20_000), (64, 64));
-    let seven = watch(rt.alloc(), (Mix::Seven, 300), (14, 6, 20_000), (64, 64));
-    assert!(rt; [told(four), told(seven)] == [Some((1, true, true)); 2]);
+    let wanted = [Some((1, true, true)), Some((1, false, false))];
+    let four = in_both(rt.alloc(), (Mix::Four, 100), (11, 6, 20_000), (64, 64));
+    let seven = in_both(rt.alloc(), (Mix::Seven, 300), (14, 6, 20_000), (64, 64));
+    assert!(rt; [four, seven] == [wanted; 2], "{four:?} {seven:?}");
+    let size = Size::Large(64, 64);
+    let many = watch(rt.alloc(), (Mix::FewDeletes, 1024), (11, 6, 40_000), size);
+    let many = told(many);
+    assert!(rt; many == Some((2, true, true)), "{many:?}");
 }

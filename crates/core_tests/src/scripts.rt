@@ -237,6 +237,25 @@ pub(crate) fn opened(alloc: Global, actors: u64, pids: u64, rows: u64, epoch: u6
     }
 }
 
+/// Which kind of tree a core has, and how many page identifiers and rows.
+#[derive(Clone, Copy)]
+pub(crate) enum Size {
+    Small(u64, u64),
+    /// A large tree, whatever its numbers are.
+    Large(u64, u64),
+}
+
+impl Size {
+    /// A core of this size with so many actors.
+    pub(crate) fn opened(self, alloc: Global, actors: u64) -> Option<Core> {
+        let limits = match self {
+            Size::Small(pids, rows) => Limits::new(actors, pids, rows, 1),
+            Size::Large(pids, rows) => Limits::large(actors, pids, rows, 1),
+        };
+        Core::open(alloc, limits.ok()?).ok()
+    }
+}
+
 /// Whether all lines tell what they are to on a new core of two actors, 64 page identifiers and 256 rows.
 pub(crate) fn is_told(alloc: Global, lines: &[Line]) -> bool {
     match opened(alloc, 2, 64, 256, 1) {

@@ -1,7 +1,7 @@
 //! An operation that stops after each of its steps, while another actor goes on.
 
 use crate::by_hand::{begins, let_go, stepped};
-use crate::scripts::{Ask, Line, Say, opened, runs};
+use crate::scripts::{Ask, Line, Say, Size, runs};
 use bw_model::Link;
 use std::alloc::Global;
 use step_core::Core;
@@ -49,12 +49,13 @@ fn goes_on(
 /// The same on a new core.
 fn goes_on_anew(
     alloc: Global,
+    size: Size,
     before: &[Line],
     stop: (Stop, u32),
     early: &[Line],
     late: &[Line],
 ) -> Option<bool> {
-    match opened(alloc, 2, 256, 4096, 1) {
+    match size.opened(alloc, 2) {
         Some(mut core) => {
             let right = goes_on(alloc, &mut core, before, stop, early, late);
             let_go(core);
@@ -64,7 +65,26 @@ fn goes_on_anew(
     }
 }
 
-/// Whether they do wherever it stops, and it takes as many steps as is said.
+/// Whether they do wherever it stops on a core of this size, and it takes as many steps as is said.
+fn stops_at_size(
+    alloc: Global,
+    size: Size,
+    before: &[Line],
+    stop: Stop,
+    early: &[Line],
+    late: &[Line],
+) -> bool {
+    for steps in 0..=stop.most {
+        match goes_on_anew(alloc, size, before, (stop, steps), early, late) {
+            Some(true) => {}
+            Some(false) => return false,
+            None => return stop.least <= steps,
+        }
+    }
+    false
+}
+
+/// Whether they do wherever it stops, and it takes as many steps as is said; and in a large tree of that size, where it takes other ones.
 pub(crate) fn stops_anywhere(
     alloc: Global,
     before: &[Line],
@@ -72,14 +92,13 @@ pub(crate) fn stops_anywhere(
     early: &[Line],
     late: &[Line],
 ) -> bool {
-    for steps in 0..=stop.most {
-        match goes_on_anew(alloc, before, (stop, steps), early, late) {
-            Some(true) => {}
-            Some(false) => return false,
-            None => return stop.least <= steps,
-        }
-    }
-    false
+    let in_large = Stop {
+        least: 1,
+        most: 1000,
+        ..stop
+    };
+    stops_at_size(alloc, Size::Small(256, 4096), before, stop, early, late)
+        && stops_at_size(alloc, Size::Large(256, 4096), before, in_large, early, late)
 }
 
 /// What the other actor does on both sides of a split, and what is listed meanwhile; the insert goes on after that.

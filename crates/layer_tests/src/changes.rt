@@ -1,5 +1,5 @@
 //! Changes step by step, over a memory in which a few numbers are free.
-ghost use Rattle.std.specs.Prelude.{◌≡◌, ◌≤◌, ◌∷◌, [], ℕ};
+ghost use Rattle.std.specs.Prelude.{◌≡◌, ◌<◌, ◌≤◌, ◌%◌, ◌∷◌, []};
 ghost use Rattle.bw_model.specs.Answers.{answer_of};
 ghost use Rattle.bw_model.specs.Lent.{lent};
 ghost use Rattle.traces.specs.discipline.Fitting.{Fits, FitsWord};
@@ -38,22 +38,57 @@ type Case = (
 /// `1:7>3` exchanges row 7 in slot 1 for row 3.
 type Log = ArrayString<256>;
 
-/// How many PIDs and rows are free, and whether the exchange that decides wins.
+/// Which two numbers may be free: 3 and 5, or the last two.
+#[derive(Clone, Copy)]
+enum Free {
+    First,
+    Last,
+}
+
+/// How many PIDs and rows are free, and which ones; and whether the exchange that decides wins.
 #[derive(Clone, Copy)]
 struct World {
+    free: Free,
     pids: u8,
     rows: u8,
     won: bool,
 }
 
 /// A word of free bits: of the numbers 3 and 5 none is free, or 5 alone, or both.
-fn word(at: u8, free: u8) -> u64
-    ensures { (limit : ℕ) → 64 ≤ limit → FitsWord limit at result }
+fn first_word(limit: u64, at: u32, free: u8) -> u64
+    requires some { 64 ≤ limit }
+    ensures { FitsWord limit at result }
 {
+    let _ = limit;
     if at != 0 || free == 0 {
         return 0;
     }
     if free == 1 { 32 } else { 40 }
+}
+
+/// The same of the last two numbers of several words.
+fn last_word(limit: u64, at: u32, free: u8) -> u64
+    requires whole { limit % 64 ≡ 0 }
+    ensures { FitsWord limit at result }
+{
+    if at == 0 || u64::from(at) + 1 != limit / 64 || free == 0 {
+        return 0;
+    }
+    if free == 1 { 1 << 63 } else { 3 << 62 }
+}
+
+impl Free {
+    /// A word of free bits, of so many numbers.
+    fn word(self, limit: u64, at: u32, free: u8) -> u64
+        requires some { 64 ≤ limit }
+        requires whole { limit % 64 ≡ 0 }
+        ensures { FitsWord limit at result }
+    {
+        match self {
+            Free::First => first_word(limit, at, free),
+            Free::Last => last_word(limit, at, free),
+        }
+    }
 }
 
 /// The answer to a step of a change.
@@ -63,8 +98,8 @@ fn told(world: &mut World, limits: &Limits, step: &Step<&Record>) -> Told
     ensures fits { Fits limits.now nothing (lent step.now) (answer_of result) }
 {
     match step {
-        Step::PidBits(at) => Told::Number(word(*at, world.pids)),
-        Step::RowBits(at) => Told::Number(word(*at, world.rows)),
+        Step::PidBits(at) => Told::Number(world.free.word(limits.pids, *at, world.pids)),
+        Step::RowBits(at) => Told::Number(world.free.word(limits.rows, *at, world.rows)),
         Step::TakePid(pid) => {
             world.pids = world.pids.saturating_sub(1);
             Told::Whether(*pid != 0)
@@ -139,8 +174,10 @@ fn key_k() -> Key
     Key::from_slice(b"k").unwrap()
 }
 
-/// What is planned at slot 1, over row 7.
-fn plan_of(limits: &Limits, plan: Planned) -> Plan
+/// What is planned at slot 1, over a row.
+fn plan_of(limits: &Limits, plan: Planned, head: u32) -> Plan
+    requires some { 0 < head }
+    requires there { head < limits.now.rows }
     ensures target { IsTarget limits.now result }
     ensures spells { IsSpellablePlan result }
 {
@@ -148,14 +185,17 @@ fn plan_of(limits: &Limits, plan: Planned) -> Plan
     match plan {
         Planned::Install => Plan::Install {
             pid: 1,
-            head: 7,
-            content: Record::Remove(Remove { level: 0, next: 7 }),
+            head,
+            content: Record::Remove(Remove {
+                level: 0,
+                next: head,
+            }),
         },
         Planned::Split => Plan::Split {
             pid: 1,
             plan: SplitPlan {
                 upper: Page::new(0, key_k(), None, None, Items::new()),
-                next: 7,
+                next: head,
             },
         },
         Planned::Root => Plan::Root {
@@ -164,10 +204,10 @@ fn plan_of(limits: &Limits, plan: Planned) -> Plan
         },
         Planned::Unlink => Plan::Unlink {
             pid: 1,
-            head: 7,
+            head,
             unterm: Unterm {
                 level: 1,
-                next: 7,
+                next: head,
                 separator: key_k(),
                 child: 9,
             },
@@ -176,14 +216,21 @@ fn plan_of(limits: &Limits, plan: Planned) -> Plan
     }
 }
 
-/// Whether the change goes as the case says.
-fn goes(limits: &Limits, spares: &mut Spares, case: &Case) -> bool
+/// Whether the change goes as the case says, over this row, where these numbers may be free.
+fn goes(limits: &Limits, spares: &mut Spares, head: u32, free: Free, case: &Case) -> bool
+    requires some { 0 < head }
+    requires there { head < limits.now.rows }
     requires room { HaveRoom limits.now spares.old }
     ensures room { HaveRoom limits.now spares.new }
 {
     let (plan, (pids, rows, won), steps, (said, pid, left)) = *case;
-    let world = World { pids, rows, won };
-    let (log, end) = drive(limits, spares, plan_of(limits, plan), world);
+    let world = World {
+        free,
+        pids,
+        rows,
+        won,
+    };
+    let (log, end) = drive(limits, spares, plan_of(limits, plan, head), world);
     let goes = (log.as_str().trim_start() == steps) & (end == Some(said));
     goes & (spares.pid() == pid) & (spares.rows() == left)
 }
@@ -193,7 +240,7 @@ fn all_go(cases: &[Case]) -> bool {
     let limits = smallest();
     let mut spares = Spares::new();
     for case in cases {
-        if !goes(&limits, &mut spares, case) {
+        if !goes(&limits, &mut spares, 7, Free::First, case) {
             return false;
         }
     }
@@ -301,4 +348,76 @@ fn are_kept() -> bool {
 #[test]
 fn goes_step_by_step(rt: HostRuntime) {
     assert!(rt; are_kept());
+}
+
+/// Whether a change of a large tree goes as the case says, over this row, where these numbers may be free.
+fn goes_in_large((pids, rows): (u64, u64), head: u32, free: Free, case: &Case) -> bool {
+    let Ok(limits) = Limits::large(1, pids, rows, 1) else {
+        return false;
+    };
+    if head == 0 || u64::from(head) >= limits.rows {
+        return false;
+    }
+    goes(&limits, &mut Spares::new(), head, free, case)
+}
+
+/// PIDs and rows of a large tree, the newest row of page 1, which numbers may be free, and the change.
+///
+/// Of row 7 the product with 2,654,435,761 is 3 beyond a multiple of 4, and so is that of row 315,567 the last one before a multiple of 2^20.
+const IN_LARGE: [((u64, u64), u32, Free, Case); 4] = [
+    // Takes a row of word 0, once the words from the third on have none.
+    (
+        (64, 256),
+        7,
+        Free::First,
+        (
+            Planned::Install,
+            (0, 2, true),
+            "rows 3 rows 0 row 3 3=7 1:7>3",
+            (End::Won, None, &[]),
+        ),
+    ),
+    // Is full once each word from word 0 on has none.
+    (
+        (64, 256),
+        7,
+        Free::First,
+        (
+            Planned::Install,
+            (0, 0, true),
+            "rows 3 rows 0 rows 1 rows 2 rows 3",
+            (End::Full, None, &[]),
+        ),
+    ),
+    // Takes a row of the word at which it begins.
+    (
+        (64, 256),
+        7,
+        Free::Last,
+        (
+            Planned::Install,
+            (0, 2, true),
+            "rows 3 row 254 254=7 1:7>254",
+            (End::Won, None, &[]),
+        ),
+    ),
+    // Takes the last PID and the last row of the greatest limits.
+    (
+        (4_194_304, 67_108_864),
+        315_567,
+        Free::Last,
+        (
+            Planned::Split,
+            (1, 2, true),
+            "pids 65535 pid 4194303 rows 1048575 row 67108862 rows 1048575 row 67108863 67108862=0 4194303:0>67108862 67108863=315567 1:315567>67108863",
+            (End::Won, None, &[]),
+        ),
+    ),
+];
+
+#[test]
+fn takes_scattered_numbers_in_a_large_tree(rt: HostRuntime) {
+    for (size, head, free, case) in &IN_LARGE {
+        assert!(rt; goes_in_large(*size, *head, *free, case), "{head}");
+    }
 }

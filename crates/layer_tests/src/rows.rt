@@ -3,7 +3,7 @@
 use base_page::Page;
 use bw_model::{Key, Value};
 use deltas::{Hold, Put, Record, Split};
-use record_slots::{BadRow, ROW_WORDS, from_words, to_words};
+use record_slots::{BadRow, ROW_WORDS, from_words, read_words, to_words};
 
 fn key(text: &[u8]) -> Key {
     Key::from_slice(text).unwrap_or_default()
@@ -217,6 +217,39 @@ fn writes_the_rows_of_records_and_refuses_rows_that_spell_nothing(rt: HostRuntim
     let written = writes_each();
     let same = is_refused(&[0; ROW_WORDS]) & is_refused(&[u64::MAX; ROW_WORDS]);
     assert!(rt; written & same & is_refused(&row(EQUAL_KEYS)) & are_refused());
+}
+
+/// Rows with a number of a large tree, and whether it is one: they spell a record there, and nothing in any other tree.
+const LARGE_NUMBERS: [(Words, usize, u64, bool); 10] = [
+    (PUT, 1, 16_384, true),
+    (PUT, 1, 67_108_863, true),
+    (PUT, 1, 67_108_864, false),
+    (SPLIT, 2, 4_096, true),
+    (SPLIT, 2, 4_194_303, true),
+    (SPLIT, 2, 4_194_304, false),
+    (MERGE, 2, 4_096, true),
+    (MERGE, 2, 4_194_304, false),
+    (INDEX, 30, 4_096, true),
+    (INDEX, 30, 4_194_304, false),
+];
+
+/// Whether the words spell a record of a large tree, whose words they are.
+fn is_read(words: &[u64; ROW_WORDS]) -> bool {
+    match read_words(words) {
+        Ok(record) => to_words(&record) == *words,
+        Err(_) => false,
+    }
+}
+
+#[test]
+fn large_numbers_are_those_of_large_trees(rt: HostRuntime) {
+    for (words, place, number, taken) in LARGE_NUMBERS {
+        let row = with(words, place, number);
+        assert!(rt; is_refused(&row) && is_read(&row) == taken, "{number}");
+    }
+    for words in EACH_KIND {
+        assert!(rt; is_read(&row(words)));
+    }
 }
 
 /// How many of the rows that differ in one bit spell a record, counted by the rules of a row.

@@ -21,6 +21,34 @@ const SIZES: [(u64, u32); 5] = [(1, 1), (1, 440), (4, 3_000), (16, 1_000), (1, 1
 /// The same for keys that are updated: the most for one seat and for sixteen.
 const UPDATED: [(u64, u32); 4] = [(1, 440), (4, 3_000), (1, 12_199), (16, 9_751)];
 
+/// The same for large trees, with the order in which the keys come and go; none where they are updated as well.
+const LARGE: [(u64, u32, Option<Order>); 6] = [
+    (4, 3_000, None),
+    (16, 9_751, None),
+    (1, 440, Some(Order::Up)),
+    (1, 12_199, Some(Order::Drawn)),
+    (4, 3_000, Some(Order::Down)),
+    (16, 1_000, Some(Order::Drawn)),
+];
+
+/// The kind of a tree.
+#[derive(Clone, Copy, Debug)]
+enum Kind {
+    Small,
+    Large,
+}
+
+impl Kind {
+    /// The limits that are proposed for so many keys.
+    fn limits(self, actors: u64, keys: u32) -> Option<Limits> {
+        let keys = u64::from(keys);
+        match self {
+            Kind::Small => Limits::for_keys(actors, keys).ok(),
+            Kind::Large => Limits::for_many_keys(actors, keys).ok(),
+        }
+    }
+}
+
 /// Does the work for all keys below a number, in an order, and tells whether it was done for each.
 fn all(
     alloc: Global,
@@ -71,8 +99,7 @@ fn come_and_go(alloc: Global, tree: &Tree, seats: &mut Vec<BwSeat>, keys: u32, o
 }
 
 /// Whether that is so in a tree of the limits that are proposed, which then has no pair.
-fn are_held(alloc: Global, actors: u64, keys: u32, order: Order) -> Option<bool> {
-    let limits = Limits::for_keys(actors, u64::from(keys)).ok()?;
+fn are_held(alloc: Global, limits: Limits, keys: u32, order: Order) -> Option<bool> {
     let (tree, mut seats) = opened(alloc, limits).ok()?;
     let held = come_and_go(alloc, &tree, &mut seats, keys, order);
     let pairs = tree.close(alloc, seats).ok()?;
@@ -93,8 +120,7 @@ fn update_most(alloc: Global, tree: &Tree, seats: &mut Vec<BwSeat>, keys: u32) -
 }
 
 /// Whether a tree of those limits with all keys holds its longest chains, and then lets the keys go, come, and go again.
-fn hold_deltas(alloc: Global, actors: u64, keys: u32) -> Option<bool> {
-    let limits = Limits::for_keys(actors, u64::from(keys)).ok()?;
+fn hold_deltas(alloc: Global, limits: Limits, keys: u32) -> Option<bool> {
     let (tree, mut seats) = opened(alloc, limits).ok()?;
     let filled = all(alloc, &tree, &mut seats, Work::Insert, keys, Order::Up, 0);
     let updated = update_most(alloc, &tree, &mut seats, keys);
@@ -104,29 +130,35 @@ fn hold_deltas(alloc: Global, actors: u64, keys: u32) -> Option<bool> {
     Some(filled && updated && emptied && again && pairs.is_empty())
 }
 
-/// A tree, by its actors and its keys, and the order in which these come and go; none where they are updated as well.
-type Trial = (u64, u32, Option<Order>);
+/// A tree, by its kind, its actors and its keys, and the order in which these come and go; none where they are updated as well.
+type Trial = (Kind, u64, u32, Option<Order>);
 
 /// All of them.
 fn trials(alloc: Global) -> Result<Vec<Trial>, AllocError> {
     let mut trials = Vec::new(alloc);
     for (actors, keys) in UPDATED {
-        trials.push((actors, keys, None))?;
+        trials.push((Kind::Small, actors, keys, None))?;
     }
     for order in [Order::Up, Order::Down, Order::Drawn] {
         for (actors, keys) in SIZES {
-            trials.push((actors, keys, Some(order)))?;
+            trials.push((Kind::Small, actors, keys, Some(order)))?;
         }
+    }
+    for (actors, keys, order) in LARGE {
+        trials.push((Kind::Large, actors, keys, order))?;
     }
     Ok(trials)
 }
 
 /// The trial, if something was refused.
 fn refused(alloc: Global, trial: Trial) -> Option<Trial> {
-    let (actors, keys, order) = trial;
+    let (kind, actors, keys, order) = trial;
+    let Some(limits) = kind.limits(actors, keys) else {
+        return Some(trial);
+    };
     let held = match order {
-        Some(order) => are_held(alloc, actors, keys, order),
-        None => hold_deltas(alloc, actors, keys),
+        Some(order) => are_held(alloc, limits, keys, order),
+        None => hold_deltas(alloc, limits, keys),
     };
     (held != Some(true)).then_some(trial)
 }

@@ -2,6 +2,7 @@
 
 use crate::runs::Run;
 use crate::trees::go_right;
+use bw_model::Limits;
 use std::alloc::Global;
 
 /// The greatest epoch.
@@ -9,7 +10,12 @@ const LAST: u64 = 1 << 62;
 
 /// Whether these runs go right on a tree of two seats and as few rows as may be, which opens so many epochs before the last one.
 fn go_right_before(alloc: Global, before: u64, all: &[Run]) -> bool {
-    go_right(alloc, (2, 64, 64), LAST.wrapping_sub(before), all)
+    go_right(
+        alloc,
+        Limits::new(2, 64, 64, 1),
+        LAST.wrapping_sub(before),
+        all,
+    )
 }
 
 // While the other seat is idle, what the updates take out of the tree is freed, though the epoch stays, or comes to its last value meanwhile.

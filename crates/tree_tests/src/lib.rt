@@ -29,6 +29,8 @@ mod loading;
 #[cfg(test)]
 mod loads;
 #[cfg(test)]
+mod many_keys;
+#[cfg(test)]
 mod moving;
 #[cfg(test)]
 mod numbered;

@@ -1,12 +1,12 @@
 //! The limits that are proposed for so many keys.
 
-use bw_model::Limits;
+use bw_model::{BadLimits, Limits};
 use installs::MAX_SPARES;
-use smo::MANY_DELTAS;
+use smo::many_deltas;
 
-/// PIDs and rows that are proposed.
-fn proposed(actors: u64, keys: u64) -> Option<(u64, u64)> {
-    let limits = Limits::for_keys(actors, keys).ok()?;
+/// PIDs and rows of limits.
+fn numbers(limits: Result<Limits, BadLimits>) -> Option<(u64, u64)> {
+    let limits = limits.ok()?;
     Some((limits.pids, limits.rows))
 }
 
@@ -28,7 +28,66 @@ fn limits_are_proposed(rt: HostRuntime) {
         (1, u64::MAX, None),
         (u64::MAX, u64::MAX, None),
     ] {
-        assert!(rt; proposed(actors, keys) == limits, "{actors} {keys}");
+        assert!(rt;
+            numbers(Limits::for_keys(actors, keys)) == limits,
+            "{actors} {keys}"
+        );
+    }
+}
+
+#[test]
+fn limits_of_large_trees_are_proposed(rt: HostRuntime) {
+    for (actors, keys, limits) in [
+        (1, 0, Some((64, 448))),
+        (1, 1_000, Some((192, 832))),
+        (16, 1_000, Some((512, 5_376))),
+        (4, 100_000, Some((15_616, 47_808))),
+        (4, 1_000_000, Some((155_072, 466_176))),
+        (4, 10_000_000, Some((1_549_632, 4_649_856))),
+        (1, 27_068_967, Some((4_194_304, 12_583_168))),
+        (1, 27_068_968, None),
+        (16, 27_066_839, Some((4_194_304, 12_586_752))),
+        (16, 27_066_840, None),
+        (0, 1, None),
+        (17, 1, None),
+        (1, u64::MAX, None),
+    ] {
+        assert!(rt;
+            numbers(Limits::for_many_keys(actors, keys)) == limits,
+            "{actors} {keys}"
+        );
+    }
+}
+
+/// PIDs and rows, and whether they are limits, and limits of a large tree.
+const BORDERS: [((u64, u64), [bool; 2]); 16] = [
+    ((64, 64), [true; 2]),
+    ((0, 64), [false; 2]),
+    ((63, 64), [false; 2]),
+    ((65, 64), [false; 2]),
+    ((64, 0), [false; 2]),
+    ((64, 63), [false; 2]),
+    ((64, 65), [false; 2]),
+    ((4_096, 16_384), [true; 2]),
+    ((4_160, 64), [false, true]),
+    ((64, 16_448), [false, true]),
+    ((4_097, 64), [false; 2]),
+    ((64, 16_385), [false; 2]),
+    ((4_194_304, 67_108_864), [false, true]),
+    ((4_194_368, 64), [false; 2]),
+    ((64, 67_108_928), [false; 2]),
+    ((u64::MAX, u64::MAX), [false; 2]),
+];
+
+#[test]
+fn limits_have_borders(rt: HostRuntime) {
+    for ((pids, rows), are) in BORDERS {
+        let taken = [
+            Limits::new(1, pids, rows, 1),
+            Limits::large(1, pids, rows, 1),
+        ]
+        .map(|limits| numbers(limits) == Some((pids, rows)));
+        assert!(rt; taken == are, "{pids} {rows}");
     }
 }
 
@@ -47,20 +106,27 @@ fn most_keys_have_limits(rt: HostRuntime) {
 }
 
 /// Whether the rows are enough for the longest chain of each PID, and for the spare rows of each seat.
-fn suffices(actors: u64, (pids, rows): (u64, u64)) -> bool {
-    let chain = MANY_DELTAS as u64 + 1;
-    rows >= chain
-        .saturating_mul(pids)
-        .saturating_add(actors.saturating_mul(MAX_SPARES as u64))
+fn suffices(limits: &Limits) -> bool {
+    let chain = many_deltas(limits) as u64 + 1;
+    let spare = limits.actors.saturating_mul(MAX_SPARES as u64);
+    limits.rows >= chain.saturating_mul(limits.pids).saturating_add(spare)
+}
+
+/// Whether they are for so many keys, in a tree of either kind for which limits are proposed.
+fn all_suffice(actors: u64, keys: u64) -> bool {
+    [
+        Limits::for_keys(actors, keys),
+        Limits::for_many_keys(actors, keys),
+    ]
+    .iter()
+    .all(|limits| limits.as_ref().is_ok_and(suffices))
 }
 
 #[test]
 fn rows_suffice_for_the_longest_chains(rt: HostRuntime) {
     for actors in 1..=16u64 {
         for step in 0..100u64 {
-            if let Some(limits) = proposed(actors, 128 * step) {
-                assert!(rt; suffices(actors, limits), "{actors} {step}");
-            }
+            assert!(rt; all_suffice(actors, 96 * step), "{actors} {step}");
         }
     }
 }

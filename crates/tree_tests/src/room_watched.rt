@@ -11,6 +11,9 @@ use workers::{opened, reply, take_seat};
 /// More keys than the trees hold.
 const KEYS: u32 = 1_000;
 
+/// More keys than the large ones hold.
+const MANY: u32 = 5_000;
+
 /// How many steps are too few for a lookup, and how many are enough.
 const FEW: u32 = 3;
 
@@ -169,4 +172,30 @@ fn rows_in_limbo(limbo_rows: usize) -> Held {
 fn a_chain_waits_for_its_seat(rt: HostRuntime) {
     let expected = [rows_in_limbo(0), rows_in_limbo(9), rows_in_limbo(2)];
     assert!(rt; holds(rt.alloc()) == Some(expected));
+}
+
+/// How many PIDs and rows are free in a large tree of this size once a seat has inserted until it was refused; none where it wasn't.
+fn free_in_large(alloc: Global, (pids, rows): (u64, u64)) -> Option<(u32, u32)> {
+    let limits = Limits::large(1, pids, rows, 1).ok()?;
+    let (tree, mut seats) = opened(alloc, limits).ok()?;
+    let mut seat = take_seat(&tree, &mut seats)?;
+    if works(&tree, &mut seat, Work::Insert, 0, MANY) == MANY {
+        return None;
+    }
+    let room = tree.room(&mut seat);
+    Some((room.free_pids, room.free_rows))
+}
+
+// Whichever word a taking begins at, the last free row is taken, and the last PID.
+#[test]
+fn all_numbers_of_a_large_tree_are_taken(rt: HostRuntime) {
+    let rows = [(64, 64), (256, 192)].map(|size| free_in_large(rt.alloc(), size));
+    let pids = [(64, 1_024), (256, 4_096)].map(|size| free_in_large(rt.alloc(), size));
+    let right = rows
+        .iter()
+        .all(|free| free.is_some_and(|(_, rows)| rows == 0))
+        && pids
+            .iter()
+            .all(|free| free.is_some_and(|(pids, _)| pids == 0));
+    assert!(rt; right, "{rows:?} {pids:?}");
 }

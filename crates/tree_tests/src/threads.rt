@@ -5,7 +5,7 @@ use crate::clients::{Client, OWN};
 use crate::loading::are_moved;
 use crate::numbered::{are_numbers, found, get, insert, key, value};
 use crate::trees::closed;
-use bw_model::{Key, Limits, Reply, Value};
+use bw_model::{BadLimits, Key, Limits, Reply, Value};
 use bw_tree::{BwSeat, Tree};
 use std::alloc::Global;
 use std::thread::Threads;
@@ -101,8 +101,12 @@ fn all_know(clients: &[Client], pairs: &[(Key, Value)]) -> bool {
 }
 
 /// Whether four clients do with few pages and rows, so that pages are split, removed and used again, and some writers find no room.
-fn four_collide<R: Threads + Sync>(rt: &R, alloc: Global) -> bool {
-    let Ok(limits) = Limits::new(4, 64, 128, 1) else {
+fn four_collide<R: Threads + Sync>(
+    rt: &R,
+    alloc: Global,
+    limits: Result<Limits, BadLimits>,
+) -> bool {
+    let Ok(limits) = limits else {
         return false;
     };
     let client = |number| Client::new(number, 2000);
@@ -117,5 +121,7 @@ fn four_collide<R: Threads + Sync>(rt: &R, alloc: Global) -> bool {
 
 #[test]
 fn four_threads_collide(rt: HostRuntime) {
-    assert!(rt; four_collide(&rt, rt.alloc()));
+    for limits in [Limits::new(4, 64, 128, 1), Limits::large(4, 64, 128, 1)] {
+        assert!(rt; four_collide(&rt, rt.alloc(), limits));
+    }
 }

@@ -4,7 +4,7 @@ ghost use Rattle.bw_tree.specs.Trees.{AreSeatsOf, IsSeatOf};
 
 use crate::runs::{Run, is_right, is_right_alone};
 use crate::stops::Stop;
-use bw_model::{Key, Limits, OpenError, Value};
+use bw_model::{BadLimits, Key, Limits, OpenError, Value};
 use bw_tree::{BwSeat, Tree};
 use std::alloc::Global;
 use workers::{give_seat, take_seat};
@@ -95,9 +95,20 @@ fn are_left(all: &[Run], pairs: &[(Key, Value)]) -> bool {
 /// How many seats, PIDs and rows a tree has.
 type Size = (u64, u64, u64);
 
-/// Whether these runs go right on a tree of this size that opens at this epoch, and leave it with their pairs.
-pub(crate) fn go_right(alloc: Global, size: Size, epoch: u64, all: &[Run]) -> bool {
-    let Ok(limits) = Limits::new(size.0, size.1, size.2, 1) else {
+/// Whether these runs go right on a tree of this size, and on a large one.
+fn go_right_in_both(alloc: Global, (seats, pids, rows): Size, all: &[Run]) -> bool {
+    go_right(alloc, Limits::new(seats, pids, rows, 1), 1, all)
+        && go_right(alloc, Limits::large(seats, pids, rows, 1), 1, all)
+}
+
+/// Whether these runs go right on a tree of these limits that opens at this epoch, and leave it with their pairs.
+pub(crate) fn go_right(
+    alloc: Global,
+    limits: Result<Limits, BadLimits>,
+    epoch: u64,
+    all: &[Run],
+) -> bool {
+    let Ok(limits) = limits else {
         return false;
     };
     let Ok((tree, mut seats)) = opened_at(alloc, limits, epoch) else {
@@ -125,7 +136,7 @@ const RUNS: [(Size, Run); 7] = [
 #[test]
 fn replies_and_pairs_are_right(rt: HostRuntime) {
     for ((seats, pids, rows), run) in RUNS {
-        let right = go_right(rt.alloc(), (seats, pids, rows), 1, &[run]);
+        let right = go_right_in_both(rt.alloc(), (seats, pids, rows), &[run]);
         assert!(rt; right, "{seats} {pids} {rows}");
     }
 }
@@ -133,7 +144,7 @@ fn replies_and_pairs_are_right(rt: HostRuntime) {
 /// Whether all replies are right wherever the operation is stopped.
 fn stops_anywhere(alloc: Global, stop: Stop) -> bool {
     for steps in 1..stop.most_steps() {
-        if !go_right(alloc, (2, 64, 256), 1, &[Run::Stopped(stop, steps)]) {
+        if !go_right_in_both(alloc, (2, 64, 256), &[Run::Stopped(stop, steps)]) {
             return false;
         }
     }

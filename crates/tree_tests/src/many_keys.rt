@@ -1,0 +1,59 @@
+//! A large tree with a hundred thousand keys, which come in drawn order, go in another one, and come again. Were numbers lost, or not taken where the words
+//! at which a taking begins have none, the second coming would be refused.
+ghost use Rattle.bw_tree.specs.Trees.{AreSeatsOf};
+
+use crate::orders::{Order, numbers};
+use crate::turns::done;
+use crate::works::{Work, key, value};
+use bw_model::{Key, Limits, Value};
+use bw_tree::{BwSeat, Tree};
+use std::alloc::{AllocError, Global};
+use workers::opened;
+
+/// How many seats the tree has, which take their turns, and how many keys.
+const SEATS: u64 = 16;
+
+const KEYS: u32 = 100_000;
+
+/// What is done for all keys, in the order of a seed.
+const WORKS: [(Work, u64); 3] = [(Work::Insert, 1), (Work::Delete, 2), (Work::Insert, 3)];
+
+/// For how many keys each work is done, one work after another.
+fn counts(alloc: Global, tree: &Tree, seats: &mut Vec<BwSeat>) -> Result<[u32; 3], AllocError>
+    requires own { AreSeatsOf tree.now seats.old.items }
+    ensures own { AreSeatsOf tree.now seats.new.items }
+{
+    let mut counts = [0; 3];
+    for place in 0..3usize {
+        let (work, seed) = WORKS[place];
+        let order = numbers(alloc, KEYS, Order::Drawn, seed)?;
+        counts[place] = done(tree, seats, work, order.as_slice());
+    }
+    Ok(counts)
+}
+
+/// Whether the pairs are those of all keys, in order.
+fn are_all(pairs: &[(Key, Value)]) -> bool {
+    let mut left = pairs.iter();
+    for number in 0..KEYS {
+        if left.next() != Some(&(key(number), value(number))) {
+            return false;
+        }
+    }
+    left.next().is_none()
+}
+
+/// For how many keys each work is done on a new tree, and whether it lists all of them as it is closed.
+fn held(alloc: Global) -> Option<([u32; 3], bool)> {
+    let limits = Limits::for_many_keys(SEATS, u64::from(KEYS)).ok()?;
+    let (tree, mut seats) = opened(alloc, limits).ok()?;
+    let counts = counts(alloc, &tree, &mut seats);
+    let pairs = tree.close(alloc, seats).ok()?;
+    Some((counts.ok()?, are_all(pairs.as_slice())))
+}
+
+#[test]
+fn a_hundred_thousand_keys_come_again(rt: HostRuntime) {
+    let held = held(rt.alloc());
+    assert!(rt; held == Some(([KEYS; 3], true)), "{held:?}");
+}
