@@ -35,8 +35,11 @@ load load "$((keys / 10))"
 load load "$((keys * 9 / 10))"
 load load "$keys"
 load ascend "$keys"
-steps=$(done_by steps "$keys" 1 1000 | awk '{ printf "%.1f", $1 / 1000 }')
-echo "a lookup among $keys keys takes $steps steps"
+for size in "$few" "$keys"; do
+    reads=$(done_by steps "$size" 1 1000 | awk '{ printf "%.1f", $1 / 1000 }')
+    writes=$(done_by writes "$size" 1 1000 | awk '{ printf "%.1f", $1 / 1000 }')
+    echo "among $size keys a lookup takes $reads steps, an upsert $writes"
+done
 for threads in 1 4; do
     for what in reads half scans; do
         each=$operations

@@ -38,6 +38,8 @@ pub(crate) enum What {
     Scans,
     /// Drawn keys are looked up one step at a time, and the steps are counted.
     Steps,
+    /// The same of upserts.
+    Writes,
     /// Every second operation inserts the next key at the end, the others delete the first one, once there are as many as there are to be.
     Window,
 }
@@ -52,6 +54,7 @@ impl What {
             "half" => Some(What::Half),
             "scans" => Some(What::Scans),
             "steps" => Some(What::Steps),
+            "writes" => Some(What::Writes),
             "window" => Some(What::Window),
             _ => None,
         }
@@ -90,6 +93,7 @@ impl Worker {
             What::Load | What::Ascend => Command::Insert(self.key(operation), value(operation)),
             What::Scans => Command::Page(self.key(number)),
             What::Half if operation % 2 == 0 => Command::Upsert(self.key(number), value(operation)),
+            What::Writes => Command::Upsert(self.key(number), value(operation)),
             _ => Command::Get(self.key(number)),
         }
     }
@@ -136,7 +140,7 @@ impl Work for Worker {
         for operation in 0..self.scale.operations {
             let command = self.command(operation);
             let done = match self.what {
-                What::Steps => steps(tree, seat, command),
+                What::Steps | What::Writes => steps(tree, seat, command),
                 What::Scans => u64::from(shows(tree, seat, command)),
                 _ => u64::from(succeeds(tree, seat, command)),
             };
