@@ -17,6 +17,8 @@ mod limbo;
 #[cfg(test)]
 mod limbo_memory;
 #[cfg(test)]
+mod long_limbo;
+#[cfg(test)]
 mod plans;
 #[cfg(test)]
 mod random_rows;

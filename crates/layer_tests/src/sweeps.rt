@@ -23,7 +23,7 @@ type Case = (&'static [Item], u64, &'static [u64], &'static str, bool);
 type Log = ArrayString<256>;
 
 /// The answer to a step of a sweep, where this is the epoch, and the actors announce these.
-fn told(epoch: u64, announced: &[u64], step: &Step<Record>) -> Told
+pub(crate) fn told(epoch: u64, announced: &[u64], step: &Step<Record>) -> Told
     requires some { 0 < epoch }
     requires small { epoch ≤ 2 ^ 62 }
     requires only { IsOfSweep step.now }
