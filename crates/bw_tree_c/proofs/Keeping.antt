@@ -1,14 +1,14 @@
 -- What is kept can be copied, so it is read through a `&` too. Assumes `Logic`.
-use Rattle.std.proofs.Common.{◌≡◌, ℕ, List, [], ◌∷◌, ◌++◌, Option, Some, None, IsSome, refl, sym, ap, ◌∙◌}
+use Rattle.std.proofs.Common.{◌≡◌, List, [], ◌∷◌, ◌++◌, Option, Some, None, IsSome, refl, sym, ap, ◌∙◌}
 use seplogic.Ra.Ura.{Ura}
 use mir.Val.{Val, vstruct, vcons, vnil, of_list}
 use base.Logic.{ent, sep, emp}
-use base.Fml.{Lft, Fml, ftrue}
+use base.Fml.{ftrue}
 use types.Logic.{Logic, sem}
-use types.Kit.{‵, ◌⊛◌, ◌$◌, ◌∵◌, !, qed, drop, move, rewrite, split, use1, fsplit, fjoin, done, use0, by}
+use types.Kit.{‵, ◌⊛◌, ◌$◌, ◌∵◌, !, qed, move, rewrite, split, use1, fsplit, fjoin, done, use0}
 use denote.RattleType.{RattleType}
 use denote.Laws.{Is, Copy, Tells, shows}
-use denote.Copied.{Copied, whole-copied}
+use denote.Copied.{whole-copied}
 use denote.Opens.{Opens}
 use denote.RawPtr.{Ptr, ptr_val}
 use denote.Shadow.{makes_shadow}

@@ -2,7 +2,6 @@
 use Rattle.std.proofs.Common.{◌≡◌, ℕ, [], subst, sym}
 use Rattle.bw_model.specs.declared.command.Command.{Command}
 use Rattle.bw_tree.specs.Calls.{IsCalled, IsResumed}
-use Rattle.bw_tree.specs.Runs.{StartsWith}
 use Rattle.bw_tree.specs.Seats.{IsSame, Seat}
 use Rattle.bw_tree.specs.declared.called.Called.{Called}
 use Rattle.bw_tree.specs.declared.called.Called.TheVariants.{Done, Spent}

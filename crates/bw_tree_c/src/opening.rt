@@ -88,7 +88,7 @@ fn slots_of(alloc: Global, tree: &Arc<Tree>, seats: Vec<BwSeat>) -> Option<Vec<S
     requires own { AreSeatsOf (arc_value tree.now) seats.items }
     ensures { IfSome result (λ slots. slots.items ≡ seats.items) }
 {
-    let mut slots = Vec::new(alloc);
+    let mut slots = Vec::with_capacity(alloc, seats.len()).ok()?;
     for seat in seats {
         slots.push(slot_of(alloc, tree, seat)?).ok()?;
     }

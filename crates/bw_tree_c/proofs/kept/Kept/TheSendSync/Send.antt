@@ -1,8 +1,6 @@
 use mathlib.Core.List.{[]}
 use base.Shift.{Keyless}
-use denote.Builtin.{RawPtr}
 use denote.Param.Send.{IsSend, AllSend, owning_send, struct_send, sendable}
-use denote.RattleType.{RattleType}
 use denote.RawPtr.{Ptr}
 use denote.Struct.Struct.{exits_of}
 use denote.Struct.Owning.{shape, fields, to}

@@ -1,11 +1,10 @@
 -- `get` shows the block, whose share is copied out of what the handle keeps.
-use Rattle.std.proofs.Common.{◌≡◌, [], ◌∷◌, ◌++◌, List, ℕ, Some, IsSome, refl, sym, ap, ◌∙◌}
+use Rattle.std.proofs.Common.{◌≡◌, [], ◌∷◌, List, ℕ, Some, IsSome, refl, sym, ap, ◌∙◌}
 use mir.Syntax.{named}
 use mir.Val.{Val, vptr}
-use base.Logic.{SProp, id⊢}
+use base.Logic.{SProp}
 use base.Fml.{Lft, ftrue, flft}
-use types.Logic.{sem}
-use types.Kit.{‵, raw, ◌⊛◌, at_ret, ◌$◌, ◌∵◌, !, qed, drop, move, keep, use0, use1, join, split, fsplit, fjoin, feq_i, rewrite, suffices, done}
+use types.Kit.{‵, raw, ◌⊛◌, at_ret, ◌$◌, ◌∵◌, !, qed, drop, move, keep, use1, join, split, fsplit, fjoin, feq_i, rewrite, suffices, done}
 use types.Part.{whole, sub, look_in}
 use types.Run.{enter, stop, fld, load, addr, of_opd, returns, first, blocks, exec}
 use types.ByLocal.{alloc_all, pass_all, free_all, look_at, get, through, sets, sets_last, env}
@@ -14,14 +13,14 @@ use contract.Running.{tables}
 use denote.Builtin.{RefOf}
 use denote.Exit.{yes}
 use denote.Laws.{Is, shows}
-use denote.Memory.{cell_at, hidden_shr}
+use denote.Memory.{cell_at}
 use denote.Opens.{hide}
 use denote.RattleType.{owns}
 use denote.RawPtr.{Ptr, InBlock, block_ptr, block_of, count_of, at_block}
 use denote.Ref.{shr_vals, shr_Tells}
 use denote.Signature.{plain, types_at}
 use denote.Steps.{nothing, heard, looks, shuts, peeks}
-use denote.Struct.Lending.{lent_at, in_block_says}
+use denote.Struct.Lending.{in_block_says}
 use denote.Triple.Walked.{Stays, walk_of, says, stay_dropped, Goes-dropped, ends_at}
 use Rattle.std.proofs.raw_atomic.Walks.{proved}
 use Rattle.bw_tree_c.proofs.Keeping.{the_some, word, Data, told, copies, opened}

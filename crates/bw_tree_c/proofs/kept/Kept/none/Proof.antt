@@ -1,9 +1,8 @@
 -- `none` owns nothing beside its field.
-use Rattle.std.proofs.Common.{[], ◌∷◌, List, None, refl, lit<}
-use mir.Val.{Val}
+use Rattle.std.proofs.Common.{[], ◌∷◌, None, refl, lit<}
 use base.Logic.{id⊢}
 use base.Fml.{ftrue}
-use types.Kit.{‵, raw, ◌$◌, ◌∵◌, !, qed, drop, use0, use1, join, fjoin, suffices, done, move}
+use types.Kit.{‵, raw, ◌$◌, ◌∵◌, !, qed, drop, use0, use1, join, fjoin, suffices, done}
 use types.Part.{agg}
 use types.Run.{enter, lit, no_more, and_then, returns}
 use types.ByLocal.{alloc_all, pass_all, free_all, look_at, sets}

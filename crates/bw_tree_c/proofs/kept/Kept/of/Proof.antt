@@ -1,17 +1,16 @@
 -- `of` keeps what the reference shows for good.
-use Rattle.std.proofs.Common.{[], ◌∷◌, List, ℕ, Some, refl}
+use Rattle.std.proofs.Common.{[], ◌∷◌, ℕ, Some, refl}
 use mir.Syntax.{static}
-use mir.Val.{Val, vptr}
+use mir.Val.{vptr}
 use base.Logic.{id⊢}
 use base.Fml.{ftrue}
-use types.Kit.{‵, raw, ◌⊛◌, ◌$◌, ◌∵◌, !, qed, drop, move, keep, use0, use1, join, split, fsplit, fjoin, suffices, done}
+use types.Kit.{‵, ◌⊛◌, ◌$◌, ◌∵◌, !, qed, drop, keep, use0, use1, join, split, fsplit, fjoin, suffices, done}
 use types.Part.{agg}
 use types.Run.{enter, stop, addr, of_opd, no_more, and_then, returns}
 use types.ByLocal.{alloc_all, pass_all, free_all, look_at, get, through, sets}
 use contract.Running.{tables}
 use denote.Builtin.{RefOf}
 use denote.Exit.{yes}
-use denote.Memory.{hidden_shr}
 use denote.Opens.{unhide}
 use denote.RattleType.{owns}
 use denote.RawPtr.{block_ptr}
