@@ -1,6 +1,7 @@
 // The tree by its C library beside what one would take in its place, the same work in turn, cell after cell, in one process (java in its own).
 //   peers KEYS MILLISECONDS ROUNDS [FOLDER OF SkipList.class]
 // A line for each cell: operations a second, and how many times as fast as the tree, each the median of the rounds; behind it the least and the greatest.
+// Then a table of these ratios, 1 / 2 / 4 threads, the tree's own row in operations a second.
 #include "java.hpp"
 #include "maps.hpp"
 #include <algorithm>
@@ -58,6 +59,8 @@ int main(int count, char **words) {
     for (auto &peer : peers) peer->load(keys);
     must(tree->full == 0, "the tree is too small for the keys");
     static const char *const NAMES[] = {"lookups", "half upserts", "scans of 100"};
+    std::vector<std::string> table;
+    for (auto &peer : peers) table.push_back(std::string("| ") + peer->name());
     for (Kind kind : {LOOKUPS, HALF_UPSERTS, SCANS})
         for (int threads : {1, 2, 4}) {
             std::vector<std::vector<double>> rates(peers.size()), ratios(peers.size());
@@ -70,8 +73,13 @@ int main(int count, char **words) {
                 auto [least, greatest] = std::minmax_element(ratios[i].begin(), ratios[i].end());
                 printf("%s, %d thread%s, %s: %.0f a second, %.2f times (%.2f to %.2f)\n", NAMES[kind], threads, threads == 1 ? "" : "s", peers[i]->name(),
                        median(rates[i]), median(ratios[i]), *least, *greatest);
+                char figure[32];
+                snprintf(figure, sizeof figure, i ? "%.1f" : "%.0f", median(i ? ratios[i] : rates[i]));
+                table[i] += std::string(threads == 1 ? " | " : " / ") + figure;
             }
             fflush(stdout);
         }
+    printf("| how many times as fast as the tree | %s | %s | %s |\n|---|---|---|---|\n", NAMES[LOOKUPS], NAMES[HALF_UPSERTS], NAMES[SCANS]);
+    for (auto &row : table) printf("%s |\n", row.c_str());
     printf("the tree answered full %llu times\n", static_cast<unsigned long long>(tree->full));
 }

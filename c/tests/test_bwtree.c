@@ -26,6 +26,18 @@ static bwtree_page_pairs page;
 
 static int is(const bwtree_bytes *bytes, const char *text) { return bytes->length == strlen(text) && !memcmp(bytes->bytes, text, bytes->length); }
 
+/* A thread with as much stack as the library wants. */
+static pthread_t begun(void *(*run)(void *), void *argument) {
+    pthread_t thread;
+    pthread_attr_t attributes;
+    CHECK(pthread_attr_init(&attributes) == 0);
+#ifndef SANITIZED
+    CHECK(pthread_attr_setstacksize(&attributes, STACK) == 0);
+#endif
+    CHECK(pthread_create(&thread, &attributes, run, argument) == 0 && pthread_attr_destroy(&attributes) == 0);
+    return thread;
+}
+
 static void layout(void) {
     CHECK(sizeof(bwtree) == 16 && sizeof(bwtree_limits) == 32 && sizeof(bwtree_room) == 16);
     CHECK(sizeof(bwtree_bytes) == 72 && sizeof(bwtree_pair) == 144 && sizeof(bwtree_page_pairs) == 8 + 8 + 72 + 24 * 144);
@@ -212,7 +224,7 @@ static void busy(void) {
     CHECK(bwtree_open(&limits, &tree) == BWTREE_OK);
     for (int i = 0; i < 2; i++) {
         jobs[i] = (struct job){&tree, 0, 0};
-        CHECK(pthread_create(&threads[i], NULL, raises, &jobs[i]) == 0);
+        threads[i] = begun(raises, &jobs[i]);
     }
     for (int i = 0; i < 2; i++) CHECK(pthread_join(threads[i], NULL) == 0);
     CHECK(seen_busy && bwtree_is_idle(&tree, 0) == BWTREE_OK && bwtree_close(&tree) == BWTREE_OK);
@@ -236,11 +248,10 @@ static void closing(void) {
     static bwtree tree;
     static struct job job;
     bwtree_limits limits = {2, 64, 256, 1};
-    pthread_t thread;
     uint32_t status;
     CHECK(bwtree_open(&limits, &tree) == BWTREE_OK);
     job = (struct job){&tree, 1, 0};
-    CHECK(pthread_create(&thread, NULL, calls, &job) == 0);
+    pthread_t thread = begun(calls, &job);
     while (__atomic_load_n(&job.count, __ATOMIC_SEQ_CST) < 3) {}
     do CHECK((status = bwtree_close(&tree)) == BWTREE_OK || status == BWTREE_BUSY);
     while (status != BWTREE_OK);
@@ -342,17 +353,12 @@ static void threads(void) {
     bwtree_bytes old;
     uint64_t zero = 0, count, raised = 0;
     pthread_t ids[THREADS];
-    pthread_attr_t attributes;
-    CHECK(pthread_attr_init(&attributes) == 0);
-#ifndef SANITIZED
-    CHECK(pthread_attr_setstacksize(&attributes, STACK) == 0);
-#endif
     CHECK(bwtree_limits_for_keys(THREADS, THREADS * KEYS + 1, &limits) == BWTREE_OK && bwtree_open(&limits, &tree) == BWTREE_OK);
     CHECK(bwtree_insert(&tree, 0, "counter", 7, &zero, 8, &old) == BWTREE_OK);
     for (uint32_t i = 0; i < THREADS; i++) {
         owns[i].tree = &tree, owns[i].seat = i;
         memset(owns[i].known, -1, sizeof owns[i].known);
-        CHECK(pthread_create(&ids[i], &attributes, work, &owns[i]) == 0);
+        ids[i] = begun(work, &owns[i]);
     }
     for (int i = 0; i < THREADS; i++) {
         CHECK(pthread_join(ids[i], NULL) == 0);
@@ -364,9 +370,7 @@ static void threads(void) {
     printf("%d threads, %d operations each, the counter at %llu\n", THREADS, operations, (unsigned long long)count);
 }
 
-int main(int count, char **words) {
-    if (count > 1) operations = atoi(words[1]);
-    memset(long_text, 'k', sizeof long_text);
+static void *all(void *unused) {
     layout();
     limits();
     answers();
@@ -374,6 +378,13 @@ int main(int count, char **words) {
     busy();
     closing();
     threads();
+    return unused;
+}
+
+int main(int count, char **words) {
+    if (count > 1) operations = atoi(words[1]);
+    memset(long_text, 'k', sizeof long_text);
+    CHECK(pthread_join(begun(all, NULL), NULL) == 0);
     puts("passed");
     return 0;
 }
