@@ -2,6 +2,7 @@
  *   test_bwtree [OPERATIONS]: how many each thread makes (10,000) */
 #include "bwtree.h"
 #include <pthread.h>
+#include <sched.h>
 #include <stdio.h>
 #include <stdlib.h>
 #include <string.h>
@@ -239,6 +240,7 @@ static void *calls(void *argument) {
         status = bwtree_upsert(job->tree, job->seat, "key", 3, &job->seat, 4, &old);
         CHECK(status == BWTREE_OK || status == BWTREE_REPLACED || status == BWTREE_BUSY || status == BWTREE_FULL || status == BWTREE_CLOSED);
         __atomic_add_fetch(&job->count, 1, __ATOMIC_SEQ_CST);
+        sched_yield();
     } while (status != BWTREE_CLOSED);
     all_answer(job->tree, job->seat, BWTREE_CLOSED);
     return NULL;
@@ -252,7 +254,7 @@ static void closing(void) {
     CHECK(bwtree_open(&limits, &tree) == BWTREE_OK);
     job = (struct job){&tree, 1, 0};
     pthread_t thread = begun(calls, &job);
-    while (__atomic_load_n(&job.count, __ATOMIC_SEQ_CST) < 3) {}
+    while (__atomic_load_n(&job.count, __ATOMIC_SEQ_CST) < 3) sched_yield();
     do CHECK((status = bwtree_close(&tree)) == BWTREE_OK || status == BWTREE_BUSY);
     while (status != BWTREE_OK);
     CHECK(pthread_join(thread, NULL) == 0 && bwtree_close(&tree) == BWTREE_CLOSED);
