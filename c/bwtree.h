@@ -70,9 +70,10 @@ typedef struct bwtree {
 /* How large a tree is. */
 typedef struct bwtree_limits {
     uint64_t actors;  /* seats: 1 to 16 */
-    uint64_t pids;    /* pages: 64 to 4,096, a multiple of 64 */
-    uint64_t rows;    /* records: 64 to 16,384, a multiple of 64; one takes 4,096 bytes */
+    uint64_t pids;    /* pages: 64 to 4,096, of a large tree to 4,194,304, a multiple of 64 */
+    uint64_t rows;    /* records: 64 to 16,384, of a large tree to 67,108,864, a multiple of 64; one takes 4,096 bytes */
     uint64_t epoch;   /* at which the tree opens: 1 to 2^62; 1 if nothing else is wanted */
+    uint64_t large;   /* 1 of a large tree, whose pages take fewer records, else 0 */
 } bwtree_limits;
 
 /* At most 64 bytes: the first `length` of them count. */
@@ -104,6 +105,7 @@ typedef struct bwtree_room {
  * Each answers what its namesake below answers, but BWTREE_NULL. ---- */
 
 uint32_t bwtree_raw_limits_for_keys(uint64_t actors, uint64_t keys, bwtree_limits *limits);
+uint32_t bwtree_raw_limits_for_many_keys(uint64_t actors, uint64_t keys, bwtree_limits *limits);
 uint32_t bwtree_raw_open(const bwtree_limits *limits, bwtree *tree);
 uint32_t bwtree_raw_close(const bwtree *tree);
 uint32_t bwtree_raw_get(const bwtree *tree, uint32_t seat, const uint8_t *key, size_t key_length, bwtree_bytes *value);
@@ -130,6 +132,11 @@ static inline const uint8_t *bwtree_slice_(const void *bytes) {
 /* Limits for a tree with so many seats and so many different keys, all counted that it ever has. OK, BAD_LIMITS. */
 static inline uint32_t bwtree_limits_for_keys(uint64_t actors, uint64_t keys, bwtree_limits *limits) {
     return limits ? bwtree_raw_limits_for_keys(actors, keys, limits) : (uint32_t)BWTREE_NULL;
+}
+
+/* The same for a large tree: up to 27 million keys, in some 1,900 bytes each. OK, BAD_LIMITS. */
+static inline uint32_t bwtree_limits_for_many_keys(uint64_t actors, uint64_t keys, bwtree_limits *limits) {
+    return limits ? bwtree_raw_limits_for_many_keys(actors, keys, limits) : (uint32_t)BWTREE_NULL;
 }
 
 /* Opens an empty tree. The handle was never opened, or its tree is closed. OK; BAD_LIMITS, OPEN, NO_MEMORY: the handle is as it was. */

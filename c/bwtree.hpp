@@ -164,6 +164,12 @@ public:
         detail::must(bwtree_limits_for_keys(seats, keys, &limits));
         return tree(limits);
     }
+    // The same as a large tree.
+    static tree for_many_keys(uint64_t seats, uint64_t keys) {
+        bwtree_limits limits;
+        detail::must(bwtree_limits_for_many_keys(seats, keys, &limits));
+        return tree(limits);
+    }
     tree(tree &&) noexcept = default;
     tree &operator=(tree &&) noexcept = default;
 

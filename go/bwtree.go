@@ -49,8 +49,14 @@ func settled(status C.uint32_t) error {
 // Limits say how large a tree is.
 type Limits struct {
 	Actors uint64 // seats: 1 to 16
-	Pids   uint64 // pages: 64 to 4,096, a multiple of 64
-	Rows   uint64 // records, of 4,096 bytes each: 64 to 16,384, a multiple of 64
+	Pids   uint64 // pages: 64 to 4,096, of a large tree to 4,194,304, a multiple of 64
+	Rows   uint64 // records, of 4,096 bytes each: 64 to 16,384, of a large tree to 67,108,864, a multiple of 64
+	Large  bool   // whether it is a large tree, whose pages take fewer records
+}
+
+// shown are the limits that C shows.
+func shown(limits C.bwtree_limits) Limits {
+	return Limits{uint64(limits.actors), uint64(limits.pids), uint64(limits.rows), limits.large == 1}
 }
 
 // LimitsForKeys are for so many seats and so many different keys, all counted that the tree ever has.
@@ -59,7 +65,16 @@ func LimitsForKeys(seats, keys uint64) (Limits, error) {
 	if err := settled(C.bwtree_limits_for_keys(C.uint64_t(seats), C.uint64_t(keys), &limits)); err != nil {
 		return Limits{}, err
 	}
-	return Limits{uint64(limits.actors), uint64(limits.pids), uint64(limits.rows)}, nil
+	return shown(limits), nil
+}
+
+// LimitsForManyKeys are the same for a large tree: up to 27 million keys, in some 1,900 bytes each.
+func LimitsForManyKeys(seats, keys uint64) (Limits, error) {
+	var limits C.bwtree_limits
+	if err := settled(C.bwtree_limits_for_many_keys(C.uint64_t(seats), C.uint64_t(keys), &limits)); err != nil {
+		return Limits{}, err
+	}
+	return shown(limits), nil
 }
 
 // Room says how many pages and records are free.
@@ -87,6 +102,9 @@ func Open(limits Limits) (*Tree, error) {
 		return nil, NoMemory
 	}
 	raw := C.bwtree_limits{actors: C.uint64_t(limits.Actors), pids: C.uint64_t(limits.Pids), rows: C.uint64_t(limits.Rows), epoch: 1}
+	if limits.Large {
+		raw.large = 1
+	}
 	if err := settled(C.bwtree_open(&raw, handle)); err != nil {
 		C.free(unsafe.Pointer(handle))
 		return nil, err

@@ -74,7 +74,7 @@ func TestLimits(t *testing.T) {
 	if _, err := LimitsForKeys(17, 1); !errors.Is(err, BadLimits) {
 		t.Fatal(err)
 	}
-	if _, err := Open(Limits{1, 63, 64}); !errors.Is(err, BadLimits) {
+	if _, err := Open(Limits{1, 63, 64, false}); !errors.Is(err, BadLimits) {
 		t.Fatal(err)
 	}
 }
@@ -96,7 +96,7 @@ func TestLeases(t *testing.T) {
 }
 
 func TestFull(t *testing.T) {
-	tree, err := Open(Limits{1, 64, 64})
+	tree, err := Open(Limits{1, 64, 64, false})
 	if err != nil {
 		t.Fatal(err)
 	}

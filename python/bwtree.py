@@ -40,7 +40,8 @@ class _Tree(ctypes.Structure):
 
 
 class _Limits(ctypes.Structure):
-    _fields_ = [("actors", ctypes.c_uint64), ("pids", ctypes.c_uint64), ("rows", ctypes.c_uint64), ("epoch", ctypes.c_uint64)]
+    _fields_ = [("actors", ctypes.c_uint64), ("pids", ctypes.c_uint64), ("rows", ctypes.c_uint64), ("epoch", ctypes.c_uint64),
+                ("large", ctypes.c_uint64)]
 
 
 class _Room(ctypes.Structure):
@@ -62,7 +63,7 @@ class _Page(ctypes.Structure):
     _fields_ = [("count", ctypes.c_uint64), ("more", ctypes.c_uint64), ("next", _Bytes), ("pairs", _Pair * 24)]
 
 
-assert [ctypes.sizeof(it) for it in (_Tree, _Limits, _Room, _Bytes, _Pair, _Page)] == [16, 32, 16, 72, 144, 3544]
+assert [ctypes.sizeof(it) for it in (_Tree, _Limits, _Room, _Bytes, _Pair, _Page)] == [16, 40, 16, 72, 144, 3544]
 
 
 def _load() -> ctypes.CDLL:
@@ -74,6 +75,7 @@ def _load() -> ctypes.CDLL:
     text, size, count = ctypes.c_char_p, ctypes.c_size_t, ctypes.c_uint64
     for name, kinds in {
         "limits_for_keys": [count, count, ctypes.POINTER(_Limits)],
+        "limits_for_many_keys": [count, count, ctypes.POINTER(_Limits)],
         "open": [ctypes.POINTER(_Limits), tree],
         "close": [tree],
         "get": [tree, seat, text, size, old],
@@ -132,14 +134,16 @@ def _must(status: int) -> int:
 
 
 class Tree:
-    """A tree with so many seats, for so many different keys, all counted that it ever has; or with so many PIDs and rows."""
+    """A tree with so many seats, for so many different keys, all counted that it ever has; or with so many PIDs and rows. A large tree takes
+    up to 27 million keys, in some 1,900 bytes each."""
 
-    def __init__(self, seats: int = 4, keys: int = 1000, *, pids: Optional[int] = None, rows: Optional[int] = None):
-        limits = _Limits(seats, pids or 0, rows or 0, 1)
+    def __init__(self, seats: int = 4, keys: int = 1000, *, pids: Optional[int] = None, rows: Optional[int] = None, large: bool = False):
+        limits = _Limits(seats, pids or 0, rows or 0, 1, large)
         if pids is None and rows is None:
             if not (0 <= seats < 1 << 64 and 0 <= keys < 1 << 64):
                 raise Error(_BAD_LIMITS)
-            _must(_library.bwtree_raw_limits_for_keys(seats, keys, ctypes.byref(limits)))
+            propose = _library.bwtree_raw_limits_for_many_keys if large else _library.bwtree_raw_limits_for_keys
+            _must(propose(seats, keys, ctypes.byref(limits)))
         self._handle = _Tree()
         self._free: "queue.SimpleQueue[int]" = queue.SimpleQueue()
         self._seats = 0

@@ -44,6 +44,14 @@ class Calls(unittest.TestCase):
                 bwtree.Tree(**limits)
             self.assertEqual((raised.exception.status, str(raised.exception)), (22, "a limit is outside its range"))
 
+    def test_large(self):
+        with bwtree.Tree(seats=1, keys=20000, large=True) as tree, tree.seat() as seat:
+            for i in range(20000):
+                seat[i.to_bytes(4, "big")] = b"x"
+            self.assertEqual(seat[(7).to_bytes(4, "big")], b"x")
+        with self.assertRaises(bwtree.Error):
+            bwtree.Tree(seats=1, keys=20000)
+
     def test_full(self):
         with bwtree.Tree(seats=1, pids=64, rows=64) as tree, tree.seat() as seat, self.assertRaises(bwtree.Full):
             for i in range(100000):

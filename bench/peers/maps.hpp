@@ -25,7 +25,7 @@ struct Tree : Peer {
     bwtree tree = {};
     std::atomic<uint64_t> full{0};
     Tree() {
-        bwtree_limits limits = {4, 4096, 16384, 1};
+        bwtree_limits limits = {4, 4096, 16384, 1, 0};
         must(bwtree_open(&limits, &tree) == BWTREE_OK, "the tree isn't opened");
     }
     ~Tree() override { bwtree_close(&tree); }

@@ -28,7 +28,7 @@ static uint32_t copy(const bwtree *from, uint32_t from_seat, const bwtree *to, u
 
 int main(void) {
     static bwtree small, large;
-    bwtree_limits limits = {1, 64, 64, 1};
+    bwtree_limits limits = {1, 64, 64, 1, 0};
     bwtree_bytes old;
     if (bwtree_open(&limits, &small) != BWTREE_OK) return 1;
     uint32_t status = BWTREE_OK;

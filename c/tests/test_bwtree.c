@@ -40,7 +40,7 @@ static pthread_t begun(void *(*run)(void *), void *argument) {
 }
 
 static void layout(void) {
-    CHECK(sizeof(bwtree) == 16 && sizeof(bwtree_limits) == 32 && sizeof(bwtree_room) == 16);
+    CHECK(sizeof(bwtree) == 16 && sizeof(bwtree_limits) == 40 && sizeof(bwtree_room) == 16);
     CHECK(sizeof(bwtree_bytes) == 72 && sizeof(bwtree_pair) == 144 && sizeof(bwtree_page_pairs) == 8 + 8 + 72 + 24 * 144);
 }
 
@@ -67,25 +67,31 @@ static void all_answer(const bwtree *tree, uint32_t seat, uint32_t status) {
 
 static void limits(void) {
     static bwtree tree;
-    bwtree_limits limits = {1, 2, 3, 4};
+    bwtree_limits limits = {1, 2, 3, 4, 5};
     CHECK(bwtree_limits_for_keys(0, 1, &limits) == BWTREE_BAD_LIMITS);
     CHECK(bwtree_limits_for_keys(17, 1, &limits) == BWTREE_BAD_LIMITS);
     CHECK(bwtree_limits_for_keys(1, 1000000000, &limits) == BWTREE_BAD_LIMITS);
-    CHECK(limits.actors == 1 && limits.pids == 2 && limits.rows == 3 && limits.epoch == 4);
+    CHECK(limits.actors == 1 && limits.pids == 2 && limits.rows == 3 && limits.epoch == 4 && limits.large == 5);
     CHECK(bwtree_limits_for_keys(3, 1000, &limits) == BWTREE_OK && limits.actors == 3 && limits.epoch == 1);
     CHECK(limits.pids % 64 == 0 && limits.pids >= 64 && limits.rows % 64 == 0 && limits.rows >= 64);
-    static const bwtree_limits bad[] = {{0, 64, 64, 1},   {17, 64, 64, 1},    {1, 0, 64, 1},  {1, 65, 64, 1},
-                                        {1, 4160, 64, 1}, {1, 64, 16448, 1},  {1, 64, 63, 1}, {1, 64, 64, 0},
-                                        {1, 64, 0, 1},    {1, 64, 64, UINT64_MAX}, {UINT64_MAX, 64, 64, 1}};
+    CHECK(limits.large == 0 && bwtree_limits_for_many_keys(17, 1, &limits) == BWTREE_BAD_LIMITS);
+    CHECK(bwtree_limits_for_many_keys(2, 1000000000, &limits) == BWTREE_BAD_LIMITS && limits.actors == 3);
+    CHECK(bwtree_limits_for_many_keys(2, 1000, &limits) == BWTREE_OK && limits.actors == 2 && limits.large == 1);
+    CHECK(bwtree_open(&limits, &tree) == BWTREE_OK && bwtree_close(&tree) == BWTREE_OK);
+    static const bwtree_limits bad[] = {{0, 64, 64, 1, 0},   {17, 64, 64, 1, 0},    {1, 0, 64, 1, 0},  {1, 65, 64, 1, 0},
+                                        {1, 4160, 64, 1, 0}, {1, 64, 16448, 1, 0},  {1, 64, 63, 1, 0}, {1, 64, 64, 0, 0},
+                                        {1, 64, 0, 1, 0},    {1, 64, 64, UINT64_MAX, 0}, {UINT64_MAX, 64, 64, 1, 0}, {1, 64, 64, 1, 2},
+                                        {1, 4194368, 64, 1, 1}, {1, 64, 67108928, 1, 1}, {1, 4160, 63, 1, 1}, {17, 64, 64, 1, 1}};
     for (size_t i = 0; i < sizeof bad / sizeof *bad; i++) CHECK(bwtree_open(&bad[i], &tree) == BWTREE_BAD_LIMITS);
     all_answer(&tree, 0, BWTREE_CLOSED);
     CHECK(bwtree_close(&tree) == BWTREE_CLOSED);
 }
 
 static void nulls(const bwtree *tree) {
-    bwtree_limits limits = {1, 64, 64, 1};
+    bwtree_limits limits = {1, 64, 64, 1, 0};
     bwtree_bytes old;
     bwtree_room room;
+    CHECK(bwtree_limits_for_many_keys(1, 1, NULL) == BWTREE_NULL);
     CHECK(bwtree_limits_for_keys(1, 1, NULL) == BWTREE_NULL && bwtree_open(NULL, NULL) == BWTREE_NULL && bwtree_open(&limits, NULL) == BWTREE_NULL);
     CHECK(bwtree_close(NULL) == BWTREE_NULL);
     all_answer(NULL, 0, BWTREE_NULL);
@@ -125,7 +131,7 @@ static void lengths(const bwtree *tree) {
 
 static void answers(void) {
     static bwtree tree, other;
-    bwtree_limits limits = {2, 64, 256, 1};
+    bwtree_limits limits = {2, 64, 256, 1, 0};
     bwtree_bytes old = {0, {0}};
     bwtree_room before, after;
     CHECK(bwtree_open(&limits, &tree) == BWTREE_OK);
@@ -172,7 +178,7 @@ static void answers(void) {
 
 static void full(void) {
     static bwtree tree;
-    bwtree_limits limits = {1, 64, 64, 1};
+    bwtree_limits limits = {1, 64, 64, 1, 0};
     bwtree_bytes old;
     char key[16];
     CHECK(bwtree_open(&limits, &tree) == BWTREE_OK);
@@ -220,7 +226,7 @@ static void *raises(void *argument) {
 static void busy(void) {
     static bwtree tree;
     static struct job jobs[2];
-    bwtree_limits limits = {1, 64, 256, 1};
+    bwtree_limits limits = {1, 64, 256, 1, 0};
     pthread_t threads[2];
     CHECK(bwtree_open(&limits, &tree) == BWTREE_OK);
     for (int i = 0; i < 2; i++) {
@@ -249,7 +255,7 @@ static void *calls(void *argument) {
 static void closing(void) {
     static bwtree tree;
     static struct job job;
-    bwtree_limits limits = {2, 64, 256, 1};
+    bwtree_limits limits = {2, 64, 256, 1, 0};
     uint32_t status;
     CHECK(bwtree_open(&limits, &tree) == BWTREE_OK);
     job = (struct job){&tree, 1, 0};

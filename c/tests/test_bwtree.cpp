@@ -31,7 +31,8 @@ static void answers() {
     CHECK(thrown([&] { one.get(longer); }) == BWTREE_TOO_LONG && thrown([&] { one.upsert("a", longer); }) == BWTREE_TOO_LONG);
     CHECK(thrown([&] { one.walk(longer, [](auto, auto) { return true; }); }) == BWTREE_TOO_LONG);
     CHECK(thrown([] { bw::tree::for_keys(17, 1); }) == BWTREE_BAD_LIMITS);
-    CHECK(thrown([] { bw::tree(bwtree_limits{1, 63, 64, 1}); }) == BWTREE_BAD_LIMITS);
+    CHECK(thrown([] { bw::tree::for_many_keys(17, 1); }) == BWTREE_BAD_LIMITS && !bw::tree::for_many_keys(1, 100).lease().get("a"));
+    CHECK(thrown([] { bw::tree(bwtree_limits{1, 63, 64, 1, 0}); }) == BWTREE_BAD_LIMITS);
 }
 
 static void leases() {

@@ -18,11 +18,13 @@ pub(crate) struct RawTree {
 }
 
 #[repr(C)]
+#[derive(Default)]
 pub(crate) struct RawLimits {
     pub actors: u64,
     pub pids: u64,
     pub rows: u64,
     pub epoch: u64,
+    pub large: u64,
 }
 
 #[repr(C)]
@@ -69,6 +71,7 @@ impl RawPage {
 
 extern "C" {
     pub(crate) fn bwtree_raw_limits_for_keys(actors: u64, keys: u64, limits: *mut RawLimits) -> u32;
+    pub(crate) fn bwtree_raw_limits_for_many_keys(actors: u64, keys: u64, limits: *mut RawLimits) -> u32;
     pub(crate) fn bwtree_raw_open(limits: *const RawLimits, tree: *mut RawTree) -> u32;
     pub(crate) fn bwtree_raw_close(tree: *const RawTree) -> u32;
     pub(crate) fn bwtree_raw_get(tree: *const RawTree, seat: u32, key: *const u8, key_length: usize, value: *mut RawBytes) -> u32;
@@ -108,5 +111,5 @@ extern "C" {
     pub(crate) fn bwtree_raw_room(tree: *const RawTree, seat: u32, room: *mut RawRoom) -> u32;
 }
 
-const _: () = assert!(size_of::<RawTree>() == 16 && size_of::<RawLimits>() == 32 && size_of::<RawRoom>() == 16);
+const _: () = assert!(size_of::<RawTree>() == 16 && size_of::<RawLimits>() == 40 && size_of::<RawRoom>() == 16);
 const _: () = assert!(size_of::<RawBytes>() == 72 && size_of::<RawPair>() == 144 && size_of::<RawPage>() == 3544 && align_of::<RawPage>() == 8);

@@ -74,18 +74,33 @@ pub enum Swap {
 pub struct Limits {
     /// How many seats: 1 to 16.
     pub actors: u64,
-    /// How many pages: 64 to 4,096, a multiple of 64.
+    /// How many pages: 64 to 4,096, of a large tree to 4,194,304, a multiple of 64.
     pub pids: u64,
-    /// How many records, of 4,096 bytes each: 64 to 16,384, a multiple of 64.
+    /// How many records, of 4,096 bytes each: 64 to 16,384, of a large tree to 67,108,864, a multiple of 64.
     pub rows: u64,
+    /// Whether it is a large tree, whose pages take fewer records.
+    pub large: bool,
+}
+
+impl From<RawLimits> for Limits {
+    fn from(raw: RawLimits) -> Limits {
+        Limits { actors: raw.actors, pids: raw.pids, rows: raw.rows, large: raw.large == 1 }
+    }
 }
 
 impl Limits {
     /// For so many seats and so many different keys, all counted that the tree ever has.
     pub fn for_keys(seats: u64, keys: u64) -> Result<Limits> {
-        let mut limits = RawLimits { actors: 0, pids: 0, rows: 0, epoch: 0 };
+        let mut limits = RawLimits::default();
         settled(unsafe { bwtree_raw_limits_for_keys(seats, keys, &mut limits) })?;
-        Ok(Limits { actors: limits.actors, pids: limits.pids, rows: limits.rows })
+        Ok(limits.into())
+    }
+
+    /// The same for a large tree: up to 27 million keys, in some 1,900 bytes each.
+    pub fn for_many_keys(seats: u64, keys: u64) -> Result<Limits> {
+        let mut limits = RawLimits::default();
+        settled(unsafe { bwtree_raw_limits_for_many_keys(seats, keys, &mut limits) })?;
+        Ok(limits.into())
     }
 }
 
@@ -109,7 +124,8 @@ unsafe impl Sync for Tree {}
 impl Tree {
     /// An empty tree.
     pub fn open(limits: Limits) -> Result<Tree> {
-        let raw = RawLimits { actors: limits.actors, pids: limits.pids, rows: limits.rows, epoch: 1 };
+        let Limits { actors, pids, rows, large } = limits;
+        let raw = RawLimits { actors, pids, rows, epoch: 1, large: u64::from(large) };
         let mut handle = Box::new(RawTree { held: 0, at: std::ptr::null() });
         settled(unsafe { bwtree_raw_open(&raw, &mut *handle) })?;
         Ok(Tree { handle, free: AtomicU32::new((1 << limits.actors) - 1) })
@@ -118,6 +134,11 @@ impl Tree {
     /// An empty tree with so many seats, for so many different keys, all counted that it ever has.
     pub fn for_keys(seats: u64, keys: u64) -> Result<Tree> {
         Tree::open(Limits::for_keys(seats, keys)?)
+    }
+
+    /// The same as a large tree.
+    pub fn for_many_keys(seats: u64, keys: u64) -> Result<Tree> {
+        Tree::open(Limits::for_many_keys(seats, keys)?)
     }
 
     /// A seat, if one is free. It is free again when it is dropped.

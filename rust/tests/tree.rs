@@ -34,9 +34,20 @@ fn lengths_are_tested() {
 #[test]
 fn limits_are_tested() {
     assert_eq!(Limits::for_keys(17, 1), Err(Error::BadLimits));
-    assert_eq!(Tree::open(Limits { actors: 1, pids: 63, rows: 64 }).err(), Some(Error::BadLimits));
-    assert_eq!(Tree::open(Limits { actors: 0, pids: 64, rows: 64 }).err(), Some(Error::BadLimits));
-    assert_eq!(Tree::open(Limits { actors: u64::MAX, pids: 64, rows: 64 }).err(), Some(Error::BadLimits));
+    assert_eq!(Tree::open(Limits { actors: 1, pids: 63, rows: 64, large: false }).err(), Some(Error::BadLimits));
+    assert_eq!(Tree::open(Limits { actors: 0, pids: 64, rows: 64, large: false }).err(), Some(Error::BadLimits));
+    assert_eq!(Tree::open(Limits { actors: u64::MAX, pids: 64, rows: 64, large: false }).err(), Some(Error::BadLimits));
+}
+
+#[test]
+fn a_large_tree_takes_more_keys() {
+    assert_eq!(Limits::for_keys(1, 20_000), Err(Error::BadLimits));
+    let tree = Tree::for_many_keys(1, 20_000).unwrap();
+    let mut seat = tree.seat().unwrap();
+    for i in 0..20_000u32 {
+        assert_eq!(seat.insert(&i.to_be_bytes(), b"x"), Ok(None));
+    }
+    assert_eq!(seat.get(&7u32.to_be_bytes()), Ok(Some(b"x".to_vec())));
 }
 
 #[test]
@@ -50,7 +61,7 @@ fn seats_are_lent() {
 
 #[test]
 fn a_small_tree_is_full() {
-    let tree = Tree::open(Limits { actors: 1, pids: 64, rows: 64 }).unwrap();
+    let tree = Tree::open(Limits { actors: 1, pids: 64, rows: 64, large: false }).unwrap();
     let mut seat = tree.seat().unwrap();
     let error = (0..100_000u32).find_map(|i| seat.insert(&i.to_be_bytes(), b"").err());
     assert_eq!(error, Some(Error::Full));

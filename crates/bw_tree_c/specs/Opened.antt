@@ -1,7 +1,7 @@
 -- What a handle keeps once its tree is opened.
 use Rattle.std.specs.Prelude.{◌≡◌, ℕ, List, Option, Some, None}
 use Rattle.tree_limits.specs.declared.limits.Limits.{Limits}
-use Rattle.tree_limits.specs.Room.{pids_for, rows_for}
+use Rattle.tree_limits.specs.Room.{large_pids_for, large_rows_for, pids_for, rows_for}
 use Rattle.bw_tree.specs.Seats.{Seat}
 use Rattle.bw_tree.specs.Trees.{AreFresh, Tree}
 use Rattle.bw_tree_c.specs.Shown.{ShowsLimits}
@@ -25,3 +25,12 @@ pub record ProposesLimits (seats keys : ℕ) (shows : TreeLimits) : Type 0 where
   pub pids : shows.pids ≡ pids_for seats keys
   pub rows : shows.rows ≡ rows_for seats (pids_for seats keys)
   pub epoch : shows.epoch ≡ 1
+  pub kind : shows.large ≡ 0
+
+-- The same for a large tree.
+pub record ProposesLargeLimits (seats keys : ℕ) (shows : TreeLimits) : Type 0 where
+  pub actors : shows.actors ≡ seats
+  pub pids : shows.pids ≡ large_pids_for seats keys
+  pub rows : shows.rows ≡ large_rows_for seats (large_pids_for seats keys)
+  pub epoch : shows.epoch ≡ 1
+  pub kind : shows.large ≡ 1

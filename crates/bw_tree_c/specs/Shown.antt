@@ -1,6 +1,7 @@
 -- What C reads.
-use Rattle.std.specs.Prelude.{slice_get, ◌<◌, ◌≡◌, ℕ, List, Option, Some, None, take, length}
+use Rattle.std.specs.Prelude.{slice_get, ◌<◌, ◌≡◌, ◌⊎◌, ℕ, List, Option, Some, None, take, length, if◌then◌else◌}
 use Rattle.bw_tree.specs.declared.room.Room.{Room}
+use Rattle.tree_limits.specs.Limits.{AreLargeLimits, AreLimits}
 use Rattle.tree_limits.specs.declared.limits.Limits.{Limits}
 use Rattle.bw_tree_c.specs.declared.bytes.Bytes.{Bytes}
 use Rattle.bw_tree_c.specs.declared.bytes.FreeRoom.{FreeRoom}
@@ -18,6 +19,13 @@ pub record ShowsLimits (limits : Limits) (shows : TreeLimits) : Type 0 where
   pub pids : shows.pids ≡ limits.pids
   pub rows : shows.rows ≡ limits.rows
   pub epoch : shows.epoch ≡ limits.epoch
+  pub kind : shows.large ≡ (if limits.is_large then 1 else 0)
+
+-- They are limits of a small tree or of a large one.
+abbrev pub AreOpenable : TreeLimits → Type 0
+AreOpenable shows =
+    ((shows.large ≡ 0) × AreLimits shows.actors shows.pids shows.rows shows.epoch)
+    ⊎ ((shows.large ≡ 1) × AreLargeLimits shows.actors shows.pids shows.rows shows.epoch)
 
 -- The room is shown.
 abbrev pub ShowsRoom : Room → FreeRoom → Type 0

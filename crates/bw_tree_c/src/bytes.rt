@@ -1,6 +1,6 @@
 //! What C reads: short lists of bytes, pages of pairs, limits and counts.
-ghost use Rattle.std.specs.Prelude.{◌≡◌, ◌≤◌, length};
-ghost use Rattle.bw_tree_c.specs.Shown.{ShowsLimits, ShowsNext, ShowsPage, ShowsPair, ShowsPairs, ShowsRoom, shown};
+ghost use Rattle.std.specs.Prelude.{◌≡◌, ◌≤◌, MatchOption, length};
+ghost use Rattle.bw_tree_c.specs.Shown.{AreOpenable, ShowsLimits, ShowsNext, ShowsPage, ShowsPair, ShowsPairs, ShowsRoom, shown};
 
 use bw_model::{Key, Limits, Pairs, Value};
 use bw_tree::Room;
@@ -39,6 +39,8 @@ pub struct TreeLimits {
     pub(crate) pids: u64,
     pub(crate) rows: u64,
     pub(crate) epoch: u64,
+    /// 1 of a large tree, else 0.
+    pub(crate) large: u64,
 }
 
 /// How many PIDs and rows are free.
@@ -116,6 +118,19 @@ impl TreeLimits {
         self.pids = limits.pids;
         self.rows = limits.rows;
         self.epoch = limits.epoch;
+        self.large = u64::from(limits.is_large);
+    }
+
+    /// The limits that it shows, if they are limits.
+    pub(crate) fn limits(&self) -> Option<Limits>
+        ensures { MatchOption result (AreOpenable self.now → ⊥) (λ limits. ShowsLimits limits self.now) }
+    {
+        let (actors, pids, rows, epoch) = (self.actors, self.pids, self.rows, self.epoch);
+        match self.large {
+            0 => Limits::new(actors, pids, rows, epoch).ok(),
+            1 => Limits::large(actors, pids, rows, epoch).ok(),
+            _ => None,
+        }
     }
 }
 

@@ -1,10 +1,10 @@
 //! A tree is opened.
 ghost use Rattle.std.specs.Prelude.{◌≡◌, ◌↔◌, IfSome, IsSome, IsTrue};
 ghost use Rattle.std.specs.Arc.{arc_value};
-ghost use Rattle.tree_limits.specs.Limits.{AreLimits};
-ghost use Rattle.tree_limits.specs.Room.{AreProposed};
+ghost use Rattle.tree_limits.specs.Room.{AreProposed, AreProposedLarge};
 ghost use Rattle.bw_tree.specs.Trees.{AreSeatsOf};
-ghost use Rattle.bw_tree_c.specs.Opened.{HasOpened, IsOpenedAt, ProposesLimits};
+ghost use Rattle.bw_tree_c.specs.Opened.{HasOpened, IsOpenedAt, ProposesLargeLimits, ProposesLimits};
+ghost use Rattle.bw_tree_c.specs.Shown.{AreOpenable};
 
 use crate::answers::{BAD_LIMITS, NO_MEMORY, OK, OPEN};
 use crate::bytes::TreeLimits;
@@ -33,15 +33,35 @@ pub extern "C" fn bwtree_raw_limits_for_keys(actors: u64, keys: u64, limits: &mu
     }
 }
 
+/// Limits of a large tree for so many seats and keys.
+#[unsafe(no_mangle)]
+pub extern "C" fn bwtree_raw_limits_for_many_keys(
+    actors: u64,
+    keys: u64,
+    limits: &mut TreeLimits,
+) -> u32
+    ensures ok { (result ≡ OK) ↔ AreProposedLarge actors keys }
+    ensures limits { result ≡ OK → ProposesLargeLimits actors keys limits.new }
+    ensures bad { (result ≡ OK → ⊥) → (result ≡ BAD_LIMITS) × (limits.new ≡ limits.old) }
+{
+    match Limits::for_many_keys(actors, keys) {
+        Ok(proposed) => {
+            limits.set(&proposed);
+            OK
+        }
+        Err(_) => BAD_LIMITS,
+    }
+}
+
 /// Opens an empty tree.
 #[unsafe(no_mangle)]
 pub extern "C" fn bwtree_raw_open(alloc: Global, limits: &TreeLimits, tree: &mut TreeHandle) -> u32
-    ensures bad { (result ≡ BAD_LIMITS) ↔ (AreLimits limits.now.actors limits.now.pids limits.now.rows limits.now.epoch → ⊥) }
+    ensures bad { (result ≡ BAD_LIMITS) ↔ (AreOpenable limits.now → ⊥) }
     ensures ok { result ≡ OK → HasOpened limits.now tree.new.kept.value }
     ensures open { result ≡ OPEN → IsSome tree.old.kept.value }
     ensures same { (result ≡ OK → ⊥) → tree.new ≡ tree.old }
 {
-    let Ok(limits) = Limits::new(limits.actors, limits.pids, limits.rows, limits.epoch) else {
+    let Some(limits) = limits.limits() else {
         return BAD_LIMITS;
     };
     if tree.is_open() {

@@ -12,7 +12,9 @@ use crate::calls::{
 };
 use crate::closing::bwtree_raw_close;
 use crate::handle::TreeHandle;
-use crate::opening::{bwtree_raw_limits_for_keys, bwtree_raw_open};
+use crate::opening::{
+    bwtree_raw_limits_for_keys, bwtree_raw_limits_for_many_keys, bwtree_raw_open,
+};
 use crate::pages::{bwtree_raw_page, bwtree_raw_resume};
 use crate::place::Place;
 use crate::slot::give;
@@ -79,6 +81,7 @@ fn no_limits() -> TreeLimits {
         pids: 0,
         rows: 0,
         epoch: 0,
+        large: 0,
     }
 }
 
@@ -108,6 +111,27 @@ fn told_of_handles(alloc: Global) -> [u32; 10] {
         bwtree_raw_get(&tree, 0, b"a", &mut old),
         bwtree_raw_open(alloc, &limits, &mut tree),
     ]
+}
+
+/// What openings of large trees answer, and of limits of neither kind.
+fn told_of_large(alloc: Global) -> [u32; 5] {
+    let mut tree = TreeHandle::unopened();
+    let mut limits = no_limits();
+    let told = [
+        bwtree_raw_limits_for_many_keys(17, 100, &mut limits),
+        bwtree_raw_limits_for_many_keys(2, 100, &mut limits),
+        bwtree_raw_open(alloc, &limits, &mut tree),
+        bwtree_raw_close(&tree),
+    ];
+    limits.large = 2;
+    let [first, second, third, fourth] = told;
+    let last = bwtree_raw_open(alloc, &limits, &mut tree);
+    [first, second, third, fourth, last]
+}
+
+#[test]
+fn large_trees_are_opened(rt: HostRuntime) {
+    assert!(rt; told_of_large(rt.alloc()) == [BAD_LIMITS, OK, OK, OK, BAD_LIMITS]);
 }
 
 #[test]
