@@ -2,15 +2,15 @@
 use Rattle.std.specs.Prelude.{◌≡◌, ℕ, Option, ⊤}
 use Rattle.bw_model.specs.declared.command.Command.{Command}
 use Rattle.bw_tree_c.specs.Handles.{OnSeat}
-use Rattle.bw_tree_c.specs.Running.{IsRun, IsRunOn, IsRunToPage, IsTidied, IsWatched, TellsIdle}
+use Rattle.bw_tree_c.specs.Running.{IsRunToValue, IsRunFurther, IsRunToPage, IsTidied, IsWatched, TellsIdle}
 use Rattle.bw_tree_c.specs.declared.bytes.Bytes.{Bytes}
 use Rattle.bw_tree_c.specs.declared.bytes.FreeRoom.{FreeRoom}
 use Rattle.bw_tree_c.specs.declared.bytes.Page.{Page}
 use Rattle.bw_tree_c.specs.declared.shared.Shared.{Shared}
 
 -- a command whose reply may have a value
-abbrev pub Comes : Option Shared → ℕ → Command → ℕ → Bytes → Bytes → Type 0
-Comes kept number command status old new = OnSeat kept number status (new ≡ old) (λ before after. IsRun before command status old new after)
+abbrev pub ComesToValue : Option Shared → ℕ → Command → ℕ → Bytes → Bytes → Type 0
+ComesToValue kept number command status old new = OnSeat kept number status (new ≡ old) (λ before after. IsRunToValue before command status old new after)
 
 -- one whose reply is a page
 abbrev pub ComesToPage : Option Shared → ℕ → Command → ℕ → Page → Page → Type 0
@@ -22,7 +22,7 @@ ComesTidied kept number command status = OnSeat kept number status ⊤ (λ befor
 
 -- an operation that goes on
 abbrev pub ComesOn : Option Shared → ℕ → ℕ → ℕ → Bytes → Bytes → Page → Page → Type 0
-ComesOn kept number budget status old new page shows = OnSeat kept number status ((new ≡ old) × (shows ≡ page)) (λ before after. IsRunOn before budget status old new page shows after)
+ComesOn kept number budget status old new page shows = OnSeat kept number status ((new ≡ old) × (shows ≡ page)) (λ before after. IsRunFurther before budget status old new page shows after)
 
 -- whether the seat is idle
 abbrev pub ComesIdle : Option Shared → ℕ → ℕ → Type 0

@@ -14,14 +14,14 @@ abbrev pub HasSeat : Option Shared → ℕ → Seat → Type 0
 HasSeat None number seat = ⊥
 HasSeat (Some shared) number seat = slice_get shared.slots.items number ≡ Some seat
 
-abbrev pub IsRefusedAt : Option Seat → Refusal → Type 0
-IsRefusedAt None refusal = refusal ≡ NoSeat
-IsRefusedAt (Some seat) refusal = IsPassing refusal
+abbrev pub IsReason : Option Seat → Refusal → Type 0
+IsReason None refusal = refusal ≡ NoSeat
+IsReason (Some seat) refusal = IsPassing refusal
 
 -- There is no seat for a call: the tree was never opened; or there is none of this number; or it can't be had at this moment.
 abbrev pub IsRefused : Option Shared → ℕ → Refusal → Type 0
 IsRefused None number refusal = refusal ≡ Closed
-IsRefused (Some shared) number refusal = IsRefusedAt (slice_get shared.slots.items number) refusal
+IsRefused (Some shared) number refusal = IsReason (slice_get shared.slots.items number) refusal
 
 -- The call is refused, and the rest is as it was.
 pub record IsRefusedCall (kept : Option Shared) (number told : ℕ) (others : Type 0) : Type 0 where
@@ -30,7 +30,7 @@ pub record IsRefusedCall (kept : Option Shared) (number told : ℕ) (others : Ty
   pub status : told ≡ status_of_refusal refusal
   pub rest : others
 
--- The call runs on the seat of this number. No other call is inside that seat meanwhile, and it goes on from what it had seen.
+-- The call runs on the seat of this number, which goes on from what it had seen.
 pub record IsOnSeat (kept : Option Shared) (number : ℕ) (ran : Seat → Seat → Type 0) : Type 0 where
   pub first : Seat
   pub before : Seat

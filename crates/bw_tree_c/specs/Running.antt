@@ -30,8 +30,8 @@ pub record WasCalled (seat : Seat) (command : Command) (answer : ℕ) (tells : C
 abbrev pub IsCalledAndTold : Seat → Command → ℕ → Type 0 → (Called → Type 0) → Seat → Type 0
 IsCalledAndTold seat command status rest tells next = (IsSome (unfinished_command seat) × (status ≡ UNFINISHED) × rest × (next ≡ seat)) ⊎ WasCalled seat command status tells next
 
-abbrev pub IsRun : Seat → Command → ℕ → Bytes → Bytes → Seat → Type 0
-IsRun seat command status old new next = IsCalledAndTold seat command status (new ≡ old) (λ called. ShowsValueOf called old new) next
+abbrev pub IsRunToValue : Seat → Command → ℕ → Bytes → Bytes → Seat → Type 0
+IsRunToValue seat command status old new next = IsCalledAndTold seat command status (new ≡ old) (λ called. ShowsValueOf called old new) next
 
 abbrev pub IsRunToPage : Seat → Command → ℕ → Page → Page → Seat → Type 0
 IsRunToPage seat command status old new next = IsCalledAndTold seat command status (new ≡ old) (λ called. ShowsPageOf called old new) next
@@ -50,8 +50,8 @@ pub record WasResumed (seat : Seat) (budget answer : ℕ) (old new : Bytes) (pag
   pub pairs : ShowsPageOf called page shows
 
 -- The seat has no operation, and nothing changes; or it goes on.
-abbrev pub IsRunOn : Seat → ℕ → ℕ → Bytes → Bytes → Page → Page → Seat → Type 0
-IsRunOn seat budget status old new page shows next =
+abbrev pub IsRunFurther : Seat → ℕ → ℕ → Bytes → Bytes → Page → Page → Seat → Type 0
+IsRunFurther seat budget status old new page shows next =
     ((unfinished_command seat ≡ None) × (status ≡ IDLE) × (new ≡ old) × (shows ≡ page) × (next ≡ seat)) ⊎ WasResumed seat budget status old new page shows next
 
 -- The status tells whether the seat has an operation.

@@ -40,13 +40,13 @@ abbrev pub ShowFirst : ℕ → List (List ℕ × List ℕ) → List Pair → Typ
 ShowFirst count pairs ats = (n : ℕ) (pair : List ℕ × List ℕ) → n < count → slice_get pairs n ≡ Some pair → (at : Pair) × (slice_get ats n ≡ Some at) × ShowsPair pair at
 
 -- All pairs are shown.
-abbrev pub ShowsPairs : List (List ℕ × List ℕ) → Page → Type 0
-ShowsPairs pairs page = (page.count ≡ length pairs) × ShowFirst (length pairs) pairs page.pairs
+abbrev pub ShowsAllPairs : List (List ℕ × List ℕ) → Page → Type 0
+ShowsAllPairs pairs page = (page.count ≡ length pairs) × ShowFirst (length pairs) pairs page.pairs
 
 -- The key from which the next page goes on is shown, or that there is none.
 abbrev pub ShowsNext : Option (List ℕ) → Page → Type 0
 ShowsNext None page = page.more ≡ 0
 ShowsNext (Some key) page = (page.more ≡ 1) × (shown page.next ≡ key)
 
-abbrev pub ShowsPage : List (List ℕ × List ℕ) → Option (List ℕ) → Page → Type 0
-ShowsPage pairs next page = ShowsPairs pairs page × ShowsNext next page
+abbrev pub ShowsWholePage : List (List ℕ × List ℕ) → Option (List ℕ) → Page → Type 0
+ShowsWholePage pairs next page = ShowsAllPairs pairs page × ShowsNext next page

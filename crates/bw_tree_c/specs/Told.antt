@@ -6,58 +6,58 @@ use Rattle.bw_tree.specs.declared.called.Called.{Called}
 use Rattle.bw_tree.specs.declared.called.Called.TheVariants.{Done, Spent}
 use Rattle.bw_tree_c.specs.declared.bytes.Bytes.{Bytes}
 use Rattle.bw_tree_c.specs.declared.bytes.Page.{Page}
-use Rattle.bw_tree_c.specs.Shown.{ShowsPage, shown}
+use Rattle.bw_tree_c.specs.Shown.{ShowsWholePage, shown}
 
 -- the value that a reply has, if it has one
-abbrev pub value_in : Reply → Option (List ℕ)
-value_in (reply.Value value) = Some value
-value_in reply.None = None
-value_in reply.Inserted = None
-value_in (reply.Exists value) = Some value
-value_in reply.Set = None
-value_in (reply.Replaced value) = Some value
-value_in (reply.Deleted value) = Some value
-value_in reply.Absent = None
-value_in reply.Swapped = None
-value_in (reply.Differs value) = Some value
-value_in (reply.Page items next) = None
-value_in reply.Tidied = None
-value_in reply.Full = None
+abbrev pub reply_value : Reply → Option (List ℕ)
+reply_value (reply.Value value) = Some value
+reply_value reply.None = None
+reply_value reply.Inserted = None
+reply_value (reply.Exists value) = Some value
+reply_value reply.Set = None
+reply_value (reply.Replaced value) = Some value
+reply_value (reply.Deleted value) = Some value
+reply_value reply.Absent = None
+reply_value reply.Swapped = None
+reply_value (reply.Differs value) = Some value
+reply_value (reply.Page items next) = None
+reply_value reply.Tidied = None
+reply_value reply.Full = None
 
 -- the pairs and the next key that a reply has, if it is a page
-abbrev pub page_in : Reply → Option (List (List ℕ × List ℕ) × Option (List ℕ))
-page_in (reply.Value value) = None
-page_in reply.None = None
-page_in reply.Inserted = None
-page_in (reply.Exists value) = None
-page_in reply.Set = None
-page_in (reply.Replaced value) = None
-page_in (reply.Deleted value) = None
-page_in reply.Absent = None
-page_in reply.Swapped = None
-page_in (reply.Differs value) = None
-page_in (reply.Page items next) = Some (items, next)
-page_in reply.Tidied = None
-page_in reply.Full = None
+abbrev pub reply_page : Reply → Option (List (List ℕ × List ℕ) × Option (List ℕ))
+reply_page (reply.Value value) = None
+reply_page reply.None = None
+reply_page reply.Inserted = None
+reply_page (reply.Exists value) = None
+reply_page reply.Set = None
+reply_page (reply.Replaced value) = None
+reply_page (reply.Deleted value) = None
+reply_page reply.Absent = None
+reply_page reply.Swapped = None
+reply_page (reply.Differs value) = None
+reply_page (reply.Page items next) = Some (items, next)
+reply_page reply.Tidied = None
+reply_page reply.Full = None
 
 -- The value is what C reads; where there is none, nothing is written.
 abbrev pub ShowsValue : Option (List ℕ) → Bytes → Bytes → Type 0
 ShowsValue None old new = new ≡ old
 ShowsValue (Some value) old new = shown new ≡ value
 
-abbrev pub HasTold : Reply → Bytes → Bytes → Type 0
-HasTold given old new = ShowsValue (value_in given) old new
+abbrev pub TellsValue : Reply → Bytes → Bytes → Type 0
+TellsValue given old new = ShowsValue (reply_value given) old new
 
 -- The value of what became of a call is what C reads, or nothing is written.
 abbrev pub ShowsValueOf : Called → Bytes → Bytes → Type 0
-ShowsValueOf (Done given) old new = HasTold given old new
+ShowsValueOf (Done given) old new = TellsValue given old new
 ShowsValueOf Spent old new = new ≡ old
 
 -- and so is a page
 abbrev pub ShowsMaybePage : Option (List (List ℕ × List ℕ) × Option (List ℕ)) → Page → Page → Type 0
 ShowsMaybePage None old new = new ≡ old
-ShowsMaybePage (Some page) old new = ShowsPage page.0 page.1 new
+ShowsMaybePage (Some page) old new = ShowsWholePage page.0 page.1 new
 
 abbrev pub ShowsPageOf : Called → Page → Page → Type 0
-ShowsPageOf (Done given) old new = ShowsMaybePage (page_in given) old new
+ShowsPageOf (Done given) old new = ShowsMaybePage (reply_page given) old new
 ShowsPageOf Spent old new = new ≡ old

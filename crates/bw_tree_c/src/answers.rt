@@ -1,6 +1,6 @@
 //! Replies as C reads them: a status, and the value that goes with it.
 ghost use Rattle.std.specs.Prelude.{◌≡◌};
-ghost use Rattle.bw_tree_c.specs.Told.{HasTold, ShowsPageOf, ShowsValueOf};
+ghost use Rattle.bw_tree_c.specs.Told.{TellsValue, ShowsPageOf, ShowsValueOf};
 ghost use Rattle.bw_tree_c.specs.Statuses.{status_of, status_of_called};
 
 use crate::bytes::{Bytes, Page};
@@ -88,7 +88,7 @@ pub(crate) fn status_of_called(called: &Called) -> u32
 
 /// Shows the value of a reply, if it has one.
 fn show_value(reply: &Reply, old: &mut Bytes)
-    ensures { HasTold reply.now old.old old.new }
+    ensures { TellsValue reply.now old.old old.new }
 {
     match reply {
         Reply::Value(value) => old.set(value.as_slice()),

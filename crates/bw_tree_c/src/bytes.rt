@@ -1,6 +1,6 @@
 //! What C reads: short lists of bytes, pages of pairs, limits and counts.
 ghost use Rattle.std.specs.Prelude.{◌≡◌, ◌≤◌, MatchOption, length};
-ghost use Rattle.bw_tree_c.specs.Shown.{AreOpenable, ShowsLimits, ShowsNext, ShowsPage, ShowsPair, ShowsPairs, ShowsRoom, shown};
+ghost use Rattle.bw_tree_c.specs.Shown.{AreOpenable, ShowsLimits, ShowsNext, ShowsWholePage, ShowsPair, ShowsAllPairs, ShowsRoom, shown};
 
 use bw_model::{Key, Limits, Pairs, Value};
 use bw_tree::Room;
@@ -75,7 +75,7 @@ impl Pair {
 impl Page {
     /// These pairs from now on, and the key from which the next page goes on.
     pub(crate) fn set(&mut self, items: &Pairs, next: &Option<Key>)
-        ensures { ShowsPage items.now next.now self.new }
+        ensures { ShowsWholePage items.now next.now self.new }
     {
         self.set_pairs(items.as_slice());
         self.set_next(next);
@@ -84,7 +84,7 @@ impl Page {
     /// These pairs from now on.
     fn set_pairs(&mut self, items: &[(Key, Value)])
         requires few { length items.now ≤ 24 }
-        ensures { ShowsPairs items.now self.new }
+        ensures { ShowsAllPairs items.now self.new }
     {
         for place in 0..items.len() {
             let (key, value) = &items[place];

@@ -2,7 +2,7 @@
 ghost use Rattle.std.specs.Prelude.{◌≡◌, ◌<◌, ◌≤◌, ◌⊎◌, length};
 ghost use Rattle.bw_model.specs.declared.command.Command.TheVariants as command;
 ghost use Rattle.bw_model.specs.declared.short_bytes.TheConstants.{MAX_LENGTH};
-ghost use Rattle.bw_tree_c.specs.Calls.{Comes, ComesTidied};
+ghost use Rattle.bw_tree_c.specs.Calls.{ComesToValue, ComesTidied};
 
 use crate::answers::TOO_LONG;
 use crate::bytes::Bytes;
@@ -13,7 +13,7 @@ use bw_model::{Command, Key, Value};
 impl TreeHandle {
     /// Runs a command on a seat.
     fn run(&self, seat: u32, command: Command, old: &mut Bytes) -> u32
-        ensures { Comes self.now.kept.value seat command result old.old old.new }
+        ensures { ComesToValue self.now.kept.value seat command result old.old old.new }
     {
         let (slot, mut place) = match self.take(seat) {
             Ok(taken) => taken,
@@ -42,7 +42,7 @@ impl TreeHandle {
 #[unsafe(no_mangle)]
 pub extern "C" fn bwtree_raw_get(tree: &TreeHandle, seat: u32, key: &[u8], value: &mut Bytes) -> u32
     ensures long { MAX_LENGTH < length key.now → (result ≡ TOO_LONG) × (value.new ≡ value.old) }
-    ensures called { length key.now ≤ MAX_LENGTH → Comes tree.now.kept.value seat (command.Get key.now) result value.old value.new }
+    ensures called { length key.now ≤ MAX_LENGTH → ComesToValue tree.now.kept.value seat (command.Get key.now) result value.old value.new }
 {
     let Ok(key) = Key::from_slice(key) else {
         return TOO_LONG;
@@ -60,7 +60,7 @@ pub extern "C" fn bwtree_raw_insert(
     old: &mut Bytes,
 ) -> u32
     ensures long { (MAX_LENGTH < length key.now) ⊎ (MAX_LENGTH < length value.now) → (result ≡ TOO_LONG) × (old.new ≡ old.old) }
-    ensures called { length key.now ≤ MAX_LENGTH → length value.now ≤ MAX_LENGTH → Comes tree.now.kept.value seat (command.Insert key.now value.now) result old.old old.new }
+    ensures called { length key.now ≤ MAX_LENGTH → length value.now ≤ MAX_LENGTH → ComesToValue tree.now.kept.value seat (command.Insert key.now value.now) result old.old old.new }
 {
     let (Ok(key), Ok(value)) = (Key::from_slice(key), Value::from_slice(value)) else {
         return TOO_LONG;
@@ -78,7 +78,7 @@ pub extern "C" fn bwtree_raw_upsert(
     old: &mut Bytes,
 ) -> u32
     ensures long { (MAX_LENGTH < length key.now) ⊎ (MAX_LENGTH < length value.now) → (result ≡ TOO_LONG) × (old.new ≡ old.old) }
-    ensures called { length key.now ≤ MAX_LENGTH → length value.now ≤ MAX_LENGTH → Comes tree.now.kept.value seat (command.Upsert key.now value.now) result old.old old.new }
+    ensures called { length key.now ≤ MAX_LENGTH → length value.now ≤ MAX_LENGTH → ComesToValue tree.now.kept.value seat (command.Upsert key.now value.now) result old.old old.new }
 {
     let (Ok(key), Ok(value)) = (Key::from_slice(key), Value::from_slice(value)) else {
         return TOO_LONG;
@@ -95,7 +95,7 @@ pub extern "C" fn bwtree_raw_delete(
     old: &mut Bytes,
 ) -> u32
     ensures long { MAX_LENGTH < length key.now → (result ≡ TOO_LONG) × (old.new ≡ old.old) }
-    ensures called { length key.now ≤ MAX_LENGTH → Comes tree.now.kept.value seat (command.Delete key.now) result old.old old.new }
+    ensures called { length key.now ≤ MAX_LENGTH → ComesToValue tree.now.kept.value seat (command.Delete key.now) result old.old old.new }
 {
     let Ok(key) = Key::from_slice(key) else {
         return TOO_LONG;
@@ -114,7 +114,7 @@ pub extern "C" fn bwtree_raw_swap(
     old: &mut Bytes,
 ) -> u32
     ensures long { (MAX_LENGTH < length key.now) ⊎ (MAX_LENGTH < length expected.now) ⊎ (MAX_LENGTH < length value.now) → (result ≡ TOO_LONG) × (old.new ≡ old.old) }
-    ensures called { length key.now ≤ MAX_LENGTH → length expected.now ≤ MAX_LENGTH → length value.now ≤ MAX_LENGTH → Comes tree.now.kept.value seat (command.Swap key.now expected.now value.now) result old.old old.new }
+    ensures called { length key.now ≤ MAX_LENGTH → length expected.now ≤ MAX_LENGTH → length value.now ≤ MAX_LENGTH → ComesToValue tree.now.kept.value seat (command.Swap key.now expected.now value.now) result old.old old.new }
 {
     let Ok(key) = Key::from_slice(key) else {
         return TOO_LONG;

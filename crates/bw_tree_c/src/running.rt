@@ -1,7 +1,7 @@
 //! What runs on the seat that a call has.
 ghost use Rattle.std.specs.Prelude.{◌≡◌};
 ghost use Rattle.bw_model.specs.declared.command.Command.TheVariants as command;
-ghost use Rattle.bw_tree_c.specs.Running.{IsRun, IsRunOn, IsRunToPage, IsTidied, IsWatched, TellsIdle};
+ghost use Rattle.bw_tree_c.specs.Running.{IsRunToValue, IsRunFurther, IsRunToPage, IsTidied, IsWatched, TellsIdle};
 ghost use Rattle.bw_tree_c.specs.Seats.{IsLater};
 
 use crate::answers::{IDLE, OK, UNFINISHED, status_of_called, tell_page, tell_value};
@@ -14,7 +14,7 @@ impl Place {
     /// Runs a command, if the seat is idle.
     pub(crate) fn run(&mut self, command: Command, old: &mut Bytes) -> u32
         ensures later { IsLater self.old.seat self.new.seat }
-        ensures run { IsRun self.old.seat command result old.old old.new self.new.seat }
+        ensures run { IsRunToValue self.old.seat command result old.old old.new self.new.seat }
     {
         match called(&self.tree, &mut self.seat, command, BUDGET) {
             Some(called) => tell_value(&called, old),
@@ -47,7 +47,7 @@ impl Place {
     /// Goes on with the seat's operation, if it has one.
     pub(crate) fn resume(&mut self, budget: u32, old: &mut Bytes, page: &mut Page) -> u32
         ensures later { IsLater self.old.seat self.new.seat }
-        ensures run { IsRunOn self.old.seat budget result old.old old.new page.old page.new self.new.seat }
+        ensures run { IsRunFurther self.old.seat budget result old.old old.new page.old page.new self.new.seat }
     {
         match resumed(&self.tree, &mut self.seat, budget) {
             Some(called) => {
