@@ -14,26 +14,35 @@ void *__wrap_malloc(size_t size);
 void *__wrap_realloc(void *old, size_t size);
 void __wrap_free(void *old);
 
-/* How many growths there were, which one is refused, and how many blocks are held. */
-static long growths, refused, held;
+/* How many growths there were, which one is refused, and how many bytes are held. */
+static long growths, refused;
+static size_t held;
+
+/* Each block has its size in front. */
+enum { FRONT = 16 };
 
 static int refuses(void) { return ++growths == refused; }
 
-void *__wrap_malloc(size_t size) {
-    void *block = refuses() ? NULL : __real_malloc(size);
-    held += block != NULL;
-    return block;
+static void *noted(size_t *block, size_t size) {
+    if (!block) return NULL;
+    *block = size;
+    held += size;
+    return (char *)block + FRONT;
 }
 
+static size_t *block_of(void *bytes) { return bytes ? (size_t *)((char *)bytes - FRONT) : NULL; }
+
+void *__wrap_malloc(size_t size) { return refuses() ? NULL : noted(__real_malloc(size + FRONT), size); }
+
 void *__wrap_realloc(void *old, size_t size) {
-    void *block = refuses() ? NULL : __real_realloc(old, size);
-    held += block != NULL && old == NULL;
-    return block;
+    if (refuses()) return NULL;
+    held -= old ? *block_of(old) : 0;
+    return noted(__real_realloc(block_of(old), size + FRONT), size);
 }
 
 void __wrap_free(void *old) {
-    held -= old != NULL;
-    __real_free(old);
+    held -= old ? *block_of(old) : 0;
+    __real_free(block_of(old));
 }
 
 /* Some calls of each kind. */
@@ -73,12 +82,13 @@ int main(void) {
     call(&tree);
     CHECK(growths == refused - 1);
     CHECK(bwtree_close(&tree) == BWTREE_OK);
-    long left = held;
-    CHECK(bwtree_is_idle(&tree, 0) == BWTREE_CLOSED);
+    size_t left = 24 + 24 * limits.actors;
+    CHECK(held == left && bwtree_is_idle(&tree, 0) == BWTREE_CLOSED);
     /* each opening leaves as much */
     refused = 0;
+    growths = 0;
     for (int i = 0; i < 5; i++) CHECK(bwtree_open(&limits, &tree) == BWTREE_OK && bwtree_close(&tree) == BWTREE_OK);
-    CHECK(held == 6 * left && left <= 4);
-    fprintf(stderr, "%ld growths, a closed tree leaves %ld blocks\n", growths, left);
+    CHECK(held == 6 * left);
+    printf("%ld growths of one opening refused, a closed tree leaves %lu bytes\n", growths / 5, (unsigned long)left);
     return 0;
 }
