@@ -261,8 +261,8 @@ static void closing(void) {
     job = (struct job){&tree, 1, 0};
     pthread_t thread = begun(calls, &job);
     while (__atomic_load_n(&job.count, __ATOMIC_SEQ_CST) < 3) sched_yield();
-    do CHECK((status = bwtree_close(&tree)) == BWTREE_OK || status == BWTREE_BUSY);
-    while (status != BWTREE_OK);
+    while ((status = bwtree_close(&tree)) == BWTREE_BUSY) CHECK(bwtree_is_idle(&tree, 0) == BWTREE_OK);
+    CHECK(status == BWTREE_OK);
     CHECK(pthread_join(thread, NULL) == 0 && bwtree_close(&tree) == BWTREE_CLOSED);
 }
 
