@@ -245,25 +245,28 @@ static void *calls(void *argument) {
     do {
         status = bwtree_upsert(job->tree, job->seat, "key", 3, &job->seat, 4, &old);
         CHECK(status == BWTREE_OK || status == BWTREE_REPLACED || status == BWTREE_BUSY || status == BWTREE_FULL || status == BWTREE_CLOSED);
-        __atomic_add_fetch(&job->count, 1, __ATOMIC_SEQ_CST);
-        sched_yield();
+        if (__atomic_add_fetch(&job->count, 1, __ATOMIC_SEQ_CST) % 16 == 0) sched_yield();
     } while (status != BWTREE_CLOSED);
     all_answer(job->tree, job->seat, BWTREE_CLOSED);
     return NULL;
 }
 
-static void closing(void) {
-    static bwtree tree;
+static void close_beside_calls(bwtree *tree) {
     static struct job job;
-    bwtree_limits limits = {2, 64, 256, 1, 0};
+    bwtree_limits limits = {2, 64, 64, 1, 0};
     uint32_t status;
-    CHECK(bwtree_open(&limits, &tree) == BWTREE_OK);
-    job = (struct job){&tree, 1, 0};
+    CHECK(bwtree_open(&limits, tree) == BWTREE_OK);
+    job = (struct job){tree, 1, 0};
     pthread_t thread = begun(calls, &job);
     while (__atomic_load_n(&job.count, __ATOMIC_SEQ_CST) < 3) sched_yield();
-    while ((status = bwtree_close(&tree)) == BWTREE_BUSY) CHECK(bwtree_is_idle(&tree, 0) == BWTREE_OK);
-    CHECK(status == BWTREE_OK);
-    CHECK(pthread_join(thread, NULL) == 0 && bwtree_close(&tree) == BWTREE_CLOSED);
+    while ((status = bwtree_close(tree)) == BWTREE_BUSY) CHECK(bwtree_is_idle(tree, 0) == BWTREE_OK);
+    CHECK(status == BWTREE_OK && pthread_join(thread, NULL) == 0 && bwtree_close(tree) == BWTREE_CLOSED);
+}
+
+/* Some closings, so that one meets a call. */
+static void closing(void) {
+    static bwtree trees[16];
+    for (size_t i = 0; i < sizeof trees / sizeof *trees; i++) close_beside_calls(&trees[i]);
 }
 
 /* Each thread has keys of its own, whose values it knows. */
