@@ -20,12 +20,13 @@
 #include <rocksdb/options.h>
 #endif
 
-// The tree at the greatest limits, a seat for each thread.
+// The tree, a seat for each thread: at the greatest limits of a small tree, or for more keys as a large one.
 struct Tree : Peer {
     bwtree tree = {};
     std::atomic<uint64_t> full{0};
-    Tree() {
+    explicit Tree(uint64_t keys) {
         bwtree_limits limits = {4, 4096, 16384, 1, 0};
+        if (keys > 20000) must(bwtree_limits_for_many_keys(4, keys, &limits) == BWTREE_OK, "no limits for so many keys");
         must(bwtree_open(&limits, &tree) == BWTREE_OK, "the tree isn't opened");
     }
     ~Tree() override { bwtree_close(&tree); }

@@ -43,7 +43,7 @@ int main(int count, char **words) {
     std::vector<Key> keys;
     for (int i = 0; i < key_count; i++) keys.push_back(key_of(uint64_t(i)));
     std::vector<std::unique_ptr<Peer>> peers;
-    auto tree = new Tree;
+    auto tree = new Tree(uint64_t(key_count));
     peers.emplace_back(tree);
     peers.emplace_back(new StdMap);
 #ifdef HAS_TBB
