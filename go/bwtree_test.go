@@ -4,6 +4,7 @@ import (
 	"bytes"
 	"errors"
 	"fmt"
+	"runtime"
 	"sync"
 	"testing"
 )
@@ -119,7 +120,13 @@ func TestGoroutines(t *testing.T) {
 			seat := tree.Seat()
 			defer seat.Release()
 			for i := 0; i < 900; i++ {
-				old, found, err := seat.Upsert([]byte(fmt.Sprintf("%d/%04d", g, i%300)), []byte(fmt.Sprint(i)))
+				key, value := []byte(fmt.Sprintf("%d/%04d", g, i%300)), []byte(fmt.Sprint(i))
+				old, found, err := seat.Upsert(key, value)
+				// a write is told Full while another thread stands still inside an operation: it is made again until that thread goes on
+				for errors.Is(err, Full) {
+					runtime.Gosched()
+					old, found, err = seat.Upsert(key, value)
+				}
 				if err != nil || found != (i >= 300) || (found && string(old) != fmt.Sprint(i-300)) {
 					t.Errorf("%d %d: %s %v %v", g, i, old, found, err)
 					return

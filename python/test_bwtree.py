@@ -2,6 +2,7 @@
 
 import queue
 import threading
+import time
 import unittest
 
 import bwtree
@@ -79,6 +80,15 @@ class Leases(unittest.TestCase):
             tree.close()
 
 
+def upsert(seat, key, value):
+    """A write is told Full while another thread stands still inside an operation: it is made again until that thread goes on."""
+    while True:
+        try:
+            return seat.upsert(key, value)
+        except bwtree.Full:
+            time.sleep(0)
+
+
 class Threads(unittest.TestCase):
     def test_threads(self):
         tree, faults = bwtree.Tree(seats=4, keys=6 * 300), []
@@ -88,7 +98,7 @@ class Threads(unittest.TestCase):
                 with tree.seat() as seat:
                     for i in range(900):
                         key = bytes([number]) + (i % 300).to_bytes(4, "big")
-                        self.assertEqual(seat.upsert(key, i.to_bytes(4, "big")), (i - 300).to_bytes(4, "big") if i >= 300 else None)
+                        self.assertEqual(upsert(seat, key, i.to_bytes(4, "big")), (i - 300).to_bytes(4, "big") if i >= 300 else None)
             except Exception as fault:
                 faults.append(fault)
 

@@ -269,6 +269,12 @@ static void closing(void) {
     for (size_t i = 0; i < sizeof trees / sizeof *trees; i++) close_beside_calls(&trees[i]);
 }
 
+/* While another thread stands still inside an operation, what others take out of the tree can't be used again, and a write may be told FULL: it is made
+ * again until that thread goes on. */
+#define UNTIL_ROOM(status, call)                                                                                                                     \
+    do status = call;                                                                                                                                \
+    while (status == BWTREE_FULL && sched_yield() == 0)
+
 /* Each thread has keys of its own, whose values it knows. */
 struct own { const bwtree *tree; uint32_t seat; int known[KEYS]; uint64_t raised; };
 
@@ -281,7 +287,8 @@ static void raise_counter(struct own *own) {
     CHECK(bwtree_get(own->tree, own->seat, "counter", 7, &old) == BWTREE_OK && old.length == 8);
     memcpy(&count, old.bytes, 8);
     next = count + 1;
-    uint32_t status = bwtree_swap(own->tree, own->seat, "counter", 7, &count, 8, &next, 8, &old);
+    uint32_t status;
+    UNTIL_ROOM(status, bwtree_swap(own->tree, own->seat, "counter", 7, &count, 8, &next, 8, &old));
     CHECK(status == BWTREE_OK || status == BWTREE_DIFFERS);
     own->raised += status == BWTREE_OK;
 }
@@ -299,17 +306,17 @@ static void step(struct own *own, int kind, int key, int value) {
         CHECK(there ? status == BWTREE_OK && is(&old, was) : status == BWTREE_ABSENT);
         break;
     case 1:
-        status = bwtree_insert(own->tree, own->seat, name, length, text, size, &old);
+        UNTIL_ROOM(status, bwtree_insert(own->tree, own->seat, name, length, text, size, &old));
         CHECK(there ? status == BWTREE_EXISTS && is(&old, was) : status == BWTREE_OK);
         if (!there) own->known[key] = value;
         break;
     case 2:
-        status = bwtree_upsert(own->tree, own->seat, name, length, text, size, &old);
+        UNTIL_ROOM(status, bwtree_upsert(own->tree, own->seat, name, length, text, size, &old));
         CHECK(there ? status == BWTREE_REPLACED && is(&old, was) : status == BWTREE_OK);
         own->known[key] = value;
         break;
     case 3:
-        status = bwtree_delete(own->tree, own->seat, name, length, &old);
+        UNTIL_ROOM(status, bwtree_delete(own->tree, own->seat, name, length, &old));
         CHECK(there ? status == BWTREE_OK && is(&old, was) : status == BWTREE_ABSENT);
         own->known[key] = -1;
         break;

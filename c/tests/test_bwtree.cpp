@@ -58,6 +58,18 @@ static void leases() {
     CHECK(*last->get("a") == "y");
 }
 
+// A write is told FULL while another thread stands still inside an operation: it is made again until that thread goes on.
+static std::optional<std::string> upserted(bw::seat &seat, const std::string &key, const std::string &value) {
+    for (;;) {
+        try {
+            return seat.upsert(key, value);
+        } catch (const bw::error &error) {
+            if (error.status() != BWTREE_FULL) throw;
+            std::this_thread::yield();
+        }
+    }
+}
+
 static void threads() {
     auto tree = bw::tree::for_keys(4, 4000);
     std::vector<std::thread> all;
@@ -65,7 +77,7 @@ static void threads() {
         all.emplace_back([t, &tree] {
             auto seat = tree.lease();
             for (int i = 0; i < 2000; i++) {
-                auto old = seat.upsert(std::to_string(t) + "/" + std::to_string(i % 500), std::to_string(i));
+                auto old = upserted(seat, std::to_string(t) + "/" + std::to_string(i % 500), std::to_string(i));
                 CHECK(i < 500 ? !old : *old == std::to_string(i - 500));
             }
             int seen = 0;

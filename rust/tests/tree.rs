@@ -68,6 +68,16 @@ fn a_small_tree_is_full() {
     assert!(seat.pairs_from(b"").all(|pair| pair.is_ok()));
 }
 
+/// A write is told `Full` while another thread stands still inside an operation: it is made again until that thread goes on.
+fn upsert(seat: &mut Seat<'_>, key: &[u8], value: &[u8]) -> Option<Vec<u8>> {
+    loop {
+        match seat.upsert(key, value) {
+            Err(Error::Full) => std::thread::yield_now(),
+            told => return told.unwrap(),
+        }
+    }
+}
+
 #[test]
 fn threads_have_keys_of_their_own() {
     let tree = Tree::for_keys(4, 4 * 500).unwrap();
@@ -78,7 +88,7 @@ fn threads_have_keys_of_their_own() {
                 let mut seat = tree.seat().unwrap();
                 for i in 0..2_500u32 {
                     let key = [&[t][..], &(i % 500).to_be_bytes()].concat();
-                    let old = seat.upsert(&key, &i.to_be_bytes()).unwrap();
+                    let old = upsert(&mut seat, &key, &i.to_be_bytes());
                     assert_eq!(old, i.checked_sub(500).map(|was| was.to_be_bytes().to_vec()));
                 }
             });
