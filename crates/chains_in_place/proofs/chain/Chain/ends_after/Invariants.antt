@@ -1,0 +1,12 @@
+use Rattle.std.proofs.Common.{◌≡◌, drop}
+use Rattle.std.specs.List.{All}
+use Rattle.traces.specs.chain.Chains.{high_in}
+use Rattle.chains_in_place.specs.Placed.{contents}
+use Rattle.chains_in_place.proofs.chain.Chain.ends_after.Given as goal
+
+abbrev pub invariant-loop-newest : goal.invariant-loop-newest
+invariant-loop-newest g l = record {
+  same : l.pass ≡ l.initial.pass;
+  there : All (λ placed. g.R.Rows.has l.rows l.initial.pass placed.row placed.content) (drop l.newest-index l.newest-items);
+  high : high_in (contents (drop l.newest-index l.newest-items)) ≡ high_in l.self.records;
+}

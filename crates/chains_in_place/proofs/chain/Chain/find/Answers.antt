@@ -1,0 +1,12 @@
+use Rattle.std.proofs.Common.{[], ap, ◌∙◌}
+use Rattle.base_page.specs.Pages.{value_in}
+use Rattle.row_chain.proofs.Newest.{alone}
+use Rattle.chains_in_place.specs.Placed.{contents}
+use Rattle.chains_in_place.proofs.chain.Chain.find.Goals as goal
+
+pub returns-in-Some-clause-value : goal.returns-in-Some-clause-value
+returns-in-Some-clause-value g c = c.value_said.ensures.said
+    ∙ ap value_in (alone (contents c.as_read.result.now) c.args.self.now.records c.args.key.now _ c.as_read.ensures.records (c.in-Some.ensures.said []))
+
+pub returns-in-None-clause-value : goal.returns-in-None-clause-value
+returns-in-None-clause-value g c = ap value_in (alone (contents c.as_read.result.now) c.args.self.now.records c.args.key.now _ c.as_read.ensures.records (c.in-None.ensures.said []))

@@ -1,0 +1,10 @@
+use Rattle.std.proofs.Common.{◌≡◌, ◌≤◌, ◌++◌, length, drop, map}
+use Rattle.rows_in_place.specs.Placed.{PlacedRecord}
+use Rattle.chains_in_place.proofs.chain.Chain.rows.Given as goal
+
+abbrev pub invariant-loop-record : goal.invariant-loop-record
+invariant-loop-record g l = record {
+  short : length l.record-items ≤ 13;
+  count : length l.rows.items ≡ l.record-index;
+  rows : l.rows.items ++ map (λ (placed : PlacedRecord). placed.row) (drop l.record-index l.record-items) ≡ map (λ (placed : PlacedRecord). placed.row) l.record-items;
+}

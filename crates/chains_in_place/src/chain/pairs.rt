@@ -1,0 +1,44 @@
+//! The pairs of keys and values that a chain has.
+ghost use Rattle.std.specs.Prelude.{◌≡◌, ◌≤◌, None, length};
+ghost use Rattle.bw_model.specs.Pairs.{ArePairsOf};
+ghost use Rattle.bw_model.specs.declared.pairs.TheConstants.{MAX_PAIRS};
+ghost use Rattle.base_page.specs.Pages.{IsAscending, content_at};
+ghost use Rattle.traces.specs.chain.Chains.{high_in};
+ghost use Rattle.traces.specs.discipline.Discipline.{found, value_of};
+ghost use Rattle.chains_in_place.specs.Placed.{IsReadChain};
+
+use crate::Chain;
+use base_page::{Content, Item};
+use bw_model::{Key, Pairs};
+use rows_in_place::Rows;
+use std::alloc::Allocator;
+
+impl<R: Rows, A: Allocator> Chain<R, A> {
+    /// The pairs of the page from the key on, up to its high key; an index page has none. Decodes each record, as the page does.
+    #[inline(never)]
+    pub fn pairs_from(&self, rows: &R, pass: &mut R::Pass, from: &Key) -> Pairs
+        requires read { IsReadChain (R.has rows.now pass.old) self.now }
+        ensures same { pass.new ≡ pass.old }
+        ensures pairs { ArePairsOf (found self.now.records) from.now (high_in self.now.records) result }
+    {
+        let page = self.page(rows, pass);
+        pairs_among(page.items().as_slice(), from)
+    }
+}
+
+/// The pairs of the items from the key on.
+fn pairs_among(items: &[Item], from: &Key) -> Pairs
+    requires ascending { IsAscending items.now }
+    requires few { length items.now ≤ MAX_PAIRS }
+    ensures { ArePairsOf (λ key. value_of (content_at items.now key)) from.now None result }
+{
+    let mut pairs = Pairs::new();
+    for item in items {
+        if let Content::Value(value) = &item.content
+            && !item.key.cmp(from).is_lt()
+        {
+            pairs.push(item.key.copied(), value.copied());
+        }
+    }
+    pairs
+}

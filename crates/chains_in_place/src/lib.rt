@@ -1,0 +1,14 @@
+//! A page's chain of records where they lie, in rows that were read and stay: 16 bytes a record, and no row is copied.
+//!
+//! Look first at `Chain`: what it decides for a key, where its page ends, what its right is, and the page that it makes (`page`, which
+//! decodes; the searches look at the words that they need). `ChainPart` is a chain that is being read, record by record.
+//!
+//! Called by `pages_in_place` alone: no operation stands on it yet, those keep copies of rows, by `row_chain`, whose definitions these
+//! contracts cite. It knows no slot and no step: each search asks, as its premise, that its chain was read (`IsReadChain`).
+#![tactic(auto)]
+
+mod chain;
+mod chain_part;
+
+pub use chain::Chain;
+pub use chain_part::{ChainPart, MAX_RECORDS};

@@ -1,0 +1,17 @@
+//! Searches on a record where it lies, in a row that was read and stays: they look at the words that they need, and copy no row.
+//!
+//! Look first at `RowAt`: a record that was read, as its row's number and its first word, which is asked what it says of a key, its
+//! bounds, the row under it, its items' keys, and how many items are below a bound. `Rows` is where the row lies: what a look takes, and
+//! what a look finds. `KeyWords` is a key as words, compared word by word.
+//!
+//! Called by `chains_in_place`, and `core_rows` and `table_rows` are such rows. No operation stands on it yet: those search copies of
+//! rows, by `row_search`. It knows neither how a row was read nor why it stays: each search asks, as its premise, that its record was read.
+#![tactic(auto)]
+
+mod key_words;
+mod row_at;
+mod rows;
+
+pub use key_words::KeyWords;
+pub use row_at::RowAt;
+pub use rows::Rows;

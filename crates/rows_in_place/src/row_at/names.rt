@@ -1,0 +1,127 @@
+//! Which keys a record names that is looked at where it lies.
+ghost use Rattle.std.specs.Prelude.{◌≡◌, ◌<◌, None, Some, length, not, option_map};
+ghost use Rattle.bw_model.specs.Bytes.{is_below, is_under, key_cmp};
+ghost use Rattle.deltas.specs.Records.{high_after, names};
+ghost use Rattle.record_slots.specs.Parts.{items_of, row_of};
+ghost use Rattle.row_search.specs.Reading.{first_key};
+
+use crate::{KeyWords, RowAt, Rows};
+use record_slots::{FIRST_ITEM, FIRST_KEY, HELD, NO_BOUND, SECOND_KEY};
+use std::cmp::Ordering;
+
+impl<R: Rows> RowAt<R> {
+    /// How its first key compares with the key.
+    fn compare_first(&self, rows: &R, pass: &mut R::Pass, key: &KeyWords) -> Ordering
+        requires read { R.has rows.now pass.old self.now.row self.now.content }
+        ensures same { pass.new ≡ pass.old }
+        ensures compared { result ≡ key_cmp (row_of self.now.content).first key.now }
+    {
+        self.keeps_spelling();
+        let count = self.word(rows, pass, FIRST_KEY);
+        key.compare_at(self, rows, pass, FIRST_KEY + 1, count)
+    }
+
+    /// How its second key compares with the key, where it isn't without bound.
+    fn compare_second(&self, rows: &R, pass: &mut R::Pass, key: &KeyWords) -> Option<Ordering>
+        requires read { R.has rows.now pass.old self.now.row self.now.content }
+        ensures same { pass.new ≡ pass.old }
+        ensures compared { result ≡ option_map (λ bound. key_cmp bound key.now) (row_of self.now.content).second }
+    {
+        self.keeps_spelling();
+        let count = self.word(rows, pass, SECOND_KEY);
+        if count == NO_BOUND {
+            return None;
+        }
+        Some(key.compare_at(self, rows, pass, SECOND_KEY + 1, count))
+    }
+
+    /// How the key of its first item compares with the key.
+    fn compare_item(&self, rows: &R, pass: &mut R::Pass, key: &KeyWords) -> Ordering
+        requires read { R.has rows.now pass.old self.now.row self.now.content }
+        requires some { 0 < length (items_of self.now.content) }
+        ensures same { pass.new ≡ pass.old }
+        ensures compared { result ≡ key_cmp (first_key (items_of self.now.content)) key.now }
+    {
+        self.keeps_spelling();
+        let count = self.word(rows, pass, FIRST_ITEM) % HELD;
+        key.compare_at(self, rows, pass, FIRST_ITEM + 1, count)
+    }
+
+    /// Whether it decides what the key has.
+    pub fn names(&self, rows: &R, pass: &mut R::Pass, key: &KeyWords) -> bool
+        requires read { R.has rows.now pass.old self.now.row self.now.content }
+        ensures same { pass.new ≡ pass.old }
+        ensures names { result ≡ names self.now.content key.now }
+    {
+        let kind = self.kind();
+        if kind == 1 {
+            return true;
+        }
+        if kind == 2 {
+            return self.compare_item(rows, pass, key).is_eq();
+        }
+        if kind == 4 {
+            return !self.compare_first(rows, pass, key).is_gt();
+        }
+        if kind == 7 {
+            return false;
+        }
+        if kind == 8 {
+            return self.covers(rows, pass, key);
+        }
+        self.compare_first(rows, pass, key).is_eq()
+    }
+
+    /// Whether the key is in the range of a merge.
+    fn covers(&self, rows: &R, pass: &mut R::Pass, key: &KeyWords) -> bool
+        requires read { R.has rows.now pass.old self.now.row self.now.content }
+        requires merge { (row_of self.now.content).kind ≡ 8 }
+        ensures same { pass.new ≡ pass.old }
+        ensures covers { result ≡ names self.now.content key.now }
+    {
+        if self.compare_first(rows, pass, key).is_gt() {
+            return false;
+        }
+        self.is_below_second(rows, pass, key)
+    }
+
+    /// Whether the key is below its second key, as each key is where that is without bound.
+    fn is_below_second(&self, rows: &R, pass: &mut R::Pass, key: &KeyWords) -> bool
+        requires read { R.has rows.now pass.old self.now.row self.now.content }
+        ensures same { pass.new ≡ pass.old }
+        ensures under { result ≡ is_under key.now (row_of self.now.content).second }
+    {
+        match self.compare_second(rows, pass, key) {
+            None => true,
+            Some(bound) => bound.is_gt(),
+        }
+    }
+
+    /// Whether the key isn't below its first key.
+    pub fn begins_by(&self, rows: &R, pass: &mut R::Pass, key: &KeyWords) -> bool
+        requires read { R.has rows.now pass.old self.now.row self.now.content }
+        ensures same { pass.new ≡ pass.old }
+        ensures begins { result ≡ not (is_below key.now (row_of self.now.content).first) }
+    {
+        !self.compare_first(rows, pass, key).is_gt()
+    }
+
+    /// Whether the key is below the end that it gives the page.
+    pub fn ends_after(&self, rows: &R, pass: &mut R::Pass, key: &KeyWords) -> bool
+        requires read { R.has rows.now pass.old self.now.row self.now.content }
+        ensures same { pass.new ≡ pass.old }
+        ensures ends { result ≡ is_under key.now (high_after self.now.content None) }
+    {
+        let kind = self.kind();
+        if kind == 1 {
+            return self.is_below_second(rows, pass, key);
+        }
+        if kind == 4 {
+            return self.compare_first(rows, pass, key).is_gt();
+        }
+        if kind == 8 {
+            return self.is_below_second(rows, pass, key);
+        }
+        true
+    }
+}

@@ -1,0 +1,106 @@
+//! What a record says of a key, looked at where it lies.
+ghost use Rattle.std.specs.Prelude.{◌≡◌, ◌<◌, Some, length, slice_index_or};
+ghost use Rattle.base_page.specs.declared.item.Item.{Item};
+ghost use Rattle.base_page.specs.declared.item.Content.TheVariants.{Child};
+ghost use Rattle.base_page.specs.Pages.{child_in, content_at, value_in};
+ghost use Rattle.deltas.specs.Records.{content_said};
+ghost use Rattle.record_slots.specs.Parts.{items_of, row_of};
+
+use crate::{KeyWords, RowAt, Rows};
+use base_page::Content;
+use bw_model::Value;
+use record_slots::{HELD, ITEM_CONTENT, value_in};
+
+impl<R: Rows> RowAt<R> {
+    /// What it says of a key that it names: its content, or none where the key is absent.
+    pub fn content_said(&self, rows: &R, pass: &mut R::Pass, key: &KeyWords) -> Option<Content>
+        requires read { R.has rows.now pass.old self.now.row self.now.content }
+        ensures same { pass.new ≡ pass.old }
+        ensures said { result ≡ content_said self.now.content key.now }
+    {
+        let kind = self.kind();
+        if kind == 1 {
+            return self.content_at(rows, pass, key);
+        }
+        if kind == 2 {
+            return Some(self.content(rows, pass, 0));
+        }
+        if kind == 5 {
+            return Some(self.child(rows, pass, false));
+        }
+        if kind == 6 {
+            return Some(self.child(rows, pass, true));
+        }
+        if kind == 8 {
+            return self.content_at(rows, pass, key);
+        }
+        None
+    }
+
+    /// The value that it says a key has that it names.
+    pub fn value_said(&self, rows: &R, pass: &mut R::Pass, key: &KeyWords) -> Option<Value>
+        requires read { R.has rows.now pass.old self.now.row self.now.content }
+        ensures same { pass.new ≡ pass.old }
+        ensures said { result ≡ value_in (content_said self.now.content key.now) }
+    {
+        match self.content_said(rows, pass, key) {
+            Some(Content::Value(value)) => Some(value),
+            _ => None,
+        }
+    }
+
+    /// The child that it says a key has that it names.
+    pub fn child_said(&self, rows: &R, pass: &mut R::Pass, key: &KeyWords) -> Option<u32>
+        requires read { R.has rows.now pass.old self.now.row self.now.content }
+        ensures same { pass.new ≡ pass.old }
+        ensures said { result ≡ child_in (content_said self.now.content key.now) }
+    {
+        match self.content_said(rows, pass, key) {
+            Some(Content::Child { page, .. }) => Some(page),
+            _ => None,
+        }
+    }
+
+    /// What the items have at the key.
+    fn content_at(&self, rows: &R, pass: &mut R::Pass, key: &KeyWords) -> Option<Content>
+        requires read { R.has rows.now pass.old self.now.row self.now.content }
+        ensures same { pass.new ≡ pass.old }
+        ensures content { result ≡ content_at (items_of self.now.content) key.now }
+    {
+        match self.place_of(rows, pass, key) {
+            Ok(place) => Some(self.content(rows, pass, place)),
+            Err(_) => None,
+        }
+    }
+
+    /// What the item at the place has.
+    fn content(&self, rows: &R, pass: &mut R::Pass, place: usize) -> Content
+        requires read { R.has rows.now pass.old self.now.row self.now.content }
+        requires there { place < length (items_of self.now.content) }
+        ensures same { pass.new ≡ pass.old }
+        ensures content { (d : Item) → result ≡ (slice_index_or (items_of self.now.content) place d).content }
+    {
+        self.keeps_spelling();
+        let at = self.item_at(place);
+        if self.level() > 0 {
+            let page = self.word(rows, pass, at + ITEM_CONTENT) as u32;
+            let held = self.word(rows, pass, at) >= HELD;
+            return Content::Child { page, held };
+        }
+        let count = self.word(rows, pass, at + ITEM_CONTENT);
+        let words = self.text(rows, pass, at + ITEM_CONTENT + 1);
+        Content::Value(value_in(count, &words).unwrap())
+    }
+
+    /// The child that a term names.
+    fn child(&self, rows: &R, pass: &mut R::Pass, held: bool) -> Content
+        requires read { R.has rows.now pass.old self.now.row self.now.content }
+        ensures same { pass.new ≡ pass.old }
+        ensures child { result ≡ Child (row_of self.now.content).page held }
+    {
+        Content::Child {
+            page: self.page(rows, pass),
+            held,
+        }
+    }
+}
