@@ -16,7 +16,7 @@
  *
  * What the library relies on, and can't test:
  *   - A handle's bytes are all zero before it is opened, and from then on only the library writes them. It is not copied: pass its address.
- *   - While bwtree_open runs on a handle, no other call has that handle. Other threads get to know of an opened handle by a lock, a thread's
+ *   - While bwtree_open or bwtree_open_from runs on a handle, no other call has that handle. Other threads get to know of an opened handle by a lock, a thread's
  *     start, or a sequentially consistent atomic. All other calls may share a handle, at any time.
  *   - Pointers point to what their types say. What a call writes (value, old, page, room, limits) no other call has meanwhile.
  *   - A thread that calls has 512 KB of stack.
@@ -58,7 +58,8 @@ enum {
     BWTREE_BAD_LIMITS = 22, /* a limit is outside its range */
     BWTREE_NO_MEMORY = 23,  /* malloc refused */
     BWTREE_OPEN = 24,       /* a handle that is to be opened has a tree that isn't closed */
-    BWTREE_NULL = 25        /* a pointer is null (answered by this header, which calls nothing then) */
+    BWTREE_NULL = 25,       /* a pointer is null (answered by this header, which calls nothing then) */
+    BWTREE_BAD_ORDER = 26   /* the keys of the pairs that a tree is to be opened with don't ascend */
 };
 
 /* The handle of a tree. All zero: never opened. */
@@ -107,6 +108,7 @@ typedef struct bwtree_room {
 uint32_t bwtree_raw_limits_for_keys(uint64_t actors, uint64_t keys, bwtree_limits *limits);
 uint32_t bwtree_raw_limits_for_many_keys(uint64_t actors, uint64_t keys, bwtree_limits *limits);
 uint32_t bwtree_raw_open(const bwtree_limits *limits, bwtree *tree);
+uint32_t bwtree_raw_open_from(const bwtree_limits *limits, const bwtree_pair *pairs, size_t count, bwtree *tree);
 uint32_t bwtree_raw_close(const bwtree *tree);
 uint32_t bwtree_raw_get(const bwtree *tree, uint32_t seat, const uint8_t *key, size_t key_length, bwtree_bytes *value);
 uint32_t bwtree_raw_insert(const bwtree *tree, uint32_t seat, const uint8_t *key, size_t key_length, const uint8_t *value, size_t value_length,
@@ -142,6 +144,15 @@ static inline uint32_t bwtree_limits_for_many_keys(uint64_t actors, uint64_t key
 /* Opens an empty tree. The handle was never opened, or its tree is closed. OK; BAD_LIMITS, OPEN, NO_MEMORY: the handle is as it was. */
 static inline uint32_t bwtree_open(const bwtree_limits *limits, bwtree *tree) {
     return limits && tree ? bwtree_raw_open(limits, tree) : (uint32_t)BWTREE_NULL;
+}
+
+/* Opens a tree with so many pairs, whose keys ascend: seat 0 upserts them in order. The handle was never opened, or its tree is closed. The pairs may go
+ * when the call is done, which takes memory for a copy of them meanwhile. OK; FULL or SPENT, where that is what an upsert came to, BAD_LIMITS, OPEN,
+ * TOO_LONG, BAD_ORDER, NO_MEMORY: the handle is as it was, and no tree is open. */
+static inline uint32_t bwtree_open_from(const bwtree_limits *limits, const bwtree_pair *pairs, size_t count, bwtree *tree) {
+    static const bwtree_pair none = {{0, {0}}, {0, {0}}};
+    if (!limits || !tree || (!pairs && count)) return BWTREE_NULL;
+    return bwtree_raw_open_from(limits, pairs ? pairs : &none, count, tree);
 }
 
 /* Closes a tree, and frees it. OK; CLOSED, BUSY: the tree stays open. 24 bytes of an opened tree, and 24 for each seat, are never freed, so that a call
@@ -232,6 +243,7 @@ static inline const char *bwtree_text(uint32_t status) {
     case BWTREE_NO_MEMORY: return "no memory";
     case BWTREE_OPEN: return "the tree is open already";
     case BWTREE_NULL: return "a pointer is null";
+    case BWTREE_BAD_ORDER: return "the keys don't ascend";
     default: return "no status";
     }
 }

@@ -8,12 +8,14 @@
 #include "bwtree.h"
 #include <atomic>
 #include <cstdint>
+#include <cstring>
 #include <memory>
 #include <optional>
 #include <stdexcept>
 #include <string>
 #include <string_view>
 #include <utility>
+#include <vector>
 
 namespace bw {
 
@@ -43,6 +45,14 @@ struct shared {
     uint32_t all = 0;
     ~shared() { bwtree_close(&handle); }
 };
+
+// Bytes as C reads them.
+inline bwtree_bytes bytes_of(std::string_view text) {
+    bwtree_bytes bytes = {text.size(), {0}};
+    if (text.size() > BWTREE_MAX_LENGTH) throw error(BWTREE_TOO_LONG);
+    if (!text.empty()) std::memcpy(bytes.bytes, text.data(), text.size());
+    return bytes;
+}
 
 inline void must(uint32_t status) {
     if (status != BWTREE_OK) throw error(status);
@@ -155,8 +165,13 @@ class tree {
 public:
     explicit tree(const bwtree_limits &limits) : shared_(std::make_shared<detail::shared>()) {
         detail::must(bwtree_open(&limits, &shared_->handle));
-        shared_->all = uint32_t((uint64_t(1) << limits.actors) - 1);
-        shared_->free = shared_->all;
+        lend_all(limits);
+    }
+    // A tree with so many pairs, whose keys ascend, of std::string or std::string_view. Throws FULL or SPENT, too, where they don't all fit.
+    template <class Pairs> static tree from(const bwtree_limits &limits, const Pairs &pairs) {
+        std::vector<bwtree_pair> given;
+        for (const auto &[key, value] : pairs) given.push_back({detail::bytes_of(key), detail::bytes_of(value)});
+        return tree(limits, given);
     }
     // A tree with so many seats, for so many different keys, all counted that it ever has.
     static tree for_keys(uint64_t seats, uint64_t keys) {
@@ -201,6 +216,14 @@ public:
     }
 
 private:
+    tree(const bwtree_limits &limits, const std::vector<bwtree_pair> &pairs) : shared_(std::make_shared<detail::shared>()) {
+        detail::must(bwtree_open_from(&limits, pairs.data(), pairs.size(), &shared_->handle));
+        lend_all(limits);
+    }
+    void lend_all(const bwtree_limits &limits) {
+        shared_->all = uint32_t((uint64_t(1) << limits.actors) - 1);
+        shared_->free = shared_->all;
+    }
     std::shared_ptr<detail::shared> shared_;
 };
 

@@ -32,6 +32,7 @@ const (
 	TooLong   Error = C.BWTREE_TOO_LONG   // a key or a value has more than 64 bytes
 	BadLimits Error = C.BWTREE_BAD_LIMITS // a limit is outside its range
 	NoMemory  Error = C.BWTREE_NO_MEMORY  // malloc refused
+	BadOrder  Error = C.BWTREE_BAD_ORDER  // the keys of pairs don't ascend
 )
 
 func (e Error) Error() string {
@@ -95,8 +96,35 @@ type Tree struct {
 	free chan uint32
 }
 
+// given are bytes as C reads them.
+func given(text []byte) (C.bwtree_bytes, error) {
+	raw := C.bwtree_bytes{length: C.uint64_t(len(text))}
+	if len(text) > MaxLength {
+		return raw, TooLong
+	}
+	for i, b := range text {
+		raw.bytes[i] = C.uint8_t(b)
+	}
+	return raw, nil
+}
+
 // Open opens an empty tree. Close frees it; so does the collector, once nothing refers to the tree or a seat of it.
 func Open(limits Limits) (*Tree, error) {
+	return OpenFrom(limits, nil)
+}
+
+// OpenFrom opens a tree with these pairs, whose keys ascend. It answers Full where they don't all fit.
+func OpenFrom(limits Limits, pairs []Pair) (*Tree, error) {
+	all := make([]C.bwtree_pair, len(pairs))
+	for i, pair := range pairs {
+		var err error
+		if all[i].key, err = given(pair.Key); err != nil {
+			return nil, err
+		}
+		if all[i].value, err = given(pair.Value); err != nil {
+			return nil, err
+		}
+	}
 	handle := (*C.bwtree)(C.calloc(1, C.sizeof_bwtree))
 	if handle == nil {
 		return nil, NoMemory
@@ -105,7 +133,15 @@ func Open(limits Limits) (*Tree, error) {
 	if limits.Large {
 		raw.large = 1
 	}
-	if err := settled(C.bwtree_open(&raw, handle)); err != nil {
+	var first *C.bwtree_pair
+	if len(all) > 0 {
+		first = &all[0]
+	}
+	status := C.bwtree_open_from(&raw, first, C.size_t(len(all)), handle)
+	if status == C.BWTREE_SPENT {
+		status = C.BWTREE_FULL
+	}
+	if err := settled(status); err != nil {
 		C.free(unsafe.Pointer(handle))
 		return nil, err
 	}

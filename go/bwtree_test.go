@@ -148,3 +148,35 @@ func TestGoroutines(t *testing.T) {
 		t.Fatal(count, err)
 	}
 }
+
+func TestPairs(t *testing.T) {
+	limits := Limits{Actors: 2, Pids: 64, Rows: 256}
+	var pairs []Pair
+	for i := byte(0); i < 60; i++ {
+		pairs = append(pairs, Pair{[]byte{i}, []byte{i, i}})
+	}
+	tree, err := OpenFrom(limits, pairs)
+	if err != nil {
+		t.Fatal(err)
+	}
+	count := 0
+	seat := tree.Seat()
+	err = seat.Walk(nil, func(key, value []byte) bool {
+		if !bytes.Equal(key, pairs[count].Key) || !bytes.Equal(value, pairs[count].Value) {
+			t.Errorf("%q %q", key, value)
+		}
+		count++
+		return true
+	})
+	if err != nil || count != len(pairs) {
+		t.Fatal(count, err)
+	}
+	seat.Release()
+	pairs[0], pairs[1] = pairs[1], pairs[0]
+	if _, err := OpenFrom(limits, pairs); !errors.Is(err, BadOrder) {
+		t.Fatal(err)
+	}
+	if _, err := OpenFrom(limits, []Pair{{nil, make([]byte, 65)}}); !errors.Is(err, TooLong) {
+		t.Fatal(err)
+	}
+}

@@ -11,7 +11,7 @@ The library is looked for where BWTREE_LIB says, a file or a folder, then where 
 import ctypes
 import os
 import queue
-from collections.abc import Iterator, MutableMapping
+from collections.abc import Iterable, Iterator, MutableMapping
 from typing import NamedTuple, Optional, Union
 
 __all__ = ["Error", "Full", "Room", "Seat", "Swapped", "Tree", "MAX_LENGTH"]
@@ -20,6 +20,7 @@ MAX_LENGTH = 64
 
 _OK, _ABSENT, _EXISTS, _REPLACED, _DIFFERS, _FULL, _SPENT = range(7)
 _CLOSED, _NO_SEAT, _BUSY, _UNFINISHED, _IDLE, _TOO_LONG, _BAD_LIMITS, _NO_MEMORY, _OPEN = range(16, 25)
+_BAD_ORDER = 26
 _TEXTS = {
     _FULL: "the tree is full",
     _CLOSED: "the tree is closed",
@@ -31,6 +32,7 @@ _TEXTS = {
     _BAD_LIMITS: "a limit is outside its range",
     _NO_MEMORY: "no memory",
     _OPEN: "the tree is open already",
+    _BAD_ORDER: "the keys don't ascend",
 }
 _STEPS = 1 << 16
 
@@ -50,6 +52,12 @@ class _Room(ctypes.Structure):
 
 class _Bytes(ctypes.Structure):
     _fields_ = [("length", ctypes.c_uint64), ("bytes", ctypes.c_uint8 * MAX_LENGTH)]
+
+    @classmethod
+    def of(cls, text: bytes) -> "_Bytes":
+        if len(text) > MAX_LENGTH:
+            raise ValueError(_TEXTS[_TOO_LONG])
+        return cls(len(text), (ctypes.c_uint8 * MAX_LENGTH)(*text))
 
     def taken(self) -> bytes:
         return bytes(self.bytes[: self.length])
@@ -77,6 +85,7 @@ def _load() -> ctypes.CDLL:
         "limits_for_keys": [count, count, ctypes.POINTER(_Limits)],
         "limits_for_many_keys": [count, count, ctypes.POINTER(_Limits)],
         "open": [ctypes.POINTER(_Limits), tree],
+        "open_from": [ctypes.POINTER(_Limits), ctypes.POINTER(_Pair), size, tree],
         "close": [tree],
         "get": [tree, seat, text, size, old],
         "insert": [tree, seat, text, size, text, size, old],
@@ -135,9 +144,10 @@ def _must(status: int) -> int:
 
 class Tree:
     """A tree with so many seats, for so many different keys, all counted that it ever has; or with so many PIDs and rows. A large tree takes
-    up to 27 million keys, in some 1,900 bytes each."""
+    up to 27 million keys, in some 1,900 bytes each. It has the given pairs, whose keys ascend; raises Full where they don't all fit."""
 
-    def __init__(self, seats: int = 4, keys: int = 1000, *, pids: Optional[int] = None, rows: Optional[int] = None, large: bool = False):
+    def __init__(self, seats: int = 4, keys: int = 1000, *, pids: Optional[int] = None, rows: Optional[int] = None, large: bool = False,
+                 pairs: Iterable[tuple[bytes, bytes]] = ()):
         limits = _Limits(seats, pids or 0, rows or 0, 1, large)
         if pids is None and rows is None:
             if not (0 <= seats < 1 << 64 and 0 <= keys < 1 << 64):
@@ -147,7 +157,9 @@ class Tree:
         self._handle = _Tree()
         self._free: "queue.SimpleQueue[int]" = queue.SimpleQueue()
         self._seats = 0
-        _must(_library.bwtree_raw_open(ctypes.byref(limits), ctypes.byref(self._handle)))
+        given = [_Pair(_Bytes.of(key), _Bytes.of(value)) for key, value in pairs]
+        status = _library.bwtree_raw_open_from(ctypes.byref(limits), (_Pair * max(len(given), 1))(*given), len(given), ctypes.byref(self._handle))
+        _must(_FULL if status == _SPENT else status)
         self._seats = seats
         for number in reversed(range(seats)):
             self._free.put(number)

@@ -53,6 +53,18 @@ class Calls(unittest.TestCase):
         with self.assertRaises(bwtree.Error):
             bwtree.Tree(seats=1, keys=20000)
 
+    def test_pairs(self):
+        pairs = [(i.to_bytes(2, "big"), bytes([i])) for i in range(100)]
+        with bwtree.Tree(seats=2, pairs=pairs) as tree, tree.seat() as seat:
+            self.assertEqual(list(seat.pairs()), pairs)
+        with self.assertRaises(bwtree.Error) as raised:
+            bwtree.Tree(pairs=reversed(pairs))
+        self.assertEqual((raised.exception.status, str(raised.exception)), (26, "the keys don't ascend"))
+        with self.assertRaises(ValueError):
+            bwtree.Tree(pairs=[(b"k" * 65, b"")])
+        with self.assertRaises(bwtree.Full):
+            bwtree.Tree(seats=1, pids=64, rows=64, pairs=[(i.to_bytes(2, "big"), b"") for i in range(4000)])
+
     def test_full(self):
         with bwtree.Tree(seats=1, pids=64, rows=64) as tree, tree.seat() as seat, self.assertRaises(bwtree.Full):
             for i in range(100000):

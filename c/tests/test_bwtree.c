@@ -172,8 +172,64 @@ static void answers(void) {
     limits.actors = 3;
     CHECK(bwtree_open(&limits, &tree) == BWTREE_OK && bwtree_get(&tree, 2, "a", 1, &old) == BWTREE_ABSENT && bwtree_close(&tree) == BWTREE_OK);
     CHECK(earlier.held_ == was.held_);
-    for (uint32_t status = 0; status <= BWTREE_NULL; status++)
+    for (uint32_t status = 0; status <= BWTREE_BAD_ORDER; status++)
         CHECK(!strcmp(bwtree_text(status), "no status") == (status > BWTREE_SPENT && status < BWTREE_CLOSED));
+}
+
+/* A pair with a key and a value of these texts. */
+static bwtree_pair pair_of(const char *key, const char *value) {
+    bwtree_pair pair = {{strlen(key), {0}}, {strlen(value), {0}}};
+    memcpy(pair.key.bytes, key, strlen(key));
+    memcpy(pair.value.bytes, value, strlen(value));
+    return pair;
+}
+
+/* The pairs of all pages, for which there is room. */
+static size_t walked(const bwtree *tree, bwtree_pair *pairs) {
+    size_t count = 0;
+    bwtree_bytes from = {0, {0}};
+    do {
+        CHECK(bwtree_page(tree, 1, from.bytes, from.length, &page) == BWTREE_OK);
+        memcpy(pairs + count, page.pairs, page.count * sizeof *pairs);
+        count += page.count;
+        from = page.next;
+    } while (page.more);
+    return count;
+}
+
+/* Trees that are opened with pairs, each with a handle of its own, so that a leak checker finds what its opening leaves. */
+static void loads(void) {
+    static bwtree first, empty, none, tree, later, small, was;
+    static bwtree_pair all[400], again[400];
+    bwtree_limits limits = {2, 128, 1152, 1, 0}, bad = {0, 0, 0, 0, 0};
+    bwtree_bytes old;
+    char key[16];
+    bwtree_pair two[2] = {pair_of("b", "x"), pair_of("a", "y")};
+    CHECK(bwtree_open_from(NULL, two, 2, &first) == BWTREE_NULL && bwtree_open_from(&limits, two, 2, NULL) == BWTREE_NULL);
+    CHECK(bwtree_open_from(&limits, NULL, 1, &first) == BWTREE_NULL && bwtree_open_from(&bad, two, 2, &first) == BWTREE_BAD_LIMITS);
+    CHECK(bwtree_open_from(&limits, two, 2, &first) == BWTREE_BAD_ORDER);
+    two[1] = two[0];
+    CHECK(bwtree_open_from(&limits, two, 2, &first) == BWTREE_BAD_ORDER && bwtree_open_from(&limits, two, 1, &first) == BWTREE_OK);
+    CHECK(bwtree_get(&first, 1, "b", 1, &old) == BWTREE_OK && is(&old, "x") && bwtree_open_from(&limits, two, 1, &first) == BWTREE_OPEN);
+    CHECK(bwtree_close(&first) == BWTREE_OK);
+    two[0].value.length = 65;
+    CHECK(bwtree_open_from(&limits, two, 1, &first) == BWTREE_TOO_LONG && bwtree_is_idle(&first, 0) == BWTREE_CLOSED);
+    CHECK(bwtree_open_from(&limits, two, 0, &empty) == BWTREE_OK && walked(&empty, again) == 0 && bwtree_close(&empty) == BWTREE_OK);
+    CHECK(bwtree_open_from(&limits, NULL, 0, &none) == BWTREE_OK && walked(&none, again) == 0 && bwtree_close(&none) == BWTREE_OK);
+    /* what one tree has, the next one gets; and that doesn't fit into a small one */
+    CHECK(bwtree_open(&limits, &tree) == BWTREE_OK);
+    for (int i = 0; i < 400; i++) {
+        snprintf(key, sizeof key, "%03d", i * 7 % 400);
+        CHECK(bwtree_insert(&tree, i % 2, key, strlen(key), key + 1, 2, &old) == BWTREE_OK);
+    }
+    CHECK(walked(&tree, all) == 400 && bwtree_close(&tree) == BWTREE_OK && bwtree_open_from(&limits, all, 400, &later) == BWTREE_OK);
+    CHECK(walked(&later, again) == 400 && bwtree_close(&later) == BWTREE_OK);
+    for (int i = 0; i < 400; i++) {
+        snprintf(key, sizeof key, "%03d", i);
+        CHECK(is(&again[i].key, key) && is(&again[i].value, key + 1));
+    }
+    limits.pids = limits.rows = 64;
+    CHECK(bwtree_open_from(&limits, all, 400, &small) == BWTREE_FULL && !memcmp(&was, &small, sizeof was));
 }
 
 static void full(void) {
@@ -392,6 +448,7 @@ static void *all(void *unused) {
     layout();
     limits();
     answers();
+    loads();
     full();
     busy();
     closing();

@@ -35,6 +35,17 @@ static void answers() {
     CHECK(thrown([] { bw::tree(bwtree_limits{1, 63, 64, 1, 0}); }) == BWTREE_BAD_LIMITS);
 }
 
+static void loads() {
+    const bwtree_limits limits = {2, 64, 256, 1, 0};
+    std::vector<std::pair<std::string, std::string>> pairs = {{"a", "x"}, {"b", ""}, {"c", "z"}}, found;
+    bw::tree::from(limits, pairs).lease().walk("", [&](auto key, auto value) { return found.emplace_back(key, value), true; });
+    CHECK(found == pairs && !bw::tree::from(limits, decltype(pairs)()).lease().get("a"));
+    std::swap(pairs[0], pairs[1]);
+    CHECK(thrown([&] { bw::tree::from(limits, pairs); }) == BWTREE_BAD_ORDER);
+    pairs[0].second = std::string(65, 'v');
+    CHECK(thrown([&] { bw::tree::from(limits, pairs); }) == BWTREE_TOO_LONG);
+}
+
 static void leases() {
     auto tree = bw::tree::for_keys(1, 100);
     {
@@ -91,6 +102,7 @@ static void threads() {
 
 int main() {
     answers();
+    loads();
     leases();
     threads();
     puts("passed");

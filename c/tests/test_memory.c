@@ -89,6 +89,16 @@ int main(void) {
     growths = 0;
     for (int i = 0; i < 5; i++) CHECK(bwtree_open(&limits, &tree) == BWTREE_OK && bwtree_close(&tree) == BWTREE_OK);
     CHECK(held == 6 * left);
-    printf("%ld growths of one opening refused, a closed tree leaves %lu bytes\n", growths / 5, (unsigned long)left);
+    long of_one = growths / 5;
+    /* an opening with pairs wants one growth more, for a copy of them, and leaves no more */
+    const bwtree_pair pair = {{1, {'a'}}, {1, {'x'}}};
+    for (refused = 1;; refused++) {
+        growths = 0;
+        status = bwtree_open_from(&limits, &pair, 1, &tree);
+        if (status == BWTREE_OK) break;
+        CHECK(status == BWTREE_NO_MEMORY && held == 6 * left && bwtree_is_idle(&tree, 0) == BWTREE_CLOSED);
+    }
+    CHECK(growths == of_one + 1 && bwtree_close(&tree) == BWTREE_OK && held == 7 * left);
+    printf("%ld growths of one opening refused, a closed tree leaves %lu bytes\n", of_one, (unsigned long)left);
     return 0;
 }

@@ -10,6 +10,7 @@ pub(crate) const SPENT: u32 = 6;
 pub(crate) const TOO_LONG: u32 = 21;
 pub(crate) const BAD_LIMITS: u32 = 22;
 pub(crate) const NO_MEMORY: u32 = 23;
+pub(crate) const BAD_ORDER: u32 = 26;
 
 #[repr(C)]
 pub(crate) struct RawTree {
@@ -59,6 +60,14 @@ pub(crate) struct RawPage {
 impl RawBytes {
     pub const EMPTY: RawBytes = RawBytes { length: 0, bytes: [0; 64] };
 
+    /// None where there are more than 64.
+    pub fn of(bytes: &[u8]) -> Option<RawBytes> {
+        let mut raw = RawBytes::EMPTY;
+        raw.bytes.get_mut(..bytes.len())?.copy_from_slice(bytes);
+        raw.length = bytes.len() as u64;
+        Some(raw)
+    }
+
     pub fn as_slice(&self) -> &[u8] {
         &self.bytes[..self.length as usize]
     }
@@ -73,6 +82,7 @@ extern "C" {
     pub(crate) fn bwtree_raw_limits_for_keys(actors: u64, keys: u64, limits: *mut RawLimits) -> u32;
     pub(crate) fn bwtree_raw_limits_for_many_keys(actors: u64, keys: u64, limits: *mut RawLimits) -> u32;
     pub(crate) fn bwtree_raw_open(limits: *const RawLimits, tree: *mut RawTree) -> u32;
+    pub(crate) fn bwtree_raw_open_from(limits: *const RawLimits, pairs: *const RawPair, count: usize, tree: *mut RawTree) -> u32;
     pub(crate) fn bwtree_raw_close(tree: *const RawTree) -> u32;
     pub(crate) fn bwtree_raw_get(tree: *const RawTree, seat: u32, key: *const u8, key_length: usize, value: *mut RawBytes) -> u32;
     pub(crate) fn bwtree_raw_insert(

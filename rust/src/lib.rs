@@ -40,6 +40,8 @@ pub enum Error {
     BadLimits,
     /// A growth of memory was refused.
     NoMemory,
+    /// The keys of pairs don't ascend.
+    BadOrder,
 }
 
 impl fmt::Display for Error {
@@ -49,6 +51,7 @@ impl fmt::Display for Error {
             Error::Full => "the tree is full",
             Error::BadLimits => "a limit is outside its range",
             Error::NoMemory => "no memory",
+            Error::BadOrder => "the keys don't ascend",
         })
     }
 }
@@ -124,10 +127,24 @@ unsafe impl Sync for Tree {}
 impl Tree {
     /// An empty tree.
     pub fn open(limits: Limits) -> Result<Tree> {
+        Tree::opened(limits, |raw, handle| unsafe { bwtree_raw_open(raw, handle) })
+    }
+
+    /// A tree with these pairs, whose keys ascend; `Full` where they don't all fit.
+    pub fn open_from<K: AsRef<[u8]>, V: AsRef<[u8]>>(limits: Limits, pairs: impl IntoIterator<Item = (K, V)>) -> Result<Tree> {
+        let raw_pair = |(key, value): (K, V)| Some(RawPair { key: RawBytes::of(key.as_ref())?, value: RawBytes::of(value.as_ref())? });
+        let pairs = pairs.into_iter().map(raw_pair).collect::<Option<Vec<_>>>().ok_or(Error::TooLong)?;
+        Tree::opened(limits, |raw, handle| match unsafe { bwtree_raw_open_from(raw, pairs.as_ptr(), pairs.len(), handle) } {
+            SPENT => FULL,
+            status => status,
+        })
+    }
+
+    fn opened(limits: Limits, open: impl FnOnce(&RawLimits, &mut RawTree) -> u32) -> Result<Tree> {
         let Limits { actors, pids, rows, large } = limits;
         let raw = RawLimits { actors, pids, rows, epoch: 1, large: u64::from(large) };
         let mut handle = Box::new(RawTree { held: 0, at: std::ptr::null() });
-        settled(unsafe { bwtree_raw_open(&raw, &mut *handle) })?;
+        settled(open(&raw, &mut handle))?;
         Ok(Tree { handle, free: AtomicU32::new((1 << limits.actors) - 1) })
     }
 
@@ -189,6 +206,7 @@ fn settled(status: u32) -> Result<u32> {
         TOO_LONG => Err(Error::TooLong),
         BAD_LIMITS => Err(Error::BadLimits),
         NO_MEMORY => Err(Error::NoMemory),
+        BAD_ORDER => Err(Error::BadOrder),
         _ => panic!("libbwtree answers with status {status}"),
     }
 }

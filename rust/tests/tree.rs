@@ -51,6 +51,19 @@ fn a_large_tree_takes_more_keys() {
 }
 
 #[test]
+fn trees_are_opened_with_pairs() {
+    let limits = Limits { actors: 2, pids: 64, rows: 256, large: false };
+    let pairs: Vec<(Vec<u8>, Vec<u8>)> = (0..60u8).map(|i| (vec![i], vec![i, i])).collect();
+    let tree = Tree::open_from(limits, pairs.iter().map(|(key, value)| (key, value))).unwrap();
+    assert_eq!(tree.seat().unwrap().pairs_from(b"").collect::<Result<Vec<_>, _>>(), Ok(pairs.clone()));
+    assert_eq!(Tree::open_from(limits, pairs.iter().rev().map(|(key, value)| (key, value))).err(), Some(Error::BadOrder));
+    assert_eq!(Tree::open_from(limits, [(b"a", [0; 65])]).err(), Some(Error::TooLong));
+    let many = (0..4000u32).map(|i| (i.to_be_bytes(), b""));
+    assert_eq!(Tree::open_from(Limits { rows: 64, ..limits }, many).err(), Some(Error::Full));
+    assert_eq!(Tree::open_from(limits, [(b"", b""); 0]).unwrap().seat().unwrap().get(b""), Ok(None));
+}
+
+#[test]
 fn seats_are_lent() {
     let tree = Tree::for_keys(2, 100).unwrap();
     let (one, other) = (tree.seat(), tree.seat());

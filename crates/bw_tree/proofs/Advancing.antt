@@ -22,7 +22,7 @@ use Rattle.bw_tree.specs.Calls.{Advances}
 use Rattle.bw_tree.specs.SeatLaws.{HaveLaws}
 use Rattle.bw_tree.specs.Runs.{IsLawfulRun}
 use Rattle.bw_tree.specs.Seats.{IsSeated, Seat, unfinished_command}
-use Rattle.bw_tree.proofs.Seats.{Wants, wants, may, allowed, useful, due, going, is_told, goes_so, no_reply, may_take, grown, leaves, command_then, seated_then}
+use Rattle.bw_tree.proofs.Seats.{Wants, wants, may, allowed, useful, halved, due, going, is_told, goes_so, no_reply, may_take, grown, leaves, command_then, seated_then}
 
 -- what an actor promises of an answer that it takes
 abbrev pub Takes : Actor → Answer Record → Option Reply → Actor → Type 0
@@ -49,7 +49,7 @@ module _ (laws : HaveLaws) (limits : Limits) (a : ℕ) (seen : List Entry) (now 
   w = wants limits a k r now asked h.shows e
 
   pub may_go : (asked ≡ Leave → ⊥) → IsLawfulStep IsLawfulRun limits a seen None asked None
-  may_go other = may_take laws limits a seen now h asked None (allowed limits a k r now asked w other) (useful limits a k r now asked w) busy (due limits a k r now asked w)
+  may_go other = may_take laws limits a seen now h asked None (allowed limits a k r now asked w other) (useful limits a k r now asked w) (halved limits a k r now asked w) busy (due limits a k r now asked w)
 
   pub known_may : May a k asked
   known_may = may limits a k r now asked w
@@ -63,7 +63,7 @@ module _ (laws : HaveLaws) (limits : Limits) (a : ℕ) (seen : List Entry) (now 
   -- a step with its reply, for which the actor was asked, before or after it was taken
   module _ (told : Answer Record) (reply : Option Reply) (later : List Entry) (new : Actor) (took : Took IsLawfulRun limits a seen None asked told reply later) (g : ActsOn limits a k r now asked told reply new) where
     pub seated_so : running_command new ≡ command_left reply (running_command now) → IsSeated limits a later new
-    seated_so runs = seated_then laws limits a seen now h asked reply g.allowed g.useful told later took new g runs
+    seated_so runs = seated_then laws limits a seen now h asked reply g.allowed g.useful g.halved told later took new g runs busy
 
     pub advances_so : (table table' : TableId) → Advances (seat_of table limits a seen) reply (seat_of table' limits a later)
     advances_so table table' = record {
@@ -72,9 +72,9 @@ module _ (laws : HaveLaws) (limits : Limits) (a : ℕ) (seen : List Entry) (now 
       step = asked;
       told = told;
       answered = took.answered;
-      grown = grown laws limits a seen now h asked reply g.allowed g.useful told later took;
-      last = leaves laws limits a seen now h asked reply g.allowed g.useful told later took;
-      command = command_then laws limits a seen now h asked reply g.allowed g.useful told later took;
+      grown = grown laws limits a seen now h asked reply g.allowed g.useful g.halved told later took;
+      last = leaves laws limits a seen now h asked reply g.allowed g.useful g.halved told later took;
+      command = command_then laws limits a seen now h asked reply g.allowed g.useful g.halved told later took;
     }
 
   -- a step that goes on: its answer, and what the actor makes of it
@@ -113,7 +113,7 @@ module _ (laws : HaveLaws) (limits : Limits) (a : ℕ) (seen : List Entry) (now 
     g = goes laws limits a seen now h busy Leave e Done reply new tt takes
 
     pub leave_may : IsLawfulStep IsLawfulRun limits a seen None Leave reply
-    leave_may = may_take laws limits a seen now h Leave reply g.allowed g.useful busy (due limits a (knows seen a) (recalls seen a) now Leave wl)
+    leave_may = may_take laws limits a seen now h Leave reply g.allowed g.useful g.halved busy (due limits a (knows seen a) (recalls seen a) now Leave wl)
 
     module _ (told : Answer Record) (later : List Entry) (took : Took IsLawfulRun limits a seen None Leave told reply later) where
       gt : ActsOn limits a (knows seen a) (recalls seen a) now Leave told reply new

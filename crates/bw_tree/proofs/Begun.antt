@@ -28,6 +28,7 @@ use Rattle.tree_words.specs.Changes.{HasWord}
 use Rattle.bw_tree.specs.SeatLaws.{HaveLaws}
 use Rattle.bw_tree.specs.Runs.{IsLawfulRun}
 use Rattle.bw_tree.specs.Seats.{IsSeated, Seat, unfinished_command}
+use Rattle.bw_tree.proofs.LackLaws.{lack_begun}
 use Rattle.bw_tree.proofs.Advancing.{Takes, known_may, may_go, seated_on, told_on, within}
 use Rattle.bw_tree.proofs.Seats.{without_begin}
 use Rattle.deltas.proofs.Replaced.{replaced_same}
@@ -65,7 +66,7 @@ pub idle_of : (old seat : Seat) → seat ≡ old → unfinished_command old ≡ 
 idle_of old seat is idle = subst (λ s. unfinished_command s ≡ None) (sym is) idle
 
 module _ (laws : HaveLaws) (limits : Limits) (a : ℕ) (seen : List Entry) (now new : Actor) (command : Command) (there : a < limits.actors) (h : IsSeated limits a seen now) (free : command_of seen a ≡ None)
-    (begins : (k : Knowledge) (r : Recalled) → IsActor limits a k r now → IsActor limits a (begun k command) blank new) (has : running_command new ≡ Some command) (few : steps_due blank new.hand new.running < cause_worth limits) where
+    (begins : (k : Knowledge) (r : Recalled) → IsActor limits a k r now → IsActor limits a (begun k command) blank new) (has : running_command new ≡ Some command) (few : steps_due blank new.hand new.running < cause_worth limits) (quiet : new.lacks ≡ None) where
   idle : running_command now ≡ None
   idle = h.runs ∙ free
 
@@ -82,11 +83,12 @@ module _ (laws : HaveLaws) (limits : Limits) (a : ℕ) (seen : List Entry) (now 
       sym (ap (λ (ks : ℕ → Knowledge). ks a) grows.known ∙ replaced_same a (begun (knows run a) command) (knows run) ∙ ap (λ q. begun q command) lasts.known) in
       let recalled : blank ≡ recalls (run ++ Begin a command ∷ []) a = sym (ap (λ (rs : ℕ → Recalled). rs a) grows.recalled ∙ replaced_same a blank (recalls run)) in
       record {
-        lawful = record { state = laws.begins limits run a command legal.state there (lasts.command ∙ free); direct = direct.state };
+        lawful = record { state = laws.begins limits run a command legal.state there (lasts.command ∙ free); direct = direct.state; paid = laws.begins_paid limits run a command legal.paid there (lasts.command ∙ free) };
         shows = subst (λ q. IsActorWith limits a q (recalls (run ++ Begin a command ∷ []) a) new.hand new.running) known
             (subst (λ q. IsActorWith limits a (begun (knows seen a) command) q new.hand new.running) recalled shows);
         runs = has ∙ sym (ap (λ (cs : ℕ → Option Command). cs a) grows.commands ∙ replaced_same a (Some command) (command_of run));
         pays = subst (λ q. Accounts limits (run ++ Begin a command ∷ []) a (steps_due q new.hand new.running)) recalled direct.account;
+        lacks = lack_begun limits a run command new.lacks quiet;
       }
 
   -- its actor is outside

@@ -19,8 +19,8 @@ use Rattle.bw_model.specs.declared.step.Answer.{Answer}
 use Rattle.bw_model.specs.declared.step.Answer.TheVariants.{Number}
 use Rattle.deltas.specs.declared.record.Record.{Record}
 use Rattle.bw_tree.specs.Room.{HasCounted, HasSeenRoom, HasWatched, bits_step, free_among, how_many, is_free}
-use Rattle.bw_tree.specs.declared.room.Kind.{Kind}
-use Rattle.bw_tree.specs.declared.room.Kind.TheVariants.{Pid, Row}
+use Rattle.installs.specs.declared.taking.Kind.{Kind}
+use Rattle.installs.specs.declared.taking.Kind.TheVariants.{Pid, Row}
 use Rattle.bw_tree.specs.declared.room.Room.{Room}
 use Rattle.bw_tree.specs.Seats.{IsSame, Seat}
 

@@ -1,18 +1,17 @@
 -- What a tree leaves that is closed with all its seats.
-use Rattle.std.proofs.Common.{◌≡◌, ◌≤◌, ℕ, zero, suc, List, [], ◌∷◌, length, Some, subst, arith}
+use Rattle.std.proofs.Common.{◌≡◌, ◌≤◌, ℕ, zero, suc, List, [], ◌∷◌, length, Some, refl, subst, arith}
 use Rattle.std.specs.Prelude.{slice_get}
 use Rattle.atomic_table.specs.Table.{Final, Seen}
 use Rattle.tree_limits.specs.declared.limits.Limits.{Limits}
 use Rattle.traces.specs.declared.trace.Entry.{Entry}
 use Rattle.traces.specs.discipline.Disciplined.{Extends}
-use Rattle.traces.specs.trace.Trace.{memory_of}
 use Rattle.listing.specs.Listed.{IsListing}
 use Rattle.slot_rule.specs.Closing.{AllStand, AreLeft, LeavesWords}
 use Rattle.slot_rule.specs.declared.view.Part.{Part}
 use Rattle.slot_rule.specs.declared.view.Reach.TheVariants.{Idle}
 use Rattle.slot_rule.specs.Running.{Each, Running}
 use Rattle.slot_rule.specs.Views.{part}
-use Rattle.bw_tree.specs.Closed.{KeepMemory}
+use Rattle.bw_tree.specs.Closed.{ClosedTree, IsClosedWith, IsLeftBy, ListsAll}
 use Rattle.bw_tree.specs.Runs.{IsLawfulRun, IsOneHistory, IsSeenRun}
 use Rattle.bw_tree.specs.Seats.{Seat}
 use Rattle.bw_tree.specs.Trees.{AreClosed, HasPartsOf}
@@ -34,14 +33,30 @@ module _ (limits key : Limits) (own : key ≡ limits) (spells : (limits : Limits
   left : AreLeft limits (IsLawfulRun limits) parts words
   left = spells limits id parts words homes all_stand (subst (λ (l : Limits). Final (Seen (Running l (IsLawfulRun l)) id parts) words homes) own final)
 
-  pub keeps : (run : List Entry) × IsLawfulRun limits run × KeepMemory limits words (memory_of limits run)
-  keeps = (left.run, left.legal, record { are = left.are; kept = left.kept })
+  abbrev closed : ClosedTree
+  closed = record { limits = limits; words = words }
 
-  pub closes : ((limits : Limits) (run : List Entry) → IsSeenRun limits run → IsOneHistory limits run) → (pairs : List (List ℕ × List ℕ))
-      → ((run : List Entry) → IsLawfulRun limits run → KeepMemory limits words (memory_of limits run) → IsListing limits run pairs) → AreClosed limits seats pairs
-  closes history pairs lists = record {
+  is_left : IsLeftBy closed left.run
+  is_left = record { seen = record { lawful = left.legal; begins = left.begins }; keeps = record { are = left.are; kept = left.kept } }
+
+  -- the run that has left the words
+  pub by_run : (run : List Entry) × IsLeftBy closed run
+  by_run = (left.run, is_left)
+
+  pub closes : ((limits : Limits) (run : List Entry) → IsSeenRun limits run → IsOneHistory limits run) → IsClosedWith limits seats closed
+  closes history = record {
+    limits = refl;
     run = left.run;
-    history = history limits left.run (record { lawful = left.legal; begins = left.begins });
+    left = is_left;
+    history = history limits left.run is_left.seen;
     extends = λ n seat at. let (m, there) = has.each n seat at in each_get (λ p. Extends p.actor p.seen left.run) parts m (part limits seat.actor seat.seen Idle) left.extends there;
-    listing = lists left.run left.legal (record { are = left.are; kept = left.kept });
   }
+
+-- a tree is closed whose pairs are listed
+pub are_closed : (limits : Limits) (seats : List Seat) (tree : ClosedTree) (pairs : List (List ℕ × List ℕ)) → IsClosedWith limits seats tree → ListsAll tree pairs → AreClosed limits seats pairs
+are_closed limits seats tree pairs is lists = record {
+  run = is.run;
+  history = is.history;
+  extends = is.extends;
+  listing = subst (λ (l : Limits). IsListing l is.run pairs) is.limits (lists is.run is.left);
+}

@@ -15,6 +15,8 @@ mod Logged
 mod Filled
 mod Upserting
 mod Kept
+mod Listing
 mod Leaving
 mod Counting
 mod Holding
+mod LackLaws

@@ -16,6 +16,7 @@ use Rattle.tree_law.specs.Direct.{Accounts}
 use Rattle.tree_law.specs.Own.{OwnLasts}
 use Rattle.bw_tree.specs.Runs.{IsLawfulRun, IsSeenRun, StartsWith}
 use Rattle.bw_tree.specs.Seats.{IsSeat, IsSeated}
+use Rattle.bw_tree.proofs.LackLaws.{lack_extends}
 
 -- what an actor keeps shows the same of a run that others have gone on with
 seated_extends : OwnLasts → (limits : Limits) (number : ℕ) (seen run : List Entry) (at : Actor) → IsSeated limits number seen at → IsLawfulRun limits run → Extends number seen run → IsSeated limits number run at
@@ -26,6 +27,7 @@ seated_extends own limits number seen run at seated legal extends =
       shows = subst (λ k. IsActor limits number k (recalls run number) at) (sym lasts.known) (subst (λ r. IsActor limits number (knows seen number) r at) (sym lasts.recalled) seated.shows);
       runs = seated.runs ∙ sym lasts.command;
       pays = subst (λ r. Accounts limits run number (steps_due r at.hand at.running)) (sym lasts.recalled) (lasts.affords (steps_due (recalls seen number) at.hand at.running) seated.pays);
+      lacks = lack_extends limits number seen run at.lacks extends lasts.known lasts.command seated.lacks;
     }
 
 pub seat_extends : OwnLasts → (limits : Limits) (number : ℕ) (me me' : Mine) (run : List Entry) (at : Actor) → IsSeat limits number me at → IsSeenRun limits run → Extends number (seen_of me) run → SitsAt limits number Idle me' → seen_of me' ≡ run

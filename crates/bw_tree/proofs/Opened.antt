@@ -36,7 +36,7 @@ fresh_idle limits number me rest legal there is =
       there = there;
       place = refl;
       begins = tt;
-      seated = record { lawful = legal; shows = rest limits number blank; runs = refl; pays = λ operation last own. cc };
+      seated = record { lawful = legal; shows = rest limits number blank; runs = refl; pays = λ operation last own. cc; lacks = record { told = refl; pending = λ busy. cc } };
     }
 
 pub fresh : (limits : Limits) (number : ℕ) (me : Mine) (actor : Actor) → IdleRest → IsLawfulRun limits [] → number < limits.actors → me ≡ (alone limits number [] Idle, []) → actor ≡ idle_actor limits → IsSeat limits number me actor

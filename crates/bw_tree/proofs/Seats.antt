@@ -23,6 +23,9 @@ use Rattle.traces.specs.discipline.Recalled.{IsStepSpent, Recalled, recall, reca
 use Rattle.traces.specs.trace.Steps.{IsAnswer}
 use Rattle.traces.specs.trace.Trace.{command_of, commands_after, memory_of}
 use Rattle.traces.specs.discipline.Useful.{IsUseful}
+use Rattle.op_machine.specs.theorem.Halves.{IsHalved}
+use Rattle.op_machine.specs.theorem.Readers.{IsOfUse}
+use Rattle.op_machine.proofs.Readers.{of_use}
 use Rattle.op_machine.specs.machine.Bounded.{left_at}
 use Rattle.op_machine.specs.machine.Hands.{Hand}
 use Rattle.op_machine.specs.machine.Shows.{ShowsState}
@@ -34,7 +37,9 @@ use Rattle.slot_rule.specs.Steps.{IsLawfulStep, Took, with_step}
 use Rattle.tree_law.specs.Direct.{Accounts, StaysDirect}
 use Rattle.bw_tree.specs.SeatLaws.{HaveLaws}
 use Rattle.bw_tree.specs.Runs.{IsLawfulRun}
+use Rattle.bw_tree.specs.LastReply.{KeepsLack}
 use Rattle.bw_tree.specs.Seats.{IsSeated}
+use Rattle.bw_tree.proofs.LackLaws.{lack_stepped}
 use Rattle.deltas.proofs.Replaced.{replaced_same}
 
 -- no begin stands between the run and the step
@@ -49,7 +54,7 @@ state_left task hand k r (state.Enter epoch) h = omega arith
 state_left task hand k r (state.Read round) h = omega arith
 state_left task hand k r (state.Write round) h = omega arith
 state_left task hand k r (state.Change now then) h = omega arith
-state_left task hand k r (state.Leave reply) h = omega arith
+state_left task hand k r (state.Leave reply lacks) h = omega arith
 
 some_more : (m n o : ℕ) → 0 < n → 0 < (m + n) + o
 some_more m n o some = omega arith
@@ -79,8 +84,11 @@ module _ (limits : Limits) (a : ℕ) (k : Knowledge) (r : Recalled) (now : Actor
   frees : MayFree limits a k asked
   frees = subst (MayFree limits a k) w.wanted (subst (λ n. MayFree limits n k w.running.wanted) w.shows.own_actor (subst (λ l. MayFree l w.running.op.task.actor k w.running.wanted) w.shows.own_limits w.shows.goes.may.frees))
 
-  pub useful : IsUseful k asked
-  useful = subst (IsUseful k) w.wanted w.shows.goes.may.useful
+  pub useful : IsOfUse k asked
+  useful = subst (IsOfUse k) w.wanted (of_use k r w.running.op now.hand w.running.wanted w.shows.goes)
+
+  pub halved : IsHalved k asked
+  halved = subst (IsHalved k) w.wanted w.shows.goes.may.halved
 
   pub allowed : (asked ≡ Leave → ⊥) → IsAllowed limits a k asked None
   allowed other = record { may = may; frees = frees; replied = tt; ends = λ e. absurd (other e) }
@@ -105,7 +113,7 @@ no_reply limits a k step None other h = refl
 no_reply limits a k step (Some reply) other h = absurd (other h.replied.0)
 
 module _ (laws : HaveLaws) (limits : Limits) (a : ℕ) (seen : List Entry) (now : Actor) (h : IsSeated limits a seen now) (asked : StepOf Record) (reply : Option Reply)
-    (allowed : IsAllowed limits a (knows seen a) asked reply) (useful : IsUseful (knows seen a) asked) where
+    (allowed : IsAllowed limits a (knows seen a) asked reply) (useful : IsOfUse (knows seen a) asked) (halved : IsHalved (knows seen a) asked) where
   abbrev k : Knowledge
   k = knows seen a
 
@@ -114,7 +122,7 @@ module _ (laws : HaveLaws) (limits : Limits) (a : ℕ) (seen : List Entry) (now 
   stays run told rest legal x is spent =
       let lasts = laws.own limits a seen run x in
       laws.steps_directly limits run a (steps_due (recalls seen a) now.hand now.running) rest asked told reply legal.state
-      (subst (λ q. IsAllowed limits a q asked reply) (sym lasts.known) allowed) (subst (λ q. IsUseful q asked) (sym lasts.known) useful) is legal.direct (lasts.affords _ h.pays)
+      (subst (λ q. IsAllowed limits a q asked reply) (sym lasts.known) allowed) (subst (λ q. IsOfUse q asked) (sym lasts.known) useful) is legal.direct (lasts.affords _ h.pays)
       (subst (λ q. IsStepSpent limits q asked told (steps_due (recalls seen a) now.hand now.running) rest) (sym lasts.recalled) spent)
 
   pub may_take : IsSome (command_of seen a) → 0 < steps_due (recalls seen a) now.hand now.running → IsLawfulStep IsLawfulRun limits a seen None asked reply
@@ -123,6 +131,7 @@ module _ (laws : HaveLaws) (limits : Limits) (a : ℕ) (seen : List Entry) (now 
       subst (IsLawfulRun limits) (without_begin run a asked told reply) (record {
         state = laws.steps limits run a asked told reply legal.state (subst IsSome (sym lasts.command) busy) (subst (λ q. IsAllowed limits a q asked reply) (sym lasts.known) allowed) is;
         direct = (stays run told (steps_due (recalls seen a) now.hand now.running - 1) legal x is (inl (less (steps_due (recalls seen a) now.hand now.running) some))).state;
+        paid = laws.steps_paid limits run a asked told reply legal.paid (subst IsSome (sym lasts.command) busy) (subst (λ q. IsAllowed limits a q asked reply) (sym lasts.known) allowed) (subst (λ q. IsUseful q asked) (sym lasts.known) useful.useful) (subst (λ q. IsHalved q asked) (sym lasts.known) halved) is;
       })
     where
       less : (n : ℕ) → 0 < n → n - 1 < n
@@ -155,9 +164,13 @@ module _ (laws : HaveLaws) (limits : Limits) (a : ℕ) (seen : List Entry) (now 
         left commands None = refl
         left commands (Some given) = replaced_same a None commands
 
+    -- what has a reply is the leave
+    replies_last : (given : Reply) → reply ≡ Some given → asked ≡ Leave
+    replies_last given is = (subst (λ o. IfSome o (λ given. (asked ≡ Leave) × (told ≡ answer.Done))) is leaves).0
+
     -- what the seat keeps after it
-    pub seated_then : (new : Actor) → ActsOn limits a k (recalls seen a) now asked told reply new → running_command new ≡ command_left reply (running_command now) → IsSeated limits a later new
-    seated_then new goes runs = record {
+    pub seated_then : (new : Actor) → ActsOn limits a k (recalls seen a) now asked told reply new → running_command new ≡ command_left reply (running_command now) → IsSome (command_of seen a) → IsSeated limits a later new
+    seated_then new goes runs busy = record {
       lawful = took.kept;
       shows = subst (λ q. IsActorWith limits a q (recalls later a) new.hand new.running) (sym known_then)
           (subst (λ q. IsActorWith limits a (knows_then k asked told reply) q new.hand new.running) (sym recalled_then) goes.shows);
@@ -165,4 +178,6 @@ module _ (laws : HaveLaws) (limits : Limits) (a : ℕ) (seen : List Entry) (now 
       pays = subst (λ q. Accounts limits later a (steps_due q new.hand new.running)) (sym recalled_then)
           (subst (λ run. Accounts limits run a (steps_due (recall (recalls seen a) asked told) new.hand new.running)) (sym grown)
           (stays took.run told (steps_due (recall (recalls seen a) asked told) new.hand new.running) took.legal took.extends took.answered goes.spends).account);
+      lacks = subst (λ run. KeepsLack limits a run new.lacks) (sym grown) (lack_stepped limits a seen took.run asked told reply now.lacks new.lacks took.extends busy h.lacks goes.lacks replies_last
+          (ap (λ run. knows run a) (sym grown) ∙ known_then) (ap (λ run. command_of run a) (sym grown) ∙ command_then));
     }

@@ -1,7 +1,9 @@
 pub mod Runs
 pub mod SeatLaws
 pub mod Notes
+pub mod LastReply
 pub mod Seats
+pub mod Lacking
 pub mod Calls
 pub mod Told
 pub mod Trees

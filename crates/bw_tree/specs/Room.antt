@@ -9,15 +9,11 @@ use Rattle.traces.specs.discipline.Disciplined.{Extends}
 use Rattle.traces.specs.trace.Trace.{memory_of}
 use Rattle.tree_limits.specs.declared.limits.Limits.{Limits}
 use Rattle.bw_tree.specs.Seats.{Seat, unfinished_command}
-use Rattle.bw_tree.specs.declared.room.Kind.{Kind}
-use Rattle.bw_tree.specs.declared.room.Kind.TheVariants.{Pid, Row}
+use Rattle.installs.specs.declared.taking.Kind.{Kind}
+use Rattle.installs.specs.declared.taking.Kind.TheVariants.{Pid, Row}
 use Rattle.bw_tree.specs.declared.room.Room.{Room}
 
--- how many numbers of the kind there are, and whether one is free in a memory
-abbrev pub count_of : Limits → Kind → ℕ
-count_of limits Pid = limits.pids
-count_of limits Row = limits.rows
-
+-- whether a number of the kind is free in a memory
 abbrev pub is_free : Kind → Memory → ℕ → Bool
 is_free Pid memory = memory.free_pids
 is_free Row memory = memory.free_rows

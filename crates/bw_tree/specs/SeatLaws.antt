@@ -1,4 +1,5 @@
 -- What the law of the tree gives a seat, of runs with steps of others that it has not seen.
+use Rattle.tree_law.specs.Changes.{IsPaidState, StepsPay}
 use Rattle.tree_law.specs.Direct.{BeginsDirectly, StepsDirectly}
 use Rattle.tree_law.specs.Own.{OwnLasts}
 use Rattle.tree_law.specs.State.{IsState}
@@ -12,5 +13,7 @@ pub record HaveLaws : Type 0 where
   pub fit : AnswersFit
   pub begins : BeginsKeep IsState
   pub begins_directly : BeginsDirectly
+  pub begins_paid : BeginsKeep IsPaidState
   pub steps : Steps
   pub steps_directly : StepsDirectly
+  pub steps_paid : StepsPay

@@ -13,6 +13,7 @@ use Rattle.slot_rule.specs.declared.view.Reach.TheVariants.{Idle}
 use Rattle.slot_rule.specs.Running.{BeginWithSteps}
 use Rattle.slot_rule.specs.Views.{SitsAt, Mine, seen_of}
 use Rattle.tree_law.specs.Direct.{Accounts}
+use Rattle.bw_tree.specs.LastReply.{KeepsLack}
 use Rattle.bw_tree.specs.Runs.{IsLawfulRun}
 
 -- a seat: of which table, of a tree of which limits, for which actor, and the run that it has seen
@@ -31,12 +32,13 @@ abbrev pub known_to : Seat → Knowledge
 known_to seat = knows seat.seen seat.actor
 
 -- What an actor keeps shows what its own entries let it know and recall; it runs what the run says that it has not finished, and
--- causes pay for the steps that it has taken and those that it has left.
+-- causes pay for the steps that it has taken and those that it has left. It tells what ran out for its last one.
 pub record IsSeated (limits : Limits) (number : ℕ) (seen : List Entry) (at : Actor) : Type 0 where
   pub lawful : IsLawfulRun limits seen
   pub shows : IsActor limits number (knows seen number) (recalls seen number) at
   pub runs : running_command at ≡ command_of seen number
   pub pays : Accounts limits seen number (steps_due (recalls seen number) at.hand at.running)
+  pub lacks : KeepsLack limits number seen at.lacks
 
 -- what a seat keeps between two calls
 pub record IsSeat (limits : Limits) (number : ℕ) (me : Mine) (at : Actor) : Type 0 where

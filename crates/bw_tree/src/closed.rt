@@ -1,28 +1,22 @@
-//! What a closed table has: its words as the slots and rows of a memory, and the pairs in its leaves.
-ghost use Rattle.std.specs.Prelude.{◌≡◌, ◌<◌, ◌≤◌, ◌*◌, ℕ, List, [], length, slice_index};
-ghost use Rattle.std.specs.Vec.{vec_capacity};
+//! The words of a closed table, as the slots and rows of a memory.
+ghost use Rattle.std.specs.Prelude.{◌≡◌, ◌<◌, ℕ, length, slice_index};
 ghost use Rattle.record_slots.specs.Layout.{last_at, row_size};
-ghost use Rattle.bw_tree.specs.Closed.{AreFilled, KeepMemory};
-ghost use Rattle.bw_tree.specs.Runs.{IsLawfulRun};
-ghost use Rattle.traces.specs.declared.trace.Entry.{Entry};
-ghost use Rattle.traces.specs.trace.Trace.{memory_of};
-ghost use Rattle.listing.specs.Listed.{IsListing};
+ghost use Rattle.bw_tree.specs.Closed.{AreFilled};
 ghost use Rattle.tree_words.specs.Layout.{row_at};
 
 use atomic_table::Closed;
-use bw_model::{Key, Limits, Value};
+use bw_model::Limits;
 use deltas::Record;
-use listing::{Rows, add_pairs, pages_are_listed};
+use listing::Rows;
 use record_slots::{ROW_WORDS, read_words, rows_have_words, spelling_is_one};
 use std::alloc::Allocator;
-use tree_law::leaves_stand;
 use tree_words::{row_place, slot_place};
 
 /// The words of a closed table.
 #[derive(Drop)]
-struct ClosedRows<'a, A: Allocator> {
-    limits: &'a Limits,
-    closed: &'a Closed<(), A>,
+pub(crate) struct ClosedRows<'a, A: Allocator> {
+    pub(crate) limits: &'a Limits,
+    pub(crate) closed: &'a Closed<(), A>,
 }
 
 impl<'a, A: Allocator> Rows for ClosedRows<'a, A> {
@@ -59,31 +53,4 @@ fn row_of<A: Allocator>(closed: &Closed<(), A>, row: u32) -> [u64; ROW_WORDS]
         words[j] = closed.word(base + j);
     }
     words
-}
-
-/// The pairs in the leaves of a closed table, for which there is room.
-pub(crate) fn list<A: Allocator, B: Allocator>(
-    closed: Closed<(), A>,
-    limits: &Limits,
-    pairs: Vec<(Key, Value), B>,
-) -> Vec<(Key, Value), B>
-    requires empty { pairs.items ≡ [] }
-    requires room { 24 * limits.now.pids ≤ vec_capacity pairs }
-    requires slots { closed.slots.len ≡ 0 }
-    requires full { AreFilled closed.words.filled closed.words.len }
-    requires left { (run : List Entry) × IsLawfulRun limits.now run × KeepMemory limits.now closed.words.items (memory_of limits.now run) }
-    ensures { (run : List Entry) → IsLawfulRun limits.now run → KeepMemory limits.now closed.words.items (memory_of limits.now run) → IsListing limits.now run result.items }
-{
-    leaves_stand();
-    pages_are_listed();
-    let mut pairs = pairs;
-    let rows = ClosedRows {
-        limits,
-        closed: &closed,
-    };
-    let Ok(()) = add_pairs(&mut pairs, limits, &rows) else {
-        unreachable!()
-    };
-    closed.free();
-    pairs
 }

@@ -1,10 +1,10 @@
 //! A tree is closed.
-ghost use Rattle.std.specs.Prelude.{◌≡◌, ◌<◌, ◌≤◌, ◌*◌, [], length, IfErr, IfOk, MatchBool};
-ghost use Rattle.std.specs.Vec.{vec_capacity};
+ghost use Rattle.std.specs.Prelude.{◌≡◌, ◌<◌, ◌≤◌, [], length, IfErr, IfOk, MatchBool};
+ghost use Rattle.bw_tree.specs.Closed.{IsClosedWith};
 ghost use Rattle.bw_tree.specs.Trees.{AreClosed, AreSeatsOf, HasBusy, HasPartsOf, IsTreeTable};
 
 use crate::called::{CloseError, CloseRefusal};
-use crate::closed::list;
+use crate::closed_tree::ClosedTree;
 use crate::lawful_runs::{TreeLaw, TreeWords, runs_are_one_history};
 use crate::seat::BwSeat;
 use crate::tree::Tree;
@@ -37,29 +37,46 @@ impl<A: Allocator> Tree<A> {
         let Ok(pairs) = Vec::with_capacity(alloc, 24 * self.limits.pids as usize) else {
             return Err(refused(CloseRefusal::Memory, self, seats));
         };
-        Ok(self.listed(pairs, seats))
+        Ok(self.shut(seats).listed(pairs))
     }
-}
 
-impl<A: Allocator> Tree<A> {
-    /// Closes the tree with all its seats, and lists its pairs, for which there is room.
-    fn listed<B: Allocator>(
-        self,
-        pairs: Vec<(Key, Value), B>,
-        seats: Vec<BwSeat<A>, A>,
-    ) -> Vec<(Key, Value), B>
+    /// Closes the tree, without memory: its pairs can be asked for afterwards. Refused, with the tree and the seats as they were, where a
+    /// seat is missing, and where one has an unfinished operation, in this order.
+    pub fn into_closed(self, seats: Vec<BwSeat<A>, A>) -> Result<ClosedTree<A>, CloseError<A>>
+        requires own { AreSeatsOf self seats.items }
+        ensures ok { IfOk result (IsClosedWith self.limits seats.items) }
+        ensures missing { length seats.items < self.limits.actors → IfOk result (λ closed. ⊥) × IfErr result (λ error. error.refusal ≡ CloseRefusal.Seats) }
+        ensures busy { self.limits.actors ≤ length seats.items → HasBusy seats.items → IfOk result (λ closed. ⊥) × IfErr result (λ error. error.refusal ≡ CloseRefusal.NotIdle) }
+        ensures never { self.limits.actors ≤ length seats.items → (HasBusy seats.items → ⊥) → IfErr result (λ error. ⊥) }
+        ensures tree { IfErr result (λ error. error.tree ≡ self) }
+        ensures seats { IfErr result (λ error. error.seats.items ≡ seats.items) }
+    {
+        if (seats.len() as u64) < self.limits.actors {
+            return Err(refused(CloseRefusal::Seats, self, seats));
+        }
+        if !are_idle(seats.as_slice()) {
+            return Err(refused(CloseRefusal::NotIdle, self, seats));
+        }
+        Ok(self.shut(seats))
+    }
+
+    /// Closes the tree with all its seats.
+    fn shut(self, seats: Vec<BwSeat<A>, A>) -> ClosedTree<A>
         requires own { AreSeatsOf self seats.items }
         requires all { self.limits.actors ≤ length seats.items }
-        requires empty { pairs.items ≡ [] }
-        requires room { 24 * self.limits.pids ≤ vec_capacity pairs }
-        ensures { AreClosed self.limits seats.items result.items }
+        ensures { IsClosedWith self.limits seats.items result }
     {
         runs_are_one_history();
         closing_spells::<TreeLaw>();
         let Tree { limits, table } = self;
         let whole = joined(&table.shared, &limits, seats);
-        let closed = table.close_with(whole);
-        list(closed, &limits, pairs)
+        let words = table.close_with(whole);
+        // The leftmost leaf has PID 1 for ever.
+        ClosedTree {
+            limits,
+            words,
+            near: 1,
+        }
     }
 }
 

@@ -1,11 +1,12 @@
-//! What entries tell of calls and counts: each function does nothing, and its contract computes it.
-ghost use Rattle.std.specs.Prelude.{codes, ◌≡◌, [], ◌∷◌, None, Some, length};
+//! What entries tell of calls, replies and counts: each function does nothing, and its contract computes it.
+ghost use Rattle.std.specs.Prelude.{codes, ◌≡◌, [], ◌∷◌, None, Some, length, take};
 ghost use Rattle.bw_model.specs.declared.command.Command.TheVariants.{Get, Upsert, Delete};
 ghost use Rattle.bw_model.specs.declared.command.Reply.TheVariants as reply;
 ghost use Rattle.bw_tree.specs.Calls.{answered_last, calls_of};
 ghost use Rattle.bw_tree.specs.Examples.{read_between, two_actors, two_words};
+ghost use Rattle.bw_tree.specs.LastReply.{last_reply};
 ghost use Rattle.bw_tree.specs.Room.{free_among, how_many, is_free};
-ghost use Rattle.bw_tree.specs.declared.room.Kind.TheVariants.{Pid};
+ghost use Rattle.installs.specs.declared.taking.Kind.TheVariants.{Pid};
 ghost use Rattle.traces.specs.discipline.Disciplined.{own_entries};
 ghost use Rattle.traces.specs.trace.Trace.{memory_of};
 
@@ -20,6 +21,14 @@ pub fn entries_tell_calls()
 /// A reply is that of the call that was made last.
 pub fn last_call_is_answered()
     ensures { answered_last ((Get (codes "a"), Some reply.None) ∷ (Delete (codes "b"), None) ∷ []) reply.Absent ≡ (Get (codes "a"), Some reply.None) ∷ (Delete (codes "b"), Some reply.Absent) ∷ [] }
+{}
+
+/// The reply is that of the operation that an actor began last, once it is finished. What others do tells nothing of it.
+pub fn last_replies_are_told()
+    ensures begun { last_reply 0 (take 3 two_actors) ≡ None }
+    ensures finished { last_reply 0 (take 5 two_actors) ≡ Some reply.None }
+    ensures again { last_reply 0 two_actors ≡ None }
+    ensures other { last_reply 1 two_actors ≡ None }
 {}
 
 /// Each word counts as it stood when it was read, and no moment need have had so many: here 126 PIDs were free first, and 124 last.

@@ -6,13 +6,15 @@ ghost use Rattle.bw_tree.specs.Runs.{IsLawfulRun, IsOneHistory, IsSeenRun};
 ghost use Rattle.traces.specs.declared.trace.Entry.{Entry};
 ghost use Rattle.slot_rule.specs.Running.{KeepsRowsApart};
 
+use progress::readers_read_at_once;
 use slot_rule::{Law, Words};
 use tree_law::{
-    answers, begins, begins_directly, entries_grow, frees_by_rule, index_is_exact, is_one_map,
-    keeps_phases, opens, opens_directly, own_lasts, rows_are_apart, steps, steps_directly,
+    answers, begins, begins_directly, begins_paid, entries_grow, frees_by_rule, index_is_exact,
+    is_one_map, keeps_phases, opens, opens_directly, opens_paid, own_lasts, rows_are_apart, steps,
+    steps_directly, steps_paid,
 };
 
-/// In each run of the tree each actor obeyed its discipline, by few steps.
+/// In each run of the tree each actor obeyed its discipline, by few steps and few changes.
 pub struct TreeLaw;
 
 impl Law for TreeLaw {
@@ -30,6 +32,7 @@ pub(crate) fn empty_run_is_lawful()
 {
     opens();
     opens_directly();
+    opens_paid();
 }
 
 /// Lawful runs keep the rows of actors apart.
@@ -46,6 +49,7 @@ pub(crate) fn runs_are_one_history()
     is_one_map();
     keeps_phases();
     index_is_exact();
+    readers_read_at_once();
     frees_by_rule();
 }
 
@@ -58,6 +62,8 @@ pub(crate) fn laws_of_runs()
     answers();
     begins();
     begins_directly();
+    begins_paid();
     steps();
     steps_directly();
+    steps_paid();
 }

@@ -14,11 +14,13 @@
 mod call_laws;
 mod called;
 mod closed;
+mod closed_tree;
 mod closing;
 mod dealing;
 mod examples;
 mod filling;
 mod held;
+mod lacking;
 mod lawful_runs;
 mod loading;
 mod note;
@@ -29,12 +31,16 @@ mod seat;
 mod taking;
 mod tree;
 
-pub use call_laws::resumed_calls_are_calls;
+pub use call_laws::{done_calls_reply_last, resumed_calls_are_calls};
 pub use called::{Called, CloseError, CloseRefusal, LoadError, LoadStop};
+pub use closed_tree::{ClosedPage, ClosedTree};
 pub use closing::are_idle;
-pub use examples::{counts_are_taken_by_words, entries_tell_calls, last_call_is_answered};
+pub use examples::{
+    counts_are_taken_by_words, entries_tell_calls, last_call_is_answered, last_replies_are_told,
+};
 pub use filling::LOAD_BUDGET;
 pub use held::Held;
+pub use installs::Kind;
 pub use note::Note;
 pub use room::Room;
 pub use seat::BwSeat;

@@ -1,10 +1,11 @@
 //! How many PIDs and rows of a running tree are free.
 ghost use Rattle.std.specs.Prelude.{◌≡◌, ◌<◌, ◌≤◌, ◌*◌};
 ghost use Rattle.bw_model.specs.Lent.{lent};
-ghost use Rattle.bw_tree.specs.Room.{HasCounted, HasSeenRoom, HasWatched, bits_step, count_of};
+ghost use Rattle.bw_tree.specs.Room.{HasCounted, HasSeenRoom, HasWatched, bits_step};
 ghost use Rattle.bw_tree.specs.Runs.{IsOneHistory};
 ghost use Rattle.bw_tree.specs.Seats.{IsSame};
 ghost use Rattle.bw_tree.specs.Trees.{IsSeatOf};
+ghost use Rattle.installs.specs.Taking.{count_of};
 ghost use Rattle.slot_rule.specs.Views.{IsOf};
 
 use crate::lawful_runs::TreeWords;
@@ -12,6 +13,7 @@ use crate::seat::BwSeat;
 use crate::tree::Tree;
 use bw_model::{Limits, Step};
 use deltas::Record;
+use installs::Kind;
 use slot_rule::watch;
 use std::alloc::Allocator;
 use tree_law::own_lasts;
@@ -23,35 +25,6 @@ pub struct Room {
     pub free_pids: u32,
     /// Rows, of those that the limits give.
     pub free_rows: u32,
-}
-
-/// A kind of number.
-#[derive(Clone, Copy)]
-pub(crate) enum Kind {
-    Pid,
-    Row,
-}
-
-impl Kind {
-    /// How many numbers of the kind there are.
-    fn count(self, limits: &Limits) -> u64
-        ensures { result ≡ count_of limits.now self }
-    {
-        match self {
-            Kind::Pid => limits.pids,
-            Kind::Row => limits.rows,
-        }
-    }
-
-    /// The step that reads a word of free bits.
-    fn bits<'a>(self, word: u32) -> Step<&'a Record>
-        ensures { lent result ≡ bits_step self word }
-    {
-        match self {
-            Kind::Pid => Step::PidBits(word),
-            Kind::Row => Step::RowBits(word),
-        }
-    }
 }
 
 impl<A: Allocator> Tree<A> {
@@ -83,7 +56,7 @@ impl<A: Allocator> BwSeat<A> {
         ensures counted { HasCounted self.old.limits self.old.actor kind (count_of self.old.limits kind) self.old.seen self.new.seen result }
     {
         let mut count = 0;
-        for word in 0..kind.count(&self.limits) / 64 {
+        for word in 0..limit_of(kind, &self.limits) / 64 {
             count += self.watch_bits(words, kind, word as u32);
         }
         count
@@ -98,7 +71,27 @@ impl<A: Allocator> BwSeat<A> {
         ensures few { result ≤ 64 }
     {
         own_lasts();
-        let step = kind.bits(word);
+        let step = bits(kind, word);
         watch(words, &mut self.place, &self.limits, self.number, &step).count_ones()
+    }
+}
+
+/// How many numbers of the kind there are.
+fn limit_of(kind: Kind, limits: &Limits) -> u64
+    ensures { result ≡ count_of limits.now kind }
+{
+    match kind {
+        Kind::Pid => limits.pids,
+        Kind::Row => limits.rows,
+    }
+}
+
+/// The step that reads a word of free bits.
+fn bits<'a>(kind: Kind, word: u32) -> Step<&'a Record>
+    ensures { lent result ≡ bits_step kind word }
+{
+    match kind {
+        Kind::Pid => Step::PidBits(word),
+        Kind::Row => Step::RowBits(word),
     }
 }

@@ -4,3 +4,4 @@ pub mod Later
 pub mod Showing
 pub mod Values
 pub mod Yielded
+pub mod Unloading

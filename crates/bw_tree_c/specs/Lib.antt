@@ -1,6 +1,7 @@
 pub mod Calls
 pub mod Handles
 pub mod Kept
+pub mod Loaded
 pub mod Opened
 pub mod Refused
 pub mod Running

@@ -55,6 +55,9 @@ pub(crate) const NO_MEMORY: u32 = 23;
 /// A handle that is to be opened has a tree that isn't closed.
 pub(crate) const OPEN: u32 = 24;
 
+/// The keys of the pairs to be loaded don't ascend.
+pub(crate) const BAD_ORDER: u32 = 26;
+
 /// The status of a reply.
 fn status_of(reply: &Reply) -> u32
     ensures { result ≡ status_of reply.now }

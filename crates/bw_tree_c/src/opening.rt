@@ -76,7 +76,7 @@ pub extern "C" fn bwtree_raw_open(alloc: Global, limits: &TreeLimits, tree: &mut
 
 impl TreeHandle {
     /// Whether it has a tree that isn't closed.
-    fn is_open(&self) -> bool
+    pub(crate) fn is_open(&self) -> bool
         ensures { IsTrue result → IsSome self.now.kept.value }
     {
         match self.shared() {
@@ -104,7 +104,7 @@ fn shared_of(alloc: Global, limits: Limits) -> Option<Box<Shared>>
 }
 
 /// A slot for each seat, in order.
-fn slots_of(alloc: Global, tree: &Arc<Tree>, seats: Vec<BwSeat>) -> Option<Vec<Slot>>
+pub(crate) fn slots_of(alloc: Global, tree: &Arc<Tree>, seats: Vec<BwSeat>) -> Option<Vec<Slot>>
     requires own { AreSeatsOf (arc_value tree.now) seats.items }
     ensures { IfSome result (λ slots. slots.items ≡ seats.items) }
 {

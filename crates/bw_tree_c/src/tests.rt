@@ -1,8 +1,8 @@
 //! The exports, called from Rattle: what each answers, in turn.
 
 use crate::answers::{
-    ABSENT, BAD_LIMITS, BUSY, CLOSED, DIFFERS, EXISTS, IDLE, NO_SEAT, OK, OPEN, REPLACED, SPENT,
-    TOO_LONG, UNFINISHED,
+    ABSENT, BAD_LIMITS, BAD_ORDER, BUSY, CLOSED, DIFFERS, EXISTS, IDLE, NO_SEAT, OK, OPEN,
+    REPLACED, SPENT, TOO_LONG, UNFINISHED,
 };
 use crate::asking::{bwtree_raw_is_idle, bwtree_raw_room};
 use crate::bytes::{Bytes, FreeRoom, Page, Pair, TreeLimits};
@@ -12,6 +12,7 @@ use crate::calls::{
 };
 use crate::closing::bwtree_raw_close;
 use crate::handle::TreeHandle;
+use crate::loading::bwtree_raw_open_from;
 use crate::opening::{
     bwtree_raw_limits_for_keys, bwtree_raw_limits_for_many_keys, bwtree_raw_open,
 };
@@ -195,6 +196,43 @@ fn shows_one_pair(tree: &TreeHandle) -> bool {
 #[test]
 fn pages_and_room_are_shown(rt: HostRuntime) {
     assert!(rt; shows_one_pair(&two_seats(rt.alloc())));
+}
+
+/// A pair of a key and a value of one byte each.
+fn short_pair(key: u8, value: u8) -> Pair {
+    let mut pair = no_pair();
+    pair.key.set(&[key]);
+    pair.value.set(&[value]);
+    pair
+}
+
+/// What openings with pairs answer in turn, and lookups in the tree that is opened.
+fn told_of_loads(alloc: Global) -> [u32; 8] {
+    let mut limits = no_limits();
+    let mut old = no_bytes();
+    let mut tree = TreeHandle::unopened();
+    let mut long = short_pair(b'c', b'z');
+    long.value.length = 65;
+    let pairs = [short_pair(b'a', b'x'), short_pair(b'b', b'y'), long];
+    let turned = [short_pair(b'b', b'y'), short_pair(b'a', b'x')];
+    let bad = bwtree_raw_open_from(alloc, &limits, &pairs, &mut tree);
+    let told = bwtree_raw_limits_for_keys(2, 10, &mut limits);
+    [
+        bad,
+        told,
+        bwtree_raw_open_from(alloc, &limits, &pairs, &mut tree),
+        bwtree_raw_open_from(alloc, &limits, &turned, &mut tree),
+        bwtree_raw_open_from(alloc, &limits, &pairs[..2], &mut tree),
+        bwtree_raw_open_from(alloc, &limits, &pairs[..1], &mut tree),
+        bwtree_raw_get(&tree, 1, b"b", &mut old),
+        bwtree_raw_insert(&tree, 0, b"a", b"z", &mut old),
+    ]
+}
+
+#[test]
+fn trees_are_opened_with_pairs(rt: HostRuntime) {
+    let wanted = [BAD_LIMITS, OK, TOO_LONG, BAD_ORDER, OK, OPEN, OK, EXISTS];
+    assert!(rt; told_of_loads(rt.alloc()) == wanted);
 }
 
 /// What calls answer while another call is inside seat 0, and after that.

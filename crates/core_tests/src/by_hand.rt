@@ -6,7 +6,7 @@ use step_core::{Core, Event};
 use traces::Turn;
 
 /// More steps than an operation takes where the others stand: one that removes pages of several levels takes some thousand.
-const MOST_STEPS: u32 = 4096;
+pub(crate) const MOST_STEPS: u32 = 4096;
 
 /// Lets a core go. A function in which a core is dropped costs the proof two seconds more than one that hands it to this.
 pub(crate) fn let_go<A: Allocator>(_core: Core<A>) {}

@@ -9,9 +9,13 @@
 #[cfg(test)]
 mod accounts;
 #[cfg(test)]
+mod alone;
+#[cfg(test)]
 mod by_hand;
 #[cfg(test)]
 mod drawn_levels;
+#[cfg(test)]
+mod emptied;
 #[cfg(test)]
 mod four_levels;
 #[cfg(test)]
@@ -46,6 +50,8 @@ mod runs;
 mod schedules;
 #[cfg(test)]
 mod scripts;
+#[cfg(test)]
+mod sleeping;
 #[cfg(test)]
 mod standing;
 #[cfg(test)]

@@ -18,7 +18,7 @@ fn bit(number: u32) -> u32 {
 }
 
 /// One of the first so many numbers, of at most 1,024.
-fn draw(rng: &mut Pcg32, count: u32) -> u32 {
+pub(crate) fn draw(rng: &mut Pcg32, count: u32) -> u32 {
     (rng.next_word() % 1024).wrapping_mul(count) / 1024
 }
 
@@ -67,7 +67,7 @@ const MANY_DELETES: [u32; 7] = [0, 1, 3, 3, 3, 3, 3];
 
 impl Mix {
     /// One of the commands.
-    fn drawn(self, rng: &mut Pcg32) -> Kind {
+    pub(crate) fn drawn(self, rng: &mut Pcg32) -> Kind {
         let place = match self {
             Mix::Four => draw(rng, 4),
             Mix::FewDeletes => FEW_DELETES[draw(rng, 7) as usize % 7],

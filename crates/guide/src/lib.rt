@@ -1,6 +1,6 @@
 //! The examples of docs/GUIDE.md, as they stand there: tests alone.
 //!
-//! Each module is one block of that page, which checks/copies compares with it.
+//! Each module is one block of that page, or is named there, as checks/copies looks.
 //!
 //! Called by nobody. It uses a tree as a user would, by `workers`, `walks`, `map_laws`, `bw_tree` and `bw_model`.
 #![tactic(auto)]

@@ -20,6 +20,7 @@ use Rattle.installs.specs.declared.change.End.TheVariants as end
 use Rattle.installs.specs.declared.change.State.{State}
 use Rattle.installs.specs.declared.change.State.TheVariants as state
 use Rattle.installs.specs.declared.plan.Plan.{Plan}
+use Rattle.installs.specs.declared.taking.Kind.{Kind}
 use Rattle.installs.specs.declared.plan.Plan.TheVariants.{Install, Split, Root, Unlink}
 use Rattle.installs.proofs.Learning.{empty_page, ready_learnt, ready_went, undo_went, undone_learnt}
 use Rattle.installs.proofs.SpareLaws.{apart, page_moved, row_placed}
@@ -53,11 +54,11 @@ pub still_may : (actor : ℕ) (k now : Knowledge) (plan : Plan) → IsLike k.ask
 still_may actor k now plan like may = record { inside = like.inside ∙ may.inside; links = still_links actor k now plan like may.links }
 
 -- a change that has not won has linked nothing
-pub unlinked : (plan : Plan) (linked : Option (Option ℕ)) → (linked_after plan end.Lost linked ≡ linked) × (linked_after plan end.Full linked ≡ linked)
-unlinked (Install pid head content) linked = (refl, refl)
-unlinked (Split pid plan) linked = (refl, refl)
-unlinked (Root left root) linked = (refl, refl)
-unlinked (Unlink pid head unterm removal) linked = (refl, refl)
+pub unlinked : (plan : Plan) (linked : Option (Option ℕ)) → (linked_after plan end.Lost linked ≡ linked) × ((which : Kind) → linked_after plan (end.Full which) linked ≡ linked)
+unlinked (Install pid head content) linked = (refl, λ which. refl)
+unlinked (Split pid plan) linked = (refl, λ which. refl)
+unlinked (Root left root) linked = (refl, λ which. refl)
+unlinked (Unlink pid head unterm removal) linked = (refl, λ which. refl)
 
 -- ---- the spares that a plan uses
 pub some_pid : (pid : Option ℕ) → is_some pid ≡ true → pid ≡ Some (unwrap_or pid 0)

@@ -98,7 +98,7 @@ module _ (k : Knowledge) where
       taking_outs : (now : Knowledge) → now.limbo ≡ k.limbo → (state : State) (found : Found) → TakesOut limits k now plan (moved_by limits plan spares state found).end
       taking_outs now same state (Not taking) = record { limbo = same; fresh = tt }
       taking_outs now same state (Taken kind number) = record { limbo = same; fresh = tt }
-      taking_outs now same state Full = record { limbo = same; fresh = tt }
+      taking_outs now same state (Full which) = record { limbo = same; fresh = tt }
 
       -- what a change takes out where it goes on so
       abbrev pub TakesOutTo : State → Answer Record → Type 0

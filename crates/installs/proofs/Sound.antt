@@ -51,12 +51,12 @@ first_there limits kind head = go limits.is_large
 abbrev pub IsFoundOf : Kind → Found → Type 0
 IsFoundOf kind (Not taking) = kind_of taking ≡ kind
 IsFoundOf kind (Taken other number) = other ≡ kind
-IsFoundOf kind Full = ⊤
+IsFoundOf kind (Full other) = ⊤
 
 found_of : (limits : Limits) (taking : Taking) (told : Answer Record) → IsFoundOf (kind_of taking) (found_after limits taking told)
 found_of limits (Bits kind word whole) (answer.Number zero) = go (ltb (suc word) (count_of limits kind / 64)) whole
   where
-    go : (more whole : Bool) → IsFoundOf kind (if more then Not (Bits kind (suc word) whole) else if whole then Full else Not (Bits kind 0 true))
+    go : (more whole : Bool) → IsFoundOf kind (if more then Not (Bits kind (suc word) whole) else if whole then Full kind else Not (Bits kind 0 true))
     go true whole = refl
     go false true = tt
     go false false = refl
@@ -76,7 +76,7 @@ found_of limits (Take kind number whole) answer.Done = tt
 found_sound : (limits : Limits) (k : Knowledge) (taking : Taking) (told : Answer Record) → Fits limits k (wanted_number taking) told → IsSoundTaking limits taking → IsSoundFound limits (found_after limits taking told)
 found_sound limits k (Bits kind word whole) (answer.Number zero) fits sound = go (ltb (suc word) (count_of limits kind / 64)) refl whole
   where
-    go : (more : Bool) → ltb (suc word) (count_of limits kind / 64) ≡ more → (whole : Bool) → IsSoundFound limits (if more then Not (Bits kind (suc word) whole) else if whole then Full else Not (Bits kind 0 true))
+    go : (more : Bool) → ltb (suc word) (count_of limits kind / 64) ≡ more → (whole : Bool) → IsSoundFound limits (if more then Not (Bits kind (suc word) whole) else if whole then Full kind else Not (Bits kind 0 true))
     go true is whole = let some = ltb-true (suc word) (count_of limits kind / 64) is in omega (arith, some)
     go false is true = tt
     go false is false = let some = some_numbers limits kind in omega (arith, some)
@@ -157,7 +157,7 @@ module _ (limits : Limits) (plan : Plan) where
   found_stays spares state (Taken other number) room kind missing target sound of =
       let there = room_taken spares other number room (rw of missing) sound in
       (there, first_sound (with_number other number spares) target)
-  found_stays spares state Full room kind missing target sound of = (room, tt)
+  found_stays spares state (Full other) room kind missing target sound of = (room, tt)
 
   after_ready_sound : (spares : Spares) (other : Plan) → other ≡ plan → IsTarget limits other → AreEnough plan spares → needs_pid other ≡ true → IsSoundState limits plan spares (after_ready other)
   after_ready_sound spares (Install pid head content) is target enough needs = cc

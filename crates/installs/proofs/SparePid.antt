@@ -35,7 +35,7 @@ is_taken limits (Take Row m whole) (Whether true) n e = cc
 is_taken limits (Take kind m whole) (Whether false) n e = cc
 is_taken limits (Bits kind word whole) (Number zero) n e = go (ltb (suc word) (count_of limits kind / 64)) whole e
   where
-    go : (t whole : Bool) → (if t then Not (Bits kind (suc word) whole) else if whole then Full else Not (Bits kind 0 true)) ≡ Taken Pid n → pid_taken (wanted_number (Bits kind word whole)) (Number zero) ≡ Some n
+    go : (t whole : Bool) → (if t then Not (Bits kind (suc word) whole) else if whole then Full kind else Not (Bits kind 0 true)) ≡ Taken Pid n → pid_taken (wanted_number (Bits kind word whole)) (Number zero) ≡ Some n
     go true whole f = cc
     go false true f = cc
     go false false f = cc
@@ -46,7 +46,7 @@ by_found : (limits : Limits) (plan : Plan) (spares : Spares) (at : State) (taken
 by_found limits plan spares at taken (Not taking) new = same_pid spares.pid taken
 by_found limits plan spares at taken (Taken Pid n) new = inr (new n refl)
 by_found limits plan spares at taken (Taken Row n) new = same_pid spares.pid taken
-by_found limits plan spares at taken Full new = same_pid spares.pid taken
+by_found limits plan spares at taken (Full kind) new = same_pid spares.pid taken
 
 by_deciding : (plan : Plan) (spares : Spares) (taken : Option ℕ) (won : Bool) → IsPidFrom spares.pid taken (decided_by plan spares won).spares.pid
 by_deciding (Install pid head content) spares taken true = same_pid spares.pid taken

@@ -145,7 +145,7 @@ module _ (limits : Limits) (plan : Plan) (spares : Spares) (after : ℕ) (r : Re
   empty_word kind word whole below h = go (ltb (suc word) (count_of limits kind / 64)) whole
     where
       after_word : Bool → Bool → Moved
-      after_word more all = moved_by limits plan spares (state.Taking (Bits kind word all)) (if more then Not (Bits kind (suc word) all) else if all then Full else Not (Bits kind 0 true))
+      after_word more all = moved_by limits plan spares (state.Taking (Bits kind word all)) (if more then Not (Bits kind (suc word) all) else if all then Full kind else Not (Bits kind 0 true))
 
       few : word < most_words limits
       few = few_words limits kind word below

@@ -11,10 +11,10 @@ use Rattle.deltas.specs.Memory.{replaced_at}
 use Rattle.deltas.specs.declared.record.Record.{Record}
 use Rattle.traces.specs.discipline.Fitting.{Fits, FitsTaken, FitsTakenPid, FitsWord}
 use Rattle.traces.specs.discipline.Knowledge.{Knowledge, Empty, Ready, learn}
-use Rattle.installs.specs.Changes.{Change, Follows, head_of, IsLike, IsNeededNext, KeepsSpare, LacksNumber, MayChange, Shows, ShowsState, needs_pid, rows_needed}
+use Rattle.installs.specs.Changes.{Change, Follows, head_of, IsLike, IsNeededNext, KeepsSpare, MayChange, Shows, ShowsState, needs_pid, rows_needed}
 use Rattle.installs.specs.Moves.{Moved, after_taking, first_state, moved_by, with_number}
 use Rattle.installs.specs.Spares.{AreTheSpares, AreUnset, Spares}
-use Rattle.installs.specs.Taking.{AllFull, AreFull, begun_at, count_of, first_word, found_after, kind_of, wanted_number, word_read}
+use Rattle.installs.specs.Taking.{AreFull, begun_at, count_of, first_word, found_after, kind_of, wanted_number, word_read}
 use Rattle.installs.specs.declared.change.State.{State}
 use Rattle.installs.specs.declared.change.State.TheVariants as state
 use Rattle.installs.specs.declared.plan.Plan.{Plan}
@@ -94,10 +94,6 @@ module _ (actor : ℕ) (limits : Limits) (k : Knowledge) (plan : Plan) (spares :
   full_still Pid word whole bits up full = full
   full_still Row word whole bits up full = full
 
-  lacks : (kind : Kind) (now : Knowledge) → IsNeededNext plan spares kind → AllFull limits now.asked kind → LacksNumber limits plan spares now
-  lacks Pid now missing all = inl (missing, all)
-  lacks Row now missing all = inr (missing, all)
-
   -- a word was read as 0, and there is a next one, or none
   pub empty_word : (kind : Kind) (word : ℕ) (whole : Bool) → IsNeededNext plan spares kind → AreFull k.asked kind (if whole then word else 0) → Finds (Bits kind word whole) (answer.Number 0)
   empty_word kind word whole missing full = go (ltb (suc word) (count_of limits kind / 64)) refl whole refl
@@ -106,7 +102,7 @@ module _ (actor : ℕ) (limits : Limits) (k : Knowledge) (plan : Plan) (spares :
       now = learn k (wanted_number (Bits kind word whole)) (answer.Number 0)
 
       after : Bool → Bool → Moved
-      after more all = moved_by limits plan spares (state.Taking (Bits kind word whole)) (if more then Not (Bits kind (suc word) whole) else if all then Full else Not (Bits kind 0 true))
+      after more all = moved_by limits plan spares (state.Taking (Bits kind word whole)) (if more then Not (Bits kind (suc word) whole) else if all then Full kind else Not (Bits kind 0 true))
 
       goes_on : (next : ℕ) (all : Bool) → AreFull now.asked kind (if all then next else 0) → Follows actor k now (change (state.Taking (Bits kind word whole))) (answer.Number 0) (change (state.Taking (Bits kind next all))) spares None
       goes_on next all so_far = record {
@@ -118,9 +114,9 @@ module _ (actor : ℕ) (limits : Limits) (k : Knowledge) (plan : Plan) (spares :
       go true is all same = goes_on (suc word) whole (full_then kind word whole full)
       go false is false same = goes_on 0 true (λ below lt. absurd (omega (arith, lt)))
       go false is true same = record {
-        like = rw (unlinked plan k.asked.linked).1 (like_word kind word whole 0);
+        like = rw ((unlinked plan k.asked.linked).1 kind) (like_word kind word whole 0);
         rest = rw (own_word kind word whole 0) (record { are = are; unset = bare });
-        decided = lacks kind now missing (λ below lt. subst (λ (b : Bool). AreFull now.asked kind (if b then suc word else 0)) (sym same) (full_then kind word whole full) below (let last = ltb-false (suc word) (count_of limits kind / 64) is in omega (arith, lt, last)));
+        decided = (missing, λ below lt. subst (λ (b : Bool). AreFull now.asked kind (if b then suc word else 0)) (sym same) (full_then kind word whole full) below (let last = ltb-false (suc word) (count_of limits kind / 64) is in omega (arith, lt, last)));
       }
 
   -- a word with a free number

@@ -81,7 +81,7 @@ abbrev pub SpendsTo : ℕ → Recalled → Change → Spares → Answer Record �
 SpendsTo after r old had told new has None = Recalls new has (recall r (wanted old had) told) × IsSpentWith (worth old.limits after) r (wanted old had) told (steps_left after old had) (steps_left after new has)
 SpendsTo after r old had told new has (Some Won) = IsPaid r (wanted old had) told ⊎ ((clears old.plan ≡ true) × (after < steps_left after old had))
 SpendsTo after r old had told new has (Some Lost) = IsPaid r (wanted old had) told ⊎ (after < steps_left after old had)
-SpendsTo after r old had told new has (Some Full) = 0 < steps_left after old had
+SpendsTo after r old had told new has (Some (Full kind)) = 0 < steps_left after old had
 
 abbrev pub Spends : Change → Spares → Answer Record → Change → Spares → Option End → Type 0
 Spends old had told new has end = (after : ℕ) (r : Recalled) → Recalls old had r → IsApart old.plan (pid_taken (wanted old had) told) → SpendsTo after r old had told new has end

@@ -283,9 +283,9 @@ abbrev pub linked_after : Plan → End → Option (Option ℕ) → Option (Optio
 linked_after (Install pid head content) Won linked = linked_by content head linked
 linked_after plan end linked = linked
 
--- Each word was read as 0 of the kind of which a number is needed next.
-abbrev pub LacksNumber : Limits → Plan → Spares → Knowledge → Type 0
-LacksNumber limits plan spares k = (IsNeededNext plan spares Pid × AllFull limits k.asked Pid) ⊎ (IsNeededNext plan spares Row × AllFull limits k.asked Row)
+-- A number of the kind is needed next, and each word of it was read as 0.
+abbrev pub LacksNumber : Limits → Plan → Spares → Knowledge → Kind → Type 0
+LacksNumber limits plan spares k which = IsNeededNext plan spares which × AllFull limits k.asked which
 
 -- the state from which a change wins
 abbrev pub last_state : Plan → State
@@ -298,7 +298,7 @@ last_state (Unlink pid head unterm removal) = Clear
 abbrev pub IsDecided : Change → Answer Record → Knowledge → Spares → End → Type 0
 IsDecided old told now has Won = (old.state ≡ last_state old.plan) × (told ≡ Whether true)
 IsDecided old told now has Lost = ((old.state ≡ Link) × (told ≡ Whether false) × (needs_pid old.plan ≡ false)) ⊎ ((old.state ≡ Undo) × (told ≡ Whether true))
-IsDecided old told now has Full = LacksNumber old.limits old.plan has now
+IsDecided old told now has (Full which) = LacksNumber old.limits old.plan has now which
 
 -- The change has ended: what is known then, and that nothing is taken and not linked but the spares.
 pub record ChangeIsOver (k now : Knowledge) (old : Change) (told : Answer Record) (has : Spares) (end : End) : Type 0 where

@@ -54,7 +54,7 @@ unused plan spares = record { pid = if needs_pid plan then None else spares.pid;
 abbrev pub moved_by : Limits → Plan → Spares → State → Found → Moved
 moved_by limits plan spares state (Not taking) = record { state = Taking taking; spares = spares; end = None }
 moved_by limits plan spares state (Taken kind number) = record { state = first_state limits plan (with_number kind number spares); spares = with_number kind number spares; end = None }
-moved_by limits plan spares state Full = record { state = state; spares = spares; end = Some end.Full }
+moved_by limits plan spares state (Full kind) = record { state = state; spares = spares; end = Some (end.Full kind) }
 
 -- after the exchange that decides: a page whose term is out is cleared; a new page that is not linked is emptied again
 abbrev pub decided_by : Plan → Spares → Bool → Moved

@@ -86,17 +86,17 @@ number_left limits (Take kind number whole) = 1
 -- How a taking goes on: from a word that is 0 to the next one, if there is one; from another one to its lowest free number; after a
 -- take that missed it reads the same word again.
 abbrev pub found_after : Limits → Taking → Answer Record → Found
-found_after limits (Bits kind word whole) (Number zero) = if ltb (suc word) (count_of limits kind / 64) then Not (Bits kind (suc word) whole) else if whole then Full else Not (Bits kind 0 true)
+found_after limits (Bits kind word whole) (Number zero) = if ltb (suc word) (count_of limits kind / 64) then Not (Bits kind (suc word) whole) else if whole then Full kind else Not (Bits kind 0 true)
 found_after limits (Bits kind word whole) (Number (suc bits)) = Not (Take kind (64 * word + trailing_zeros w64 (suc bits)) whole)
 found_after limits (Take kind number whole) (Whether true) = Taken kind number
 found_after limits (Take kind number whole) (Whether false) = Not (Bits kind (number / 64) whole)
-found_after limits taking told = Full
+found_after limits taking told = Full (kind_of taking)
 
 -- The number, or the word, is there.
 abbrev pub IsSoundFound : Limits → Found → Type 0
 IsSoundFound limits (Not taking) = IsSoundTaking limits taking
 IsSoundFound limits (Taken kind number) = (0 < number) × (number < count_of limits kind)
-IsSoundFound limits Full = ⊤
+IsSoundFound limits (Full kind) = ⊤
 
 -- It is told whether a step went.
 abbrev pub TellsWhether : Told → Type 0

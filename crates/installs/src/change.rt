@@ -29,8 +29,8 @@ pub enum End {
     Won,
     /// Another actor's exchange came before.
     Lost,
-    /// A number was needed of which none was spare, and none was free.
-    Full,
+    /// A number of this kind was needed, none was spare, and none was free.
+    Full(Kind),
 }
 
 /// Where a change stands: each state is named by the step that it has asked for.
@@ -224,7 +224,7 @@ impl Change {
                 let state = first_state(&self.limits, &self.plan, spares);
                 self.go(state)
             }
-            Found::Full => Some(End::Full),
+            Found::Full(kind) => Some(End::Full(kind)),
         }
     }
 

@@ -17,3 +17,4 @@ pub use change::{Change, End};
 pub use change_laws::plans_may_be_linked;
 pub use plan::Plan;
 pub use spares::{MAX_SPARES, Spares};
+pub use taking::Kind;

@@ -12,10 +12,12 @@ use deltas::Record;
 /// An odd number, whose products are spread over all words.
 const SCATTER: u64 = 2654435761;
 
-/// A kind of number.
-#[derive(Clone, Copy)]
-pub(crate) enum Kind {
+/// A kind of number that a change takes.
+#[derive(Clone, Copy, Debug, PartialEq, Eq)]
+pub enum Kind {
+    /// Page identifiers, one for each new page.
     Pid,
+    /// Rows, one for each record.
     Row,
 }
 
@@ -41,8 +43,8 @@ pub(crate) enum Found {
     Not(Taking),
     /// This number was taken.
     Taken { kind: Kind, number: u32 },
-    /// No number of the kind is free.
-    Full,
+    /// No number of this kind is free.
+    Full(Kind),
 }
 
 impl Kind {
@@ -146,7 +148,7 @@ fn choose(limits: &Limits, kind: Kind, word: u32, whole: bool, bits: u64) -> Fou
         });
     }
     if whole {
-        return Found::Full;
+        return Found::Full(kind);
     }
     Found::Not(Taking::Bits {
         kind,

@@ -12,7 +12,7 @@ use arrayvec::ArrayString;
 use base_page::{Items, Page};
 use bw_model::{Key, Limits, Step, Told};
 use deltas::{Record, Remove, Unterm};
-use installs::{Change, End, Plan, Spares};
+use installs::{Change, End, Kind, Plan, Spares};
 use smo::SplitPlan;
 use std::fmt::Write;
 
@@ -318,19 +318,19 @@ const CHANGES: &[&[Case]] = &[
             Planned::Split,
             (0, 2, true),
             "pids 0",
-            (End::Full, None, &[]),
+            (End::Full(Kind::Pid), None, &[]),
         ),
         (
             Planned::Split,
             (1, 0, true),
             "pids 0 pid 5 rows 0",
-            (End::Full, Some(5), &[]),
+            (End::Full(Kind::Row), Some(5), &[]),
         ),
         (
             Planned::Split,
             (0, 1, true),
             "rows 0 row 5 rows 0",
-            (End::Full, Some(5), &[5]),
+            (End::Full(Kind::Row), Some(5), &[5]),
         ),
     ],
 ];
@@ -386,7 +386,7 @@ const IN_LARGE: [((u64, u64), u32, Free, Case); 4] = [
             Planned::Install,
             (0, 0, true),
             "rows 3 rows 0 rows 1 rows 2 rows 3",
-            (End::Full, None, &[]),
+            (End::Full(Kind::Row), None, &[]),
         ),
     ),
     // Takes a row of the word at which it begins.

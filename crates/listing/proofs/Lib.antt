@@ -4,3 +4,6 @@ pub mod Listings
 pub mod Making
 pub mod Walking
 pub mod PairLaws
+pub mod Ranges
+pub mod Finding
+pub mod Showing

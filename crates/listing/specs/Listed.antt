@@ -1,7 +1,8 @@
 -- What a listing has.
-use Rattle.std.specs.Prelude.{◌≡◌, ℕ, List, [], ◌∷◌, ◌++◌, map, None}
+use Rattle.std.specs.Prelude.{◌≡◌, ℕ, IsTrue, List, [], ◌∷◌, ◌++◌, map, None, Option, Some}
+use Rattle.std.specs.List.{Contains}
 use Rattle.tree_limits.specs.declared.limits.Limits.{Limits}
-use Rattle.bw_model.specs.Pairs.{IsPairsOf}
+use Rattle.bw_model.specs.Pairs.{ArePairsOf, IsPairsOf}
 use Rattle.base_page.specs.declared.item.Content.{Content}
 use Rattle.base_page.specs.declared.item.Content.TheVariants.{Value, Child}
 use Rattle.base_page.specs.declared.item.Item.{Item}
@@ -10,12 +11,15 @@ use Rattle.base_page.specs.Rules.{IsRuled}
 use Rattle.deltas.specs.declared.record.Record.{Record}
 use Rattle.deltas.specs.Memory.{Memory}
 use Rattle.traces.specs.declared.trace.Entry.{Entry}
-use Rattle.traces.specs.chain.Chains.{IsChainFrom}
+use Rattle.traces.specs.chain.Chains.{IsChainFrom, covers, high_in}
 use Rattle.traces.specs.chain.Fitted.{IsPageChain, Makes}
-use Rattle.traces.specs.chain.SideChain.{LivePage}
+use Rattle.traces.specs.chain.SideChain.{IsSideChainFrom, LivePage}
+use Rattle.traces.specs.discipline.Discipline.{found}
 use Rattle.traces.specs.trace.Trace.{memory_of, turn_of}
+use Rattle.op_machine.specs.theorem.Answered.{IsCursorPage}
 use Rattle.op_machine.specs.theorem.Linearized.{IsLinearized}
 use Rattle.op_machine.specs.theorem.Points.{log_of}
+use Rattle.tree_law.specs.Keys.{Covers, IsUpTo}
 use Rattle.tree_law.specs.Leaves.{HasLeafPages}
 
 -- Whatever the points by which the trace is linearized: the pairs are exactly those that its log has, in the order of keys.
@@ -48,6 +52,42 @@ pub record HasPage (chain : List Record) (pairs : List (List ℕ × List ℕ)) :
 abbrev pub HavePages : List LivePage → List (List ℕ × List ℕ) → Type 0
 HavePages [] pairs = pairs ≡ []
 HavePages (page ∷ pages) pairs = (own rest : List (List ℕ × List ℕ)) × HasPage page.chain own × HavePages pages rest × (pairs ≡ own ++ rest)
+
+-- The page with this PID is one of them: those from it on are its side chain.
+pub record IsAmong (memory : Memory) (pages : List LivePage) (pid : ℕ) : Type 0 where
+  pub front : List LivePage
+  pub rest : List LivePage
+  pub whole : pages ≡ front ++ rest
+  pub next : IsSideChainFrom memory pid rest
+
+-- The page with this PID is one of them, and has the key in its range.
+pub record IsFoundAt (memory : Memory) (pages : List LivePage) (key : List ℕ) (pid : ℕ) : Type 0 where
+  pub front : List LivePage
+  pub page : LivePage
+  pub later : List LivePage
+  pub whole : pages ≡ front ++ page ∷ later
+  pub next : IsSideChainFrom memory pid (page ∷ later)
+  pub has : Covers page.chain key
+
+-- The range ends at or below the key.
+abbrev pub IsPassed : List ℕ → Option (List ℕ) → Type 0
+IsPassed key end = (high : List ℕ) × (end ≡ Some high) × IsUpTo high key
+
+-- The pairs are those from the key on of that one of the pages which has the key, and the page ends there.
+pub record IsPageFrom (pages : List LivePage) (from : List ℕ) (pairs : List (List ℕ × List ℕ)) (next : Option (List ℕ)) : Type 0 where
+  pub page : LivePage
+  pub among : Contains pages page
+  pub covers : IsTrue (covers page.chain from)
+  pub ends : high_in page.chain ≡ next
+  pub are : ArePairsOf (found page.chain) from (high_in page.chain) pairs
+
+-- Whatever the points by which the trace is linearized: a cursor page from the key on would show these pairs, with this key to go on from.
+abbrev pub IsListedPage : Limits → List Entry → List ℕ → List (List ℕ × List ℕ) → Option (List ℕ) → Type 0
+IsListedPage limits entries from pairs next = (linear : IsLinearized limits (map turn_of entries) entries) → IsCursorPage (memory_of limits entries) (log_of entries linear.points) from pairs next
+
+-- what a leaf that stands has from a key on is such a page
+abbrev pub PagesAreShown : Type 0
+PagesAreShown = (limits : Limits) (entries : List Entry) (leaves : HasLeafPages limits (memory_of limits entries)) (from : List ℕ) (pairs : List (List ℕ × List ℕ)) (next : Option (List ℕ)) → IsPageFrom leaves.pages from pairs next → IsListedPage limits entries from pairs next
 
 -- what is listed of the leaves that stand is a listing
 abbrev pub PagesAreListed : Type 0

@@ -7,6 +7,8 @@
 //! way: it reads a memory that stands still.
 #![tactic(auto)]
 
+mod count;
+mod leaf_page;
 mod listed_pages;
 mod log;
 mod page;
@@ -14,7 +16,9 @@ mod pairs;
 mod rows;
 mod table;
 
-pub use listed_pages::pages_are_listed;
+pub use count::count_pairs;
+pub use leaf_page::{LeafPage, page_from};
+pub use listed_pages::{pages_are_listed, pages_are_shown};
 pub use log::logged_pairs;
 pub use page::{page_of, rows_of};
 pub use pairs::add_pairs;

@@ -1,5 +1,5 @@
 -- One step of an operation, from what `next` promises.
-use Rattle.std.proofs.Common.{◌≡◌, ◌≢◌, ◌<◌, ◌^◌, ℕ, Bool, Option, Some, None, is_some, true, false, sym, ap, ◌∙◌, subst, refl, arith}
+use Rattle.std.proofs.Common.{◌≡◌, ◌≢◌, ◌<◌, ℕ, Bool, Option, Some, None, is_some, true, false, sym, ap, ◌∙◌, subst, refl, arith}
 use Rattle.std.specs.Prelude.{IsSome}
 use Rattle.std.proofs.lemmas.Option.{same_Some}
 use Rattle.bw_model.specs.declared.command.Reply.{Reply}
@@ -11,25 +11,28 @@ use Rattle.bw_model.specs.declared.step.Step.TheVariants as step
 use Rattle.deltas.specs.declared.record.Record.{Record}
 use Rattle.traces.specs.discipline.Fitting.{Fits}
 use Rattle.traces.specs.discipline.Knowledge.{Knowledge}
-use Rattle.traces.specs.discipline.Recalled.{Recalled, blank, cause_worth}
+use Rattle.traces.specs.discipline.Recalled.{Recalled, blank}
 use Rattle.op_machine.specs.machine.Hands.{Hand}
 use Rattle.op_machine.specs.machine.Bounded.{IsSpentLast}
 use Rattle.op_machine.specs.machine.Spending.{Spends, steps_left}
 use Rattle.op_machine.specs.machine.InPlace.{IsOpShown, Takes, Wants}
 use Rattle.op_machine.specs.machine.Ops.{Goes, HoldsLimbo, IsAtRestWith, IsOver, IsToldOp, Obeys, Op, Shows, asked_by, wanted_of}
 use Rattle.op_machine.specs.machine.Outcomes.{HasLeft, is_leaving}
-use Rattle.op_machine.specs.machine.Shows.{FitsLast, learn_last, recall_last, wanted_at}
+use Rattle.op_machine.specs.machine.Shows.{FitsLast, ShowsState, learn_last, recall_last, wanted_at}
 use Rattle.op_machine.specs.machine.Tasks.{IsSameTask, Task}
 use Rattle.op_machine.specs.machine.Wants.{Step, Done}
 use Rattle.op_machine.specs.machine.States.{State, Begun, Epoch, Enter, Read, Write, Change, Leave}
 use Rattle.op_machine.specs.machine.UnderWay.{AsksIf, UnderWay, asking, running_at}
 use Rattle.epochs.specs.Limbo.{Limbo}
 use Rattle.installs.specs.Spares.{Spares}
+use Rattle.installs.specs.declared.taking.Kind.{Kind}
+use Rattle.op_machine.specs.machine.Lacks.{TellsLack}
 use Rattle.sweep.specs.Kept.{AreKept}
 use Rattle.sweep.specs.Sweeps.{Sweep}
 use Rattle.op_machine.specs.machine.Actors.{ActsOn, IsActorWith, IsGoing, IsRunning, at_work, command_at, wanted_by}
 use Rattle.op_machine.proofs.Leaving.{leaves_at}
 use Rattle.op_machine.proofs.ActorSpending.{spends_last, spent_last}
+use Rattle.op_machine.proofs.Readers.{of_use}
 
 -- an actor without an operation, and one with an operation
 idle_of : (limits : Limits) (actor : ℕ) (k : Knowledge) (r : Recalled) (hand : Hand) (running : Option UnderWay) → command_at running ≡ None → IsActorWith limits actor k r hand running → IsAtRestWith limits actor hand k
@@ -70,8 +73,8 @@ module _ (k : Knowledge) (had : Hand) (old : Op) (unswept : old.sweep ≡ None) 
 
 -- an operation that wants another step than the leave isn't at its leave
 stays_in : (task : Task) (spares : Spares) (limbo : Limbo) (k : Knowledge) (sweep : Option Sweep) (state : State) → HoldsLimbo task state limbo k sweep → asked_by sweep (wanted_at spares state) ≢ Some step.Leave → is_leaving state ≡ false
-stays_in task spares limbo k None (Leave reply) holds stays = absurd (stays refl)
-stays_in task spares limbo k (Some sweep) (Leave reply) holds stays = let first = holds.first in cc
+stays_in task spares limbo k None (Leave reply lacks) holds stays = absurd (stays refl)
+stays_in task spares limbo k (Some sweep) (Leave reply lacks) holds stays = let first = holds.first in cc
 stays_in task spares limbo k sweep Begun holds stays = refl
 stays_in task spares limbo k sweep Epoch holds stays = refl
 stays_in task spares limbo k sweep (Enter epoch) holds stays = refl
@@ -94,28 +97,36 @@ module _ (limits : Limits) (actor : ℕ) (k : Knowledge) (r : Recalled) (had has
   pub stays_at : old.wanted ≢ step.Leave → is_leaving old.op.state ≡ false
   stays_at stays = stays_in old.op.task had.spares had.limbo k old.op.sweep old.op.state running.goes.shows.limbo (λ e. stays (same_Some old.wanted step.Leave (sym running.goes.wanted ∙ e)))
 
-  pub goes_on : (asked : StepOf Record) → old.wanted ≢ step.Leave → Obeys old.op had a new has (Step asked) → Spends old.op had a new has (Step asked) → IsSameTask old.op.task new.task
-      → ActsOn limits actor k r (at_work had old) old.wanted a None (at_work has (record { op = new; wanted = asked }))
-  goes_on asked other o spends same = record {
+  pub goes_on : (lacks : Option Kind) (asked : StepOf Record) → old.wanted ≢ step.Leave → Obeys old.op had a new has (Step asked) → Spends old.op had a new has (Step asked) → IsSameTask old.op.task new.task
+      → ActsOn limits actor k r (at_work had old lacks) old.wanted a None (at_work has (record { op = new; wanted = asked }) lacks)
+  goes_on lacks asked other o spends same = record {
     allowed = record { may = rw (← running.own_actor) running.goes.may.may; frees = rw (← running.own_limits, ← running.own_actor) running.goes.may.frees; replied = tt; ends = λ e. absurd (other e) };
-    useful = running.goes.may.useful;
+    useful = of_use k r old.op had old.wanted running.goes;
+    halved = running.goes.may.halved;
     shows = record {
       own_limits = same.limits ∙ running.own_limits;
       own_actor = same.actor ∙ running.own_actor;
       goes = subst (λ w. Goes (learn_last k w a) (recall_last r w a) new has asked) running.goes.wanted (o k r running.goes.shows fits_last);
     };
     spends = rw (← running.own_limits) (spent_last old.op.task.limits r (wanted_of old.op had) old.wanted a (steps_left r old.op had) (λ q. steps_left q new has) running.goes.wanted (spends k r running.goes.shows fits_last));
+    lacks = refl;
   }
 
-  pub is_done : (reply : Reply) → Obeys old.op had a new has (Done reply) → ActsOn limits actor k r (at_work had old) old.wanted a (Some reply) (record { hand = has; running = None })
-  is_done reply o = record {
+  -- what an operation that leaves tells of what ran out
+  tells_lack : (reply : Reply) (lacks : Option Kind) → old.op.state ≡ Leave reply lacks → TellsLack limits k reply lacks
+  tells_lack reply lacks is = let stands : ShowsState old.op.task had.spares k r (Leave reply lacks) = subst (ShowsState old.op.task had.spares k r) is running.goes.shows.stands in subst (λ l. TellsLack l k reply lacks) running.own_limits stands.2
+
+  pub is_done : (before : Option Kind) (reply : Reply) (lacks : Option Kind) → old.op.state ≡ Leave reply lacks → Obeys old.op had a new has (Done reply) → ActsOn limits actor k r (at_work had old before) old.wanted a (Some reply) (record { hand = has; running = None; lacks = lacks })
+  is_done before reply lacks is o = record {
     allowed = record { may = rw (← running.own_actor) running.goes.may.may; frees = rw (← running.own_limits, ← running.own_actor) running.goes.may.frees; replied = (last, rw (← running.own_limits, ← running.own_actor) ends.may); ends = λ e. refl };
-    useful = running.goes.may.useful;
+    useful = of_use k r old.op had old.wanted running.goes;
+    halved = running.goes.may.halved;
     shows = record {
       spares = rw (← running.own_limits) (rw last ends.rests);
       limbo = rw (← running.own_limits, ← running.own_actor) (subst (λ w. AreKept old.op.task.limits old.op.task.actor has.limbo (learn_last k w a).limbo) running.goes.wanted over.limbo);
     };
     spends = rw (← running.own_limits) (spends_last r had has old a ends.is_last);
+    lacks = tells_lack reply lacks is;
   }
     where
       over : IsOver old.op.task k (wanted_of old.op had) a has reply
@@ -166,7 +177,7 @@ pub shown_at : (limits : Limits) (actor : ℕ) (k : Knowledge) (r : Recalled) (o
 shown_at limits actor k r op hand asks h = shown_with limits actor k r op hand (wanted_of op hand) refl asks h
 
 -- the answer that an operation takes in its place, and what it goes on to
-module _ (limits : Limits) (actor : ℕ) (k : Knowledge) (r : Recalled) (on : Bool) (op : Op) (had : Hand) (a : Answer Record) (going : IsGoing limits actor k r (record { hand = had; running = running_at on op had }) a) where
+module _ (limits : Limits) (actor : ℕ) (k : Knowledge) (r : Recalled) (on : Bool) (op : Op) (had : Hand) (before : Option Kind) (a : Answer Record) (going : IsGoing limits actor k r (record { hand = had; running = running_at on op had; lacks = before }) a) where
   found : (on ≡ true) × (going.running.op ≡ op) × (wanted_of op had ≡ Some going.running.wanted)
   found = running_is on op had going.running going.is
 
@@ -184,18 +195,18 @@ module _ (limits : Limits) (actor : ℕ) (k : Knowledge) (r : Recalled) (on : Bo
     shown_then = (learn_last told_here.k (wanted_of op had) a, recall_last told_here.r (wanted_of op had) a, takes.shows told_here.k told_here.r told_here.shows told_here.fits)
 
     pub goes_here : (asked : StepOf Record) → wanted_by (running_at on op had) ≢ Some step.Leave → Wants new has asked
-        → ActsOn limits actor k r (record { hand = had; running = running_at on op had }) going.running.wanted a None (record { hand = has; running = running_at on new has })
+        → ActsOn limits actor k r (record { hand = had; running = running_at on op had; lacks = before }) going.running.wanted a None (record { hand = has; running = running_at on new has; lacks = before })
     goes_here asked stays wants =
         let from : Takes going.running.op had a new has = subst (λ o. Takes o had a new has) (sym found.1) takes in
-        let went : ActsOn limits actor k r (at_work had going.running) going.running.wanted a None (at_work has (record { op = new; wanted = asked })) =
-        goes_on limits actor k r had has going.running new a going.shows going.fits asked (λ e. stays (ap wanted_by going.is ∙ ap Some e)) (from.obeys asked wants) (from.spends asked) from.same in
+        let went : ActsOn limits actor k r (at_work had going.running before) going.running.wanted a None (at_work has (record { op = new; wanted = asked }) before) =
+        goes_on limits actor k r had has going.running new a going.shows going.fits before asked (λ e. stays (ap wanted_by going.is ∙ ap Some e)) (from.obeys asked wants) (from.spends asked) from.same in
         let is : running_at on new has ≡ Some (record { op = new; wanted = asked }) = rw found.0 (is_asking new has asked (wants shown_then.0 shown_then.1 shown_then.2).wanted) in
-        subst (λ (o : Option UnderWay). ActsOn limits actor k r (record { hand = had; running = o }) going.running.wanted a None (record { hand = has; running = running_at on new has })) (sym going.is)
-        (subst (λ (o : Option UnderWay). ActsOn limits actor k r (at_work had going.running) going.running.wanted a None (record { hand = has; running = o })) (sym is) went)
+        subst (λ (o : Option UnderWay). ActsOn limits actor k r (record { hand = had; running = o; lacks = before }) going.running.wanted a None (record { hand = has; running = running_at on new has; lacks = before })) (sym going.is)
+        (subst (λ (o : Option UnderWay). ActsOn limits actor k r (at_work had going.running before) going.running.wanted a None (record { hand = has; running = o; lacks = before })) (sym is) went)
 
   -- it leaves
-  pub done_here : (reply : Reply) → ((hand : Hand) (told : Answer Record) → Obeys op hand told op hand (Done reply)) → ActsOn limits actor k r (record { hand = had; running = running_at on op had }) going.running.wanted a (Some reply) (record { hand = had; running = None })
-  done_here reply obeys =
+  pub done_here : (reply : Reply) (lacks : Option Kind) → op.state ≡ Leave reply lacks → ((hand : Hand) (told : Answer Record) → Obeys op hand told op hand (Done reply)) → ActsOn limits actor k r (record { hand = had; running = running_at on op had; lacks = before }) going.running.wanted a (Some reply) (record { hand = had; running = None; lacks = lacks })
+  done_here reply lacks is obeys =
       let from : Obeys going.running.op had a op had (Done reply) = subst (λ o. Obeys o had a op had (Done reply)) (sym found.1) (obeys had a) in
-      subst (λ (o : Option UnderWay). ActsOn limits actor k r (record { hand = had; running = o }) going.running.wanted a (Some reply) (record { hand = had; running = None })) (sym going.is)
-      (is_done limits actor k r had had going.running op a going.shows going.fits reply from)
+      subst (λ (o : Option UnderWay). ActsOn limits actor k r (record { hand = had; running = o; lacks = before }) going.running.wanted a (Some reply) (record { hand = had; running = None; lacks = lacks })) (sym going.is)
+      (is_done limits actor k r had had going.running op a going.shows going.fits before reply lacks (ap (λ (o : Op). o.state) found.1 ∙ is) from)

@@ -27,7 +27,7 @@ spent_last limits r last asked a left rest e spent = subst (λ w. IsSpentLast li
 
 -- a state that has asked for Leave has a step left
 leaves : (limits : Limits) (r : Recalled) (spares : Spares) (state : State) → wanted_at spares state ≡ Some step.Leave → 0 < left_at limits r spares state
-leaves limits r spares (Leave reply) e = omega arith
+leaves limits r spares (Leave reply lacks) e = omega arith
 leaves limits r spares (Read round) e = omega arith
 leaves limits r spares (Write round) e = omega arith
 leaves limits r spares (Change now then) e = omega arith

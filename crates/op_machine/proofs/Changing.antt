@@ -18,10 +18,12 @@ use Rattle.installs.specs.Bounded as bound
 use Rattle.installs.specs.Changes as change
 use Rattle.installs.specs.Spares.{HaveRoom, Spares}
 use Rattle.installs.specs.declared.change.End.{End}
+use Rattle.installs.specs.declared.taking.Kind.{Kind}
 use Rattle.installs.specs.declared.change.End.TheVariants.{Won, Lost, Full}
 use Rattle.installs.specs.declared.plan.Plan.{Plan}
 use Rattle.installs.specs.declared.plan.Plan.TheVariants.{Install, Split, Root, Unlink}
 use Rattle.op_machine.specs.machine.Bounded.{left_for, one_round}
+use Rattle.op_machine.proofs.Replying.{not_full}
 use Rattle.op_machine.proofs.Worth.{enough}
 use Rattle.op_machine.specs.machine.Brings.{Brings, IsReadPlan, IsUpdateOf, IsUsefulOver, IsUsefulPlan}
 use Rattle.op_machine.specs.machine.Hands.{AreRowsOf, IsTakenBy}
@@ -79,11 +81,12 @@ brings_still k now command plan (Errand key) same b = b
 
 useful_over : (k now : Knowledge) (head : ℕ) (content : Record) → now.read ≡ k.read → IsUsefulOver k head content → IsUsefulOver now head content
 useful_over k now head (kind.Base page) same h = λ chain read. h chain (rw same at read)
+useful_over k now head (kind.Split split) same h = h
 useful_over k now head content same h = tt
 
 useful_still : (k now : Knowledge) (plan : Plan) → now.read ≡ k.read → IsUsefulPlan k plan → IsUsefulPlan now plan
 useful_still k now (Install pid head content) same h = useful_over k now head content same h
-useful_still k now (Split pid plan) same h = tt
+useful_still k now (Split pid plan) same h = λ chain read. h chain (rw same at read)
 useful_still k now (Root left root) same h = tt
 useful_still k now (Unlink pid head unterm removal) same h = tt
 
@@ -100,11 +103,11 @@ lost_links (Split pid plan) linked = refl
 lost_links (Root left root) linked = refl
 lost_links (Unlink pid head unterm removal) linked = refl
 
-full_links : (plan : Plan) (linked : Option (Option ℕ)) → change.linked_after plan Full linked ≡ linked
-full_links (Install pid head content) linked = refl
-full_links (Split pid plan) linked = refl
-full_links (Root left root) linked = refl
-full_links (Unlink pid head unterm removal) linked = refl
+full_links : (kind : Kind) (plan : Plan) (linked : Option (Option ℕ)) → change.linked_after plan (Full kind) linked ≡ linked
+full_links kind (Install pid head content) linked = refl
+full_links kind (Split pid plan) linked = refl
+full_links kind (Root left root) linked = refl
+full_links kind (Unlink pid head unterm removal) linked = refl
 
 -- a change that takes something out of the tree links no update
 taken_links : (k : Knowledge) (unlinked : Unlinked) (plan : Plan) (linked : Option (Option ℕ)) → IsTakenBy k plan unlinked → change.linked_after plan Won linked ≡ linked
@@ -186,17 +189,19 @@ module _ (task : Task) (had has : Spares) (k : Knowledge) (r : Recalled) (old ne
   change_ended Won room over = by then refl
     where
       by : (t : Then) → then ≡ t → FacesChanged task has now Won t
-      by (Reply answered) is = (done Won room over, answers room over answered is)
+      by (Reply answered) is =
+          let b : IsUpdateOf k task.command old.plan answered = subst (λ t. Brings k task.command old.plan t) is h.brings in
+          (done Won room over, answers room over answered is, not_full task.command _ answered b.replies)
       by Round is = (seeks Won room over (ap (change.linked_after old.plan Won) h.asked.unlinked ∙ (subst (λ t. Brings k task.command old.plan t) is h.brings).2), h.writer)
       by (Limbo unlinked) is = (seeks Won room over (taken_links k unlinked old.plan k.asked.linked (subst (λ t. Brings k task.command old.plan t) is h.brings) ∙ h.asked.unlinked), h.writer)
       by (Errand key) is =
           let b = subst (λ t. Brings k task.command old.plan t) is h.brings in
           (seeks Won room over (ap (λ plan. change.linked_after plan Won k.asked.linked) b.2 ∙ h.asked.unlinked), h.writer)
   change_ended Lost room over = (seeks Lost room over (lost_links old.plan k.asked.linked ∙ h.asked.unlinked), h.writer)
-  change_ended Full room over = (
-    seeks Full room over (full_links old.plan k.asked.linked ∙ h.asked.unlinked),
+  change_ended (Full kind) room over = (
+    seeks (Full kind) room over (full_links kind old.plan k.asked.linked ∙ h.asked.unlinked),
     h.writer,
-    rw (← h.limits) (elim over.decided [ inl pids ↦ inl pids.1 | inr rows ↦ inr rows.1 ]),
+    rw (← h.limits) over.decided.1,
   )
 
   won_left : (t : Then) (left : ℕ) → left_for task.limits (outcome.Changed Won t) < left + cause_worth task.limits
@@ -221,4 +226,4 @@ module _ (task : Task) (had has : Spares) (k : Knowledge) (r : Recalled) (old ne
     | inl paid ↦ inr (paid, (let w = enough task.limits in omega (arith, w)))
     | inr more ↦ inl (omega (arith, more))
   ]
-  ended_left Full some = inl (omega (arith, some))
+  ended_left (Full kind) some = inl (omega (arith, some))

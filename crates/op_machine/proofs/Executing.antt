@@ -1,5 +1,5 @@
 -- A command at the leaf of its key.
-use Rattle.std.proofs.Common.{◌≡◌, inl, inr, ℕ, List, [], Option, Some, None, is_some, true, false, subst}
+use Rattle.std.proofs.Common.{◌≡◌, inl, inr, [], Some, None, is_some, false, subst}
 use Rattle.std.specs.Prelude.{IsTrue}
 use Rattle.bw_model.specs.Replies.{command_key, reply_of, update_of}
 use Rattle.bw_model.specs.declared.command.Reply.{Reply}
@@ -15,6 +15,7 @@ use Rattle.op_machine.specs.machine.Shows.{ShowsState}
 use Rattle.op_machine.specs.machine.Tasks.{Task}
 use Rattle.op_machine.specs.machine.States as at
 use Rattle.op_machine.proofs.Commands.{none_due}
+use Rattle.op_machine.proofs.Replying.{not_full}
 
 module _ (task : Task) (spares : Spares) (k : Knowledge) (r : Recalled) (leaf : Version) (h : IsAtLeaf task spares k r leaf) (last : task.errands ≡ []) where
   -- the leaf has the key
@@ -23,7 +24,7 @@ module _ (task : Task) (spares : Spares) (k : Knowledge) (r : Recalled) (leaf : 
 
   -- a command that changes nothing there answers
   pub answers_there : (reply : Reply) → reply_of task.command (found leaf.chain (command_key task.command)) ≡ Some reply → is_some (update_of 0 task.command (found leaf.chain (command_key task.command))) ≡ false
-      → ShowsState task spares k r (at.Leave reply)
+      → ShowsState task spares k r (at.Leave reply None)
   answers_there reply replies unchanged = (
     record { inside = h.seeks.inside; spare = h.seeks.spare; going = h.seeks.asked.going },
     record {
@@ -39,4 +40,5 @@ module _ (task : Task) (spares : Spares) (k : Knowledge) (r : Recalled) (leaf : 
         basis = inr (h.seeks.asked.unlinked, inl ((leaf.pid, h.page.in_hand.seen.head), h.page.alive), none_due task.actor 0 task.command (found leaf.chain (command_key task.command)) unchanged);
       });
     },
+    not_full task.command (found leaf.chain (command_key task.command)) reply replies,
   )

@@ -23,6 +23,7 @@ use Rattle.descent.proofs.Reading as reading
 use Rattle.descent.proofs.Writing as writing
 use Rattle.installs.specs.Changes.{Change as ChangeOf}
 use Rattle.installs.specs.Spares.{Spares}
+use Rattle.installs.specs.declared.taking.Kind.{Kind}
 use Rattle.op_machine.specs.machine.Bounded.{left_at, left_for, left_round, one_round}
 use Rattle.op_machine.specs.machine.Outcomes.{Faces, Outcome, is_changing, is_leaving, is_reading, is_writing, read_out, written_out}
 use Rattle.op_machine.specs.machine.Places.{HaveLimits, OpPlaces, ReadsOn, WritesOn, state_at, state_of}
@@ -40,8 +41,8 @@ use Rattle.op_machine.proofs.Rounds.{read_comes, read_leaves, write_comes, write
 use Rattle.sweep.specs.Sweeps.{Sweep}
 
 -- by the state that the places are, the operation stands there
-module _ (reader : read.ReadRound) (writer : write.WriteRound) (change : ChangeOf) (then : Then) (reply : Reply) where
-  pub stands_reading : (stand : Stand) → is_reading (state_at stand reader writer change then reply) ≡ true → stand ≡ Read
+module _ (reader : read.ReadRound) (writer : write.WriteRound) (change : ChangeOf) (then : Then) (reply : Reply) (lacks : Option Kind) where
+  pub stands_reading : (stand : Stand) → is_reading (state_at stand reader writer change then reply lacks) ≡ true → stand ≡ Read
   stands_reading Begun is = cc
   stands_reading Epoch is = cc
   stands_reading (Enter epoch) is = cc
@@ -50,7 +51,7 @@ module _ (reader : read.ReadRound) (writer : write.WriteRound) (change : ChangeO
   stands_reading Change is = cc
   stands_reading Leave is = cc
 
-  pub stands_writing : (stand : Stand) → is_writing (state_at stand reader writer change then reply) ≡ true → stand ≡ Write
+  pub stands_writing : (stand : Stand) → is_writing (state_at stand reader writer change then reply lacks) ≡ true → stand ≡ Write
   stands_writing Begun is = cc
   stands_writing Epoch is = cc
   stands_writing (Enter epoch) is = cc
@@ -59,7 +60,7 @@ module _ (reader : read.ReadRound) (writer : write.WriteRound) (change : ChangeO
   stands_writing Change is = cc
   stands_writing Leave is = cc
 
-  pub stands_changing : (stand : Stand) → is_changing (state_at stand reader writer change then reply) ≡ true → stand ≡ Change
+  pub stands_changing : (stand : Stand) → is_changing (state_at stand reader writer change then reply lacks) ≡ true → stand ≡ Change
   stands_changing Begun is = cc
   stands_changing Epoch is = cc
   stands_changing (Enter epoch) is = cc
@@ -68,7 +69,7 @@ module _ (reader : read.ReadRound) (writer : write.WriteRound) (change : ChangeO
   stands_changing Change is = refl
   stands_changing Leave is = cc
 
-  pub stands_leaving : (stand : Stand) → is_leaving (state_at stand reader writer change then reply) ≡ true → stand ≡ Leave
+  pub stands_leaving : (stand : Stand) → is_leaving (state_at stand reader writer change then reply lacks) ≡ true → stand ≡ Leave
   stands_leaving Begun is = cc
   stands_leaving Epoch is = cc
   stands_leaving (Enter epoch) is = cc

@@ -57,5 +57,5 @@ module _ (task : Task) (spares : Spares) (k : Knowledge) (r : Recalled) (limbo :
   work_keeps (Enter epoch) stands at_rest fits = kept
   work_keeps (Read round) stands at_rest fits = still _ (read_limbo k _ told (reader_reads round k r stands.shows))
   work_keeps (Write round) stands at_rest fits = still _ (read_limbo k _ told (writer_reads round k r stands.shows))
-  work_keeps (Leave reply) stands at_rest fits = kept
+  work_keeps (Leave reply lacks) stands at_rest fits = kept
   work_keeps (Change now then) stands at_rest fits = cc

@@ -77,7 +77,7 @@ elsewhere spares None (Enter epoch) on e = cc
 elsewhere spares None (Read round) on e = in_round round.state (same_Some (descent.wanted_at round.state) step.Leave e)
 elsewhere spares None (Write round) on e = in_round round.state (same_Some (descent.wanted_at round.state) step.Leave e)
 elsewhere spares None (Change now then) on e = in_change now.plan spares now.state (same_Some (change.wanted_at now.plan spares now.state) step.Leave e)
-elsewhere spares None (Leave reply) on e = cc
+elsewhere spares None (Leave reply lacks) on e = cc
 
 pub leaves_at : (spares : Spares) (swept : Option Sweep) (state : State) → asked_by swept (wanted_at spares state) ≡ Some step.Leave → is_leaving state ≡ true
 leaves_at spares swept state e = by_test (is_leaving state) refl
@@ -88,8 +88,8 @@ leaves_at spares swept state e = by_test (is_leaving state) refl
 
 -- one that is at its leave wants it
 at_leave : (task : Task) (spares : Spares) (limbo : Limbo) (k : Knowledge) (swept : Option Sweep) (state : State) → HoldsLimbo task state limbo k swept → is_leaving state ≡ true → asked_by swept (wanted_at spares state) ≡ Some step.Leave
-at_leave task spares limbo k None (Leave reply) holds on = refl
-at_leave task spares limbo k (Some swept) (Leave reply) holds on = let first = holds.first in cc
+at_leave task spares limbo k None (Leave reply lacks) holds on = refl
+at_leave task spares limbo k (Some swept) (Leave reply lacks) holds on = let first = holds.first in cc
 at_leave task spares limbo k swept Begun holds on = cc
 at_leave task spares limbo k swept Epoch holds on = cc
 at_leave task spares limbo k swept (Enter epoch) holds on = cc

@@ -12,6 +12,7 @@ pub mod Plans
 pub mod Unlinking
 pub mod Tending
 pub mod Commands
+mod Halves
 pub mod HoldingBack
 pub mod Tidying
 pub mod Going
@@ -23,8 +24,10 @@ pub mod Nexts
 pub mod runs
 pub mod Takes
 pub mod InPlaces
+pub mod Replying
 pub mod InPlaceChanges
 pub mod Executing
 pub mod RowsRead
+pub mod Readers
 pub mod ActorSpending
 pub mod ActorGoing

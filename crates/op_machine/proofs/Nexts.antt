@@ -29,7 +29,7 @@ nothing_left limits (Enter epoch) e = refl
 nothing_left limits (Read round) e = refl
 nothing_left limits (Write round) e = refl
 nothing_left limits (Change now then) e = refl
-nothing_left limits (Leave reply) e = refl
+nothing_left limits (Leave reply lacks) e = refl
 
 -- An operation that has begun has no sweep, asks for what its work asks for, and goes ahead as its work does.
 module _ (old : Op) (had : Hand) (told : Answer Record) (begun : has_begun old.state ≡ true) where

@@ -49,7 +49,7 @@ module _ (limits : Limits) (k : Knowledge) (row : Record) where
   still spares (Read round) fits = refl
   still spares (Write round) fits = refl
   still spares (Change now then) fits = absurd (in_change now.plan spares now.state fits)
-  still spares (Leave reply) fits = refl
+  still spares (Leave reply lacks) fits = refl
 
   -- and no sweep
   in_reuse : (given : Reuse) → Fits limits k (sweep.step_of given) (Content row) → ⊥
@@ -70,4 +70,4 @@ module _ (limits : Limits) (k : Knowledge) (row : Record) where
   begun spares swept (Read round) fits = refl
   begun spares swept (Write round) fits = refl
   begun spares swept (Change now then) fits = refl
-  begun spares swept (Leave reply) fits = refl
+  begun spares swept (Leave reply lacks) fits = refl

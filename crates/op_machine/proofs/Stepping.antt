@@ -1,12 +1,16 @@
 -- Which steps a change's actor may take.
-use Rattle.std.proofs.Common.{◌≡◌, ◌<◌, ℕ, zero, suc, length, sym, ◌∙◌}
+use Rattle.std.proofs.Common.{◌≡◌, ◌<◌, ℕ, zero, suc, List, length, refl, sym, ap, subst, ◌∙◌}
 use Rattle.tree_limits.specs.declared.limits.Limits.{Limits}
 use Rattle.bw_model.specs.declared.step.Step.TheVariants.{Exchange}
 use Rattle.base_page.specs.Pages.{Page}
 use Rattle.deltas.specs.declared.record.Record.{Record}
 use Rattle.deltas.specs.declared.record.Record.TheVariants as kind
 use Rattle.traces.specs.discipline.Discipline.{HasRead, May, MayFree}
-use Rattle.traces.specs.discipline.Knowledge.{Knowledge, Written}
+use Rattle.traces.specs.chain.Chains.{IsChainFrom}
+use Rattle.traces.specs.discipline.Knowledge.{Knowledge, Written, Ready as Set}
+use Rattle.deltas.specs.declared.record.Split.{Split as SplitOf}
+use Rattle.smo.specs.declared.split.SplitPlan.{SplitPlan}
+use Rattle.smo.specs.Splits.{split_to}
 use Rattle.traces.specs.discipline.Useful.{IsUseful}
 use Rattle.descent.specs.Visits.{ReadsWithin}
 use Rattle.installs.specs.Changes as change
@@ -23,6 +27,7 @@ use Rattle.rounds.specs.Descents.{asked_step}
 use Rattle.rounds.specs.declared.asked.Asked.{Asked}
 use Rattle.rounds.specs.declared.asked.Asked.TheVariants.{Slot as SlotOf, Row as RowOf}
 use Rattle.op_machine.specs.machine.Brings.{IsUsefulOver, IsUsefulPlan}
+use Rattle.op_machine.specs.theorem.Halves.{AreHalves, IsHalved}
 use Rattle.op_machine.specs.machine.Shows.{MayStep}
 use Rattle.op_machine.specs.machine.Tasks.{Task}
 
@@ -81,7 +86,59 @@ usefully k (Unlink pid head unterm removal) spares Link useful shows = exchanges
 usefully k plan spares Undo useful shows = empties k (pid_of spares) (change.base_row plan spares)
 usefully k plan spares Clear useful shows = empties k (change.cleared_page plan) (change.cleared_row plan)
 
+-- a split is linked where it leaves items enough on both sides
+no_split : (k : Knowledge) (slot old new : ℕ) → ((split : SplitOf) → k.own.rows new ≡ Written (kind.Split split) → ⊥) → IsHalved k (Exchange slot old new)
+no_split k zero old new never = tt
+no_split k (suc slot) zero new never = tt
+no_split k (suc slot) (suc old) zero never = tt
+no_split k (suc slot) (suc old) (suc new) never = λ basis split row base is ready written. absurd (never split is)
+
+halves : (k : Knowledge) (slot old right new base_row : ℕ) (plan : SplitPlan) → plan.next ≡ old → ((chain : List Record) → IsChainFrom k.read.seen plan.next chain → AreHalves chain plan.upper.items)
+    → k.own.rows new ≡ Written (kind.Split (split_to plan right)) → k.own.pages right ≡ Set base_row → k.own.rows base_row ≡ Written (kind.Base plan.upper) → IsHalved k (Exchange slot old new)
+halves k zero old right new base_row plan over useful placed stands based = tt
+halves k (suc slot) zero right new base_row plan over useful placed stands based = tt
+halves k (suc slot) (suc old) right zero base_row plan over useful placed stands based = tt
+halves k (suc slot) (suc old) right (suc new) base_row plan over useful placed stands based = λ basis split row base is ready written.
+    let e : Written (kind.Split (split_to plan right)) ≡ Written (kind.Split split) = sym placed ∙ is in
+    let page : right ≡ split.page = cc in
+    let at : Set base_row ≡ Set row = sym stands ∙ ap k.own.pages page ∙ ready in
+    let row_is : base_row ≡ row = cc in
+    let w : Written (kind.Base plan.upper) ≡ Written (kind.Base base) = sym based ∙ ap k.own.rows row_is ∙ written in
+    let same : plan.upper ≡ base = cc in
+    subst (λ (b : Page). AreHalves basis.chain b.items) same (useful basis.chain (rw over basis.read))
+
+never_over : (k : Knowledge) (head row : ℕ) (content : Record) → IsUsefulOver k head content → k.own.rows row ≡ Written content → (split : SplitOf) → k.own.rows row ≡ Written (kind.Split split) → ⊥
+never_over k head row (kind.Split other) useful placed split is = useful
+never_over k head row content useful placed split is = let e = sym placed ∙ is in cc
+
+halved_ready : (k : Knowledge) (slot new : ℕ) → IsHalved k (Exchange slot 0 new)
+halved_ready k zero new = tt
+halved_ready k (suc slot) new = tt
+
+halved_empty : (k : Knowledge) (slot old : ℕ) → IsHalved k (Exchange slot old 0)
+halved_empty k zero old = tt
+halved_empty k (suc slot) zero = tt
+halved_empty k (suc slot) (suc old) = tt
+
+pub halved : (k : Knowledge) (plan : Plan) (spares : Spares) (state : State) → IsUsefulPlan k plan → change.ShowsState plan spares k state → IsHalved k (change.wanted_at plan spares state)
+halved k plan spares (Taking taking) useful shows = of_taking taking
+  where
+    of_taking : (t : taken.Taking) → IsHalved k (wanted_number t)
+    of_taking (Bits Pid word whole) = tt
+    of_taking (Bits Row word whole) = tt
+    of_taking (Take Pid number whole) = tt
+    of_taking (Take Row number whole) = tt
+halved k plan spares Base useful shows = tt
+halved k plan spares Ready useful shows = halved_ready k (pid_of spares) (change.base_row plan spares)
+halved k plan spares Place useful shows = tt
+halved k (Install pid head content) spares Link useful shows = no_split k pid head (last_row spares) (never_over k head (last_row spares) content useful shows.1)
+halved k (Split pid plan) spares Link useful shows = halves k pid plan.next (pid_of spares) (last_row spares) (change.base_row (Split pid plan) spares) plan refl useful shows.1 shows.0.0 shows.0.1
+halved k (Root left root) spares Link useful shows = tt
+halved k (Unlink pid head unterm removal) spares Link useful shows = no_split k pid head (last_row spares) (λ split is. let e = sym shows.1 ∙ is in cc)
+halved k plan spares Undo useful shows = halved_empty k (pid_of spares) (change.base_row plan spares)
+halved k plan spares Clear useful shows = halved_empty k (change.cleared_page plan) (change.cleared_row plan)
+
 -- a read frees nothing
 pub steps_reading : (task : Task) (k : Knowledge) (asked : Asked) → ReadsWithin task.limits (asked_step asked) → May task.actor k (asked_step asked) → MayStep task k (asked_step asked)
-steps_reading task k (SlotOf pid) within may = record { within = within; may = may; frees = tt; useful = tt }
-steps_reading task k (RowOf row) within may = record { within = within; may = may; frees = tt; useful = tt }
+steps_reading task k (SlotOf pid) within may = record { within = within; may = may; frees = tt; useful = tt; halved = tt }
+steps_reading task k (RowOf row) within may = record { within = within; may = may; frees = tt; useful = tt; halved = tt }

@@ -1,6 +1,7 @@
 -- What the sweep with which an operation begins leaves as it was, and what it keeps.
-use Rattle.std.proofs.Common.{◌≡◌, Option, Some, None, refl, sym, subst, ◌∙◌}
-use Rattle.std.specs.Prelude.{IfSome, MatchOption}
+use Rattle.std.proofs.Common.{◌≡◌, Option, Some, None, refl, sym, subst, ◌∙◌, true}
+use Rattle.std.specs.Prelude.{IfSome, IsSome, MatchOption}
+use Rattle.bw_model.specs.Replies.{is_writer}
 use Rattle.bw_model.specs.declared.step.Answer.{Answer}
 use Rattle.bw_model.specs.declared.step.Step.{Step}
 use Rattle.deltas.specs.declared.record.Record.{Record}
@@ -9,6 +10,7 @@ use Rattle.traces.specs.discipline.Fitting.{Fits}
 use Rattle.traces.specs.discipline.Knowledge.{Knowledge, Limbos, learn}
 use Rattle.traces.specs.discipline.Recalled.{Recalled, recall}
 use Rattle.traces.specs.discipline.Useful.{IsUseful}
+use Rattle.op_machine.specs.theorem.Halves.{IsHalved}
 use Rattle.traces.specs.trace.Within.{IsWithin}
 use Rattle.epochs.specs.Limbo.{Limbo}
 use Rattle.installs.specs.Spares.{Spares}
@@ -33,11 +35,11 @@ module _ (task : Task) (spares : Spares) where
       }
 
   abbrev IsSweepOf : Limbo → Sweep → Type 0
-  IsSweepOf limbo next = IsSoundSweep next limbo × (next.limits ≡ task.limits) × (next.actor ≡ task.actor)
+  IsSweepOf limbo next = IsSoundSweep next limbo × (next.limits ≡ task.limits) × (next.actor ≡ task.actor) × (is_writer task.command ≡ true)
 
   holds : (limbo : Limbo) (k : Knowledge) (next : Option Sweep) → MatchOption next (IsKeptOutside task.limits task.actor limbo k) (λ sweep. ShowsSweep sweep limbo k) → IfSome next (IsSweepOf limbo) → HoldsLimbo task Begun limbo k next
   holds limbo k None rests of = rests.kept
-  holds limbo k (Some sweep) shows of = record { first = refl; limits = of.1; actor = of.2; sound = of.0; shows = shows }
+  holds limbo k (Some sweep) shows of = record { first = refl; writer = of.3; limits = of.1; actor = of.2; sound = of.0; shows = shows }
 
   -- an operation begins with this sweep, or without one
   pub begins : (limbo : Limbo) (k : Knowledge) (r : Recalled) (state : State) (next : Option Sweep) → state ≡ Begun → ShowsState task spares k r state → MatchOption next (IsKeptOutside task.limits task.actor limbo k) (λ sweep. ShowsSweep sweep limbo k) → IfSome next (IsSweepOf limbo)
@@ -46,15 +48,15 @@ module _ (task : Task) (spares : Spares) where
 
   pub begins_from : (had limbo : Limbo) (k : Knowledge) (r : Recalled) (state : State) (old next : Option Sweep) (told : Answer Record) → old ≡ None → state ≡ Begun → Shows (record { task = task; sweep = old; state = state }) (with_limbo spares had) k r
       → ((k : Knowledge) → IsKeptOutside task.limits task.actor had k → MatchOption next (IsKeptOutside task.limits task.actor limbo k) (λ sweep. ShowsSweep sweep limbo k)) → IfSome next (λ sweep. IsSoundSweep sweep limbo) → IfSome next (λ sweep. (sweep.limits ≡ task.limits) × (sweep.actor ≡ task.actor))
-      → Shows (record { task = task; sweep = next; state = state }) (with_limbo spares limbo) (learn_last k (asked_by old None) told) (recall_last r (asked_by old None) told)
-  begins_from had limbo k r state old next told none first shows starts sound same =
+      → (IsSome next → is_writer task.command ≡ true) → Shows (record { task = task; sweep = next; state = state }) (with_limbo spares limbo) (learn_last k (asked_by old None) told) (recall_last r (asked_by old None) told)
+  begins_from had limbo k r state old next told none first shows starts sound same writer =
       let h = rw none at shows in
       let waits : Waits task spares k = rw first at h.stands in
-      rw none (begins limbo k r state next first h.stands (starts k (record { outside = waits.rests.outside; kept = h.limbo })) (both next sound same))
+      rw none (begins limbo k r state next first h.stands (starts k (record { outside = waits.rests.outside; kept = h.limbo })) (both next sound same writer))
     where
-      both : (o : Option Sweep) → IfSome o (λ sweep. IsSoundSweep sweep limbo) → IfSome o (λ sweep. (sweep.limits ≡ task.limits) × (sweep.actor ≡ task.actor)) → IfSome o (IsSweepOf limbo)
-      both None sound same = tt
-      both (Some sweep) sound same = (sound, same.0, same.1)
+      both : (o : Option Sweep) → IfSome o (λ sweep. IsSoundSweep sweep limbo) → IfSome o (λ sweep. (sweep.limits ≡ task.limits) × (sweep.actor ≡ task.actor)) → (IsSome o → is_writer task.command ≡ true) → IfSome o (IsSweepOf limbo)
+      both None sound same writer = tt
+      both (Some sweep) sound same writer = (sound, same.0, same.1, writer refl)
 
   -- its sweep goes on so, or is over
   module _ (had limbo : Limbo) (k : Knowledge) (r : Recalled) (state : State) (sweep : Sweep) (next : Option Sweep) (first : state ≡ Begun) (told : Answer Record)
@@ -83,12 +85,12 @@ module _ (task : Task) (spares : Spares) where
     where
       both : (o : Option Sweep) → IfSome o (λ sweep. IsSoundSweep sweep limbo) → IfSome o (λ next. (next.limits ≡ sweep.limits) × (next.actor ≡ sweep.actor)) → IfSome o (IsSweepOf limbo)
       both None sound same = tt
-      both (Some other) sound same = let h = rw some at shows in (sound, same.0 ∙ h.limbo.limits, same.1 ∙ h.limbo.actor)
+      both (Some other) sound same = let h = rw some at shows in (sound, same.0 ∙ h.limbo.limits, same.1 ∙ h.limbo.actor, h.limbo.writer)
 
 -- the step that the sweep wants may be taken
 pub sweeps : (op : Op) (hand : Hand) (k : Knowledge) (r : Recalled) (sweep : Sweep) (asked : Step Record) → op.sweep ≡ Some sweep → Shows op hand k r → asked ≡ wanted sweep → IsWithin sweep.limits asked
-    → ((limbo : Limbo) (k : Knowledge) → ShowsSweep sweep limbo k → May sweep.actor k asked) → ((limbo : Limbo) (k : Knowledge) → ShowsSweep sweep limbo k → MayFree sweep.limits sweep.actor k asked) → IsUseful k asked → Goes k r op hand asked
-sweeps op hand k r sweep asked some shows is within may frees useful =
+    → ((limbo : Limbo) (k : Knowledge) → ShowsSweep sweep limbo k → May sweep.actor k asked) → ((limbo : Limbo) (k : Knowledge) → ShowsSweep sweep limbo k → MayFree sweep.limits sweep.actor k asked) → IsUseful k asked → IsHalved k asked → Goes k r op hand asked
+sweeps op hand k r sweep asked some shows is within may frees useful halved =
     let of : IsSweeping op.task op.state hand.limbo k sweep = rw some at shows.limbo in
     record {
       wanted = rw (some, is) refl;
@@ -97,6 +99,7 @@ sweeps op hand k r sweep asked some shows is within may frees useful =
         may = rw (← of.actor) (may hand.limbo k of.shows);
         frees = rw (← of.limits, ← of.actor) (frees hand.limbo k of.shows);
         useful = useful;
+        halved = halved;
       };
       shows = shows;
     }

@@ -33,7 +33,7 @@ begun_if spares (Enter epoch) some = refl
 begun_if spares (Read round) some = refl
 begun_if spares (Write round) some = refl
 begun_if spares (Change now then) some = refl
-begun_if spares (Leave reply) some = refl
+begun_if spares (Leave reply lacks) some = refl
 
 asks_some : (o : Option Sweep) (after : Option (StepOf Record)) → is_some o ≡ true → IsSome (asked_by o after)
 asks_some None after on = cc

@@ -88,7 +88,7 @@ module _ (limits : Limits) (k : Knowledge) (command : Command) (plan : Plan) whe
   pub unlinks : (end : End) (then : Then) (after : Limbos) → Brings k command plan then → after ≡ limbo_after plan (Some end) k → TakesFresh limits k plan (Some end) → Unlinks limits k end then after
   unlinks Won then after brings is fresh = rw is (won then brings fresh)
   unlinks Lost then after brings is fresh = is
-  unlinks Full then after brings is fresh = is
+  unlinks (Full kind) then after brings is fresh = is
 
 -- what has gone out where a change has won
 pub gone : (limits : Limits) (k : Knowledge) (end : End) (then : Then) (unlinked : Unlinked) (after : Limbos) → end ≡ Won → then ≡ Limbo unlinked → Unlinks limits k end then after → GoesToLimbo limits k unlinked after

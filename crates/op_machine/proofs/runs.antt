@@ -5,3 +5,4 @@ pub mod PageLife
 pub mod RowReuse
 pub mod Refused
 pub mod ClaimedInsert
+pub mod TooMany

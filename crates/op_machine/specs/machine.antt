@@ -3,6 +3,7 @@ pub mod Errands
 pub mod Brings
 pub mod States
 pub mod Wants
+pub mod Lacks
 pub mod Shows
 pub mod Outcomes
 pub mod Ops

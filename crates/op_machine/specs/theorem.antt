@@ -2,12 +2,16 @@ pub mod Links
 pub mod Operations
 pub mod Points
 pub mod Answered
+pub mod Changes
+pub mod Halves
 pub mod Quiet
 pub mod Faithful
 pub mod Phases
 pub mod Index
 pub mod Reuse
+pub mod Readers
 pub mod Direct
+pub mod Progress
 pub mod Linearized
 pub mod Examples
 pub mod Updates

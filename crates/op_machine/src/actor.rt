@@ -12,6 +12,7 @@ ghost use Rattle.traces.specs.discipline.Recalled.{Recalled, blank, cause_worth}
 use crate::{Hand, Operation};
 use bw_model::{Command, Key, Limits, OpenError, Reply, Step, Told};
 use deltas::Record;
+use installs::Kind;
 use row_chain::HeldRow;
 use std::alloc::{Allocator, Global};
 use std::marker::Model;
@@ -21,6 +22,7 @@ pub struct Actor<A: Allocator = Global> {
     hand: Hand<A>,
     operation: Operation<A>,
     is_running: bool,
+    lacks: Option<Kind>,
 }
 
 impl<A: Allocator> Drop for Actor<A> {
@@ -29,6 +31,7 @@ impl<A: Allocator> Drop for Actor<A> {
             hand: _,
             operation: _,
             is_running: _,
+            lacks: _,
         } = self;
     }
 }
@@ -39,7 +42,7 @@ impl<A: Allocator> Model for Actor<A> {
 
     ghost Value = { Actor };
 
-    ghost view = { λ a. record { hand = a.hand; running = running_at a.is_running a.operation a.hand } };
+    ghost view = { λ a. record { hand = a.hand; running = running_at a.is_running a.operation a.hand; lacks = a.lacks } };
 
     ghost invariant = { λ a. AsksIf a.is_running a.operation a.hand };
 }
@@ -62,6 +65,7 @@ impl<A: Allocator + Copy> Actor<A> {
                 hand,
                 operation,
                 is_running: false,
+                lacks: None,
             }),
             Err(_) => Err(OpenError::Memory),
         }
@@ -85,6 +89,13 @@ impl<A: Allocator> Actor<A> {
         } else {
             None
         }
+    }
+
+    /// The kind that ran out for its last operation, where that has left with `Full`; none from the next begin on.
+    pub fn lacks(&self) -> Option<Kind>
+        ensures { result ≡ self.now.lacks }
+    {
+        self.lacks
     }
 
     /// What it keeps between operations.
@@ -131,7 +142,9 @@ impl<A: Allocator> Actor<A> {
         ensures shows { (k : Knowledge) (r : Recalled) → IsActor limits.now number k r self.old → IsActor limits.now number (begun k command) blank self.new }
         ensures command { running_command self.new ≡ Some command }
         ensures bounded { steps_due blank self.new.hand self.new.running < cause_worth limits.now }
+        ensures lacks { self.new.lacks ≡ None }
     {
+        self.lacks = None;
         self.operation.begin(command, number, limits);
         self.operation.go_on(&mut self.hand, Told::Start);
         self.is_running = true;
@@ -169,6 +182,7 @@ impl<A: Allocator> Actor<A> {
         ensures command { running_command self.new ≡ None }
     {
         self.is_running = false;
+        self.lacks = self.operation.lacks();
         self.operation.leave()
     }
 }

@@ -4,7 +4,8 @@ ghost use Rattle.bw_model.specs.declared.step.Link.TheVariants as link;
 ghost use Rattle.traces.specs.trace.Run.{IsRun};
 ghost use Rattle.traces.specs.chain.SideChain.{IsWhole};
 ghost use Rattle.traces.specs.trace.Trace.{memory_at, turn_of};
-ghost use Rattle.op_machine.specs.theorem.Examples.{small, lookup, insert_and_lookup, page_life, index_above, row_reuse, hurried_reuse, unnamed_read, two_puts, needless_base, claimed_insert};
+ghost use Rattle.op_machine.specs.theorem.Examples.{small, lookup, insert_and_lookup, page_life, index_above, row_reuse, hurried_reuse, unnamed_read, two_puts, needless_base, nine_bases, taking_reader, claimed_insert};
+ghost use Rattle.op_machine.specs.theorem.Changes.{HasFewChanges};
 ghost use Rattle.op_machine.specs.theorem.Direct.{IsDirect};
 ghost use Rattle.op_machine.specs.theorem.Faithful.{IsFaithful};
 ghost use Rattle.op_machine.specs.theorem.Index.{IsLevel, HasTerm};
@@ -68,10 +69,16 @@ pub fn unnamed_read_is_refused()
     ensures { ¬ IsFaithful small unnamed_read }
 {}
 
-/// An operation that links two puts is not direct, nor is one that puts a base over a base alone.
+/// An operation that links two puts is not direct, nor is one that puts a base over a base alone, nor a lookup that takes a row.
 pub fn useless_links_are_refused()
     ensures twice { ¬ IsDirect small two_puts }
     ensures needless { ¬ IsDirect small needless_base }
+    ensures reading { ¬ IsDirect small taking_reader }
+{}
+
+/// One operation that changes the tree nine times is too many changes.
+pub fn nine_changes_are_refused()
+    ensures { ¬ HasFewChanges small nine_bases }
 {}
 
 /// An insert that replies that it inserted, and has exchanged nothing, has no linearization points.

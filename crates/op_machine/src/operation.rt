@@ -8,13 +8,14 @@ ghost use Rattle.traces.specs.discipline.Discipline.{May, MayFree};
 ghost use Rattle.traces.specs.discipline.Knowledge.{Knowledge, begun, learn};
 ghost use Rattle.traces.specs.discipline.Recalled.{Recalled, blank, cause_worth};
 ghost use Rattle.traces.specs.discipline.Useful.{IsUseful};
+ghost use Rattle.op_machine.specs.theorem.Halves.{IsHalved};
 ghost use Rattle.traces.specs.trace.Within.{IsWithin};
 ghost use Rattle.deltas.specs.declared.record.Record.{Record as RecordOf};
 ghost use Rattle.epochs.specs.Limbo.{Limbo as LimboSeen};
 ghost use Rattle.op_machine.specs.machine.Hands.{Hand as HandSeen};
 ghost use Rattle.op_machine.specs.machine.InPlace.{IsOpShown, Takes, Wants};
 ghost use Rattle.op_machine.specs.machine.Ops.{EndsAtLeave, IsAtRestWith, IsToldOp, Obeys, Shows, wanted_of};
-ghost use Rattle.op_machine.specs.machine.Outcomes.{changed, has_machine, is_changing, is_leaving, is_reading, is_writing};
+ghost use Rattle.op_machine.specs.machine.Outcomes.{changed, has_machine, is_changing, is_leaving, is_reading, is_writing, lacks_at};
 ghost use Rattle.op_machine.specs.machine.Places.{ended_with, state_of};
 ghost use Rattle.op_machine.specs.machine.Shows.{FitsLast, ShowsState, learn_last, wanted_at};
 ghost use Rattle.op_machine.specs.machine.Spending.{steps_left};
@@ -34,7 +35,7 @@ use crate::task::Task;
 use bw_model::{Command, Key, Limits, Reply, Step, Told};
 use deltas::Record;
 use epochs::Limbo;
-use installs::{End, Spares};
+use installs::{End, Kind, Spares};
 use row_chain::HeldRow;
 use std::alloc::{AllocError, Allocator, Global};
 use std::marker::Model;
@@ -129,11 +130,18 @@ impl<A: Allocator> Operation<A> {
     #[inline(never)]
     pub fn leave(&self) -> Reply
         requires leaving { is_leaving self.now.state ≡ true }
-        ensures reply { self.now.state ≡ State.Leave result }
+        ensures reply { self.now.state ≡ State.Leave result (lacks_at self.now.state) }
         ensures obeys { (hand : HandSeen) (told : AnswerOf RecordOf) → Obeys self.now hand told self.now hand (Want.Done result) }
         ensures ends { (hand : HandSeen) (told : AnswerOf RecordOf) → IsToldOp self.now hand told → EndsAtLeave self.now hand (Want.Done result) }
     {
         self.places.reply()
+    }
+
+    /// The kind that ran out, where it has left with `Full`.
+    pub fn lacks(&self) -> Option<Kind>
+        ensures { result ≡ lacks_at self.now.state }
+    {
+        self.places.lacks()
     }
 
     /// Takes the answer to the step that it wanted, which isn't the leave, and reads no row, or `Start`.
@@ -340,6 +348,7 @@ fn sweeping<'a>(sweep: &Sweep) -> Step<&'a Record>
     ensures may { (limbo : LimboSeen) (k : Knowledge) → ShowsSweep sweep.now limbo k → May sweep.now.actor k (lent result) }
     ensures frees { (limbo : LimboSeen) (k : Knowledge) → ShowsSweep sweep.now limbo k → MayFree sweep.now.limits sweep.now.actor k (lent result) }
     ensures useful { (k : Knowledge) → IsUseful k (lent result) }
+    ensures halved { (k : Knowledge) → IsHalved k (lent result) }
 {
     match sweep.step() {
         Step::Epoch => Step::Epoch,

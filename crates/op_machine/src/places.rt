@@ -1,8 +1,9 @@
 //! The places of an operation: what is under way stands in one of them, and what isn't lies there until it is needed again.
-ghost use Rattle.std.specs.Prelude.{◌≡◌, ◌<◌, ◌≤◌, ◌+◌, IfOk, IsSome, None, true};
+ghost use Rattle.std.specs.Prelude.{◌≡◌, ◌<◌, ◌≤◌, ◌+◌, IfOk, IsSome, None, Some, true};
 ghost use Rattle.std.specs.Option.{option_map};
 ghost use Rattle.bw_model.specs.Answers.{answer_of};
 ghost use Rattle.bw_model.specs.Lent.{lent};
+ghost use Rattle.bw_model.specs.declared.command.Reply.TheVariants as Reply;
 ghost use Rattle.bw_model.specs.declared.step.Answer.TheVariants.{Content, Number};
 ghost use Rattle.traces.specs.discipline.Knowledge.{Knowledge};
 ghost use Rattle.traces.specs.discipline.Recalled.{Recalled};
@@ -18,7 +19,7 @@ ghost use Rattle.descent.specs.ReadGoals as goal;
 ghost use Rattle.installs.specs.Changes.{IsSpellablePlan, IsTarget};
 ghost use Rattle.installs.specs.Spares.{HaveRoom};
 ghost use Rattle.op_machine.specs.machine.Bounded.{few_changes, left_at};
-ghost use Rattle.op_machine.specs.machine.Outcomes.{IsToldAt, UnlinksAfter, changed, has_begun, is_changing};
+ghost use Rattle.op_machine.specs.machine.Outcomes.{IsToldAt, UnlinksAfter, changed, has_begun, is_changing, lacks_at};
 ghost use Rattle.op_machine.specs.machine.Places.{HaveLimits, ReadsOn, WritesOn, ended_with, left_round_of, state_of};
 ghost use Rattle.op_machine.specs.machine.Shows.{FitsLast, MayBegin, MayStep, ShowsState, learn_last, wanted_at};
 ghost use Rattle.op_machine.specs.machine.Tasks.{Task as TaskSeen};
@@ -32,7 +33,7 @@ use crate::task::Task;
 use crate::then::Then;
 use bw_model::{Key, Limits, Reply, Step, Told};
 use deltas::{Record, Remove};
-use installs::{Change, End, Plan, Spares};
+use installs::{Change, End, Kind, Plan, Spares};
 use rounds::{Asked, ReadEnded, ReadRound, WriteEnded, WriteRound};
 use row_chain::HeldRow;
 use std::alloc::{AllocError, Allocator, Global};
@@ -50,7 +51,8 @@ pub(crate) enum Stand {
     Leave,
 }
 
-/// The places of an operation's rounds and of its change, what comes after the change, and the reply.
+/// The places of an operation's rounds and of its change, what comes after the change, and the reply, with the kind that ran out
+/// where it is `Full`.
 pub(crate) struct Places<A: Allocator = Global> {
     stand: Stand,
     reader: ReadRound<A>,
@@ -58,6 +60,7 @@ pub(crate) struct Places<A: Allocator = Global> {
     change: Change,
     then: Then,
     reply: Reply,
+    lacks: Option<Kind>,
 }
 
 impl<A: Allocator> Drop for Places<A> {
@@ -69,6 +72,7 @@ impl<A: Allocator> Drop for Places<A> {
             change: _,
             then: _,
             reply: _,
+            lacks: _,
         } = self;
     }
 }
@@ -78,7 +82,7 @@ impl<A: Allocator> Model for Places<A> {
 
     ghost Value = { OpPlaces };
 
-    ghost view = { λ p. record { stand = p.stand; reader = p.reader; writer = p.writer; change = p.change; then = p.then; reply = p.reply } };
+    ghost view = { λ p. record { stand = p.stand; reader = p.reader; writer = p.writer; change = p.change; then = p.then; reply = p.reply; lacks = p.lacks } };
 }
 
 impl<A: Allocator + Copy> Places<A> {
@@ -95,6 +99,7 @@ impl<A: Allocator + Copy> Places<A> {
             change: no_change(limits),
             then: Then::Round,
             reply: Reply::None,
+            lacks: None,
         })
     }
 }
@@ -195,11 +200,21 @@ impl<A: Allocator> Places<A> {
         self.stand = Stand::Write;
     }
 
-    /// The operation is to leave with the reply.
+    /// The operation is to leave with the reply, which isn't `Full`.
     pub(crate) fn leave(&mut self, reply: Reply)
-        ensures { self.new ≡ record self.old { stand = Stand.Leave; reply = reply } }
+        ensures { self.new ≡ record self.old { stand = Stand.Leave; reply = reply; lacks = None } }
     {
         self.reply = reply;
+        self.lacks = None;
+        self.stand = Stand::Leave;
+    }
+
+    /// The operation is to leave with `Full`, since nothing of the kind is free.
+    pub(crate) fn give_up(&mut self, kind: Kind)
+        ensures { self.new ≡ record self.old { stand = Stand.Leave; reply = Reply.Full; lacks = Some kind } }
+    {
+        self.reply = Reply::Full;
+        self.lacks = Some(kind);
         self.stand = Stand::Leave;
     }
 
@@ -244,6 +259,16 @@ impl<A: Allocator> Places<A> {
         ensures { result ≡ self.now.reply }
     {
         self.reply.copied()
+    }
+
+    /// The kind that ran out, where it is to leave for want of it.
+    pub(crate) fn lacks(&self) -> Option<Kind>
+        ensures { result ≡ lacks_at (state_of self.now) }
+    {
+        match self.stand {
+            Stand::Leave => self.lacks,
+            _ => None,
+        }
     }
 
     /// The reader's round takes a number, and tells how it ends, once it does.

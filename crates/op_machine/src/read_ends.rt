@@ -1,6 +1,8 @@
 //! What an operation makes of the end of a reader's round, where its pages stand.
-ghost use Rattle.std.specs.Prelude.{◌≡◌, ◌≤◌, ℕ, IsSome};
+ghost use Rattle.std.specs.Prelude.{◌≡◌, ◌≢◌, ◌≤◌, ℕ, IsSome};
 ghost use Rattle.bw_model.specs.Replies.{command_key};
+ghost use Rattle.bw_model.specs.declared.command.Reply.TheVariants as reply;
+ghost use Rattle.traces.specs.discipline.Discipline.{MayReply};
 ghost use Rattle.traces.specs.discipline.Knowledge.{Knowledge};
 ghost use Rattle.traces.specs.discipline.Recalled.{Recalled};
 ghost use Rattle.installs.specs.Spares.{Spares};
@@ -9,8 +11,7 @@ ghost use Rattle.op_machine.specs.machine.Outcomes as Outcome;
 ghost use Rattle.op_machine.specs.machine.Outcomes.{FacesRead, StandsForReader};
 ghost use Rattle.op_machine.specs.machine.Places.{HaveLimits, state_of};
 ghost use Rattle.op_machine.specs.machine.Shows.{ShowsState, wanted_at};
-ghost use Rattle.op_machine.specs.machine.Tasks.{Seeks};
-ghost use Rattle.op_machine.specs.machine.States as State;
+ghost use Rattle.op_machine.specs.machine.Tasks.{IsBetweenChanges, Seeks};
 ghost use Rattle.rounds.specs.ReadRounds.{ended_read};
 
 use crate::places::Places;
@@ -66,7 +67,8 @@ impl Task {
 
     /// A reader's reply over the chain of a leaf that stood.
     fn reply_over<A: Allocator>(&self, leaf: &Chain<A>) -> Reply
-        ensures { (spares : Spares) (k : Knowledge) (r : Recalled) (head : ℕ) → StandsForReader self.now spares k head leaf.now → ShowsState self.now spares k r (State.Leave result) }
+        ensures may { (spares : Spares) (k : Knowledge) (head : ℕ) → StandsForReader self.now spares k head leaf.now → IsBetweenChanges self.now spares k × MayReply self.now.limits self.now.actor k result }
+        ensures answers { result ≢ reply.Full }
     {
         let key = self.command().key();
         let found = leaf.find(&KeyWords::of(key));

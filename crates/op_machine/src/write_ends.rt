@@ -296,7 +296,7 @@ impl Task {
                 self.begin_round(places);
             }
             (End::Won, Then::Round | Then::Limbo(_)) | (End::Lost, _) => self.begin_round(places),
-            (End::Full, _) => places.leave(Reply::Full),
+            (End::Full(kind), _) => places.give_up(kind),
         }
     }
 }

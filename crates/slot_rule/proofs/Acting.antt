@@ -1,5 +1,5 @@
 -- Each step that is one atomic operation on a word keeps the rule.
-use Rattle.std.proofs.Common.{◌≡◌, ℕ, ◌+◌, ◌<◌, eqb, Bool, true, false, List, get_or, set, sym, refl, ap, ◌∙◌, subst, arith, get_or-set_other}
+use Rattle.std.proofs.Common.{◌≡◌, ℕ, ◌<◌, eqb, Bool, true, false, List, get_or, set, sym, refl, ap, ◌∙◌, subst, arith, get_or-set_other}
 use Rattle.std.specs.Prelude.{Option, if◌then◌else◌}
 use mathlib.Core.Option.{some}
 use lib.ListN.{get_elem?}
@@ -60,7 +60,8 @@ module _ (change : StepsChangeOneWord) (first : WordsStandApart) (limits : Limit
         spells = λ view _. spells_views limits (words_after limits actor step s.words) (memory_after actor step m) (IsSettled s.views) (IsSettled (set s.views id view))
             (λ row is. settled_back s.views id limits actor seen Idle view row at tt is) spells;
         kept = λ row content is. h.kept row content (ap (λ (rows : ℕ → Option Record). rows row) (sym c.records) ∙ is);
-        writes = λ other row _ _ below j small. stay row (j + 1) below (omega (arith, small));
+        writes = λ other row _ _ below j small. stay row j below small;
+        records = λ other row _ _. ap (λ (rows : ℕ → Option Record). rows row) c.records;
       }
 
   acts : (slots id actor : ℕ) (me : Mine) (begun : Option Command) (step : Step Record) (reply : Option Reply) → SitsAt limits actor Idle me → IsLawfulStep law limits actor (seen_of me) begun step reply

@@ -1,11 +1,13 @@
 -- What an actor knows once it has read a record, and which words a record uses.
-use Rattle.std.proofs.Common.{◌≡◌, ◌<◌, ◌≤◌, ◌+◌, ◌*◌, ◌-◌, ℕ, Bool, true, false, List, [], ◌∷◌, ◌++◌, drop, length, get_or, get_or-set_other, set, replicate, take, eqb, refl, sym, ap, subst, ◌∙◌, arith}
+use Rattle.std.proofs.Common.{◌≡◌, ◌<◌, ◌≤◌, ◌+◌, ◌*◌, ◌-◌, ℕ, Bool, true, false, List, [], ◌∷◌, ◌++◌, drop, length, get_or, get_or-set_other, set, replicate, take, eqb, refl, sym, ap, subst, ◌∙◌, ⊎_elim, arith}
 use Rattle.std.specs.Prelude.{Option, None, Some, if◌then◌else◌}
 use mathlib.Core.Logic.{dite}
 use native.Mathlib.Decide.{ℕ_discrete}
 use Rattle.std.proofs.lemmas.Grind.{get_or-set_at, same_number_lists}
+use Rattle.std.proofs.Math.Seq.{get_or-append_right}
+use Rattle.std.proofs.lemmas.Bool.{cases_lt}
 use Rattle.std.proofs.lemmas.Option.{same_Some}
-use Rattle.std.proofs.lemmas.List.{append-nil, get_or-take, length-take-le, take-append-drop}
+use Rattle.std.proofs.lemmas.List.{append-nil, get_or-replicate, get_or-take, get_or_past, length-replicate, length-take, length-take-le, take-append-drop}
 use Rattle.std.proofs.lemmas.List.Sums.{fold-append}
 use Rattle.bw_model.specs.declared.command.Reply.{Reply}
 use Rattle.bw_model.specs.declared.step.Answer.{Answer}
@@ -23,9 +25,11 @@ use Rattle.traces.specs.discipline.Knowledge.{Knowledge, knows, knows_after, lea
 use Rattle.record_slots.specs.Layout.{item_size, items_at, row_size}
 use Rattle.record_slots.specs.Parts.{row_of}
 use Rattle.record_slots.specs.Spelling.{words_left, words_of}
+use Rattle.record_slots.specs.Spells.{IsSpelling}
 use Rattle.record_slots.proofs.SpellingLaws.{row_spelled}
+use Rattle.tree_words.specs.Words.{words_in}
 use Rattle.slot_rule.specs.Running.{HasSpelling, KnowsReadable}
-use Rattle.slot_rule.specs.Steps.{HasReadRecord, Took, used_by}
+use Rattle.slot_rule.specs.Steps.{HasReadRecord, Took, used_by, used_by_either}
 use Rattle.traces.proofs.OwnEntries.{knows_extends}
 
 still_true : (at : ℕ) (f : ℕ → Bool) (row : ℕ) → f row ≡ true → replaced_at at true f row ≡ true
@@ -68,6 +72,9 @@ one_more_copied found words i x there is so_far j below = dite (ℕ_discrete j i
     (λ e. get_or-set_at found i j x 0 e there ∙ is ∙ ap (λ (k : ℕ). get_or words k 0) (sym e))
     (λ ne. get_or-set_other found i j x 0 ne ∙ so_far j (omega (arith, ne)))
 
+zeros_are : (n j : ℕ) → ◌≡◌ {A = ℕ} (get_or (replicate n 0) j 0) 0
+zeros_are n j = ⊎_elim (λ below. get_or-replicate n j 0 0 below) (λ above. get_or_past (replicate n 0) j 0 (omega (arith, above, length-replicate {A = ℕ} n 0))) (cases_lt j n)
+
 module _ (content : Record) (spelled : HasSpelling content) where
   abbrev end : ℕ
   end = items_at + item_size * (row_of content).count
@@ -85,6 +92,14 @@ module _ (content : Record) (spelled : HasSpelling content) where
       ap (λ (words : List ℕ). take used (words_of content) ++ words) (ap (λ (n : ℕ). replicate n 0) left ∙ sym (row_spelled (words_of content) content spelled).rest ∙ ap (λ (n : ℕ). drop n (words_of content)) (sym at))
       ∙ take-append-drop used (words_of content)
 
+  pub zero_behind : (j : ℕ) → used_by (get_or (words_of content) 0 0) ≤ j → get_or (words_of content) j 0 ≡ 0
+  zero_behind j above =
+      let used = used_is in
+      let room = few in
+      let front : List ℕ = take end (words_of content) in
+      let short : length front ≤ end = let is = length-take end (words_of content) in omega arith in
+      ap (λ (words : List ℕ). get_or words j 0) (sym (with_zeros end refl)) ∙ get_or-append_right front (replicate (row_size - end) 0) j 0 (omega (arith, short, used, above)) ∙ zeros_are (row_size - end) (j - length front)
+
   pub filled : (found : List ℕ) (used : ℕ) → used ≡ used_by (get_or (words_of content) 0 0) → length found ≡ row_size → length (words_of content) ≡ row_size → ((j : ℕ) → j < used → get_or found j 0 ≡ get_or (words_of content) j 0)
       → take used found ++ replicate (row_size - used) 0 ≡ words_of content
   filled found used is long all same =
@@ -94,3 +109,19 @@ module _ (content : Record) (spelled : HasSpelling content) where
       let front : take used found ≡ take used (words_of content) = same_number_lists (take used found) (take used (words_of content)) (taken ∙ sym all_taken)
       (λ j below. let low : j < used = omega (arith, taken) in get_or-take used found j 0 low ∙ same j low ∙ sym (get_or-take used (words_of content) j 0 low)) in
       ap (λ (words : List ℕ). words ++ replicate (row_size - used) 0) front ∙ with_zeros used (is ∙ used_is)
+
+-- The same of a row, in which a record stands or none.
+pub few_in : (there : Option Record) → ((content : Record) → there ≡ Some content → HasSpelling content) → used_by (get_or (words_in there) 0 0) ≤ row_size
+few_in None spelled = omega (arith, zeros_are row_size 0)
+few_in (Some content) spelled = few content (spelled content refl)
+
+pub zero_behind_in : (there : Option Record) → ((content : Record) → there ≡ Some content → HasSpelling content) → (j : ℕ) → used_by (get_or (words_in there) 0 0) ≤ j → get_or (words_in there) j 0 ≡ 0
+zero_behind_in None spelled j above = zeros_are row_size j
+zero_behind_in (Some content) spelled j above = zero_behind content (spelled content refl) j above
+
+-- Each record of a row uses words of the row, and so do two.
+pub few_of_either : (first : ℕ) (content : Record) (words : List ℕ) → used_by first ≤ row_size → IsSpelling content words → used_by_either first (get_or words 0 0) ≤ row_size
+few_of_either first content words room spelt =
+    let spelled : HasSpelling content = record { spellable = spelt.spellable; short = spelt.short; are = refl } in
+    let new : used_by (get_or words 0 0) ≤ row_size = subst (λ (us : List ℕ). used_by (get_or us 0 0) ≤ row_size) spelt.are (few content spelled) in
+    ⊎_elim (λ low. omega (arith, low, room, new)) (λ high. omega (arith, high, room, new)) (cases_lt (used_by first) (used_by (get_or words 0 0)))

@@ -79,7 +79,7 @@ module _ (limits : Limits) (law : List Entry → Type 0) where
   -- a part that is no seat of its own actor's is a note
   apart_leaves : (row actor : ℕ) (reach : Reach) → IsApart actor actor reach → LeavesRow row reach
   apart_leaves row actor Idle apart = tt
-  apart_leaves row actor (Writing at words) apart = absurd (apart_ne actor actor apart refl)
+  apart_leaves row actor (Writing at first words) apart = absurd (apart_ne actor actor apart refl)
   apart_leaves row actor Noted apart = tt
 
   -- Where all actors stand in another seat, these are notes.

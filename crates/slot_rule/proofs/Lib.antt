@@ -4,6 +4,7 @@ mod Acting
 mod ByWord
 mod RowReads
 mod Copied
+mod Measured
 mod Filled
 mod Roster
 mod Watched

@@ -85,7 +85,7 @@ in_views actor (view ∷ views) stands = by (times actor view) refl (λ more. in
 
 stands_as : (actor other : ℕ) (reach : Reach) → is_at actor other reach ≡ true → Stands reach × (other ≡ actor)
 stands_as actor other Idle is = (tt, eqb-true other actor is)
-stands_as actor other (Writing row words) is = (tt, eqb-true other actor is)
+stands_as actor other (Writing row first words) is = (tt, eqb-true other actor is)
 stands_as actor other Noted is = cc
 
 each_get : (P : Part → Type 0) (parts : List Part) (n : ℕ) (part : Part) → Each P parts → slice_get parts n ≡ Some part → P part

@@ -50,17 +50,17 @@ starts_on seen run later a b = (a.0 ++ b.0, b.1 ∙ ap (λ (es : List Entry). es
 -- Steps are taken where a seat stands, and not where a note is.
 abbrev pub Stands : Reach → Type 0
 Stands Idle = ⊤
-Stands (Writing row words) = ⊤
+Stands (Writing row first words) = ⊤
 Stands Noted = ⊥
 
 pub goes_extends : (reach : Reach) (actor : ℕ) (seen run : List Entry) → Stands reach → ExtendsFor reach actor seen run → Extends actor seen run
 goes_extends Idle actor seen run stands goes = goes
-goes_extends (Writing row words) actor seen run stands goes = goes
+goes_extends (Writing row first words) actor seen run stands goes = goes
 goes_extends Noted actor seen run stands goes = absurd stands
 
 pub extends_goes : (reach : Reach) (actor : ℕ) (seen run : List Entry) → Extends actor seen run → ExtendsFor reach actor seen run
 extends_goes Idle actor seen run extends = extends
-extends_goes (Writing row words) actor seen run extends = extends
+extends_goes (Writing row first words) actor seen run extends = extends
 extends_goes Noted actor seen run extends = (extends.0, extends.1)
 
 -- the begin, if there is one, and the step, which are of the actor alone
@@ -138,7 +138,7 @@ times_append a (p ∷ ps) w = let r = times_append a ps w in omega arith
 -- where a seat stands doesn't matter
 at_stands : (a actor : ℕ) (h : Reach) → Stands h → is_at a actor h ≡ eqb actor a
 at_stands a actor Idle stands = refl
-at_stands a actor (Writing row words) stands = refl
+at_stands a actor (Writing row first words) stands = refl
 at_stands a actor Noted stands = absurd stands
 
 pub times_of_one : (limits : Limits) (a actor : ℕ) (seen : List Entry) (h : Reach) → Stands h → times a (alone limits actor seen h) ≡ mark (eqb actor a)

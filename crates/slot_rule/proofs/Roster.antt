@@ -159,7 +159,7 @@ module _ (limits : Limits) (law : List Entry → Type 0) where
 
   note_goes : (p : Part) (reach : Reach) (run : List Entry) → ExtendsFor reach p.actor p.seen run → StartsWith run p.seen
   note_goes p Idle run goes = (goes.0, goes.1)
-  note_goes p (Writing row words) run goes = (goes.0, goes.1)
+  note_goes p (Writing row first words) run goes = (goes.0, goes.1)
   note_goes p Noted run goes = goes
 
   note_fits : (words : List ℕ) (run : List Entry) (v : List Part) → Each (Fits words run) v → Each (Fits words run) (noted v)

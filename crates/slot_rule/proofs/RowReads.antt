@@ -1,5 +1,5 @@
 -- The load of a row's first word, which is the step, and looks at its words keep the rule.
-use Rattle.std.proofs.Common.{◌≡◌, ℕ, ◌+◌, ◌<◌, List, [], ◌∷◌, get_or, set, sym, refl, ap, ◌∙◌, subst, arith}
+use Rattle.std.proofs.Common.{◌≡◌, ℕ, ◌<◌, List, [], ◌∷◌, get_or, sym, refl, ap, ◌∙◌, subst, arith}
 use Rattle.std.specs.Prelude.{None, Some}
 use Rattle.std.proofs.lemmas.List.{set-get_or}
 use mathlib.Core.Option.{some, none}
@@ -16,15 +16,15 @@ use Rattle.traces.specs.trace.Trace.{memory_of}
 use Rattle.record_slots.specs.Layout.{row_size}
 use Rattle.record_slots.specs.Spelling.{words_of}
 use Rattle.tree_words.specs.Layout.{row_at}
-use Rattle.tree_words.specs.Words.{words_in, SpellsWhere}
+use Rattle.tree_words.specs.Words.{words_in}
 use Rattle.slot_rule.specs.declared.view.Reach.TheVariants.{Idle, Writing, Noted}
 use Rattle.slot_rule.specs.declared.view.Reach.{Reach}
 use Rattle.slot_rule.specs.declared.view.Part.{Part}
 use Rattle.slot_rule.specs.Running.{Each, HasSpelling, IsSettled, KnowsPlaceable, KnowsReadable, KeepsRowsApart, LeavesRow, PartFits, ReachFits}
 use Rattle.slot_rule.specs.Steps.{IsLawfulStep, Looks, Reads, ReadsFirst}
 use Rattle.slot_rule.specs.Views.{alone, Mine, seen_of, SitsAt}
-use Rattle.slot_rule.proofs.Parts.{goes_extends, settled_back, spells_views, starts_self}
-use Rattle.slot_rule.proofs.Turns.{TableState, Rule, Spares, turn, event_telling, same_actor, same_limits}
+use Rattle.slot_rule.proofs.Parts.{goes_extends}
+use Rattle.slot_rule.proofs.Turns.{TableState, Rule, turn, event_telling, same_actor, same_limits, spares_quiet, spells_quiet}
 use Rattle.traces.proofs.OwnEntries.{knows_extends}
 
 module _ (limits : Limits) (law : Limits → List Entry → Type 0) (apart : KeepsRowsApart limits (law limits)) where
@@ -35,7 +35,7 @@ module _ (limits : Limits) (law : Limits → List Entry → Type 0) (apart : Kee
       go : (reach : Reach) → ReachFits limits words run other.actor reach → LeavesRow row reach
       go Idle fits = tt
       go Noted fits = tt
-      go (Writing at written) fits = λ e. absurd (apart.unread other.actor actor row run legal (subst (λ (z : ℕ). KnowsPlaceable (knows run other.actor) z) e fits.0) may)
+      go (Writing at first written) fits = λ e. absurd (apart.unread other.actor actor row run legal (subst (λ (z : ℕ). KnowsPlaceable (knows run other.actor) z) e fits.may) may)
 
   each_leaves : (words : List ℕ) (run : List Entry) (actor row : ℕ) (view : List Part) → law limits run → KnowsReadable (knows run actor) row → Each (PartFits limits words run) view → Each (λ p. LeavesRow row p.reach) view
   each_leaves words run actor row [] legal may fits = tt
@@ -53,14 +53,6 @@ module _ (limits : Limits) (law : Limits → List Entry → Type 0) (apart : Kee
   row_is : (s : TableState) (h : Rule limits law s) (actor row : ℕ) → KnowsReadable (knows h.run actor) row → (content : Record) × ((memory_of limits h.run).rows row ≡ Some content) × HasSpelling content
   row_is s h actor row may = let p = apart.placed actor row h.run h.legal may in (p.0, p.1, (h.kept row p.0 p.1).spelling)
 
-  spares_quiet : (actor i : ℕ) (words : List ℕ) (run : List Entry) → Spares limits law actor words (set words i (get_or words i 0)) run run
-  spares_quiet actor i words run = record {
-    grows = starts_self run;
-    extends = λ other seen ne x. x;
-    same = λ other ne. refl;
-    writes = λ other row ne may within j small. ap (λ (u : List ℕ). get_or u (row_at row (j + 1)) 0) (set-get_or words i 0);
-  }
-
   module _ (slots id actor : ℕ) (me : Mine) (row : ℕ) (within : row < limits.rows) (is : SitsAt limits actor Idle me) (known : KnowsReadable (knows (seen_of me) actor) row) where
     -- what the seat knows now
     module _ (s : TableState) (h : Rule limits law s) (there : get_elem? s.views id ≡ some (alone limits actor (seen_of me) Idle)) where
@@ -73,11 +65,6 @@ module _ (limits : Limits) (law : Limits → List Entry → Type 0) (apart : Kee
       may_now : KnowsReadable (knows h.run actor) row
       may_now = subst (λ k. KnowsReadable k row) (sym knows_now) known
 
-      -- the words are the same, and fewer rows may be settled
-      spells_still : (at : ℕ) (view : List Part) → SpellsWhere limits (set s.words at (get_or s.words at 0)) (memory_of limits h.run) (IsSettled (set s.views id view))
-      spells_still at view = subst (λ (words : List ℕ). SpellsWhere limits words (memory_of limits h.run) (IsSettled (set s.views id view))) (sym (set-get_or s.words at 0))
-          (spells_views limits s.words (memory_of limits h.run) (IsSettled s.views) (IsSettled (set s.views id view)) (λ other st. settled_back s.views id limits actor (seen_of me) Idle view other there tt st) h.spells)
-
     looks : (place : ℕ) → place < row_size → Allows (Rule limits law) slots id me (row_at row place) (λ n. n) (Looks (step slots (row_at row place) 0 0 none) me)
     looks place small s h _ here _ =
         let there : get_elem? s.views id ≡ some (alone limits actor (seen_of me) Idle) = here ∙ ap (λ (z : Mine). some z.0) is in
@@ -87,7 +74,8 @@ module _ (limits : Limits) (law : Limits → List Entry → Type 0) (apart : Kee
           view,
           keeps,
           tt,
-          turn limits law s h id actor (seen_of me) Idle tt there me.1 at n h.run (seen_of me) Idle tt h.legal (spares_quiet actor at s.words h.run) (extends_now s h there) h.kept h.begins h.actors tt (spells_still s h there at view),
+          turn limits law s h id actor (seen_of me) Idle tt there me.1 at n h.run (seen_of me) Idle tt h.legal (spares_quiet limits law actor at s.words h.run) (extends_now s h there) h.kept h.begins h.actors tt
+              (spells_quiet limits law s h id actor (seen_of me) there at view),
           (
             ap (λ (c : List (ℕ × Unit {0})). (view, c)) (ap (λ (z : Mine). z.1) is) ∙ sym is,
             λ limits' actor' row' place' content is' small' has word.
@@ -112,9 +100,10 @@ module _ (limits : Limits) (law : Limits → List Entry → Type 0) (apart : Kee
           Content x.0,
           record {
             answered = (x.0, x.1, refl);
-            spells = λ view _. spells_still s h there at view;
+            spells = λ view _. spells_quiet limits law s h id actor (seen_of me) there at view;
             kept = h.kept;
-            writes = λ other row' _ _ _ j small. ap (λ (u : List ℕ). get_or u (row_at row' (j + 1)) 0) (set-get_or s.words at 0);
+            writes = λ other row' _ _ _ j small. ap (λ (u : List ℕ). get_or u (row_at row' j) 0) (set-get_or s.words at 0);
+            records = λ other row' _ _. refl;
           },
           λ me' is_after took limits' actor' row' is' word.
               let row_same : row ≡ row' = omega arith in

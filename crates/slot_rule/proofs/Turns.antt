@@ -1,6 +1,7 @@
 -- One turn of one seat keeps the rule, and so does a step of its actor.
 use Rattle.std.proofs.Common.{◌≡◌, ◌≢◌, ℕ, ◌+◌, ◌<◌, List, [], ◌∷◌, ◌++◌, get_or, set, sym, refl, ap, ◌∙◌, subst, ⊎_elim, arith, length-set}
 use Rattle.std.specs.Prelude.{Some, Option}
+use Rattle.std.proofs.lemmas.List.{set-get_or}
 use mathlib.Core.Option.{some}
 use lib.ListN.{get_elem?}
 use Rattle.atomic_table.specs.Table.{State, keeps, stepped, Allows}
@@ -16,16 +17,16 @@ use Rattle.traces.specs.discipline.Disciplined.{Extends}
 use Rattle.traces.specs.discipline.Knowledge.{knows}
 use Rattle.traces.specs.trace.Steps.{IsAnswer, memory_after}
 use Rattle.traces.specs.trace.Trace.{memory_of}
-use Rattle.record_slots.specs.Layout.{last_at}
+use Rattle.record_slots.specs.Layout.{row_size}
 use Rattle.tree_words.specs.Layout.{row_at}
-use Rattle.tree_words.specs.Words.{SpellsWhere}
+use Rattle.tree_words.specs.Words.{words_in, SpellsWhere}
 use Rattle.slot_rule.specs.declared.view.Reach.{Reach}
 use Rattle.slot_rule.specs.declared.view.Reach.TheVariants.{Idle, Writing, Noted}
 use Rattle.slot_rule.specs.declared.view.Part.{Part}
 use Rattle.slot_rule.specs.Running.{Each, ExtendsFor, StartsWith, KnowsPlaceable, IsSettled, IsSpelledRow, ReachFits, PartFits, BeginWithSteps, actor_of, everywhere, Running}
 use Rattle.slot_rule.specs.Views.{Mine, part, alone, seen_of, SitsAt}
 use Rattle.slot_rule.specs.Steps.{with_step, IsLawfulStep, Took, Event}
-use Rattle.slot_rule.proofs.Parts.{IsApart, Stands, actors_events, apart_ne, each_append, each_zip, extends_goes, goes_extends, events, others_events, with_events, memory_stepped, starts_on, times_alone, times_of_one, everywhere_set, elsewhere, begins_on, begins_events}
+use Rattle.slot_rule.proofs.Parts.{IsApart, Stands, actors_events, apart_ne, each_append, each_zip, extends_goes, goes_extends, events, others_events, with_events, memory_stepped, settled_back, spells_views, starts_on, starts_self, times_alone, times_of_one, everywhere_set, elsewhere, begins_on, begins_events}
 use Rattle.traces.proofs.OwnEntries.{extends_self, extends_on, knows_on}
 
 abbrev pub TableState : Type 0
@@ -39,12 +40,23 @@ abbrev limits_in : List Part → Limits → Limits
 limits_in [] default = default
 limits_in (part ∷ parts) default = part.limits
 
+abbrev reach_in : List Part → Reach
+reach_in [] = Idle
+reach_in (part ∷ parts) = part.reach
+
 -- a seat of one actor is that of no other, and of one tree
 pub same_actor : (limits limits' : Limits) (actor other : ℕ) (reach reach' : Reach) (me : Mine) → SitsAt limits actor reach me → SitsAt limits' other reach' me → actor ≡ other
 same_actor limits limits' actor other reach reach' me is is' = ap (λ (z : Mine). actor_in z.0 actor) (sym is ∙ is')
 
 pub same_limits : (limits limits' : Limits) (actor other : ℕ) (reach reach' : Reach) (me : Mine) → SitsAt limits actor reach me → SitsAt limits' other reach' me → limits ≡ limits'
 same_limits limits limits' actor other reach reach' me is is' = ap (λ (z : Mine). limits_in z.0 limits) (sym is ∙ is')
+
+-- What a play says of the one actor it says of each that the seat may be taken for.
+pub at_each : (P : Limits → ℕ → Reach → Type 0) (limits : Limits) (actor : ℕ) (reach : Reach) (me : Mine) → SitsAt limits actor reach me → P limits actor reach
+    → (limits' : Limits) (actor' : ℕ) (reach' : Reach) → SitsAt limits' actor' reach' me → P limits' actor' reach'
+at_each P limits actor reach me is p limits' actor' reach' is' =
+    let same : reach ≡ reach' = ap (λ (z : Mine). reach_in z.0) (sym is ∙ is') in
+    subst (λ (z : Limits × ℕ × Reach). P z.0 z.1 z.2) (λ k. (same_limits limits limits' actor actor' reach reach' me is is' k, same_actor limits limits' actor actor' reach reach' me is is' k, same k)) p
 
 module _ (limits : Limits) (law : Limits → List Entry → Type 0) where
   abbrev pub Rule : TableState → Type 0
@@ -55,15 +67,27 @@ module _ (limits : Limits) (law : Limits → List Entry → Type 0) where
     pub grows : StartsWith run' run
     pub extends : (other : ℕ) (seen : List Entry) → other ≢ actor → Extends other seen run → Extends other seen run'
     pub same : (other : ℕ) → other ≢ actor → knows run' other ≡ knows run other
-    pub writes : (other row : ℕ) → other ≢ actor → KnowsPlaceable (knows run other) row → row < limits.rows → (j : ℕ) → j < last_at → get_or words' (row_at row (j + 1)) 0 ≡ get_or words (row_at row (j + 1)) 0
+    pub writes : (other row : ℕ) → other ≢ actor → KnowsPlaceable (knows run other) row → row < limits.rows → (j : ℕ) → j < row_size → get_or words' (row_at row j) 0 ≡ get_or words (row_at row j) 0
+    pub records : (other row : ℕ) → other ≢ actor → KnowsPlaceable (knows run other) row → (memory_of limits run').rows row ≡ (memory_of limits run).rows row
 
   spared : (actor other : ℕ) (words words' : List ℕ) (seen run run' : List Entry) (reach : Reach) → IsApart actor other reach → Spares actor words words' run run' → ExtendsFor reach other seen run → ReachFits limits words run other reach
       → ExtendsFor reach other seen run' × ReachFits limits words' run' other reach
   spared actor other words words' seen run run' Idle apart spares goes fits = (spares.extends other seen (apart_ne actor other apart) goes, tt)
-  spared actor other words words' seen run run' (Writing row written) apart spares goes fits = let ne = apart_ne actor other apart in let short = fits.2 in (
-    spares.extends other seen ne goes,
-    (subst (λ k. KnowsPlaceable k row) (sym (spares.same other ne)) fits.0, fits.1, fits.2, λ j below. spares.writes other row ne fits.0 fits.1 j (omega arith) ∙ fits.3 j below),
-  )
+  spared actor other words words' seen run run' (Writing row first written) apart spares goes fits =
+      let ne = apart_ne actor other apart in
+      let short = fits.short in
+      let stay : (j : ℕ) → j < row_size → get_or words' (row_at row j) 0 ≡ get_or words (row_at row j) 0 = spares.writes other row ne fits.may fits.there in
+      let still : (memory_of limits run).rows row ≡ (memory_of limits run').rows row = sym (spares.records other row ne fits.may) in (
+        spares.extends other seen ne goes,
+        record {
+          may = subst (λ k. KnowsPlaceable k row) (sym (spares.same other ne)) fits.may;
+          there = fits.there;
+          short = fits.short;
+          old = fits.old ∙ ap (λ o. get_or (words_in o) 0 0) still;
+          front = λ j below. stay (j + 1) (omega arith) ∙ fits.front j below;
+          behind = λ j above small. stay j small ∙ fits.behind j above small ∙ ap (λ o. get_or (words_in o) j 0) still;
+        },
+      )
   spared actor other words words' seen run run' Noted apart spares goes fits = (starts_on seen run run' goes spares.grows, tt)
 
   part_spared : (actor : ℕ) (words words' : List ℕ) (run run' : List Entry) → Spares actor words words' run run' → (p : Part) → IsApart actor p.actor p.reach → PartFits limits words run p → PartFits limits words' run' p
@@ -73,6 +97,21 @@ module _ (limits : Limits) (law : Limits → List Entry → Type 0) where
     there = fits.there;
     own_limits = fits.own_limits;
   }
+
+  -- a load leaves all words as they are, and where the seat was idle, and no more rows are settled
+  pub spares_quiet : (actor i : ℕ) (words : List ℕ) (run : List Entry) → Spares actor words (set words i (get_or words i 0)) run run
+  spares_quiet actor i words run = record {
+    grows = starts_self run;
+    extends = λ other seen ne x. x;
+    same = λ other ne. refl;
+    writes = λ other row ne may within j small. ap (λ (u : List ℕ). get_or u (row_at row j) 0) (set-get_or words i 0);
+    records = λ other row ne may. refl;
+  }
+
+  pub spells_quiet : (s : TableState) (h : Rule s) (id actor : ℕ) (seen : List Entry) → get_elem? s.views id ≡ some (alone limits actor seen Idle) → (at : ℕ) (view : List Part)
+      → SpellsWhere limits (set s.words at (get_or s.words at 0)) (memory_of limits h.run) (IsSettled (set s.views id view))
+  spells_quiet s h id actor seen there at view = subst (λ (words : List ℕ). SpellsWhere limits words (memory_of limits h.run) (IsSettled (set s.views id view))) (sym (set-get_or s.words at 0))
+      (spells_views limits s.words (memory_of limits h.run) (IsSettled s.views) (IsSettled (set s.views id view)) (λ other st. settled_back s.views id limits actor seen Idle view other there tt st) h.spells)
 
   -- one turn: the word i becomes x, and the one seat has a new view
   pub turn : (s : TableState) (h : Rule s) (id actor : ℕ) (seen : List Entry) (reach : Reach) → Stands reach → get_elem? s.views id ≡ some (alone limits actor seen reach)
@@ -106,7 +145,8 @@ module _ (limits : Limits) (law : Limits → List Entry → Type 0) where
     pub spells : (view : List Part) → view ≡ alone limits actor (with_step h.run actor begun step answer reply) Idle
         → SpellsWhere limits (set s.words i x) (memory_after actor step (memory_of limits h.run)) (IsSettled (set s.views id view))
     pub kept : (row : ℕ) (content : Record) → (memory_after actor step (memory_of limits h.run)).rows row ≡ Some content → IsSpelledRow limits row content
-    pub writes : (other row : ℕ) → other ≢ actor → KnowsPlaceable (knows h.run other) row → row < limits.rows → (j : ℕ) → j < last_at → get_or (set s.words i x) (row_at row (j + 1)) 0 ≡ get_or s.words (row_at row (j + 1)) 0
+    pub writes : (other row : ℕ) → other ≢ actor → KnowsPlaceable (knows h.run other) row → row < limits.rows → (j : ℕ) → j < row_size → get_or (set s.words i x) (row_at row j) 0 ≡ get_or s.words (row_at row j) 0
+    pub records : (other row : ℕ) → other ≢ actor → KnowsPlaceable (knows h.run other) row → (memory_after actor step (memory_of limits h.run)).rows row ≡ (memory_of limits h.run).rows row
 
   -- a step, and all that it can tell
   pub event_telling : (slots id actor : ℕ) (me : Mine) (reach : Reach) (i : ℕ) (f : ℕ → ℕ) (begun : Option Command) (step : StepOf Record) (reply : Option Reply) (then : ℕ → Mine → Type 0)
@@ -133,6 +173,7 @@ module _ (limits : Limits) (law : Limits → List Entry → Type 0) where
         extends = λ other seen ne x. subst (Extends other seen) (sym grown) (extends_on other seen h.run more (others_events actor other begun step answer reply ne) x);
         same = λ other ne. ap (λ (run : List Entry). knows run other) grown ∙ knows_on other h.run more (others_events actor other begun step answer reply ne);
         writes = r.writes;
+        records = λ other row ne mine. ap (λ m. m.rows row) after ∙ r.records other row ne mine;
       } in (
         alone limits actor later Idle,
         keeps,

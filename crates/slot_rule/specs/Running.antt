@@ -15,7 +15,7 @@ use Rattle.record_slots.specs.Layout.{row_size}
 use Rattle.record_slots.specs.Spelling.{words_of}
 use Rattle.record_slots.specs.Spells.{IsSpelling}
 use Rattle.tree_words.specs.Layout.{row_at, width}
-use Rattle.tree_words.specs.Words.{SpellsWhere}
+use Rattle.tree_words.specs.Words.{words_in, SpellsWhere}
 use Rattle.slot_rule.specs.declared.view.Reach.{Reach}
 use Rattle.slot_rule.specs.declared.view.Reach.TheVariants.{Idle, Writing, Noted}
 use Rattle.slot_rule.specs.declared.view.Part.{Part}
@@ -43,7 +43,7 @@ pub record KeepsRowsApart (limits : Limits) (law : List Entry → Type 0) : Type
 -- The seat is not in the midst of placing a record into the row.
 abbrev pub LeavesRow : ℕ → Reach → Type 0
 LeavesRow row Idle = ⊤
-LeavesRow row (Writing at words) = at ≢ row
+LeavesRow row (Writing at first words) = at ≢ row
 LeavesRow row Noted = ⊤
 
 -- no seat is
@@ -53,7 +53,7 @@ IsSettled views row = (id : ℕ) (view : List Part) → get_elem? views id ≡ s
 -- The other's part, with this reach, is a seat of the actor's, and no note.
 abbrev pub is_at : ℕ → ℕ → Reach → Bool
 is_at actor other Idle = other == actor
-is_at actor other (Writing row words) = other == actor
+is_at actor other (Writing row first words) = other == actor
 is_at actor other Noted = false
 
 -- how many parts of the view are the actor's seats, and how many of all views
@@ -65,11 +65,20 @@ abbrev pub everywhere : ℕ → List (List Part) → ℕ
 everywhere actor [] = 0
 everywhere actor (view ∷ views) = times actor view + everywhere actor views
 
--- What was written stands behind the header of a row of the actor's own, into which it may place a record.
+-- A row of the actor's own, into which it may place a record, is in part written: what was written stands behind the first word, and behind
+-- that stand the words of the record that the memory has there, whose first word this one is, or zeros where it has none.
+pub record IsPartWritten (limits : Limits) (words : List ℕ) (run : List Entry) (actor row first : ℕ) (written : List ℕ) : Type 0 where
+  pub may : KnowsPlaceable (knows run actor) row
+  pub there : row < limits.rows
+  pub short : length written < row_size
+  pub old : first ≡ slice_index (words_in ((memory_of limits run).rows row)) 0
+  pub front : (j : ℕ) → j < length written → slice_index words (row_at row (j + 1)) ≡ slice_index written j
+  pub behind : (j : ℕ) → length written < j → j < row_size → slice_index words (row_at row j) ≡ slice_index (words_in ((memory_of limits run).rows row)) j
+
+-- The words fit where the seat stands.
 abbrev pub ReachFits : Limits → List ℕ → List Entry → ℕ → Reach → Type 0
 ReachFits limits words run actor Idle = ⊤
-ReachFits limits words run actor (Writing row written) = KnowsPlaceable (knows run actor) row × (row < limits.rows) × (length written < row_size)
-    × ((j : ℕ) → j < length written → slice_index words (row_at row (j + 1)) ≡ slice_index written j)
+ReachFits limits words run actor (Writing row first written) = IsPartWritten limits words run actor row first written
 ReachFits limits words run actor Noted = ⊤
 
 -- One run begins another.
@@ -79,7 +88,7 @@ StartsWith later seen = (rest : List Entry) × (later ≡ seen ++ rest)
 -- The run goes on from what was seen: by steps of others alone where the part is a seat's, by any where it is a note.
 abbrev pub ExtendsFor : Reach → ℕ → List Entry → List Entry → Type 0
 ExtendsFor Idle actor seen run = Extends actor seen run
-ExtendsFor (Writing row words) actor seen run = Extends actor seen run
+ExtendsFor (Writing row first words) actor seen run = Extends actor seen run
 ExtendsFor Noted actor seen run = StartsWith run seen
 
 -- A row of words can spell the record.

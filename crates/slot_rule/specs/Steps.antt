@@ -1,5 +1,5 @@
 -- Steps of an actor by its seat: what one is asked, and what it tells.
-use Rattle.std.specs.Prelude.{◌≡◌, ℕ, ◌+◌, ◌*◌, ◌/◌, ◌%◌, ◌<◌, List, [], ◌∷◌, ◌++◌, length, slice_index, Option, None, Some}
+use Rattle.std.specs.Prelude.{◌≡◌, ℕ, ◌+◌, ◌-◌, ◌*◌, ◌/◌, ◌%◌, ◌<◌, ◌≤◌, List, [], ◌∷◌, ◌++◌, max, slice_index, take, Option, None, Some}
 use Rattle.atomic_table.specs.Table.{Step as Made}
 use Rattle.bw_model.specs.declared.command.Command.{Command}
 use Rattle.bw_model.specs.declared.command.Reply.{Reply}
@@ -95,25 +95,34 @@ abbrev pub Looks : Made (Unit {0}) → Mine → ℕ → Mine → Type 0
 Looks made me found me' = (me' ≡ me) × ((limits : Limits) (actor row place : ℕ) (content : Record) → SitsAt limits actor Idle me → place < row_size → HasReadRecord (knows (seen_of me) actor) row content
     → made.word ≡ row_at row place → found ≡ slice_index (words_of content) place)
 
--- where a seat stands that has written these words behind the header of a row
-abbrev pub into_row : ℕ → List ℕ → Reach
-into_row row [] = Idle
-into_row row (word ∷ words) = Writing row (word ∷ words)
+-- how many words a record uses, by its first word; and how many the one or the other of two uses
+abbrev pub used_by : ℕ → ℕ
+used_by first = items_at + item_size * (first / count_unit % part_limit)
+
+abbrev pub used_by_either : ℕ → ℕ → ℕ
+used_by_either one other = max (used_by one) (used_by other)
 
 -- what stands behind the header
 abbrev pub tail_from : List ℕ → List ℕ
 tail_from [] = []
 tail_from (word ∷ words) = words
 
+-- what is to be written behind the header of a row, where this first word stands until then: behind the words that the one or the other
+-- record uses there are zeros, and stay
+abbrev pub written_over : ℕ → List ℕ → List ℕ
+written_over first words = take (used_by_either first (slice_index words 0) - 1) (tail_from words)
+
+-- The first word of an own row is looked at, by which a record begins to be placed there; the row has all words that it says are used.
+-- No step is taken.
+abbrev pub Measures : Made (Unit {0}) → Mine → ℕ → Mine → Type 0
+Measures made me found me' = (limits : Limits) (actor row : ℕ) → SitsAt limits actor Idle me → made.word ≡ row_at row 0
+    → SitsAt limits actor (Writing row found []) me' × (seen_of me' ≡ seen_of me) × (used_by found ≤ row_size)
+
 -- One more word of a row is written behind the header, and the header, which is the step: it is told with the record.
-abbrev pub Fills : Made (Unit {0}) → Mine → ℕ → Mine → Type 0
-Fills made me found me' = (limits : Limits) (actor row : ℕ) (written : List ℕ) → SitsAt limits actor (into_row row written) me → made.word ≡ row_at row (length written + 1)
-    → SitsAt limits actor (into_row row (written ++ found ∷ [])) me' × (seen_of me' ≡ seen_of me)
+abbrev pub Fills : Mine → ℕ → Mine → Type 0
+Fills me found me' = (limits : Limits) (actor row first : ℕ) (written : List ℕ) → SitsAt limits actor (Writing row first written) me
+    → SitsAt limits actor (Writing row first (written ++ found ∷ [])) me' × (seen_of me' ≡ seen_of me)
 
 abbrev pub Places : (Limits → List Entry → Type 0) → StepOf Record → Mine → ℕ → Mine → Type 0
-Places law step me found me' = (limits : Limits) (actor row : ℕ) (written : List ℕ) → SitsAt limits actor (into_row row written) me
+Places law step me found me' = (limits : Limits) (actor row first : ℕ) (written : List ℕ) → SitsAt limits actor (Writing row first written) me
     → SitsAt limits actor Idle me' × Took law limits actor (seen_of me) None step Done None (seen_of me')
-
--- how many words a record uses, by its first word
-abbrev pub used_by : ℕ → ℕ
-used_by first = items_at + item_size * (first / count_unit % part_limit)

@@ -7,13 +7,14 @@ ghost use Rattle.record_slots.specs.declared.layout.TheConstants.{ROW_WORDS};
 ghost use Rattle.traces.specs.discipline.Knowledge.{knows};
 ghost use Rattle.slot_rule.specs.declared.view.Reach.TheVariants.{Idle};
 ghost use Rattle.slot_rule.specs.Running.{HasSpelling, KeepsRowsApart, KnowsReadable};
-ghost use Rattle.slot_rule.specs.Steps.{HasReadRecord, IsLawfulStep, ReadsRow, used_by};
+ghost use Rattle.slot_rule.specs.Steps.{HasReadRecord, IsLawfulStep, ReadsRow};
 ghost use Rattle.slot_rule.specs.Views.{SitsAt, IsOf, seen_of};
 
 use crate::reading::{look_at, read_first};
 use crate::rule::{Law, TableSeat, Words};
+use crate::used::used_words;
 use bw_model::Limits;
-use record_slots::{FIRST_ITEM, ITEM_UNIT, ITEM_WORDS, PART_LIMIT, ROW_WORDS, rows_have_words};
+use record_slots::{ROW_WORDS, rows_have_words};
 
 /// Reads a row that the seat's actor has learnt into the place where its words are to lie: the load of the first word is the step, and
 /// each word that the record uses is copied by one more load.
@@ -73,11 +74,4 @@ fn zero_behind(found: &mut [u64; ROW_WORDS], used: usize)
     ensures { found.new ≡ take used found.old ++ replicate (ROW_WORDS - used) 0 }
 {
     found[used..].fill(0);
-}
-
-/// How many words a record uses that begins with this one.
-fn used_words(first: u64) -> usize
-    ensures { result ≡ used_by first }
-{
-    FIRST_ITEM + ITEM_WORDS * (first / ITEM_UNIT % PART_LIMIT) as usize
 }

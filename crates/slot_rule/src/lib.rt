@@ -20,6 +20,7 @@ mod reading;
 mod rule;
 mod seats;
 mod steps;
+mod used;
 mod view;
 mod watching;
 

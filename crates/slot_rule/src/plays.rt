@@ -74,13 +74,22 @@ impl<P: Law> Play<(), View> for Watching<P> {
     ghost then = { Watches P.law };
 }
 
+/// The first word of an own row is looked at, by which a record begins to be placed there.
+pub(crate) struct Measuring;
+
+impl Play<(), View> for Measuring {
+    ghost use Rattle.slot_rule.specs.Steps.{Measures};
+
+    ghost then = { Measures };
+}
+
 /// One more word of a row is written, behind the header.
 pub(crate) struct Filling;
 
 impl Play<(), View> for Filling {
     ghost use Rattle.slot_rule.specs.Steps.{Fills};
 
-    ghost then = { Fills };
+    ghost then = { λ made. Fills };
 }
 
 /// The header of a row is written, which is the step.

@@ -8,8 +8,9 @@ use traces::Entry;
 pub enum Reach {
     /// Between two steps.
     Idle,
-    /// In the midst of placing a record into this row, with the words that it has written there behind the header.
-    Writing(u32, LinkedList<u64>),
+    /// In the midst of placing a record into this row, with the first word that stands there until then, and the words that the seat has
+    /// written behind it.
+    Writing(u32, u64, LinkedList<u64>),
     /// Nowhere: this is a note of what the actor had seen, with which no step is taken.
     Noted,
 }

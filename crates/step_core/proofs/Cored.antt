@@ -22,6 +22,9 @@ use Rattle.traces.specs.trace.Trace.{command_of, commands_after, memory_of}
 use Rattle.traces.specs.discipline.Discipline.{IsAllowed, May}
 use Rattle.traces.specs.discipline.Disciplined.{IsDisciplinedFrom, MayStand}
 use Rattle.traces.specs.discipline.Knowledge.{Knowledge, begun, finished, knows, knows_after, learn, nothing}
+use Rattle.traces.specs.discipline.Useful.{IsUseful}
+use Rattle.op_machine.specs.theorem.Halves.{IsHalved}
+use Rattle.tree_law.specs.Changes.{IsPaidState, StepsPay}
 use Rattle.tree_law.specs.Direct.{IsDirectState, StaysDirect}
 use Rattle.tree_law.specs.Own.{RowsAreApart}
 use Rattle.tree_law.specs.State.{IsState}
@@ -87,10 +90,11 @@ stands_push limits before (entry ∷ entries) last h may = (h.0, stands_push lim
 
 module _ (limits : Limits) where
   pub core_opens : (table : CoreTable) (actors : List Actor) (entries : List Entry) → table.limits ≡ limits → memory_in table ≡ opening limits → length actors ≡ limits.actors
-      → ((a : ℕ) (at : Actor) → slice_get actors a ≡ Some at → at ≡ idle_actor limits) → ((limits : Limits) (number : ℕ) (r : Recalled) → IsActor limits number nothing r (idle_actor limits)) → IsState limits [] → IsDirectState limits [] → entries ≡ [] → IsCore limits table actors entries
-  core_opens table actors entries same has count each rest state direct none = rw none (record {
+      → ((a : ℕ) (at : Actor) → slice_get actors a ≡ Some at → at ≡ idle_actor limits) → ((limits : Limits) (number : ℕ) (r : Recalled) → IsActor limits number nothing r (idle_actor limits)) → IsState limits [] → IsDirectState limits [] → IsPaidState limits [] → entries ≡ [] → IsCore limits table actors entries
+  core_opens table actors entries same has count each rest state direct paid none = rw none (record {
     state = state;
     direct = direct;
+    paid = paid;
     disciplined = tt;
     same_limits = same;
     has = has;
@@ -195,15 +199,16 @@ module _ (limits : Limits) where
       let (found, wanted) = core_wanted table actors entries i j old room core v is refusal same at in
       inr (wanted_by old.running, wanted, subst (λ c. KeepsMore c (wanted_by old.running)) (core.each_running i old found ∙ ap (λ (u : Core). command_of u.entries i) is) keeps)
 
-  pub core_begun : BeginsKeep IsState → (table : CoreTable) (actors : List Actor) (entries entries' : List Entry) (i j : ℕ) (new : Actor) (command : Command) → IsCore limits table actors entries
+  pub core_begun : BeginsKeep IsState → BeginsKeep IsPaidState → (table : CoreTable) (actors : List Actor) (entries entries' : List Entry) (i j : ℕ) (new : Actor) (command : Command) → IsCore limits table actors entries
       → (demand : Demand) (v : Core) → record { limits = limits; entries = entries; demand = demand } ≡ v → refusal_of v (turn.Begin i command) ≡ None → j ≡ i
       → IsActor limits i (begun (knows entries i) command) blank new → running_command new ≡ Some command → Grows limits entries (Begin i command) → StaysDirect limits entries (Begin i command) i (steps_due blank new.hand new.running)
       → entries' ≡ entries ++ Begin i command ∷ [] → IsCore limits table (set actors j new) entries'
-  core_begun begins table actors entries entries' i j new command core demand v is refusal same shows runs grows stays grown =
+  core_begun begins pays table actors entries entries' i j new command core demand v is refusal same shows runs grows stays grown =
       let goes : (i < limits.actors) × (command_of entries i ≡ None) = begin_goes (record { limits = limits; entries = entries; demand = demand }) i command (subst (λ u. refusal_of u (turn.Begin i command) ≡ None) (sym is) refusal) in
       rw (grown, same) (record {
         state = begins limits entries i command core.state goes.0 goes.1;
         direct = stays.state;
+        paid = pays limits entries i command core.paid goes.0 goes.1;
         disciplined = stands_push limits [] entries (Begin i command) core.disciplined (goes.0, goes.1);
         same_limits = core.same_limits;
         has = rw grows.memory core.has;
@@ -237,16 +242,17 @@ module _ (limits : Limits) where
   pub core_affords : (table : CoreTable) (actors : List Actor) (entries : List Entry) (i j : ℕ) (old : Actor) → IsCore limits table actors entries → j ≡ i → j < length actors → old ≡ get_or actors j old → Pays limits entries i old
   core_affords table actors entries i j old core same lt at = core.each_pays i old (get_is actors i old (rw (sym same) lt) (subst (λ k. old ≡ get_or actors k old) same at))
 
-  pub core_stepped : Steps → (table table' : CoreTable) (actors : List Actor) (entries entries' : List Entry) (i j : ℕ) (old new : Actor) (step : StepOf Record) (answer : Answer Record) (reply : Option Reply) → IsCore limits table actors entries
-      → j ≡ i → j < length actors → old ≡ get_or actors j old → is_some (running_command old) ≡ true → IsAllowed limits i (knows entries i) step reply → IsActor limits i (knows_then (knows entries i) step answer reply) (recall (recalls entries i) step answer) new
+  pub core_stepped : Steps → StepsPay → (table table' : CoreTable) (actors : List Actor) (entries entries' : List Entry) (i j : ℕ) (old new : Actor) (step : StepOf Record) (answer : Answer Record) (reply : Option Reply) → IsCore limits table actors entries
+      → j ≡ i → j < length actors → old ≡ get_or actors j old → is_some (running_command old) ≡ true → IsAllowed limits i (knows entries i) step reply → IsUseful (knows entries i) step → IsHalved (knows entries i) step → IsActor limits i (knows_then (knows entries i) step answer reply) (recall (recalls entries i) step answer) new
       → running_command new ≡ command_left reply (running_command old) → Grows limits entries (Step i step answer reply) → StaysDirect limits entries (Step i step answer reply) i (steps_due (recall (recalls entries i) step answer) new.hand new.running)
       → table'.limits ≡ table.limits → IsAnswer (memory_of limits entries) step answer → memory_in table' ≡ memory_after i step (memory_in table) → entries' ≡ entries ++ Step i step answer reply ∷ [] → IsCore limits table' (set actors j new) entries'
-  core_stepped steps table table' actors entries entries' i j old new step answer reply core same lt at some allowed shows runs grows stays kept_limits answered kept grown =
+  core_stepped steps pays table table' actors entries entries' i j old new step answer reply core same lt at some allowed useful halved shows runs grows stays kept_limits answered kept grown =
       let found : slice_get actors i ≡ Some old = get_is actors i old (rw (sym same) lt) (subst (λ k. old ≡ get_or actors k old) same at) in
       let going : is_some (command_of entries i) ≡ true = ap is_some (sym (core.each_running i old found)) ∙ some in
       rw (grown, same) (record {
         state = steps limits entries i step answer reply core.state going allowed answered;
         direct = stays.state;
+        paid = pays limits entries i step answer reply core.paid going allowed useful halved answered;
         disciplined = stands_push limits [] entries (Step i step answer reply) core.disciplined (going, allowed, answered);
         same_limits = kept_limits ∙ core.same_limits;
         has = rw grows.memory (kept ∙ ap (memory_after i step) core.has);

@@ -23,6 +23,7 @@ use Rattle.traces.specs.discipline.Knowledge.{Knowledge}
 use Rattle.traces.specs.discipline.Recalled.{Recalled}
 use Rattle.traces.specs.trace.Steps.{IsAnswer}
 use Rattle.installs.specs.Spares.{Spares}
+use Rattle.installs.specs.declared.taking.Kind.{Kind}
 use Rattle.op_machine.specs.machine.Hands.{Hand}
 use Rattle.op_machine.specs.machine.Shows.{ShowsState}
 use Rattle.op_machine.specs.machine.Tasks.{Task}
@@ -66,7 +67,7 @@ asked_is task spares k r (Enter epoch) h = h.0.asked.going
 asked_is task spares k r (Read round) h = h.seeks.asked.going
 asked_is task spares k r (Write round) h = h.seeks.asked.going
 asked_is task spares k r (Change now then) h = h.asked.going
-asked_is task spares k r (Leave reply) h = h.0.going
+asked_is task spares k r (Leave reply lacks) h = h.0.going
 
 -- an actor with an operation shows that command, and wants a step
 command_shown : (limits : Limits) (number : ℕ) (k : Knowledge) (r : Recalled) (hand : Hand) (running : Option UnderWay) → is_some (command_at running) ≡ true → IsActorWith limits number k r hand running → k.asked.command ≡ command_at running
@@ -75,15 +76,15 @@ command_shown limits number k r hand (Some running) some at = asked_is running.o
 
 module _ (limits : Limits) (number : ℕ) (k : Knowledge) (r : Recalled) (memory : Memory) (step : StepOf Record) (answer : Answer Record) where
   -- the answer of the memory fits
-  going_with : (hand : Hand) (o : Option UnderWay) → is_some (command_at o) ≡ true → IsReady limits number k r memory (record { hand = hand; running = o }) → wanted_by o ≡ Some step → IsAnswer memory step answer
-      → (going : IsGoing limits number k r (record { hand = hand; running = o }) answer) × (going.running.wanted ≡ step)
-  going_with hand None some ready is answered = cc
-  going_with hand (Some running) some ready is answered =
+  going_with : (hand : Hand) (o : Option UnderWay) (lacks : Option Kind) → is_some (command_at o) ≡ true → IsReady limits number k r memory (record { hand = hand; running = o; lacks = lacks }) → wanted_by o ≡ Some step → IsAnswer memory step answer
+      → (going : IsGoing limits number k r (record { hand = hand; running = o; lacks = lacks }) answer) × (going.running.wanted ≡ step)
+  going_with hand None lacks some ready is answered = cc
+  going_with hand (Some running) lacks some ready is answered =
       let same : running.wanted ≡ step = same_Some running.wanted step is in
       (record { running = running; is = refl; shows = ready.0; fits = ready.1 answer (subst (λ s. IsAnswer memory s answer) (sym same) answered) }, same)
 
   pub going : (at : Actor) → is_some (running_command at) ≡ true → IsReady limits number k r memory at → wanted_by at.running ≡ Some step → IsAnswer memory step answer → (going : IsGoing limits number k r at answer) × (going.running.wanted ≡ step)
-  going at some ready is answered = going_with at.hand at.running some ready is answered
+  going at some ready is answered = going_with at.hand at.running at.lacks some ready is answered
 
   -- it goes on by that answer
   pub goes_by : (at new : Actor) (told : Answer Record) (reply : Option Reply) → is_some (running_command at) ≡ true → IsReady limits number k r memory at → wanted_by at.running ≡ Some step → IsAnswer memory step answer → told ≡ answer

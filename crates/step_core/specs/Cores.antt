@@ -7,6 +7,7 @@ use Rattle.traces.specs.discipline.Knowledge.{knows}
 use Rattle.traces.specs.discipline.Recalled.{recalls}
 use Rattle.core_memory.specs.Tables.{CoreTable, memory_in}
 use Rattle.traces.specs.trace.Trace.{command_of, memory_of}
+use Rattle.tree_law.specs.Changes.{IsPaidState}
 use Rattle.tree_law.specs.Direct.{Accounts, IsDirectState}
 use Rattle.tree_law.specs.State.{IsState}
 use Rattle.op_machine.specs.machine.Actors.{Actor, IsActor, running_command}
@@ -16,11 +17,12 @@ use Rattle.op_machine.specs.machine.UnderWay.{steps_due}
 abbrev pub Pays : Limits → List Entry → ℕ → Actor → Type 0
 Pays limits entries actor at = Accounts limits entries actor (steps_due (recalls entries actor) at.hand at.running)
 
--- The trace is one in which each actor obeyed its discipline, by few steps. The table has the memory after it; each actor
+-- The trace is one in which each actor obeyed its discipline, by few steps and few changes. The table has the memory after it; each actor
 -- keeps what shows what the trace lets it know and recall, and runs what the trace says that it has not finished.
 pub record IsCore (limits : Limits) (table : CoreTable) (actors : List Actor) (entries : List Entry) : Type 0 where
   pub state : IsState limits entries
   pub direct : IsDirectState limits entries
+  pub paid : IsPaidState limits entries
   pub disciplined : IsDisciplined limits entries
   pub same_limits : table.limits ≡ limits
   pub has : memory_in table ≡ memory_of limits entries

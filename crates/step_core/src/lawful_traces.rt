@@ -1,10 +1,15 @@
 //! The law over runs, beside the code that comes under it, and what the core's turns rest on: laws of the crates below.
+ghost use Rattle.progress.specs.Readers.{ReadersReadAtOnce};
+ghost use Rattle.tree_law.specs.Changes.{IsPaidState, StepsPay};
 ghost use Rattle.tree_law.specs.Direct.{BeginsDirectly, StepsDirectly};
 ghost use Rattle.tree_law.specs.Own.{RowsAreApart};
 ghost use Rattle.tree_law.specs.State.{IsState};
 ghost use Rattle.tree_law.specs.TraceLaws.{AnswersFit, BeginsKeep, HeadsStand, RunsAreIndexed, RunsAreLinearized, RunsFreeByRule, RunsKeepPhases, StatesFreeByRule, StatesAreIndexed, StatesAreLinearized, StatesKeepPhases, Steps};
 
-use tree_law::{answers, begins, begins_directly, rows_are_apart, steps, steps_directly};
+use tree_law::{
+    answers, begins, begins_directly, begins_paid, rows_are_apart, steps, steps_directly,
+    steps_paid,
+};
 
 /// In every trace, of any number of actors and in any order of their turns, in which each actor obeys its discipline, the
 /// operations took effect one at a time, on one ordered map; pages kept their phases, the index is exact at each moment, and
@@ -21,38 +26,44 @@ pub fn disciplined_runs()
     tree_law::frees_by_rule();
 }
 
-/// A begin keeps the law of states and that of few steps.
+/// A begin keeps the law of states, and those of few steps and few changes.
 pub(crate) fn begins_keep_laws()
     ensures state { BeginsKeep IsState }
     ensures direct { BeginsDirectly }
+    ensures paid { BeginsKeep IsPaidState }
 {
     begins();
     begins_directly();
+    begins_paid();
 }
 
-/// What a step may count on, and that it keeps the law of states and that of few steps.
+/// What a step may count on, and that it keeps the law of states, and those of few steps and few changes.
 pub(crate) fn steps_keep_laws()
     ensures apart { RowsAreApart }
     ensures heads { HeadsStand }
     ensures fit { AnswersFit }
     ensures state { Steps }
     ensures direct { StepsDirectly }
+    ensures paid { StepsPay }
 {
     rows_are_apart();
     answers();
     steps();
     steps_directly();
+    steps_paid();
 }
 
-/// What the tree's law says of states.
+/// What the tree's law says of states, and of their readers.
 pub(crate) fn states_are_lawful()
     ensures linearized { StatesAreLinearized }
     ensures phases { StatesKeepPhases }
     ensures index { StatesAreIndexed }
+    ensures reads { ReadersReadAtOnce }
     ensures freed { StatesFreeByRule }
 {
     tree_law::is_one_map();
     tree_law::keeps_phases();
     tree_law::index_is_exact();
+    progress::readers_read_at_once();
     tree_law::frees_by_rule();
 }

@@ -19,7 +19,7 @@ use row_chain::HeldRow;
 use std::alloc::{AllocError, Allocator, Global};
 use std::marker::Model;
 use traces::Turn;
-use tree_law::{entries_grow, leaves_stand, opens, opens_directly};
+use tree_law::{entries_grow, leaves_stand, opens, opens_directly, opens_paid};
 
 /// All actors over one memory, which an allocator gives, and room for the record that is read.
 pub struct Core<A: Allocator = Global> {
@@ -75,6 +75,7 @@ impl<A: Allocator + Copy> Core<A> {
     {
         opens();
         opens_directly();
+        opens_paid();
         idle_actors_rest();
         let room = HeldRow::<A>::new(alloc)?;
         let memory = CoreTable::<A>::open(alloc, &limits)?;

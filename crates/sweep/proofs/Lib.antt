@@ -3,4 +3,5 @@ pub mod Agreeing
 pub mod Moving
 pub mod SmallLimbo
 pub mod Sound
+pub mod Short
 pub mod Unlinking

@@ -17,6 +17,6 @@ mod sweep;
 mod taking_out;
 
 pub use examples::{other_limbos_are_refused, small_limbo_is_kept};
-pub use limbo_laws::{chains_go_to_limbo, limbos_are_kept};
+pub use limbo_laws::{chains_go_to_limbo, large_sweeps_are_short, limbos_are_kept};
 pub use sweep::Sweep;
 pub use taking_out::take_out;

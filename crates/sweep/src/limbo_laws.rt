@@ -1,7 +1,8 @@
 //! Laws of limbos: each function does nothing, and its contract is proved of all of them.
-ghost use Rattle.std.specs.Prelude.{◌≡◌, ◌<◌, ◌≤◌, ◌↔◌, ℕ, List, Option, None, Some, IsTrue, length};
+ghost use Rattle.std.specs.Prelude.{◌≡◌, ◌<◌, ◌≤◌, ◌↔◌, ℕ, List, Option, None, Some, IsTrue, length, true};
 ghost use Rattle.std.specs.List.{Contains};
 ghost use Rattle.tree_limits.specs.declared.limits.Limits.{Limits};
+ghost use Rattle.bw_model.specs.declared.step.Answer.{Answer};
 ghost use Rattle.bw_model.specs.declared.step.Answer.TheVariants.{Number};
 ghost use Rattle.bw_model.specs.declared.step.Step.TheVariants.{Epoch};
 ghost use Rattle.traces.specs.chain.Chains.{IsChainFrom, chain_rows};
@@ -9,9 +10,14 @@ ghost use Rattle.traces.specs.discipline.Fitting.{AreOutOfLimbo, Fits};
 ghost use Rattle.traces.specs.discipline.Knowledge.{Absent, Unstamped, Knowledge, is_on_walk, learn, nothing, taken_out};
 ghost use Rattle.deltas.specs.Memory.{replaced_at};
 ghost use Rattle.deltas.specs.declared.record.Record.{Record};
-ghost use Rattle.epochs.specs.Limbo.{Limbo};
+ghost use Rattle.epochs.specs.Limbo.{Limbo, with_item};
+ghost use Rattle.epochs.specs.declared.item.Item.{Item};
 ghost use Rattle.sweep.specs.Kept.{AreKept, empty_limbo};
+ghost use Rattle.sweep.specs.Moves.{BeginsSweep, Moves};
+ghost use Rattle.sweep.specs.Short.{GoesShort, IsClear, free_now, most_short, short_left};
+ghost use Rattle.sweep.specs.Sweeps.{IsSoundState};
 ghost use Rattle.sweep.specs.Taken.{IsTakenOut};
+ghost use Rattle.sweep.specs.declared.sweep.State.{State};
 
 use traces::chain_is_one;
 
@@ -49,3 +55,22 @@ pub fn chains_go_to_limbo()
 {
     chain_is_one();
 }
+
+/// A sweep of a large tree takes 145 steps at most, however many items are in limbo, where nothing might be freed before it: so it is
+/// at the opening, where an item comes, and after a sweep that has ended.
+pub fn large_sweeps_are_short()
+    ensures new { (limits : Limits) → free_now (empty_limbo limits) ≡ 0 }
+    ensures comes { (item : Item) (limbo : Limbo) → free_now (with_item item limbo) ≡ free_now limbo }
+    ensures begins { (limits : Limits) (limbo after : Limbo) (first : State)
+        → limits.is_large ≡ true
+        → free_now limbo ≡ 0
+        → BeginsSweep limits limbo (Some first) after
+        → IsClear first after × (short_left first after ≤ most_short) }
+    ensures goes { (limits : Limits) (old : State) (next : Option State) (told : Answer Record) (limbo after : Limbo)
+        → limits.is_large ≡ true
+        → IsSoundState limits old
+        → IsClear old limbo
+        → Moves limits old limbo told next after
+        → GoesShort (short_left old limbo) next after }
+    ensures most { most_short ≡ 145 }
+{}

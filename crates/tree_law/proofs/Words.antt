@@ -82,6 +82,7 @@ pub use Rattle.op_machine.specs.theorem.Phases.{indexed, free, IsInPhase, MovesP
 pub use Rattle.op_machine.specs.theorem.Points.{log_at, log_of, IsPoint}
 pub use Rattle.op_machine.specs.theorem.Quiet.{HasMapOf, IsQuiet}
 pub use Rattle.op_machine.specs.theorem.Reuse.{UnlinksPid, UnlinksRow, HandsPid, HandsRow}
+pub use Rattle.op_machine.specs.theorem.Readers.{IsOfUse, IsReading}
 pub use Rattle.op_machine.specs.theorem.Updates.{UpdatesAtLinks, IsUpdateLink, LinksUpdate}
 pub use Rattle.tree_law.specs.AllLinks.{split_a, term_b, item_a, base_b, unterm_a, split_b, upper_a, deletion_a, merge_a, all_links, insert_a}
 pub use Rattle.tree_law.specs.CursorPages.{right_term}

@@ -22,9 +22,8 @@ use Rattle.traces.specs.discipline.Knowledge.{Ready, knows}
 use Rattle.traces.specs.discipline.Recalled.{Recalled, Walk, AnyNames, IsStepSpent, IsUnread, cause_worth, is_removal, recalls, removal_level}
 use Rattle.traces.specs.trace.Steps.{IsAnswer}
 use Rattle.traces.specs.trace.Trace.{memory_of}
-use Rattle.traces.specs.discipline.Useful.{IsUseful}
 use Rattle.op_machine.specs.theorem.Direct.{IsCause, IsDirect, IsExchangeOf, IsTake, Links, IsTheStep, TakesNone, is_step_of}
-use Rattle.op_machine.specs.theorem.Updates.{IsUpdateLink}
+use Rattle.op_machine.specs.theorem.Readers.{IsOfUse}
 use Rattle.op_machine.specs.theorem.Operations.{Operation, IsOperation, TakesOwnStep}
 use Rattle.op_machine.specs.theorem.Updates.{IsUpdateLink}
 use Rattle.tree_law.specs.State.{IsState, IsUnended}
@@ -89,7 +88,7 @@ BeginsDirectly = (limits : Limits) (entries : List Entry) (actor left : ℕ) (co
 -- A step that is allowed, and of use, keeps one, where its operation has spent a step, or was paid.
 abbrev pub StepsDirectly : Type 0
 StepsDirectly = (limits : Limits) (entries : List Entry) (actor left rest : ℕ) (step : StepOf Record) (answer : Answer Record) (reply : Option Reply) → IsState limits entries
-    → IsAllowed limits actor (knows entries actor) step reply → IsUseful (knows entries actor) step → IsAnswer (memory_of limits entries) step answer → IsDirectState limits entries → Accounts limits entries actor left
+    → IsAllowed limits actor (knows entries actor) step reply → IsOfUse (knows entries actor) step → IsAnswer (memory_of limits entries) step answer → IsDirectState limits entries → Accounts limits entries actor left
     → IsStepSpent limits (recalls entries actor) step answer left rest → StaysDirect limits entries (Step actor step answer reply) actor rest
 
 -- Along these entries each operation says how many steps it has left: 2^18 at most when it begins; and with each step, which is
@@ -97,7 +96,7 @@ StepsDirectly = (limits : Limits) (entries : List Entry) (actor left rest : ℕ)
 abbrev pub SpendsFrom : Limits → (ℕ → ℕ) → List Entry → List Entry → Type 0
 SpendsFrom limits left before [] = ⊤
 SpendsFrom limits left before (Begin actor command ∷ entries) = (rest : ℕ) × (rest ≤ cause_worth limits) × SpendsFrom limits (replaced_at actor rest left) (before ++ Begin actor command ∷ []) entries
-SpendsFrom limits left before (Step actor step answer reply ∷ entries) = (rest : ℕ) × IsUseful (knows before actor) step × IsStepSpent limits (recalls before actor) step answer (left actor) rest × SpendsFrom limits (replaced_at actor rest left) (before ++ Step actor step answer reply ∷ []) entries
+SpendsFrom limits left before (Step actor step answer reply ∷ entries) = (rest : ℕ) × IsOfUse (knows before actor) step × IsStepSpent limits (recalls before actor) step answer (left actor) rest × SpendsFrom limits (replaced_at actor rest left) (before ++ Step actor step answer reply ∷ []) entries
 
 -- Then a trace in which each actor obeys its discipline is direct.
 abbrev pub DirectRuns : Type 0

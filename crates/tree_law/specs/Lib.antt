@@ -1,3 +1,4 @@
+pub mod Changes
 pub mod Direct
 pub mod AllLinks
 pub mod CursorPages

@@ -2,19 +2,22 @@
 //! and what follows for the traces of actors that obey their discipline.
 //!
 //! Look first at `disciplined_runs` and at `IsState` (specs/State): a trace of steps that the discipline allows is linearized, kept by
-//! one call for each entry; its index is exact, rows are freed by the rule, and few steps are taken where operations can afford theirs.
+//! one call for each entry; its index is exact, rows are freed by the rule, few steps are taken where operations can afford theirs, and the tree is
+//! changed few times.
 //! Every function is a law and does nothing when it runs.
 //!
 //! Called by `step_core` and `bw_tree`, which keep the invariant; `listing` and `scene` use what it says of leaves and levels. It knows
 //! no operation, only the discipline; neither `op_machine`'s code nor any way through the tree is named here.
 #![tactic(auto)]
 
+mod changes;
 mod direct;
 mod examples;
 mod invariant;
 mod own;
 mod run_laws;
 
+pub use changes::{begins_paid, few_changes, opens_paid, steps_paid};
 pub use direct::{begins_directly, opens_directly, runs_directly, steps_directly};
 pub use examples::{
     all_links_are_disciplined, helped_split_is_disciplined, index_removal_is_disciplined,

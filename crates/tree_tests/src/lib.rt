@@ -11,6 +11,8 @@ mod calls;
 #[cfg(test)]
 mod clients;
 #[cfg(test)]
+mod closed_trees;
+#[cfg(test)]
 mod closing;
 #[cfg(test)]
 mod cycles;
@@ -22,6 +24,8 @@ mod full_trees;
 mod handed_back;
 #[cfg(test)]
 mod jobs;
+#[cfg(test)]
+mod lacking;
 #[cfg(test)]
 mod last_epoch;
 #[cfg(test)]
@@ -42,6 +46,8 @@ mod proposals;
 mod refused_jobs;
 #[cfg(test)]
 mod refused_trees;
+#[cfg(test)]
+mod reused_rows;
 #[cfg(test)]
 mod room_watched;
 #[cfg(test)]

@@ -1,5 +1,5 @@
 -- Tests of the entries of runs that are written out, and what follows where all of them pass.
-use Rattle.std.proofs.Common.{◌≡◌, ◌<◌, ◌==◌, ◌||◌, ℕ, List, [], ◌∷◌, Bool, true, false, Some, None, Option, refl, inl, inr, lit<}
+use Rattle.std.proofs.Common.{◌≡◌, ◌==◌, ◌||◌, ℕ, List, [], ◌∷◌, Bool, true, false, Some, None, Option, refl, inl, inr, lit<}
 use Rattle.std.specs.Prelude.{not}
 use Rattle.std.proofs.lemmas.Bool.{eqb-true}
 use Rattle.bw_model.specs.declared.command.Command.{Command}

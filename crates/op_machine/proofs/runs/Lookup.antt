@@ -1,6 +1,6 @@
 -- An actor looks a key up in the opening tree, and finds none: a run with its point, answered, quiet and faithful.
 use Rattle.std.specs.Prelude.{codes}
-use Rattle.std.proofs.Common.{◌≡◌, ◌<◌, ◌≤◌, ℕ, suc, List, [], ◌∷◌, ◌++◌, Bool, true, false, Some, None, refl, sym, subst, ap, arith, inl, lit<, lit≤, ◌+◌, ◌*◌, ◌^◌, ◌∙◌}
+use Rattle.std.proofs.Common.{◌≡◌, ◌<◌, ◌≤◌, ℕ, suc, List, [], ◌∷◌, ◌++◌, length, Bool, true, false, Some, None, refl, sym, subst, ap, arith, inl, lit<, lit≤, ◌+◌, ◌*◌, ◌^◌, ◌∙◌}
 use Rattle.std.specs.Prelude.{slice_get}
 use Rattle.bw_model.specs.declared.command.Command.{Command}
 use Rattle.bw_model.specs.declared.command.Command.TheVariants.{Get}
@@ -17,7 +17,7 @@ use Rattle.traces.specs.declared.trace.Entry.TheVariants.{Begin, Step}
 use Rattle.traces.specs.trace.Run.{IsRun}
 use Rattle.std.specs.Prelude.{map}
 use Rattle.traces.specs.trace.Trace.{turn_of}
-use Rattle.traces.specs.trace.Trace.{memory_at, TakesStep, IsStep}
+use Rattle.traces.specs.trace.Trace.{Happens, memory_at, TakesStep, IsStep}
 use Rattle.traces.proofs.RunLaws.{IsRun-from_steps}
 use Rattle.op_machine.specs.theorem.Operations.{EndAtLeaves, Finishes, IsOperation, IsOwnStep, Operation, RepliesAtLeave}
 use Rattle.bw_model.specs.Log.{Update, logged_value}
@@ -25,13 +25,14 @@ use Rattle.bw_model.specs.Replies.{reply_of}
 use Rattle.op_machine.specs.theorem.Points.{log_at, HasPoints, IsPoint, has_point}
 use Rattle.op_machine.specs.theorem.Answered.{IsAnswered}
 use Rattle.op_machine.specs.theorem.Quiet.{IsQuiet, HasMapOf}
-use Rattle.std.specs.Prelude.{slice_range}
-use Rattle.std.specs.List.{count_by}
 use Rattle.traces.specs.discipline.Recalled.{cause_worth}
 use Rattle.traces.specs.chain.Chains.{IsChainOf, level_in}
 use Rattle.traces.proofs.ChainLaws.{IsChainOf-unique}
 use Rattle.traces.proofs.Pushes.{slice_get_below}
-use Rattle.op_machine.specs.theorem.Direct.{IsDirect, is_step_of}
+use Rattle.op_machine.specs.theorem.Changes.{HasFewChanges}
+use Rattle.op_machine.specs.theorem.Direct.{IsDirect}
+use Rattle.op_machine.specs.theorem.Progress.{AreAmong, ChangesTree, ReadsAtOnce, steps_from}
+use Rattle.op_machine.specs.theorem.Readers.{IsReading}
 use Rattle.op_machine.specs.theorem.Faithful.{IsFaithful, KnowsRow}
 use Rattle.op_machine.specs.theorem.Index.{IsExactIndex, IsPageOfLevel, IsRootLevel}
 use Rattle.op_machine.specs.theorem.Phases.{Phase, MovesPhase, KeepsPhases, takes, splits, becomes_root, terms, under_root, holds, removes, merges, unterms, reuses}
@@ -209,22 +210,61 @@ is_faithful = record {
       undisturbed = λ later other step answer low high. absurd (omega arith);
     }
 
+at_most : {operation : Operation} (n : ℕ) → IsOwnStep lookup operation n → n ≤ 6
+at_most n own = let lt : n < 7 = slice_get_below lookup n _ own.2.1.entry in omega arith
+
+few_steps : (operation : Operation) (n : ℕ) → IsOperation lookup operation → n ≤ 6 → steps_from lookup operation.actor operation.start n ≤ cause_worth small
+unfolding cause_worth
+few_steps operation n is h = rw (only operation is) (UpTo-at (λ k. steps_from lookup 0 0 k ≤ cause_worth small) 6 (lit≤ tt, (lit≤ tt, (lit≤ tt, (lit≤ tt, (lit≤ tt, (lit≤ tt, lit≤ tt)))))) n h)
+
 is_direct : IsDirect small lookup
-unfolding only_looks cause_worth
+unfolding only_looks
 is_direct = record {
-  few = λ operation n is own. ([], λ k h. absurd (omega arith), λ k d h. absurd (omega arith), rw (only operation is) (bound n (at_most n own)));
+  few = λ operation n is own. ([], λ k h. absurd (omega arith), λ k d h. absurd (omega arith), once_is (few_steps operation n is (at_most n own)));
   once = λ operation m n first second is a b. absurd (odd (looks m _ a.3.1.entry operation.actor _ _ (a.3.0, refl)));
   useful = λ operation n slot old new chain is own. absurd (odd (looks n _ own.1.entry operation.actor _ _ (own.0, refl)));
+  reads = λ operation n step answer is reader own. EachAt-get (λ k. IsOfReader) lookup (tt, (tt, (tt, (tt, (tt, (tt, (tt, tt))))))) n _ own.1.entry;
+  emptied = λ operation n pid is own. absurd (EachAt-get (λ k. FindsSome) lookup (tt, (tt, (tt, (some, (some, (tt, (tt, tt))))))) n _ own.1.entry refl);
 }
   where
     odd : false ≡ true → ⊥
     odd e = cc
 
-    at_most : {operation : Operation} (n : ℕ) → IsOwnStep lookup operation n → n ≤ 6
-    at_most n own = let lt : n < 7 = slice_get_below lookup n _ own.2.1.entry in omega arith
+    once_is : {m n : ℕ} → m ≤ n → m ≤ n * (0 + 1)
+    once_is h = omega arith
 
-    bound : (n : ℕ) → n ≤ 6 → count_by (is_step_of 0) (slice_range lookup 0 (suc n)) ≤ cause_worth small * (0 + 1)
-    bound n h = UpTo-at (λ k. count_by (is_step_of 0) (slice_range lookup 0 (suc k)) ≤ cause_worth small * (0 + 1)) 6 (lit≤ tt, (lit≤ tt, (lit≤ tt, (lit≤ tt, (lit≤ tt, (lit≤ tt, lit≤ tt)))))) n h
+    IsOfReader : Entry → Type 0
+    IsOfReader (Begin actor command) = Unit {0}
+    IsOfReader (Step actor step answer reply) = IsReading step
+
+    FindsSome : Entry → Type 0
+    FindsSome (Begin actor command) = Unit {0}
+    FindsSome (Step actor (Slot slot) answer reply) = answer ≡ Number 0 → ⊥
+    FindsSome (Step actor step answer reply) = Unit {0}
+
+    some : ◌≡◌ {A = Answer Record} (Number 1) (Number 0) → ⊥
+    some none = cc
+
+reads_at_once : ReadsAtOnce small lookup
+reads_at_once = record { few = λ operation n is reader own none. few_steps operation n is (at_most n own) }
+
+-- a lookup changes nothing
+has_few_changes : HasFewChanges small lookup
+unfolding only_looks
+has_few_changes = record {
+  few = λ n changes among. let none = no_changes 0 n changes among in omega (arith, none);
+  since = λ m n changes le among. let none = no_changes m n changes among in omega (arith, none);
+}
+  where
+    odd : false ≡ true → ⊥
+    odd e = cc
+
+    never : (place : ℕ) → Happens small lookup place ChangesTree → ⊥
+    never place h = odd (looks place _ h.at _ _ _ h.holds.5.0)
+
+    no_changes : (m n : ℕ) (changes : List ℕ) → AreAmong small lookup m n ChangesTree changes → length changes ≡ 0
+    no_changes m n [] among = refl
+    no_changes m n (place ∷ changes) among = absurd (never place (among.each 0 0 (omega arith)).2)
 
 is_exact_index : IsExactIndex small lookup
 is_exact_index = record {
@@ -259,4 +299,4 @@ is_linearized = record {
 }
 
 pub is_orderly : IsOrderly small lookup
-is_orderly = record { phases = keeps_phases; index = is_exact_index; direct = is_direct; freed = is_freed_by_rule }
+is_orderly = record { phases = keeps_phases; index = is_exact_index; direct = is_direct; few_changes = has_few_changes; reads = reads_at_once; freed = is_freed_by_rule }

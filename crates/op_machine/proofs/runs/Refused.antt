@@ -1,11 +1,11 @@
 -- Traces that the definitions refuse.
 use Rattle.std.specs.Prelude.{codes, slice_get}
-use Rattle.std.proofs.Common.{◌≡◌, ◌<◌, ℕ, [], ◌∷◌, Some, None, Option, refl, arith, inl, inr, lit<}
+use Rattle.std.proofs.Common.{◌≡◌, ◌<◌, ℕ, [], ◌∷◌, Some, None, Option, true, refl, arith, inl, inr, lit<}
 use Rattle.bw_model.specs.declared.command.Command.{Command}
-use Rattle.bw_model.specs.declared.command.Command.TheVariants.{Insert}
+use Rattle.bw_model.specs.declared.command.Command.TheVariants.{Get, Insert}
 use Rattle.bw_model.specs.declared.command.Reply.{Reply}
-use Rattle.bw_model.specs.declared.step.Step.TheVariants.{Slot, Row}
-use Rattle.bw_model.specs.declared.step.Answer.TheVariants.{Number, Content}
+use Rattle.bw_model.specs.declared.step.Step.TheVariants.{Slot, Row, TakeRow}
+use Rattle.bw_model.specs.declared.step.Answer.TheVariants.{Number, Content, Whether}
 use Rattle.bw_model.specs.declared.step.Link.TheVariants as link
 use Rattle.deltas.specs.declared.record.Record.{Record}
 use Rattle.traces.specs.declared.trace.Entry.TheVariants.{Begin, Step}
@@ -13,7 +13,7 @@ use Rattle.traces.specs.trace.Trace.{TakesStep}
 use Rattle.op_machine.specs.theorem.Direct.{IsDirect}
 use Rattle.op_machine.specs.theorem.Faithful.{IsFaithful}
 use Rattle.op_machine.specs.theorem.Operations.{Operation}
-use Rattle.op_machine.specs.theorem.Examples.{small, opening_leaf, unnamed_read, two_puts, needless_base}
+use Rattle.op_machine.specs.theorem.Examples.{small, opening_leaf, unnamed_read, two_puts, needless_base, taking_reader}
 use Rattle.op_machine.proofs.Listed.{EachAt-get, stands_at}
 use Rattle.op_machine.proofs.runs.Kinds.{is_begin}
 
@@ -49,3 +49,7 @@ not_useful direct = let long : 1 < 1 = direct.useful operation 3 1 1 2 (opening_
   where
     begun_once : (later : ℕ) (command : Command) → 0 < later → slice_get needless_base later ≡ Some (Begin 0 command) → ⊥
     begun_once later command after e = let first : later ≡ 0 = stands_at is_begin needless_base later _ e refl in omega arith
+
+pub not_reading : ¬ IsDirect small taking_reader
+not_reading direct = direct.reads (record { start = 0; actor = 0; command = Get (codes "a") }) 1 (TakeRow 2) (Whether true) refl refl
+    (None, record { begun = lit< tt; entry = refl; not_ended = λ later command low high e. omega arith })

@@ -10,23 +10,27 @@ use Rattle.traces.specs.discipline.Discipline.{IsAllowed}
 use Rattle.traces.specs.discipline.Fitting.{Fits}
 use Rattle.traces.specs.discipline.Knowledge.{Knowledge, learn, finished}
 use Rattle.traces.specs.discipline.Recalled.{Recalled, recall}
-use Rattle.traces.specs.discipline.Useful.{IsUseful}
+use Rattle.installs.specs.declared.taking.Kind.{Kind}
+use Rattle.op_machine.specs.theorem.Halves.{IsHalved}
+use Rattle.op_machine.specs.theorem.Readers.{IsOfUse}
 use Rattle.op_machine.specs.machine.Hands.{Hand, empty_hand}
+use Rattle.op_machine.specs.machine.Lacks.{HasLack}
 use Rattle.op_machine.specs.machine.Ops.{Goes, IsAtRestWith}
 use Rattle.op_machine.specs.machine.UnderWay.{UnderWay}
 use Rattle.op_machine.specs.machine.UnderWay.{IsSpentBy}
 
--- what an actor keeps between operations, and the operation that it is at
+-- what an actor keeps between operations, the operation that it is at, and what ran out for the last one, where its reply was Full
 pub record Actor : Type 0 where
   pub hand : Hand
   pub running : Option UnderWay
+  pub lacks : Option Kind
 
 abbrev pub idle_actor : Limits → Actor
-idle_actor limits = record { hand = empty_hand limits; running = None }
+idle_actor limits = record { hand = empty_hand limits; running = None; lacks = None }
 
 -- it is at an operation
-abbrev pub at_work : Hand → UnderWay → Actor
-at_work hand running = record { hand = hand; running = Some running }
+abbrev pub at_work : Hand → UnderWay → Option Kind → Actor
+at_work hand running lacks = record { hand = hand; running = Some running; lacks = lacks }
 
 -- An operation that is under way, with the step that it wants, which its actor may take by what it knows.
 pub record IsRunning (limits : Limits) (actor : ℕ) (k : Knowledge) (r : Recalled) (hand : Hand) (running : UnderWay) : Type 0 where
@@ -94,9 +98,11 @@ pub record IsToldActor (at : Actor) (answer : Answer Record) : Type 0 where
   pub going : IsGoing limits actor k r at answer
 
 -- The actor might take the step, with the reply; what it keeps then shows what it knows and recalls, and of the steps that were
--- left it has spent one, or a cause paid for more.
+-- left it has spent one, or a cause paid for more. Where the reply is Full, it tells what ran out.
 pub record ActsOn (limits : Limits) (actor : ℕ) (k : Knowledge) (r : Recalled) (old : Actor) (step : StepOf Record) (answer : Answer Record) (reply : Option Reply) (new : Actor) : Type 0 where
   pub allowed : IsAllowed limits actor k step reply
-  pub useful : IsUseful k step
+  pub useful : IsOfUse k step
+  pub halved : IsHalved k step
   pub shows : IsActor limits actor (knows_then k step answer reply) (recall r step answer) new
   pub spends : IsSpentBy limits r old.hand old.running step answer new.hand new.running
+  pub lacks : HasLack limits k reply old.lacks new.lacks

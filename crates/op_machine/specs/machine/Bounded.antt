@@ -39,7 +39,7 @@ left_at limits r spares (at.Enter epoch) = one_round limits + 1
 left_at limits r spares (at.Read round) = read.read_round_left (left_round limits) (one_round limits) r round + 1
 left_at limits r spares (at.Write round) = write.write_round_left (left_round limits) (one_round limits) r round + few_changes limits + 1
 left_at limits r spares (at.Change now then) = change.steps_left (one_round limits) now spares + 1
-left_at limits r spares (at.Leave reply) = 1
+left_at limits r spares (at.Leave reply lacks) = 1
 
 -- each errand takes a round
 abbrev pub with_errands : Limits → List (List ℕ) → ℕ → ℕ
@@ -63,7 +63,7 @@ left_for limits (Changed Won Round) = one_round limits
 left_for limits (Changed Won (Limbo unlinked)) = one_round limits
 left_for limits (Changed Won (Errand key)) = one_round limits + one_round limits
 left_for limits (Changed Lost then) = one_round limits
-left_for limits (Changed Full then) = 1
+left_for limits (Changed (Full kind) then) = 1
 
 -- One step fewer is left, or a cause paid for more; before the first step there is none.
 abbrev pub IsSpentLast : Limits → Recalled → Option (StepOf Record) → Answer Record → ℕ → ℕ → Type 0

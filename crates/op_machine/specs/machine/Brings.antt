@@ -17,6 +17,7 @@ use Rattle.installs.specs.declared.plan.Plan.TheVariants.{Install, Split, Root, 
 use Rattle.installs.specs.Changes.{linked_after, linked_by}
 use Rattle.smo.specs.declared.split.SplitPlan.{SplitPlan}
 use Rattle.smo.specs.Sizes.{HasFewItems}
+use Rattle.op_machine.specs.theorem.Halves.{AreHalves}
 use Rattle.op_machine.specs.machine.Errands.{with_errand}
 use Rattle.op_machine.specs.machine.Hands.{IsTakenBy, TakesNothing}
 use Rattle.op_machine.specs.machine.Upkeep.{IsTidying}
@@ -54,13 +55,15 @@ Brings k command plan Round = IsNoSplit plan × TakesNothing plan × (linked_aft
 Brings k command plan (Limbo unlinked) = IsTakenBy k plan unlinked
 Brings k command plan (Errand key) = (pid : ℕ) × (split : SplitPlan) × (plan ≡ Split pid split) × (split.upper.low ≡ key)
 
--- A base comes only over a chain that has deltas.
+-- A base comes only over a chain that has deltas. A split is planned as one, and leaves items enough on both sides.
 abbrev pub IsUsefulOver : Knowledge → ℕ → Record → Type 0
 IsUsefulOver k head (Base page) = (chain : List Record) → IsChainFrom k.read.seen head chain → 1 < length chain
+IsUsefulOver k head (newest.Split split) = ⊥
 IsUsefulOver k head content = ⊤
 
 abbrev pub IsUsefulPlan : Knowledge → Plan → Type 0
 IsUsefulPlan k (Install pid head content) = IsUsefulOver k head content
+IsUsefulPlan k (Split pid split) = (chain : List Record) → IsChainFrom k.read.seen split.next chain → AreHalves chain split.upper.items
 IsUsefulPlan k plan = ⊤
 
 -- The page that is to be split was read with the row that the split comes over.

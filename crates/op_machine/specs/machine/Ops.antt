@@ -1,5 +1,6 @@
 -- An operation: the step that it wants, and what its actor knows meanwhile.
-use Rattle.std.specs.Prelude.{◌≡◌, ◌≢◌, ℕ, Option, Some, None}
+use Rattle.std.specs.Prelude.{◌≡◌, ◌≢◌, ℕ, Option, Some, None, true}
+use Rattle.bw_model.specs.Replies.{is_writer}
 use Rattle.bw_model.specs.declared.command.Reply.{Reply}
 use Rattle.tree_limits.specs.declared.limits.Limits.{Limits}
 use Rattle.bw_model.specs.declared.step.Step.{Step as StepOf}
@@ -32,9 +33,10 @@ asked_by (Some sweep) after = Some (wanted sweep)
 abbrev pub wanted_of : Op → Hand → Option (StepOf Record)
 wanted_of op hand = asked_by op.sweep (wanted_at hand.spares op.state)
 
--- A sweep is under way, before anything else.
+-- A writer's sweep is under way, before anything else.
 pub record IsSweeping (task : Task) (state : State) (limbo : Limbo) (k : Knowledge) (sweep : Sweep) : Type 0 where
   pub first : state ≡ Begun
+  pub writer : is_writer task.command ≡ true
   pub limits : sweep.limits ≡ task.limits
   pub actor : sweep.actor ≡ task.actor
   pub sound : IsSoundSweep sweep limbo

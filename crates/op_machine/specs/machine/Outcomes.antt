@@ -1,12 +1,13 @@
 -- What an operation faces where it goes from one state to another.
-use Rattle.std.specs.Prelude.{◌≡◌, ◌<◌, ◌≤◌, ◌||◌, ℕ, List, [], length, Bool, Option, None, Some, IfSome, IsSome, IsTrue, ⊤, true, false}
+use Rattle.std.specs.Prelude.{◌≡◌, ◌≢◌, ◌<◌, ◌≤◌, ◌||◌, ℕ, List, [], length, Bool, Option, None, Some, IfSome, IsSome, IsTrue, ⊤, true, false}
 use Rattle.bw_model.specs.declared.command.Reply.{Reply as ReplyOf}
+use Rattle.bw_model.specs.declared.command.Reply.TheVariants as reply
 use Rattle.bw_model.specs.declared.step.Step.{Step as StepOf}
 use Rattle.bw_model.specs.declared.step.Step.TheVariants as step
 use Rattle.bw_model.specs.declared.step.Answer.{Answer}
 use Rattle.deltas.specs.declared.record.Record.{Record}
 use Rattle.traces.specs.chain.Chains.{IsChainFrom, covers, level_in}
-use Rattle.traces.specs.discipline.Discipline.{LacksRoom, MayReply, WasStanding}
+use Rattle.traces.specs.discipline.Discipline.{MayReply, WasStanding}
 use Rattle.traces.specs.discipline.Knowledge.{Knowledge, Limbos, finished, learn}
 use Rattle.tree_limits.specs.declared.limits.Limits.{Limits}
 use Rattle.traces.specs.discipline.Recalled.{Recalled}
@@ -20,6 +21,8 @@ use Rattle.descent.specs.WriteEnds as write_end
 use Rattle.installs.specs.declared.change.End.{End}
 use Rattle.installs.specs.declared.change.End.TheVariants.{Won, Lost, Full}
 use Rattle.installs.specs.Spares.{Spares}
+use Rattle.installs.specs.Taking.{AllFull}
+use Rattle.installs.specs.declared.taking.Kind.{Kind}
 use Rattle.smo.specs.Sizes.{HasFewItems}
 use Rattle.smo.specs.Versions.{Version}
 use Rattle.bw_model.specs.Replies.{command_key, is_writer}
@@ -91,15 +94,15 @@ pub record IsAtLeafBelow (task : Task) (spares : Spares) (k : Knowledge) (r : Re
   pub above : IfSome parent (write.IsUpper task.limits k r leaf)
   pub termed : write.IsTermed leaf parent
 
--- A change has ended: an update was linked, and justifies the reply; or no update was linked, and, where it is full, nothing
--- is free.
+-- A change has ended: an update was linked, and justifies the reply, which isn't Full; or no update was linked, and, where it is full,
+-- nothing of the kind is free.
 abbrev pub FacesChanged : Task → Spares → Knowledge → End → Then → Type 0
-FacesChanged task spares k Won (Reply answered) = IsBetweenChanges task spares k × MayReply task.limits task.actor k answered
+FacesChanged task spares k Won (Reply answered) = IsBetweenChanges task spares k × MayReply task.limits task.actor k answered × (answered ≢ reply.Full)
 FacesChanged task spares k Won Round = Seeks task spares k × (is_writer task.command ≡ true)
 FacesChanged task spares k Won (Limbo unlinked) = Seeks task spares k × (is_writer task.command ≡ true)
 FacesChanged task spares k Won (Errand key) = Seeks task spares k × (is_writer task.command ≡ true)
 FacesChanged task spares k Lost then = Seeks task spares k × (is_writer task.command ≡ true)
-FacesChanged task spares k Full then = Seeks task spares k × (is_writer task.command ≡ true) × LacksRoom task.limits k
+FacesChanged task spares k (Full kind) then = Seeks task spares k × (is_writer task.command ≡ true) × AllFull task.limits k.asked kind
 
 abbrev pub Faces : Task → Spares → Knowledge → Recalled → Outcome → Type 0
 Faces task spares k r Begun = Waits task spares k
@@ -148,8 +151,13 @@ has_machine state = is_reading state || is_writing state || is_changing state
 
 -- whether the last step was asked for
 abbrev pub is_leaving : State → Bool
-is_leaving (Leave reply) = true
+is_leaving (Leave reply lacks) = true
 is_leaving state = false
+
+-- the kind that ran out, where it is to leave for want of it
+abbrev pub lacks_at : State → Option Kind
+lacks_at (Leave reply lacks) = lacks
+lacks_at state = None
 
 -- what is known to be in limbo after a change's step
 abbrev pub UnlinksAfter : Limits → Knowledge → Option (End × Then) → Limbos → Type 0

@@ -15,6 +15,7 @@ use Rattle.descent.specs.ReadEnds.{ReadEnd}
 use Rattle.descent.specs.WriteEnds.{WriteEnd}
 use Rattle.installs.specs.Changes.{Change as ChangeOf}
 use Rattle.installs.specs.declared.change.End.{End}
+use Rattle.installs.specs.declared.taking.Kind.{Kind}
 use Rattle.rounds.specs.ReadRounds.{PlacedRead}
 use Rattle.rounds.specs.WriteRounds.{PlacedWrite}
 use Rattle.op_machine.specs.declared.places.Stand.{Stand}
@@ -23,7 +24,7 @@ use Rattle.op_machine.specs.machine.States.{State}
 use Rattle.op_machine.specs.machine.States as at
 use Rattle.op_machine.specs.declared.then.Then.{Then}
 
--- Where the operation stands, the rounds and the change, what comes after the change, and the reply, each in its place.
+-- Where the operation stands, the rounds and the change, what comes after the change, and the reply with what ran out, each in its place.
 pub record OpPlaces : Type 0 where
   pub stand : Stand
   pub reader : PlacedRead
@@ -31,19 +32,20 @@ pub record OpPlaces : Type 0 where
   pub change : ChangeOf
   pub then : Then
   pub reply : ReplyOf
+  pub lacks : Option Kind
 
-abbrev pub state_at : Stand → read.ReadRound → write.WriteRound → ChangeOf → Then → ReplyOf → State
-state_at Begun reader writer change then reply = at.Begun
-state_at Epoch reader writer change then reply = at.Epoch
-state_at (Enter epoch) reader writer change then reply = at.Enter epoch
-state_at Read reader writer change then reply = at.Read reader
-state_at Write reader writer change then reply = at.Write writer
-state_at Change reader writer change then reply = at.Change change then
-state_at Leave reader writer change then reply = at.Leave reply
+abbrev pub state_at : Stand → read.ReadRound → write.WriteRound → ChangeOf → Then → ReplyOf → Option Kind → State
+state_at Begun reader writer change then reply lacks = at.Begun
+state_at Epoch reader writer change then reply lacks = at.Epoch
+state_at (Enter epoch) reader writer change then reply lacks = at.Enter epoch
+state_at Read reader writer change then reply lacks = at.Read reader
+state_at Write reader writer change then reply lacks = at.Write writer
+state_at Change reader writer change then reply lacks = at.Change change then
+state_at Leave reader writer change then reply lacks = at.Leave reply lacks
 
 -- the state that the places are
 abbrev pub state_of : OpPlaces → State
-state_of places = state_at places.stand places.reader.round places.writer.round places.change places.then places.reply
+state_of places = state_at places.stand places.reader.round places.writer.round places.change places.then places.reply places.lacks
 
 -- Both rounds have these limits.
 pub record HaveLimits (limits : Limits) (places : OpPlaces) : Type 0 where

@@ -11,6 +11,7 @@ use Rattle.traces.specs.discipline.Fitting.{Fits}
 use Rattle.traces.specs.discipline.Knowledge.{Knowledge, learn}
 use Rattle.traces.specs.discipline.Recalled.{Recalled, WasHead, recall}
 use Rattle.traces.specs.discipline.Useful.{IsUseful}
+use Rattle.op_machine.specs.theorem.Halves.{IsHalved}
 use Rattle.descent.specs.ReadRounds as read
 use Rattle.descent.specs.WriteRounds as write
 use Rattle.descent.specs.Courses.{Seek}
@@ -21,6 +22,7 @@ use Rattle.traces.specs.trace.Within.{IsWithin}
 use Rattle.installs.specs.declared.plan.Plan.{Plan}
 use Rattle.bw_model.specs.Replies.{is_writer}
 use Rattle.op_machine.specs.machine.Brings.{Brings, IsReadPlan, IsUsefulPlan}
+use Rattle.op_machine.specs.machine.Lacks.{TellsLack}
 use Rattle.op_machine.specs.machine.Errands.{due_of, tends_of, way_key}
 use Rattle.op_machine.specs.machine.Tasks.{IsAsked, IsBetweenChanges, IsUnreadPid, Seeks, Task, Waits}
 use Rattle.op_machine.specs.machine.States.{State, Begun, Epoch, Enter, Read, Write, Change, Leave}
@@ -82,7 +84,7 @@ ShowsState task spares k r (Enter epoch) = Waits task spares k × (0 < epoch) ×
 ShowsState task spares k r (Read round) = IsInReadRound task spares k r round
 ShowsState task spares k r (Write round) = IsInWriteRound task spares k r round
 ShowsState task spares k r (Change now then) = IsInChange task spares k r now then
-ShowsState task spares k r (Leave reply) = IsBetweenChanges task spares k × MayReply task.limits task.actor k reply
+ShowsState task spares k r (Leave reply lacks) = IsBetweenChanges task spares k × MayReply task.limits task.actor k reply × TellsLack task.limits k reply lacks
 
 -- the step that a state has asked for
 abbrev pub wanted_at : Spares → State → Option (StepOf Record)
@@ -92,7 +94,7 @@ wanted_at spares (Enter epoch) = Some (step.Enter epoch)
 wanted_at spares (Read round) = Some (read.wanted round)
 wanted_at spares (Write round) = Some (write.wanted round)
 wanted_at spares (Change now then) = Some (change.wanted now spares)
-wanted_at spares (Leave reply) = Some step.Leave
+wanted_at spares (Leave reply lacks) = Some step.Leave
 
 -- the answer fits the step wanted last; before the first step there is none
 abbrev pub FitsLast : Limits → Knowledge → Option (StepOf Record) → Answer Record → Type 0
@@ -109,9 +111,10 @@ recall_last r None told = r
 recall_last r (Some asked) told = recall r asked told
 
 -- The actor may take the step: it names no number that has no place, places nothing that a row can't spell, frees nothing that
--- another one may hold, and puts no base over a base alone.
+-- another one may hold, puts no base over a base alone, and splits no page that has too few items.
 pub record MayStep (task : Task) (k : Knowledge) (asked : StepOf Record) : Type 0 where
   pub within : IsWithin task.limits asked
   pub may : May task.actor k asked
   pub frees : MayFree task.limits task.actor k asked
   pub useful : IsUseful k asked
+  pub halved : IsHalved k asked

@@ -9,7 +9,7 @@ use Rattle.installs.specs.Spares.{Spares}
 use Rattle.op_machine.specs.machine.Bounded.{IsSpentLast, LeavesFor, left_at, left_for, with_errands}
 use Rattle.op_machine.specs.machine.Hands.{Hand}
 use Rattle.op_machine.specs.machine.Ops.{Op}
-use Rattle.op_machine.specs.machine.Outcomes.{Comes, Faces, IsToldAt, Outcome}
+use Rattle.op_machine.specs.machine.Outcomes.{Comes, Faces, IsToldAt, Outcome, lacks_at}
 use Rattle.op_machine.specs.machine.Shows.{FitsLast, ShowsState, learn_last, recall_last, wanted_at}
 use Rattle.op_machine.specs.machine.Tasks.{IsSameTask, Task}
 use Rattle.op_machine.specs.machine.Wants.{Want, Step, Done}
@@ -65,7 +65,7 @@ pub record AsksOn (old : Op) (had : Spares) (told : Answer Record) (new : Op) (h
 -- It is done with the reply with which it was to leave.
 abbrev pub LeavesWith : State → Want → Type 0
 LeavesWith state (Step asked) = ⊥
-LeavesWith state (Done reply) = state ≡ Leave reply
+LeavesWith state (Done reply) = state ≡ Leave reply (lacks_at state)
 
 -- It goes from what it has come to into the state that follows, which asks for a step.
 pub record FollowsOutcome (old : Op) (spares : Spares) (outcome : Outcome) (new : Op) : Type 0 where

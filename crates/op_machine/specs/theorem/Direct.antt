@@ -1,9 +1,10 @@
 -- An operation takes few steps but for those that another actor's change caused.
-use Rattle.std.specs.Prelude.{◌≡◌, ◌≢◌, ◌<◌, ◌≤◌, ◌+◌, ◌*◌, ◌/◌, ◌%◌, ◌^◌, ℕ, suc, List, length, Bool, true, false, Some, ◌⊎◌, slice_range, ◌==◌}
+use Rattle.std.specs.Prelude.{◌≡◌, ◌≢◌, ◌<◌, ◌≤◌, ◌+◌, ◌*◌, ◌/◌, ◌%◌, ℕ, suc, List, length, Bool, true, false, Some, ◌⊎◌, slice_range, ◌==◌}
 use Rattle.std.specs.Int.{bit_at}
 use Rattle.std.specs.List.{All, count_by}
 use Rattle.std.specs.List.Sorted.{IsStrictlyIncreasing}
 use Rattle.tree_limits.specs.declared.limits.Limits.{Limits}
+use Rattle.bw_model.specs.Replies.{is_writer}
 use Rattle.bw_model.specs.declared.step.Answer.{Answer}
 use Rattle.bw_model.specs.declared.step.Answer.TheVariants.{Number, Content, Whether}
 use Rattle.bw_model.specs.declared.step.Link.{Link}
@@ -21,6 +22,8 @@ use Rattle.traces.specs.chain.Chains.{IsChainOf}
 use Rattle.traces.specs.trace.Trace.{memory_at}
 use Rattle.op_machine.specs.theorem.Links.{link_of}
 use Rattle.op_machine.specs.theorem.Operations.{Operation, IsOperation, IsOwnStep, TakesOwnStep}
+use Rattle.op_machine.specs.theorem.Phases.{IsInPhase, cleared}
+use Rattle.op_machine.specs.theorem.Readers.{IsReading}
 
 abbrev pub IsExchangeOf : ℕ → StepOf Record → Type 0
 IsExchangeOf slot (Exchange changed old new) = changed ≡ slot
@@ -67,7 +70,8 @@ abbrev pub is_step_of : ℕ → Entry → Bool
 is_step_of actor (Begin other command) = false
 is_step_of actor (Step other step answer reply) = other == actor
 
--- Of each operation that has got as far as step n: the causes pay for the steps, it links one update at most, and it consolidates no base alone.
+-- Of each operation that has got as far as step n: the causes pay for the steps, it links one update at most, it consolidates no base alone, a
+-- reader only reads, and a slot that is found empty is that of a page that was cleared.
 pub record IsDirect (limits : Limits) (entries : List Entry) : Type 0 where
   pub few : (operation : Operation) (n : ℕ) → IsOperation entries operation → IsOwnStep entries operation n
       → (causes : List ℕ) × IsStrictlyIncreasing causes × All (λ cause. (cause ≤ n) × IsCause limits entries operation cause) causes
@@ -76,3 +80,5 @@ pub record IsDirect (limits : Limits) (entries : List Entry) : Type 0 where
       → (first ≡ link.Put) ⊎ (first ≡ link.Delete) → (second ≡ link.Put) ⊎ (second ≡ link.Delete) → m ≡ n
   pub useful : (operation : Operation) (n slot old new : ℕ) (chain : List Record) → IsOperation entries operation → TakesOwnStep entries operation n (Exchange slot old new) (Whether true)
       → link_of (memory_at limits entries n) slot old new ≡ Some link.Base → IsChainOf (memory_at limits entries n) slot chain → 1 < length chain
+  pub reads : (operation : Operation) (n : ℕ) (step : StepOf Record) (answer : Answer Record) → IsOperation entries operation → is_writer operation.command ≡ false → TakesOwnStep entries operation n step answer → IsReading step
+  pub emptied : (operation : Operation) (n pid : ℕ) → IsOperation entries operation → TakesOwnStep entries operation n (Slot pid) (Number 0) → IsInPhase limits entries n pid cleared

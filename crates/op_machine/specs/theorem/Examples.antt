@@ -206,6 +206,21 @@ needless_base = Begin 0 (Insert (codes "a") (codes "1"))
     ∷ Step 0 (Exchange 1 1 2) (Whether true) None
     ∷ []
 
+-- One operation puts a base over a base nine times: refused.
+abbrev pub nine_bases : List Entry
+nine_bases = Begin 0 (Insert (codes "a") (codes "1"))
+    ∷ Step 0 (Place 2 opening_leaf) Done None
+    ∷ Step 0 (Exchange 1 1 2) (Whether true) None
+    ∷ Step 0 (Exchange 1 2 1) (Whether true) None
+    ∷ Step 0 (Exchange 1 1 2) (Whether true) None
+    ∷ Step 0 (Exchange 1 2 1) (Whether true) None
+    ∷ Step 0 (Exchange 1 1 2) (Whether true) None
+    ∷ Step 0 (Exchange 1 2 1) (Whether true) None
+    ∷ Step 0 (Exchange 1 1 2) (Whether true) None
+    ∷ Step 0 (Exchange 1 2 1) (Whether true) None
+    ∷ Step 0 (Exchange 1 1 2) (Whether true) None
+    ∷ []
+
 -- An insert replies that it inserted, and has exchanged nothing: refused, whatever is marked.
 abbrev pub claimed_insert : List Entry
 claimed_insert = Begin 0 (Insert (codes "a") (codes "1"))
@@ -216,3 +231,7 @@ claimed_insert = Begin 0 (Insert (codes "a") (codes "1"))
     ∷ Step 0 (Row 1) (Content opening_leaf) None
     ∷ Step 0 Leave Done (Some reply.Inserted)
     ∷ []
+
+-- A lookup takes a row: refused.
+abbrev pub taking_reader : List Entry
+taking_reader = Begin 0 (Get (codes "a")) ∷ Step 0 (TakeRow 2) (Whether true) None ∷ []

@@ -12,7 +12,9 @@ use Rattle.op_machine.specs.theorem.Faithful.{IsFaithful}
 use Rattle.op_machine.specs.theorem.Updates.{UpdatesAtLinks}
 use Rattle.op_machine.specs.theorem.Phases.{KeepsPhases}
 use Rattle.op_machine.specs.theorem.Index.{IsExactIndex}
+use Rattle.op_machine.specs.theorem.Changes.{HasFewChanges}
 use Rattle.op_machine.specs.theorem.Direct.{IsDirect}
+use Rattle.op_machine.specs.theorem.Progress.{ReadsAtOnce}
 use Rattle.op_machine.specs.theorem.Reuse.{IsFreedByRule}
 
 -- The entries are a run of the turns, in which each operation ends with its only Leave, with linearization points: each finished
@@ -29,9 +31,12 @@ pub record IsLinearized (limits : Limits) (turns : List Turn) (entries : List En
   pub quiet : IsQuiet limits entries points
   pub faithful : IsFaithful limits entries
 
--- What stands beside it: the life of each page, the terms of each level, bounded steps, and the rule by which rows and PIDs are used again.
+-- What stands beside it: the life of each page, the terms of each level, bounded steps, few changes, readers that take few steps whatever others do,
+-- and the rule by which rows and PIDs are used again.
 pub record IsOrderly (limits : Limits) (entries : List Entry) : Type 0 where
   pub phases : KeepsPhases limits entries
   pub index : IsExactIndex limits entries
   pub direct : IsDirect limits entries
+  pub few_changes : HasFewChanges limits entries
+  pub reads : ReadsAtOnce limits entries
   pub freed : IsFreedByRule limits entries

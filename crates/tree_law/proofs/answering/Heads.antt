@@ -23,7 +23,7 @@ module _ (limits : Limits) (entries : List Entry) (state : IsState limits entrie
       let held : slot_in m.slots page ≡ Some (m.slots page) = slot_held m.slots page above some in
       elim (state.named.in_slots page (m.slots page) held) [
         | inl in_tree ↦ let here = placed_at (state.owners.page page) in_tree in elim (slot_of state.is_tree 0 page here.0 here.1 here.2) [
-          | inl none ↦ absurd (cc)
+          | inl none ↦ absurd (cc none.0)
           | inr at ↦ linked_stands (let same : at.0 ≡ m.slots page = same_Some at.0 (m.slots page) (sym at.1 ∙ held) in rw same at at.2.linked)
         ]
         | inr ready ↦ (Base ready.base, ready.stands)

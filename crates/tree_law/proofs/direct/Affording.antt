@@ -1,10 +1,13 @@
 -- A begin keeps a trace direct, and so does a step that its operation can afford.
 use Rattle.tree_law.proofs.Words.{false, ap, refl, Option, List, true, inl, ◌≢◌, length, ◌++◌, ◌≤◌, inr, ◌∷◌, subst, sym, ℕ, ◌≡◌, ◌∙◌, ◌<◌, arith, Some, ◌^◌, ◌==◌, eqb_tells, same_Some}
 use Rattle.tree_law.proofs.Words.{IsSome, Command, Reply, Limits, Answer, Whether, Content, Link, StepOf, Row, Exchange, replaced_at, Record, May, begun, knows, Knowledge, finished, Ready}
-use Rattle.tree_law.proofs.Words.{learn, recall, Recalled, blank, recalls, IsAnswer, memory_of, IsUseful, Entry, Begin, Step, is_step_of, Links, Operation, IsUpdateLink, Accounts}
+use Rattle.tree_law.proofs.Words.{learn, recall, Recalled, blank, recalls, IsAnswer, memory_of, IsUseful, IsOfUse, IsReading, IsInPhase, cleared, Slot, Number, None, zero, suc, slice_get, Placed, Indexed, phase_of, slot_in, row_in, Entry, Begin, Step, is_step_of, Links, Operation, IsUpdateLink, Accounts}
 use Rattle.tree_law.proofs.Words.{IsLast, Affords, IsDirectState, Recollects, Walks, StaysDirect, IsState, Opens, []}
 use Rattle.traces.specs.discipline.Recalled.{IsStepSpent, cause_worth}
+use Rattle.bw_model.specs.Replies.{is_writer}
 use Rattle.tree_law.proofs.answering.Fitted.{fits}
+use Rattle.tree_law.proofs.links.Keeping.{met_placed, slot_of}
+use Rattle.tree_law.proofs.trace.Owned.{same_start}
 use Rattle.tree_law.proofs.shape.Puts.{at_place, by_equal}
 use Rattle.tree_law.proofs.direct.Appended.{knows-push, last_begun, last_cases, recalls-push, takes_below}
 use Rattle.tree_law.proofs.direct.Causes.{LinksLast, links_cases}
@@ -21,7 +24,7 @@ not_step_of actor other s x reply ne = elim (eqb_tells other actor) [ inl same �
 
 pub opens : Opens IsDirectState
 opens limits = record {
-  direct = record { few = λ op n begun own. absurd (cc); once = λ op m n first second begun one two is_one is_two. absurd (cc); useful = λ op n slot old new chain begun took is is_chain. absurd (cc) };
+  direct = record { few = λ op n begun own. absurd (cc); once = λ op m n first second begun one two is_one is_two. absurd (cc); useful = λ op n slot old new chain begun took is is_chain. absurd (cc); reads = λ op n s x begun reader took. absurd (cc); emptied = λ op n pid begun took. absurd (cc) };
   recollects = λ op latest. absurd (cc latest.begun);
   walks = λ op latest. absurd (cc latest.begun);
   foreign = λ actor page head base e f. absurd (cc);
@@ -72,7 +75,7 @@ module _ (limits : Limits) (entries : List Entry) (a : ℕ) (c : Command) (kept 
   pub begins : (left : ℕ) → left ≤ cause_worth limits → StaysDirect limits entries (Begin a c) a left
   begins left few = record {
     state = record {
-      direct = direct limits entries last kept (λ op s x reply latest is. absurd (cc)) (λ b slot old new reply is. absurd (cc));
+      direct = direct limits entries last kept (λ op s x reply latest is. absurd (cc)) (λ b slot old new reply is. absurd (cc)) (λ op s x reply latest is reader. absurd (cc)) (λ op pid reply is. absurd (cc));
       recollects = recollects_begun;
       walks = walks_begun;
       foreign = foreign_begun;
@@ -88,7 +91,7 @@ module _ (limits : Limits) (entries : List Entry) (a : ℕ) (c : Command) (kept 
 same_number : (j k : ℕ) → ◌≡◌ {A = Answer Record} (Whether true) (Whether (j == k)) → j ≡ k
 same_number j k e = elim (eqb_tells j k) [ inl same ↦ same.1 | inr apart ↦ absurd (cc apart.0) ]
 
-module _ (limits : Limits) (entries : List Entry) (a : ℕ) (s : StepOf Record) (x : Answer Record) (reply : Option Reply) (state : IsState limits entries) (may : May a (knows entries a) s) (useful : IsUseful (knows entries a) s)
+module _ (limits : Limits) (entries : List Entry) (a : ℕ) (s : StepOf Record) (x : Answer Record) (reply : Option Reply) (state : IsState limits entries) (may : May a (knows entries a) s) (useful : IsOfUse (knows entries a) s)
     (is_answer : IsAnswer (memory_of limits entries) s x) (kept : IsDirectState limits entries) where
   abbrev next : Entry
   next = Step a s x reply
@@ -107,8 +110,41 @@ module _ (limits : Limits) (entries : List Entry) (a : ℕ) (s : StepOf Record) 
 
   changes : (b slot old new : ℕ) (r : Option Reply) → next ≡ Step b (Exchange slot old new) (Whether true) r → IsChange limits entries b slot old new × IsUseful (knows entries b) (Exchange slot old new)
   changes b slot old new r is =
-      let h : May b (knows entries b) (Exchange slot old new) × IsUseful (knows entries b) (Exchange slot old new) × IsAnswer (memory_of limits entries) (Exchange slot old new) (Whether true) = subst IsKnown is (may, useful, is_answer) in
+      let h : May b (knows entries b) (Exchange slot old new) × IsUseful (knows entries b) (Exchange slot old new) × IsAnswer (memory_of limits entries) (Exchange slot old new) (Whether true) = subst IsKnown is (may, useful.useful, is_answer) in
       (change limits entries b state slot old new h.0.1 (same_number _ _ h.2), h.1)
+
+  -- a reader only reads
+  asked_last : (op : Operation) → IsLast entries op → op.actor ≡ a → op.command ≡ useful.command
+  asked_last op latest same =
+      let t = state.tells a useful.command (sym (state.named.commands a) ∙ useful.going) in
+      let begins_at : slice_get entries op.start ≡ Some (Begin a op.command) = rw same at latest.begun in
+      let at : op.start ≡ t.start = same_start entries op.start t.start a op.command useful.command begins_at t.begins (rw same at latest.unended) t.unended in
+      let e : Some (Begin a op.command) ≡ Some (Begin a useful.command) = sym begins_at ∙ ap (slice_get entries) at ∙ t.begins in
+      cc
+
+  reads_now : (op : Operation) (t : StepOf Record) (y : Answer Record) (r : Option Reply) → IsLast entries op → next ≡ Step op.actor t y r → is_writer op.command ≡ false → IsReading t
+  reads_now op t y r latest is reader =
+      let mine : op.actor ≡ a = cc in
+      let step : s ≡ t = cc in
+      rw step at (useful.reads (rw (asked_last op latest mine) at reader))
+
+  -- a slot that is found empty is that of a page that was cleared
+  finds_cleared : (pid : ℕ) → s ≡ Slot pid → x ≡ Number 0 → IsInPhase limits entries (length entries) pid cleared
+  finds_cleared zero i j =
+      let root : Number 0 ≡ Number ((memory_of limits entries).slots 0) = rw (i, j) at is_answer in
+      let at : state.owners.page 0 ≡ Placed Indexed state.is_tree.tree.top [] = rw (let e : (memory_of limits entries).slots 0 ≡ 0 = cc in e) at state.is_tree.tree.exact.is_root in
+      elim (state.named.pid_below 0) [ inl none ↦ absurd (cc (at, none)) | inr some ↦ let above = some.0 in absurd (omega arith) ]
+  finds_cleared (suc p) i j =
+      let there = met_placed state.is_tree a (suc p) (rw i at may).1 in
+      let none : Number 0 ≡ Number ((memory_of limits entries).slots (suc p)) = rw (i, j) at is_answer in
+      let empty : slot_in (memory_of limits entries).slots (suc p) ≡ None = ap row_in (let e : (memory_of limits entries).slots (suc p) ≡ 0 = cc in e) in
+      elim (slot_of state.is_tree a (suc p) there.0 there.1 there.2) [
+        | inl out ↦ subst (IsInPhase limits entries (length entries) (suc p)) (ap phase_of out.1.3) (state.in_phase (suc p))
+        | inr some ↦ let held = some.1 in absurd (cc (held, empty))
+      ]
+
+  cleared_now : (op : Operation) (pid : ℕ) (r : Option Reply) → next ≡ Step op.actor (Slot pid) (Number 0) r → IsInPhase limits entries (length entries) pid cleared
+  cleared_now op pid r is = finds_cleared pid (let e : s ≡ Slot pid = cc in e) (let e : x ≡ Number 0 = cc in e)
 
   recollects_stepped : (op : Operation) → IsLast grown op → Recollects limits grown op (recalls grown op.actor)
   recollects_stepped op latest = elim (last_cases entries next op latest) [
@@ -189,7 +225,7 @@ module _ (limits : Limits) (entries : List Entry) (a : ℕ) (s : StepOf Record) 
     pub steps : StaysDirect limits entries next a rest
     steps = record {
       state = record {
-        direct = direct limits entries next kept (λ op t y r latest is. (rest, afford op latest (let e : op.actor ≡ a = cc in e))) changes;
+        direct = direct limits entries next kept (λ op t y r latest is. (rest, afford op latest (let e : op.actor ≡ a = cc in e))) changes reads_now cleared_now;
         recollects = recollects_stepped;
         walks = walks_stepped;
         foreign = foreign_stepped;

@@ -1,10 +1,12 @@
 -- A direct trace stays direct with one entry more, where its operation can afford it.
 use Rattle.tree_law.proofs.Words.{[], ap, Option, suc, None, List, true, inl, length, ◌++◌, ◌≤◌, inr, ◌∷◌, sym, ℕ, ◌≡◌, ◌∙◌, ◌<◌, arith, Some, take, ◌+◌, ◌^◌, drop, ◌*◌, ◌-◌, All-weaker, same_Some}
 use Rattle.tree_law.proofs.Words.{All, count_by, IsStrictlyIncreasing, IsSome, slice_range, Reply, Limits, Answer, Whether, Link, StepOf, Exchange, Record, IsChainOf, knows, memory_at, memory_of}
-use Rattle.tree_law.proofs.Words.{IsUseful, Entry, Step, is_step_of, Links, IsCause, IsDirect, link_of, IsOperation, Operation, IsOwnStep, TakesOwnStep, IsUpdateLink, IsLast, Affords, IsDirectState}
+use Rattle.tree_law.proofs.Words.{IsUseful, IsReading, IsInPhase, cleared, Slot, Number, false, Entry, Step, is_step_of, Links, IsCause, IsDirect, link_of, IsOperation, Operation, IsOwnStep, TakesOwnStep, IsUpdateLink, IsLast, Affords, IsDirectState}
 use Rattle.std.proofs.lemmas.List.{take_rest}
 use Rattle.traces.specs.discipline.Recalled.{cause_worth}
+use Rattle.bw_model.specs.Replies.{is_writer}
 use Rattle.bw_model.specs.declared.step.Link.TheVariants as link
+use Rattle.op_machine.proofs.PhaseLaws.{IsInPhase-kept}
 use Rattle.tree_law.proofs.trace.Owned.{pushed_length}
 use Rattle.tree_law.proofs.direct.Appended.{memory_kept, memory_last, operation_before, takes_below, takes_cases}
 use Rattle.tree_law.proofs.direct.Causes.{LinksLast, cause_kept, links_cases}
@@ -46,7 +48,9 @@ module _ (limits : Limits) (entries : List Entry) (last : Entry) (kept : IsDirec
       )
 
   module _ (afford : (op : Operation) (s : StepOf Record) (x : Answer Record) (reply : Option Reply) → IsLast entries op → last ≡ Step op.actor s x reply → (rest : ℕ) × Affords limits longer op rest)
-      (change : (b slot old new : ℕ) (reply : Option Reply) → last ≡ Step b (Exchange slot old new) (Whether true) reply → IsChange limits entries b slot old new × IsUseful (knows entries b) (Exchange slot old new)) where
+      (change : (b slot old new : ℕ) (reply : Option Reply) → last ≡ Step b (Exchange slot old new) (Whether true) reply → IsChange limits entries b slot old new × IsUseful (knows entries b) (Exchange slot old new))
+      (reads_now : (op : Operation) (s : StepOf Record) (x : Answer Record) (reply : Option Reply) → IsLast entries op → last ≡ Step op.actor s x reply → is_writer op.command ≡ false → IsReading s)
+      (cleared_now : (op : Operation) (pid : ℕ) (reply : Option Reply) → last ≡ Step op.actor (Slot pid) (Number 0) reply → IsInPhase limits entries (length entries) pid cleared) where
     few : (op : Operation) (n : ℕ) → IsOperation longer op → IsOwnStep longer op n → Few limits longer op n
     few op n begun own =
         let before : IsOperation entries op = operation_before entries last op n own.0 own.1 begun own.2 in
@@ -96,5 +100,23 @@ module _ (limits : Limits) (entries : List Entry) (last : Entry) (kept : IsDirec
               made.0.useful made.1 kind chain (rw same at is_chain)
         ]
 
+    reads : (op : Operation) (n : ℕ) (s : StepOf Record) (x : Answer Record) → IsOperation longer op → is_writer op.command ≡ false → TakesOwnStep longer op n s x → IsReading s
+    reads op n s x begun reader took =
+        let before : IsOperation entries op = operation_before entries last op n _ _ begun took in
+        elim (takes_cases entries last op n _ _ took) [
+          | inl own ↦ kept.direct.reads op n s x before reader own
+          | inr at ↦ reads_now op s x at.1.0 (record { begun = before; unended = at.2 }) at.1.1 reader
+        ]
+
+    emptied : (op : Operation) (n pid : ℕ) → IsOperation longer op → TakesOwnStep longer op n (Slot pid) (Number 0) → IsInPhase limits longer n pid cleared
+    emptied op n pid begun took =
+        let before : IsOperation entries op = operation_before entries last op n _ _ begun took in
+        elim (takes_cases entries last op n _ _ took) [
+          | inl own ↦
+              let below : n < length entries = takes_below entries last op n _ _ own in
+              IsInPhase-kept limits entries last n pid cleared (omega arith) (kept.direct.emptied op n pid before own)
+          | inr at ↦ rw at.0 (IsInPhase-kept limits entries last (length entries) pid cleared (omega arith) (cleared_now op pid at.1.0 at.1.1))
+        ]
+
     pub direct : IsDirect limits longer
-    direct = record { few = few; once = once; useful = useful }
+    direct = record { few = few; once = once; useful = useful; reads = reads; emptied = emptied }

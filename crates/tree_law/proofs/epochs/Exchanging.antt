@@ -44,7 +44,7 @@ module _ {limits : Limits} {m : Memory} {log : List Update} {o : Owners} {knows 
   -- the row in the slot of a page of the tree is linked
   pub slot_linked : (q z l : ℕ) (s : Key) → Reached 0 l s (o.page q) → slot_in m.slots q ≡ Some z → o.row z ≡ Linked
   slot_linked q z l s r e = elim (slot_of g a q l s r) [
-    | inl n ↦ absurd (cc)
+    | inl n ↦ absurd (cc n.0)
     | inr v ↦ rw (same_Some v.0 z (sym v.1 ∙ e)) at v.2.linked
   ]
 

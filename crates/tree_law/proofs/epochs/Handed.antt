@@ -44,7 +44,7 @@ module _ {limits : Limits} {m : Memory} {log : List Update} {o : Owners} {knows 
         | inl tree ↦
             let here = placed_at (o.page c.page) tree in
             elim (slot_of g 0 c.page here.0 here.1 here.2) [
-              | inl none ↦ (let f = sym none ∙ c.held in cc)
+              | inl none ↦ (let f = sym none.0 ∙ c.held in cc)
               | inr v ↦
                   let l : o.row c.first ≡ Linked = rw (same_Some v.0 c.first (sym v.1 ∙ c.held)) at v.2.linked in
                   (let f = sym (in_chain c.first c.chain l (T.slots c.page c.first here.0 here.1 here.2 c.held).1 c.records row c.among) ∙ out in cc)
@@ -163,7 +163,7 @@ module _ (limits : Limits) (entries : List Entry) (a : ℕ) (step : StepOf Recor
         λ r w e. (rw e at ((state.is_tree.sound a).seen_fits r)).1 in
         let at : m.slots (suc h.page) ≡ h.old = eqb-true (m.slots (suc h.page)) h.old (whether_same (eqb (m.slots (suc h.page)) h.old) true answer (rw h.step at is) h.won) in
         let found : (c : List Record) × IsChainOf m (suc h.page) c = elim (slot_of state.is_tree a (suc h.page) reached.0 reached.1 reached.2) [
-          | inl none ↦ absurd (let z : m.slots (suc h.page) ≡ 0 = slot_none m.slots (suc h.page) (omega arith) none in let s = some_old in let e = at in omega arith)
+          | inl none ↦ absurd (let z : m.slots (suc h.page) ≡ 0 = slot_none m.slots (suc h.page) (omega arith) none.0 in let s = some_old in let e = at in omega arith)
           | inr v ↦ (let z = slot_some m.slots (suc h.page) v.0 v.1 in (v.2.chain, record { page = omega arith; linked = rw z.1 z.2; records = rw z.1 v.2.is_chain }))
         ] in (
           suc h.page,

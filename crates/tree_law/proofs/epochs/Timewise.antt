@@ -106,7 +106,7 @@ module _ {limits : Limits} {m : Memory} {log : List Update} {o : Owners} {knows 
       λ j. Holds m.rows t.row_out t.page_out (t.entered a) (knows a).inside (knows a).read.seen (put (knows a).read.learnt j true) (knows a).read.roots (put (knows a).read.heads (suc p) (Some j)) (put (knows a).read.before (suc p) (knows a).read.heads) (knows a).asked.linked in
       let here = met_placed g a (suc p) may.1 in
       elim (slot_of g a (suc p) here.0 here.1 here.2) [
-        | inl none ↦ absurd (cc)
+        | inl none ↦ absurd (cc none.0)
         | inr v ↦ (let same : v.0 ≡ suc x = same_Some v.0 (suc x) (sym v.1 ∙ ap row_in e) in
             read_timed (finished (learn (knows a) (Slot (suc p)) (answer.Number (suc x))) r) (calm_pages m n refl (λ row h. h) n.phased (omega arith) (λ b ne. refl)) refl refl
             (rw same at (head_holds g T a may.0 (suc p) v.0 v.1 here.0 here.1 here.2 v.2 v.3)) refl refl)

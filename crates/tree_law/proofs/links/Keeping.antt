@@ -101,8 +101,8 @@ module _ {m : Shared} {log : List Update} {o : Owners} {knows : ℕ → Knowledg
             absurd (cc w.flagged)
       ]
 
-  -- the slot of a page of the tree
-  pub slot_of : (p l : ℕ) (s : Key) → Reached 0 l s (o.page p) → (m.slots p ≡ None) ⊎ ((x : ℕ) × (m.slots p ≡ Some x) × (h : SpellsLog o m x log) × Reached 0 (level_in h.chain) (low_in h.chain) (o.page p))
+  -- the slot of a page of the tree: it is empty only where the page was cleared
+  pub slot_of : (p l : ℕ) (s : Key) → Reached 0 l s (o.page p) → IsOut (o.page p) (m.slots p) ⊎ ((x : ℕ) × (m.slots p ≡ Some x) × (h : SpellsLog o m x log) × Reached 0 (level_in h.chain) (low_in h.chain) (o.page p))
   slot_of p lv s r =
       elim (reached_placed 0 lv s (o.page p) r) [
         | inl u ↦ elim (on_or_merged u.0) [
@@ -120,9 +120,9 @@ module _ {m : Shared} {log : List Update} {o : Owners} {knows : ℕ → Knowledg
         | inr u ↦ off (inr u)
       ]
     where
-      off : IsOff (o.page p) lv s → (m.slots p ≡ None) ⊎ ((x : ℕ) × (m.slots p ≡ Some x) × (h : SpellsLog o m x log) × Reached 0 (level_in h.chain) (low_in h.chain) (o.page p))
+      off : IsOff (o.page p) lv s → IsOut (o.page p) (m.slots p) ⊎ ((x : ℕ) × (m.slots p ≡ Some x) × (h : SpellsLog o m x log) × Reached 0 (level_in h.chain) (low_in h.chain) (o.page p))
       off i = elim (g.tree.off p lv s i) [
-        | inl n ↦ inl n.0
+        | inl n ↦ inl n
         | inr w ↦ inr (
           w.row,
           w.head,

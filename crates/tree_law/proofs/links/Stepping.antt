@@ -108,7 +108,7 @@ module _ (memory : Memory) {log : List Update} {o : Owners} {knows : ℕ → Kno
       let here = met_placed g a (suc p) met in
       let held : slot_in memory.slots (suc p) ≡ Some (suc n) = ap row_in e in
       elim (slot_of g a (suc p) here.0 here.1 here.2) [
-        | inl u ↦ absurd (cc)
+        | inl u ↦ absurd (cc u.0)
         | inr u ↦ rests refl (λ row l. refl) (rw (same_Some u.0 (suc n) (sym u.1 ∙ held)) at (reads_slot g a (suc p) u.0 u.1 u.2 u.3 r))
       ]
 

@@ -205,3 +205,12 @@ begins limits entries a c state below idle =
     stood_begin = unfinished_begin (λ op k. HaveStood limits (entries ++ Begin a c ∷ []) op (memory_of limits (entries ++ Begin a c ∷ [])).rows k.read)
         (record { reads = λ page row chain read. absurd (cc); heads = λ page row chain read. absurd (cc); beside = λ page head other row basis chain read. absurd (cc) })
         (λ op is unended asks. stood_kept limits entries (Begin a c) state.is_tree (memory_of limits (entries ++ Begin a c ∷ [])).rows (λ row l. ap (λ (m : Memory). m.rows row) (memory_of-push limits entries (Begin a c))) op op.actor (state.stood op is unended asks))
+
+-- whose rows and pages are is as it was
+pub begins_owners : (limits : Limits) (entries : List Entry) (a : ℕ) (c : Command) (state : IsState limits entries) (below : a < limits.actors) (idle : command_of entries a ≡ None) → (begins limits entries a c state below idle).owners ≡ state.owners
+unfolding begins
+begins_owners limits entries a c state below idle = refl
+
+pub opens_owners : (limits : Limits) → (opens limits).owners ≡ opening_owners limits
+unfolding opens
+opens_owners limits = refl

@@ -185,7 +185,7 @@ module _ {limits : Limits} {entries : List Entry} {o : Owners} {m : Memory} {kno
   -- the slot of a page of the tree has a linked row
   tree_slot : (p : ℕ) → IsInTree (o.page p) → (q : ℕ) → slot_in m.slots p ≡ Some q → o.row q ≡ Linked
   tree_slot p h q e = let here = placed_at (o.page p) h in elim (slot_of g a p here.0 here.1 here.2) [
-    | inl none ↦ absurd (cc)
+    | inl none ↦ absurd (cc none.0)
     | inr some ↦ let same : some.0 ≡ q = same_Some some.0 q (sym some.1 ∙ e) in rw same at some.2.linked
   ]
 

@@ -3,7 +3,7 @@ use Rattle.tree_law.proofs.Words.{false, ◌⊎◌, ap, refl, cond, Option, suc,
 use Rattle.tree_law.proofs.Words.{IsSome, IfSome, IsFalse, if◌then◌else◌, IsTrue, ◌↔◌, bytes_eq, Update, logged_value, command_key, reply_of, Command, Swap, Upsert, Insert, Reply, Limits, Answer}
 use Rattle.tree_law.proofs.Words.{Number, StepOf, ReuseRows, ReusePids, Leave, Slot, Memory, Record, slice_get_kept, slice_get-push_cases, IsRun-push, memory_of-push, command_of-push, MayReply}
 use Rattle.tree_law.proofs.Words.{IsAllowed, knows, Knowledge, finished, learn, IsAnswer, memory_after, command_of, memory_of, commands_after, Entry, Begin, Step, same_operation, log_of-push}
-use Rattle.tree_law.proofs.Words.{RepliesAt, IsOperation, Operation, IsOwnStep, IsInPhase, MovesPhase, Phase, log_of, IsPoint, LinksUpdate, IsFirst, IsReuse, After, IsDue, Indexed, put, shared}
+use Rattle.tree_law.proofs.Words.{RepliesAt, IsOperation, Operation, IsOwnStep, IsInPhase, MovesPhase, Phase, log_of, IsPoint, LinksUpdate, IsFirst, IsReuse, After, IsDue, Indexed, Linked, Phased, put, shared}
 use Rattle.tree_law.proofs.Words.{slot_in, IsReadyPage, Tells, operation_of, IsSearch, IsState, phase_of, IsInTree, IsUnended, IsAnsweredBy, HasFound, HaveStood, Times, Timed, times_after, IsTree, []}
 use Rattle.std.specs.Option.{option_to_list}
 use Rattle.bw_model.specs.declared.command.Command.TheVariants.{Get, Delete, Page, Tidy}
@@ -34,6 +34,12 @@ use Rattle.tree_law.proofs.trace.Settling.{Settled, no_point, settled}
 use Rattle.tree_law.proofs.trace.Slots.{held_after}
 use Rattle.tree_law.proofs.trace.Standing.{stood_kept, stood_own}
 use Rattle.tree_law.proofs.links.Stepping.{step as one_step}
+
+-- The trace with one step more is a state; whose the pages are then, and that linked rows have their records still.
+pub record Onward (limits : Limits) (entries : List Entry) (a : ℕ) (step : StepOf Record) (answer : Answer Record) (r : Option Reply) (state : IsState limits entries) : Type 0 where
+  pub after : IsState limits (entries ++ Step a step answer r ∷ [])
+  pub phased : Phased a (shared (memory_of limits entries)) step answer state.owners.page after.owners.page
+  pub same : (row : ℕ) → state.owners.row row ≡ Linked → (memory_after a step (memory_of limits entries)).rows row ≡ (memory_of limits entries).rows row
 
 abbrev is_update : Option Update → Bool
 is_update None = false
@@ -242,14 +248,20 @@ module _ (limits : Limits) (entries : List Entry) (a : ℕ) (step : StepOf Recor
         in_phase_after only_phase_after state.indexed;
   }
 
-pub steps : Steps
-steps limits entries a step answer r state busy allowed is = go (command_of entries a) refl busy
+  onward : Onward limits entries a step answer r state
+  unfolding state_after
+  onward = record { after = state_after; phased = n.phased; same = n.same }
+
+-- what an allowed step with the memory's answer leaves
+pub onwards : (limits : Limits) (entries : List Entry) (a : ℕ) (step : StepOf Record) (answer : Answer Record) (r : Option Reply) (state : IsState limits entries) → IsSome (command_of entries a)
+    → IsAllowed limits a (knows entries a) step r → IsAnswer (memory_of limits entries) step answer → Onward limits entries a step answer r state
+onwards limits entries a step answer r state busy allowed is = go (command_of entries a) refl busy
   where
     replied : (o : Option Reply) → IfSome o (λ y. (step ≡ Leave) × MayReply limits a (knows entries a) y) → IfSome o (MayReply limits a (knows entries a))
     replied None h = tt
     replied (Some y) h = h.1
 
-    go : (o : Option Command) → command_of entries a ≡ o → IsSome o → IsState limits (entries ++ Step a step answer r ∷ [])
+    go : (o : Option Command) → command_of entries a ≡ o → IsSome o → Onward limits entries a step answer r state
     go None e b = absurd (cc)
     go (Some asked) e b = by_kind step r answer allowed is (settled limits entries a asked state e r (replied r allowed.replied))
       where
@@ -262,10 +274,10 @@ steps limits entries a step answer r state busy allowed is = go (command_of entr
 
         calmly : (step : StepOf Record) → (IsReuse step → ⊥)
             → (r : Option Reply) (answer : Answer Record) (allowed : IsAllowed limits a (knows entries a) step r) (is : IsAnswer m step answer)
-            → Settled limits entries (log_of entries state.points) state.point state.logs a asked r → IsState limits (entries ++ Step a step answer r ∷ [])
+            → Settled limits entries (log_of entries state.points) state.point state.logs a asked r → Onward limits entries a step answer r state
         calmly step calm r answer allowed is z =
             let n = one_step m state.is_tree a step calm r allowed.may answer is in
-            state_after limits entries a step answer r asked state e allowed is (after_of n)
+            onward limits entries a step answer r asked state e allowed is (after_of n)
             (calm_numbers state.is_tree state.named a step answer r allowed.may is calm n.owners n.moved)
             (held_after m state.is_tree state.named.in_slots a n.owners (λ q l. (n.kept q l).0) n.moved step calm answer r allowed.may is n.phased)
             (times_after a m state.owners (length entries) step answer state.times)
@@ -273,15 +285,15 @@ steps limits entries a step answer r state busy allowed is = go (command_of entr
             z
 
         by_kind : (step : StepOf Record) (r : Option Reply) (answer : Answer Record) (allowed : IsAllowed limits a (knows entries a) step r) (is : IsAnswer m step answer)
-            → Settled limits entries (log_of entries state.points) state.point state.logs a asked r → IsState limits (entries ++ Step a step answer r ∷ [])
-        by_kind (ReuseRows word bits) r answer allowed is z = state_after limits entries a (ReuseRows word bits) answer r asked state e allowed is
+            → Settled limits entries (log_of entries state.points) state.point state.logs a asked r → Onward limits entries a step answer r state
+        by_kind (ReuseRows word bits) r answer allowed is z = onward limits entries a (ReuseRows word bits) answer r asked state e allowed is
             (rows_after state.is_tree state.timed a allowed.may word bits allowed.frees r answer)
             (rows_numbers state.is_tree state.timed state.named a allowed.may word bits answer r allowed.frees is)
             (rows_held state.is_tree state.timed state.named a allowed.may word bits answer r allowed.frees is)
             (t1 state.is_tree state.timed a allowed.may word bits allowed.frees r answer)
             (rows_timed state.is_tree state.timed a allowed.may word bits allowed.frees r answer)
             z
-        by_kind (ReusePids word bits) r answer allowed is z = state_after limits entries a (ReusePids word bits) answer r asked state e allowed is
+        by_kind (ReusePids word bits) r answer allowed is z = onward limits entries a (ReusePids word bits) answer r asked state e allowed is
             (pages_after state.is_tree state.timed a allowed.may word bits allowed.frees r answer)
             (pages_numbers state.is_tree state.timed state.named a allowed.may word bits answer r allowed.frees is)
             (pages_held state.is_tree state.timed state.named a allowed.may word bits answer r allowed.frees is)
@@ -289,6 +301,9 @@ steps limits entries a step answer r state busy allowed is = go (command_of entr
             (pages_timed state.is_tree state.timed a allowed.may word bits allowed.frees r answer)
             z
         by_kind step r answer allowed is z = calmly step (λ h. h) r answer allowed is z
+
+pub steps : Steps
+steps limits entries a step answer r state busy allowed is = (onwards limits entries a step answer r state busy allowed is).after
 
 -- a reply by a value has a point, and so has a cursor page
 value_points : (c : Command) (v : Option (List ℕ)) → IfSome (reply_of c v) (λ r. has_point r ≡ true)

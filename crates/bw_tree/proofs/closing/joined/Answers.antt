@@ -1,7 +1,4 @@
 use Rattle.std.proofs.Common.{◌≡◌, ◌++◌, ◌∷◌, [], append-nil, append_assoc, sym, ap, subst, ◌∙◌}
-use Rattle.bw_tree.specs.Seats.{Seat}
-use Rattle.slot_rule.specs.declared.view.Reach.TheVariants.{Idle}
-use Rattle.slot_rule.specs.Views.{part}
 use Rattle.bw_tree.specs.Trees.{HasPartsOf, IsSeatOf}
 use Rattle.bw_tree.proofs.Joining.{is_one, none_joined, puts_behind}
 use Rattle.bw_tree.proofs.closing.joined.Goals as goal

@@ -1,4 +1,4 @@
-use Rattle.op_machine.proofs.runs.Refused.{not_direct, not_useful}
+use Rattle.op_machine.proofs.runs.Refused.{not_direct, not_reading, not_useful}
 use Rattle.op_machine.proofs.examples.useless_links_are_refused.Goals as goal
 
 pub returns-clause-twice : goal.returns-clause-twice
@@ -6,3 +6,6 @@ returns-clause-twice c = not_direct
 
 pub returns-clause-needless : goal.returns-clause-needless
 returns-clause-needless c = not_useful
+
+pub returns-clause-reading : goal.returns-clause-reading
+returns-clause-reading c = not_reading

@@ -1,5 +1,6 @@
-use Rattle.std.proofs.Common.{◌<◌, ◌≤◌, ℕ, arith, sym, subst}
-use Rattle.bw_tree.specs.Trees.{HasBusy}
+use Rattle.std.proofs.Common.{◌≡◌, ◌<◌, ◌≤◌, ◌∙◌, ℕ, ap, arith, sym, subst}
+use Rattle.bw_tree.specs.Trees.{HasBusy, Tree}
+use Rattle.bw_tree.proofs.Leaving.{are_closed}
 use Rattle.bw_tree.proofs.tree.Tree.close.Goals as goal
 
 not_less : (m n : ℕ) → n ≤ m → m < n → ⊥
@@ -20,11 +21,16 @@ returns-then-not-are_idle-clause-missing g c = rw (← c.self.view_is) (λ few. 
 pub returns-in_default-clause-missing : goal.returns-in_default-clause-missing
 returns-in_default-clause-missing g c = rw (← c.self.view_is) (λ few. absurd (not_less _ _ (let all = c.if-len-self.false in omega (arith, all, c.len.ensures)) few))
 
-pub listed-requires-clause-all : goal.listed-requires-clause-all
-listed-requires-clause-all g c = rw (← c.self.view_is) (let all = c.if-len-self.false in omega (arith, all, c.len.ensures))
+pub shut-requires-clause-all : goal.shut-requires-clause-all
+shut-requires-clause-all g c = rw (← c.self.view_is) (let all = c.if-len-self.false in omega (arith, all, c.len.ensures))
 
 pub listed-requires-clause-room : goal.listed-requires-clause-room
-listed-requires-clause-room g c = rw (← c.self.view_is) (let room = c.in-Ok.ensures.capacity in omega (arith, room))
+listed-requires-clause-room g c =
+    let same : c.shut.result.limits ≡ c.self.inside.limits = c.shut.ensures.limits ∙ sym (ap (λ (t : Tree). t.limits) c.self.view_is) in
+    rw same (let room = c.in-Ok.ensures.capacity in omega (arith, room))
+
+pub returns-clause-ok : goal.returns-clause-ok
+returns-clause-ok g c = are_closed _ _ _ _ c.shut.ensures c.listed.ensures
 
 pub returns-clause-missing : goal.returns-clause-missing
 returns-clause-missing g c = rw (← c.self.view_is) (λ few. absurd (not_less _ _ (let all = c.if-len-self.false in omega (arith, all, c.len.ensures)) few))

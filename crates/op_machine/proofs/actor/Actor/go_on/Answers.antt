@@ -6,17 +6,17 @@ go_on-requires g c =
     let told = rw (← c.self.view_is) at c.requires.told in
     let stays = rw (← c.self.view_is) at c.requires.stays in
     record {
-      told = told_here told.limits told.actor told.k told.r c.self.inside.is_running c.self.inside.operation c.self.inside.hand _ told.going;
-      stays = stays_here told.limits told.actor told.k told.r c.self.inside.is_running c.self.inside.operation c.self.inside.hand _ told.going stays;
+      told = told_here told.limits told.actor told.k told.r c.self.inside.is_running c.self.inside.operation c.self.inside.hand c.self.inside.lacks _ told.going;
+      stays = stays_here told.limits told.actor told.k told.r c.self.inside.is_running c.self.inside.operation c.self.inside.hand c.self.inside.lacks _ told.going stays;
     }
 
 pub wanted-requires-clause-shown : goal.wanted-requires-clause-shown
 wanted-requires-clause-shown g c =
     let told = rw (← c.self.view_is) at c.requires.told in
-    shown_then told.limits told.actor told.k told.r c.self.inside.is_running c.self.inside.operation c.self.inside.hand _ told.going _ _ c.go_on.ensures
+    shown_then told.limits told.actor told.k told.r c.self.inside.is_running c.self.inside.operation c.self.inside.hand c.self.inside.lacks _ told.going _ _ c.go_on.ensures
 
 pub returns-clause-goes : goal.returns-clause-goes
 returns-clause-goes g c =
     let stays = rw (← c.self.view_is) at c.requires.stays in
     rw (← c.self.view_is) (λ limits number k r going.
-    goes_here limits number k r c.self.inside.is_running c.self.inside.operation c.self.inside.hand _ going _ _ c.go_on.ensures _ stays c.wanted.ensures)
+    goes_here limits number k r c.self.inside.is_running c.self.inside.operation c.self.inside.hand c.self.inside.lacks _ going _ _ c.go_on.ensures _ stays c.wanted.ensures)

@@ -4,15 +4,15 @@ use Rattle.op_machine.proofs.actor.Actor.take_row.Goals as goal
 pub take_row-requires : goal.take_row-requires
 take_row-requires g c =
     let told = rw (← c.self.view_is) at c.requires.told in
-    record { told = told_here told.limits told.actor told.k told.r c.self.inside.is_running c.self.inside.operation c.self.inside.hand _ told.going }
+    record { told = told_here told.limits told.actor told.k told.r c.self.inside.is_running c.self.inside.operation c.self.inside.hand c.self.inside.lacks _ told.going }
 
 pub wanted-requires-clause-shown : goal.wanted-requires-clause-shown
 wanted-requires-clause-shown g c =
     let told = rw (← c.self.view_is) at c.requires.told in
-    shown_then told.limits told.actor told.k told.r c.self.inside.is_running c.self.inside.operation c.self.inside.hand _ told.going _ _ c.take_row.ensures
+    shown_then told.limits told.actor told.k told.r c.self.inside.is_running c.self.inside.operation c.self.inside.hand c.self.inside.lacks _ told.going _ _ c.take_row.ensures
 
 pub returns-clause-goes : goal.returns-clause-goes
 returns-clause-goes g c =
     let stays = rw (← c.self.view_is) at c.requires.stays in
     rw (← c.self.view_is) (λ limits number k r going.
-    goes_here limits number k r c.self.inside.is_running c.self.inside.operation c.self.inside.hand _ going _ _ c.take_row.ensures _ stays c.wanted.ensures)
+    goes_here limits number k r c.self.inside.is_running c.self.inside.operation c.self.inside.hand c.self.inside.lacks _ going _ _ c.take_row.ensures _ stays c.wanted.ensures)

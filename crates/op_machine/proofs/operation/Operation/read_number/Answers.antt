@@ -14,7 +14,7 @@ returns-in-Some g c =
     let places = c.self.inside.places in
     let spares = c.args.spares.now in
     let mid = c.read_number.new.self in
-    let is = stands_reading places.reader.round places.writer.round places.change places.then places.reply places.stand (rw (← c.self.view_is) at c.requires.reading) in
+    let is = stands_reading places.reader.round places.writer.round places.change places.then places.reply places.lacks places.stand (rw (← c.self.view_is) at c.requires.reading) in
     let ends = c.end_reading.ensures in
     let outcome = Read (ended_read mid.reader c.in-Some.ended) in
     rw (← c.self.view_is, c.number.ensures) (follows _ _ _ _ told _ _ (reads_into places mid spares (Number c.number.result) (option_map (ended_read mid.reader) c.read_number.result) is c.read_number.ensures) outcome (ap (λ o. read_out (option_map (ended_read mid.reader) o)) c.in-Some.is) _
@@ -26,5 +26,5 @@ returns-in_default g c =
     let places = c.self.inside.places in
     let spares = c.args.spares.now in
     let mid = c.read_number.new.self in
-    let is = stands_reading places.reader.round places.writer.round places.change places.then places.reply places.stand (rw (← c.self.view_is) at c.requires.reading) in
+    let is = stands_reading places.reader.round places.writer.round places.change places.then places.reply places.lacks places.stand (rw (← c.self.view_is) at c.requires.reading) in
     rw (← c.self.view_is, c.number.ensures) (goes_on _ _ _ _ told _ _ (reads_into places mid spares (Number c.number.result) (option_map (ended_read mid.reader) c.read_number.result) is c.read_number.ensures) (ap (λ o. read_out (option_map (ended_read mid.reader) o)) c.in_default.is))

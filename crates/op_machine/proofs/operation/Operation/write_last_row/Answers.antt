@@ -13,7 +13,7 @@ end_writing-requires-clause-faced g c =
     let places = c.self.inside.places in
     let spares = c.args.spares.now in
     let mid = c.write_row.new.self in
-    let is = stands_writing places.reader.round places.writer.round places.change places.then places.reply places.stand (rw (← c.self.view_is) at c.requires.writing) in
+    let is = stands_writing places.reader.round places.writer.round places.change places.then places.reply places.lacks places.stand (rw (← c.self.view_is) at c.requires.writing) in
     let there = faced _ _ _ _ told _ _ (writes_into places mid spares (Content c.args.row.now) (option_map (ended_write mid.writer) c.write_row.result) is c.write_row.ensures) (Written (ended_write mid.writer c.in-Some.ended)) (ap (λ o. written_out (option_map (ended_write mid.writer) o)) c.in-Some.is) in
     (there.k, there.r, there.faces)
 
@@ -23,7 +23,7 @@ returns-in-Some g c =
     let places = c.self.inside.places in
     let spares = c.args.spares.now in
     let mid = c.write_row.new.self in
-    let is = stands_writing places.reader.round places.writer.round places.change places.then places.reply places.stand (rw (← c.self.view_is) at c.requires.writing) in
+    let is = stands_writing places.reader.round places.writer.round places.change places.then places.reply places.lacks places.stand (rw (← c.self.view_is) at c.requires.writing) in
     let ends = c.end_writing.ensures in
     rw (← c.self.view_is) (follows _ _ _ _ told _ _ (writes_into places mid spares (Content c.args.row.now) (option_map (ended_write mid.writer) c.write_row.result) is c.write_row.ensures) (Written (ended_write mid.writer c.in-Some.ended)) (ap (λ o. written_out (option_map (ended_write mid.writer) o)) c.in-Some.is) _
     (record { stands = ends.stands; few = ends.few; asks = ends.asks; same = ends.same; sweep = refl }))
@@ -34,5 +34,5 @@ returns-in_default g c =
     let places = c.self.inside.places in
     let spares = c.args.spares.now in
     let mid = c.write_row.new.self in
-    let is = stands_writing places.reader.round places.writer.round places.change places.then places.reply places.stand (rw (← c.self.view_is) at c.requires.writing) in
+    let is = stands_writing places.reader.round places.writer.round places.change places.then places.reply places.lacks places.stand (rw (← c.self.view_is) at c.requires.writing) in
     rw (← c.self.view_is) (goes_on _ _ _ _ told _ _ (writes_into places mid spares (Content c.args.row.now) (option_map (ended_write mid.writer) c.write_row.result) is c.write_row.ensures) (ap (λ o. written_out (option_map (ended_write mid.writer) o)) c.in_default.is))

@@ -1,4 +1,4 @@
-use Rattle.std.proofs.Common.{ap, ◌≤◌, arith}
+use Rattle.std.proofs.Common.{ap}
 use Rattle.bw_model.specs.declared.step.Answer.TheVariants.{Number}
 use Rattle.descent.specs.WriteEnds.{Again}
 use Rattle.rounds.specs.WriteRounds.{again_if}
@@ -14,7 +14,7 @@ returns-then-write_number g c =
     let places = c.self.inside.places in
     let spares = c.args.spares.now in
     let mid = c.write_number.new.self in
-    let is = stands_writing places.reader.round places.writer.round places.change places.then places.reply places.stand (rw (← c.self.view_is) at c.requires.writing) in
+    let is = stands_writing places.reader.round places.writer.round places.change places.then places.reply places.lacks places.stand (rw (← c.self.view_is) at c.requires.writing) in
     let begins = c.begin_round.ensures in
     rw (← c.self.view_is, c.number.ensures) (follows _ _ _ _ told _ _ (writes_into places mid spares (Number c.number.result) (again_if c.write_number.result) is c.write_number.ensures) (Written Again) (ap (λ b. written_out (again_if b)) c.if-write_number.true) _
     (comes_to c.self.inside.task c.self.inside.sweep (state_of mid) (state_of c.begin_round.new.places) spares (Written Again) (λ k r faced. begins.stands spares k r faced.seeks) (begins.few spares) (begins.asks spares)))
@@ -25,5 +25,5 @@ returns-else-write_number g c =
     let places = c.self.inside.places in
     let spares = c.args.spares.now in
     let mid = c.write_number.new.self in
-    let is = stands_writing places.reader.round places.writer.round places.change places.then places.reply places.stand (rw (← c.self.view_is) at c.requires.writing) in
+    let is = stands_writing places.reader.round places.writer.round places.change places.then places.reply places.lacks places.stand (rw (← c.self.view_is) at c.requires.writing) in
     rw (← c.self.view_is, c.number.ensures) (goes_on _ _ _ _ told _ _ (writes_into places mid spares (Number c.number.result) (again_if c.write_number.result) is c.write_number.ensures) (ap (λ b. written_out (again_if b)) c.if-write_number.false))

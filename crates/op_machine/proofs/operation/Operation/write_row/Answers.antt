@@ -10,5 +10,5 @@ returns-then-is_some g c =
     let places = c.self.inside.places in
     let spares = c.args.spares.now in
     let mid = c.write_on.new.self in
-    let is = stands_writing places.reader.round places.writer.round places.change places.then places.reply places.stand (rw (← c.self.view_is) at c.requires.writing) in
+    let is = stands_writing places.reader.round places.writer.round places.change places.then places.reply places.lacks places.stand (rw (← c.self.view_is) at c.requires.writing) in
     rw (← c.self.view_is) (goes_on _ _ _ _ told _ _ (writes_into places mid spares (Content c.args.row.now) None is c.write_on.ensures) refl)

@@ -1,5 +1,5 @@
 use Rattle.std.proofs.Common.{Some, ap, refl, sym, ◌∙◌}
-use Rattle.op_machine.proofs.Stepping.{freely, steps_reading, usefully}
+use Rattle.op_machine.proofs.Stepping.{freely, halved, steps_reading, usefully}
 use Rattle.op_machine.proofs.places.Places.wanted.Goals as goal
 
 pub returns-in-Change-clause-may : goal.returns-in-Change-clause-may
@@ -12,6 +12,7 @@ returns-in-Change-clause-may g c task k r h =
       may = step.may task.actor k shows.shows;
       frees = rw step.wanted (freely task.limits task.actor k change.plan c.args.spares.now change.state);
       useful = rw step.wanted (usefully k change.plan c.args.spares.now change.state shows.useful shows.shows.stands);
+      halved = rw step.wanted (halved k change.plan c.args.spares.now change.state shows.useful shows.shows.stands);
     }
 
 pub wanted-requires : goal.wanted-requires
@@ -27,7 +28,7 @@ pub returns-in-Epoch-clause-wanted : goal.returns-in-Epoch-clause-wanted
 returns-in-Epoch-clause-wanted g c = rw (← c.self.view_is, c.in-Epoch.is) refl
 
 pub returns-in-Epoch-clause-may : goal.returns-in-Epoch-clause-may
-returns-in-Epoch-clause-may g c task k r h = record { within = tt; may = tt; frees = tt; useful = tt }
+returns-in-Epoch-clause-may g c task k r h = record { within = tt; may = tt; frees = tt; useful = tt; halved = tt }
 
 pub returns-in-Enter-clause-wanted : goal.returns-in-Enter-clause-wanted
 returns-in-Enter-clause-wanted g c = rw (← c.self.view_is, c.in-Enter.is) refl
@@ -35,7 +36,7 @@ returns-in-Enter-clause-wanted g c = rw (← c.self.view_is, c.in-Enter.is) refl
 pub returns-in-Enter-clause-may : goal.returns-in-Enter-clause-may
 returns-in-Enter-clause-may g c task k r h =
     let waits = rw (← c.self.view_is, c.in-Enter.is) at h in
-    record { within = tt; may = (waits.0.rests.outside, waits.1, waits.2); frees = tt; useful = tt }
+    record { within = tt; may = (waits.0.rests.outside, waits.1, waits.2); frees = tt; useful = tt; halved = tt }
 
 pub returns-in-Leave-clause-wanted : goal.returns-in-Leave-clause-wanted
 returns-in-Leave-clause-wanted g c = rw (← c.self.view_is, c.in-Leave.is) refl
@@ -43,7 +44,7 @@ returns-in-Leave-clause-wanted g c = rw (← c.self.view_is, c.in-Leave.is) refl
 pub returns-in-Leave-clause-may : goal.returns-in-Leave-clause-may
 returns-in-Leave-clause-may g c task k r h =
     let between = rw (← c.self.view_is, c.in-Leave.is) at h in
-    record { within = tt; may = between.0.inside; frees = tt; useful = tt }
+    record { within = tt; may = between.0.inside; frees = tt; useful = tt; halved = tt }
 
 pub returns-in-Read-clause-wanted : goal.returns-in-Read-clause-wanted
 returns-in-Read-clause-wanted g c = rw (← c.self.view_is, c.in-Read.is) (ap Some (sym (c.reading.ensures ∙ c.asks.ensures.wanted)))

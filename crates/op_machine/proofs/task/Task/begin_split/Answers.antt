@@ -1,4 +1,7 @@
-use Rattle.std.proofs.Common.{refl, sym, ◌∙◌}
+use Rattle.std.proofs.Common.{refl, subst, sym, ◌∙◌}
+use Rattle.op_machine.specs.theorem.Halves.{AreHalves}
+use Rattle.traces.proofs.ChainLaws.{IsChainFrom-unique}
+use Rattle.op_machine.proofs.Halves.{halves}
 use Rattle.op_machine.proofs.Plans.{spells_base}
 use Rattle.op_machine.proofs.task.Task.begin_split.Goals as goal
 
@@ -24,7 +27,7 @@ returns-clause-stands g c k r h =
       may = record { inside = h.seeks.inside; links = c.plans_may_be_linked.ensures.split c.args.self.now.actor k writer.page c.args.plan page.in_hand.seen plan };
       keeps = tt;
       brings = (writer.page.pid, c.args.plan, refl, sym (c.copied-separator.ensures ∙ c.low.ensures));
-      useful = tt;
+      useful = λ chain read. subst (λ d. AreHalves d c.args.plan.upper.items) (IsChainFrom-unique k.read.seen writer.page.head writer.page.chain chain page.in_hand.seen.read (rw plan.over at read)) (halves writer.page c.args.plan plan page.in_hand.sound.is_chain.fitted);
       split = rw plan.over page.in_hand.seen.head;
       recalled = rw plan.over page.recalled;
     }))

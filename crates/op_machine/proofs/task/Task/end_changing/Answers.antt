@@ -1,28 +1,39 @@
-use Rattle.std.proofs.Common.{◌≡◌, ◌≤◌, inr, refl, ap, sym, subst, ◌∙◌, arith}
+use Rattle.std.proofs.Common.{◌≡◌, ◌≤◌, inl, inr, refl, ap, sym, subst, ◌∙◌, arith}
 use Rattle.tree_limits.specs.declared.limits.Limits.{Limits}
+use Rattle.traces.specs.discipline.Discipline.{LacksRoom}
+use Rattle.traces.specs.discipline.Knowledge.{Knowledge}
+use Rattle.installs.specs.Taking.{AllFull}
+use Rattle.installs.specs.declared.taking.Kind.{Kind}
+use Rattle.installs.specs.declared.taking.Kind.TheVariants.{Pid, Row}
 use Rattle.op_machine.specs.machine.Bounded.{left_at, one_round}
 use Rattle.op_machine.specs.machine.Places.{state_of}
 use Rattle.op_machine.specs.machine.Tasks.{Task}
 use Rattle.op_machine.proofs.Plans.{errand_more, errands_same}
 use Rattle.op_machine.proofs.task.Task.end_changing.Goals as goal
 
+-- nothing of a kind is free, so there is no room
+lacks_room : (limits : Limits) (k : Knowledge) (kind : Kind) → AllFull limits k.asked kind → LacksRoom limits k
+lacks_room limits k Pid all = inl all
+lacks_room limits k Row all = inr all
+
 pub returns-in-Full-default-clause-stands : goal.returns-in-Full-default-clause-stands
 returns-in-Full-default-clause-stands g c spares k r h =
     let full = rw c.in-Full-default.is-0 at h in
     let task = c.args.self.now in
-    rw c.leave-in-Full-default.ensures (
+    rw c.give_up.ensures (
       record { inside = full.0.inside; spare = full.0.spare; going = full.0.asked.going },
-      record { command = task.command; going = full.0.asked.going; justified = inr (inr (inr (record { is = refl; writes = full.1; unlinked = full.0.asked.unlinked; lacks = full.2 }))) },
+      record { command = task.command; going = full.0.asked.going; justified = inr (inr (inr (record { is = refl; writes = full.1; unlinked = full.0.asked.unlinked; lacks = lacks_room task.limits k c.in-Full-default.kind full.2 }))) },
+      (refl, full.2),
     )
 
 pub returns-in-Full-default-clause-few : goal.returns-in-Full-default-clause-few
-returns-in-Full-default-clause-few g c spares r = rw (c.leave-in-Full-default.ensures, c.in-Full-default.is-0) (errands_same c.args.self.now.limits c.args.self.now.errands _ _ (omega arith))
+returns-in-Full-default-clause-few g c spares r = rw (c.give_up.ensures, c.in-Full-default.is-0) (errands_same c.args.self.now.limits c.args.self.now.errands _ _ (omega arith))
 
 pub returns-in-Full-default-clause-asks : goal.returns-in-Full-default-clause-asks
-returns-in-Full-default-clause-asks g c spares = rw c.leave-in-Full-default.ensures refl
+returns-in-Full-default-clause-asks g c spares = rw c.give_up.ensures refl
 
 pub returns-in-Full-default-clause-have : goal.returns-in-Full-default-clause-have
-returns-in-Full-default-clause-have g c = rw c.leave-in-Full-default.ensures (record { reader = c.requires.have.reader; writer = c.requires.have.writer })
+returns-in-Full-default-clause-have g c = rw c.give_up.ensures (record { reader = c.requires.have.reader; writer = c.requires.have.writer })
 
 pub returns-in-Won-Reply-clause-asks : goal.returns-in-Won-Reply-clause-asks
 returns-in-Won-Reply-clause-asks g c spares = rw c.leave.ensures refl

@@ -6,14 +6,15 @@ returns-in-Leaf-clause-stands g c spares k r faced =
     let leaf = c.args.places.now.reader.page in
     let h = rw c.in-Leaf.is at faced in
     let ends = h.ends in
-    rw c.leave.ensures (c.reply_over-reply.ensures spares k r leaf.head (rw (c.chain.ensures, c.page.ensures, c.reader.ensures) (record {
+    let may = c.reply_over-reply.ensures.may spares k leaf.head (rw (c.chain.ensures, c.page.ensures, c.reader.ensures) (record {
       seeks = h.seeks;
       reader = h.reader;
       read = ends.page.in_hand.seen.read;
       level = ends.level;
       covered = rw h.key at ends.covered;
       standing = c.read_leaves_stood.ensures.leaf h.round.limits k r h.round.key leaf ends;
-    })))
+    })) in
+    rw c.leave.ensures (may.0, may.1, c.reply_over-reply.ensures.answers)
 
 pub returns-in-Beside-clause-stands : goal.returns-in-Beside-clause-stands
 returns-in-Beside-clause-stands g c spares k r faced =
@@ -21,14 +22,15 @@ returns-in-Beside-clause-stands g c spares k r faced =
     let removed = reader.aside in
     let h = rw c.in-Beside.is at faced in
     let ends = h.ends in
-    rw c.leave-in-Beside.ensures (c.reply_over-reply-in-Beside.ensures spares k r removed.head (rw (c.chain-in-Beside.ensures, c.aside.ensures, c.reader-in-Beside.ensures) (record {
+    let may = c.reply_over-reply-in-Beside.ensures.may spares k removed.head (rw (c.chain-in-Beside.ensures, c.aside.ensures, c.reader-in-Beside.ensures) (record {
       seeks = h.seeks;
       reader = h.reader;
       read = ends.page.in_hand.seen.read;
       level = ends.level;
       covered = rw h.key at ends.covered;
       standing = c.read_leaves_stood.ensures.beside h.round.limits k r h.round.key reader.page removed ends;
-    })))
+    })) in
+    rw c.leave-in-Beside.ensures (may.0, may.1, c.reply_over-reply-in-Beside.ensures.answers)
 
 pub begin_round-requires : goal.begin_round-requires
 begin_round-requires g c = record { have = c.requires.have }

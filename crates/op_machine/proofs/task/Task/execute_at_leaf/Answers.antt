@@ -102,6 +102,7 @@ returns-in_default-clause-stands g c parent k r below idle =
     rw c.leave.ensures (
       record { inside = h.seeks.inside; spare = h.seeks.spare; going = h.seeks.asked.going },
       may_call task c.args.spares.now k r parent leaf c.find-old.result below idle c.requires.last (rw (← c.as_ref.ensures.value, ← c.command-2.ensures) (sym c.reply.ensures ∙ c.in_default.is)),
+      (λ is. cc),
     )
 
 pub returns-clause-few : goal.returns-clause-few

@@ -11,5 +11,7 @@ returns-clause-orderly g c = rw (← c.self.view_is) (record {
   phases = c.states_are_lawful.ensures.phases _ _ c.self.invariant.state;
   index = c.states_are_lawful.ensures.index _ _ c.self.invariant.state;
   direct = c.self.invariant.direct.direct;
+  few_changes = c.self.invariant.paid.few;
+  reads = c.states_are_lawful.ensures.reads _ _ c.self.invariant.state.run (c.states_are_lawful.ensures.phases _ _ c.self.invariant.state) c.self.invariant.direct.direct;
   freed = c.states_are_lawful.ensures.freed _ _ c.self.invariant.state;
 })

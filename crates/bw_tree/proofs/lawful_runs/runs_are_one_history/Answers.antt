@@ -1,0 +1,18 @@
+use Rattle.bw_tree.proofs.lawful_runs.runs_are_one_history.Goals as goal
+
+pub returns : goal.returns
+returns c limits run seen =
+    let state = seen.lawful.state in
+    let phases = c.keeps_phases.ensures limits run state in
+    record {
+      linearized = c.is_one_map.ensures limits run state;
+      orderly = record {
+        phases = phases;
+        index = c.index_is_exact.ensures limits run state;
+        direct = seen.lawful.direct.direct;
+        few_changes = seen.lawful.paid.few;
+        reads = c.readers_read_at_once.ensures limits run state.run phases seen.lawful.direct.direct;
+        freed = c.frees_by_rule.ensures limits run state;
+      };
+      begins = seen.begins;
+    }

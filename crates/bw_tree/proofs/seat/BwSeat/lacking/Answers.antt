@@ -1,0 +1,12 @@
+use Rattle.std.proofs.Common.{subst, sym}
+use Rattle.bw_tree.specs.Lacking.{IsLacking}
+use Rattle.bw_tree.specs.Seats.{Seat}
+use Rattle.slot_rule.specs.Views.{seen_of}
+use Rattle.bw_tree.proofs.Advancing.{seat_of}
+use Rattle.bw_tree.proofs.LackLaws.{lacking}
+use Rattle.bw_tree.proofs.seat.BwSeat.lacking.Goals as goal
+
+pub returns : goal.returns
+returns g c =
+    subst (IsLacking c.args.self.now) (sym c.lacks.ensures) (subst (λ (s : Seat). IsLacking s c.self.inside.actor.lacks) c.self.view_is
+    (lacking (seat_of c.self.inside.place.table_id c.self.inside.limits c.self.inside.number (seen_of c.self.inside.place.me)) c.self.inside.actor.lacks c.self.invariant.seated.lacks))

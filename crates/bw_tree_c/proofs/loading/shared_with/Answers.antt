@@ -1,0 +1,25 @@
+use Rattle.std.proofs.Common.{ap, map, subst, sym, ◌∙◌}
+use Rattle.bw_model.specs.declared.command.Reply.TheVariants as reply
+use Rattle.bw_tree.specs.Loaded.{AreLoaded, IsStopped}
+use Rattle.bw_tree.specs.declared.called.Called.TheVariants as called
+use Rattle.bw_tree.specs.declared.filling.TheConstants.{LOAD_BUDGET}
+use Rattle.bw_tree_c.specs.Loaded.{given_pair}
+use Rattle.bw_tree_c.specs.declared.shared.Shared.{Shared}
+use Rattle.bw_tree_c.proofs.Unloading.{is_full, is_spent}
+use Rattle.bw_tree_c.proofs.loading.shared_with.Goals as goal
+
+pub returns-in-Ok-new-2-clause-ok : goal.returns-in-Ok-new-2-clause-ok
+returns-in-Ok-new-2-clause-ok c = record {
+  tree = c.in-Ok.opened.0;
+  limits = c.in-Ok.ensures.limits;
+  loaded = subst (λ seats. AreLoaded c.in-Ok.opened.0 seats (map given_pair c.args.given.now)) (sym (ap (λ (s : Shared). s.slots.items) c.in-Ok-new-2.ensures.ok ∙ c.in-Some.ensures))
+      (subst (AreLoaded c.in-Ok.opened.0 c.in-Ok.opened.1.items) (c.as_slice.ensures.value ∙ c.in_ok-pairs.ensures.ok) c.in-Ok.ensures.loaded);
+}
+
+pub returns-in-Err-Full-clause-err : goal.returns-in-Err-Full-clause-err
+returns-in-Err-Full-clause-err c = is_full c.args.limits c.args.given.now
+    (subst (λ pairs. IsStopped c.args.limits pairs LOAD_BUDGET (called.Done reply.Full)) (c.as_slice.ensures.value ∙ c.in_ok-pairs.ensures.ok) (c.in-Err-Full.ensures.full (cc (c.in-Err-Full.is, c.in-Err-Full.field-0-is))))
+
+pub returns-in-Err-Spent-clause-err : goal.returns-in-Err-Spent-clause-err
+returns-in-Err-Spent-clause-err c = is_spent c.args.limits c.args.given.now
+    (subst (λ pairs. IsStopped c.args.limits pairs LOAD_BUDGET called.Spent) (c.as_slice.ensures.value ∙ c.in_ok-pairs.ensures.ok) (c.in-Err-Spent.ensures.spent (cc (c.in-Err-Spent.is, c.in-Err-Spent.field-0-is))))

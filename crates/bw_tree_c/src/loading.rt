@@ -1,0 +1,78 @@
+//! A tree is opened with pairs.
+ghost use Rattle.std.specs.Prelude.{◌≡◌, ◌↔◌, ◌⊎◌, IfErr, IfOk, IsSome, map};
+ghost use Rattle.bw_model.specs.declared.command.Reply.TheVariants as reply;
+ghost use Rattle.bw_tree.specs.Loaded.{KeysAscend};
+ghost use Rattle.bw_tree_c.specs.Loaded.{AreShort, HasOpenedWith, IsLoadedWith, IsUnloaded, StopsLoad, TellsUnloaded, given_pair};
+ghost use Rattle.bw_tree_c.specs.Shown.{AreOpenable};
+
+use crate::answers::{BAD_LIMITS, BAD_ORDER, FULL, NO_MEMORY, OK, OPEN, SPENT, TOO_LONG};
+use crate::bytes::{Pair, TreeLimits};
+use crate::given::pairs_of;
+use crate::handle::TreeHandle;
+use crate::opening::slots_of;
+use crate::shared::Shared;
+use bw_model::Limits;
+use bw_tree::{Called, LoadError};
+use seats::opened_from;
+use std::alloc::Global;
+use std::sync::Arc;
+
+/// Opens a tree with these pairs, whose keys ascend.
+#[unsafe(no_mangle)]
+pub extern "C" fn bwtree_raw_open_from(
+    alloc: Global,
+    limits: &TreeLimits,
+    pairs: &[Pair],
+    tree: &mut TreeHandle,
+) -> u32
+    ensures bad { (result ≡ BAD_LIMITS) ↔ (AreOpenable limits.now → ⊥) }
+    ensures told { (result ≡ OK) ⊎ (result ≡ BAD_LIMITS) ⊎ (result ≡ OPEN) ⊎ TellsUnloaded result }
+    ensures ok { result ≡ OK → HasOpenedWith limits.now pairs.now tree.new.kept.value }
+    ensures open { result ≡ OPEN → IsSome tree.old.kept.value }
+    ensures long { result ≡ TOO_LONG → AreShort pairs.now → ⊥ }
+    ensures order { result ≡ BAD_ORDER → KeysAscend (map given_pair pairs.now) → ⊥ }
+    ensures full { result ≡ FULL → StopsLoad limits.now pairs.now (Called.Done reply.Full) }
+    ensures spent { result ≡ SPENT → StopsLoad limits.now pairs.now Called.Spent }
+    ensures same { (result ≡ OK → ⊥) → tree.new ≡ tree.old }
+{
+    let Some(limits) = limits.limits() else {
+        return BAD_LIMITS;
+    };
+    if tree.is_open() {
+        return OPEN;
+    }
+    match shared_with(alloc, limits, pairs) {
+        Ok(shared) => {
+            *tree = TreeHandle::of(shared);
+            OK
+        }
+        Err(told) => told,
+    }
+}
+
+/// A tree with these pairs, with its seats in their slots; or the status that says why there is none.
+fn shared_with(alloc: Global, limits: Limits, given: &[Pair]) -> Result<Box<Shared>, u32>
+    ensures ok { IfOk result (λ shared. IsLoadedWith limits (map given_pair given.now) shared.value.slots.items) }
+    ensures short { IfOk result (λ shared. AreShort given.now) }
+    ensures err { IfErr result (IsUnloaded limits given.now) }
+    ensures told { IfErr result TellsUnloaded }
+{
+    let pairs = pairs_of(alloc, given)?;
+    let (tree, seats) = match opened_from(alloc, limits, pairs.as_slice()) {
+        Ok(opened) => opened,
+        Err(LoadError::Order) => return Err(BAD_ORDER),
+        Err(LoadError::Memory) => return Err(NO_MEMORY),
+        Err(LoadError::Full) => return Err(FULL),
+        Err(LoadError::Spent) => return Err(SPENT),
+    };
+    let Ok(tree) = Arc::new(alloc, tree) else {
+        return Err(NO_MEMORY);
+    };
+    let Some(slots) = slots_of(alloc, &tree, seats) else {
+        return Err(NO_MEMORY);
+    };
+    match Box::new(alloc, Shared { slots }) {
+        Ok(shared) => Ok(shared),
+        Err(_) => Err(NO_MEMORY),
+    }
+}

@@ -1,0 +1,29 @@
+-- A reply that goes by the value of its key isn't Full.
+use Rattle.std.proofs.Common.{◌≡◌, ◌≢◌, ℕ, Bool, true, false, List, Option, Some, None, ◌∙◌}
+use Rattle.std.specs.Prelude.{if◌then◌else◌}
+use Rattle.std.specs.Str.{bytes_eq}
+use Rattle.std.proofs.lemmas.Option.{same_Some}
+use Rattle.bw_model.specs.declared.command.Command.{Command}
+use Rattle.bw_model.specs.declared.command.Command.TheVariants.{Get, Insert, Upsert, Delete, Swap, Page as PageFrom, Tidy}
+use Rattle.bw_model.specs.declared.command.Reply.{Reply}
+use Rattle.bw_model.specs.declared.command.Reply.TheVariants as kind
+use Rattle.bw_model.specs.Replies.{reply_of}
+
+-- a test that replies either way
+chosen_not_full : (b : Bool) (x y reply : Reply) → x ≢ kind.Full → y ≢ kind.Full → (if b then Some x else Some y) ≡ Some reply → reply ≢ kind.Full
+chosen_not_full true x y reply no_x no_y e full = no_x (same_Some x reply e ∙ full)
+chosen_not_full false x y reply no_x no_y e full = no_y (same_Some y reply e ∙ full)
+
+pub not_full : (c : Command) (old : Option (List ℕ)) (reply : Reply) → reply_of c old ≡ Some reply → reply ≢ kind.Full
+not_full (Get key) None reply e full = cc
+not_full (Get key) (Some before) reply e full = cc
+not_full (Insert key value) None reply e full = cc
+not_full (Insert key value) (Some before) reply e full = cc
+not_full (Upsert key value) None reply e full = cc
+not_full (Upsert key value) (Some before) reply e full = cc
+not_full (Delete key) None reply e full = cc
+not_full (Delete key) (Some before) reply e full = cc
+not_full (Swap key expected value) None reply e full = cc
+not_full (Swap key expected value) (Some before) reply e full = chosen_not_full (bytes_eq before expected) kind.Swapped (kind.Differs before) reply (λ is. cc) (λ is. cc) e full
+not_full (PageFrom key) old reply e full = cc
+not_full (Tidy key) old reply e full = cc

@@ -1,0 +1,242 @@
+-- Each cause of an operation needs an entry of its own, where nobody has placed a removal.
+use Rattle.std.proofs.Common.{◌≡◌, ◌≢◌, ◌<◌, ◌≤◌, ◌+◌, ◌-◌, ◌*◌, ◌⊎◌, ℕ, zero, suc, List, [], ◌∷◌, Option, Some, Bool, true, false, drop, length, take, refl, sym, ap, subst, ◌∙◌, inl, inr, arith}
+use Rattle.std.proofs.Math.Nat.{mul-le-mul_left}
+use Rattle.std.proofs.lemmas.Bool.{cases_lt}
+use Rattle.std.proofs.lemmas.Bool.Decides.{eqb_tells}
+use Rattle.std.proofs.lemmas.List.Elements.{All-head, All-tail}
+use Rattle.std.specs.List.{All, count_by}
+use Rattle.std.specs.List.Sorted.{IsStrictlyIncreasing}
+use Rattle.std.specs.Prelude.{◌==◌, not, slice_get, slice_index, slice_range}
+use Rattle.tree_limits.specs.declared.limits.Limits.{Limits}
+use Rattle.bw_model.specs.declared.command.Reply.{Reply}
+use Rattle.bw_model.specs.declared.step.Answer.TheVariants.{Whether}
+use Rattle.bw_model.specs.declared.step.Step.TheVariants.{Exchange}
+use Rattle.traces.specs.declared.trace.Entry.{Entry}
+use Rattle.traces.specs.declared.trace.Entry.TheVariants.{Step}
+use Rattle.traces.specs.discipline.Recalled.{cause_worth}
+use Rattle.traces.specs.trace.Run.{IsRun}
+use Rattle.traces.specs.trace.Trace.{TakesStep}
+use Rattle.op_machine.specs.theorem.Direct.{IsCause, IsDirect, IsExchangeOf, IsTake, TakesNone}
+use Rattle.op_machine.specs.theorem.Operations.{IsOperation, Operation, TakesOwnStep}
+use Rattle.op_machine.specs.theorem.Phases.{KeepsPhases}
+use Rattle.op_machine.specs.theorem.Progress.{PlacesNoRemoval, steps_from}
+use Rattle.progress.specs.Meanwhile.{StepsArePaidMeanwhile, hinders}
+use Rattle.progress.proofs.Between.{take_of}
+use Rattle.progress.proofs.Causes.{meets_none}
+use Rattle.progress.proofs.Counted.{AreDistinct, Each, IsNotAmong, Passes, no_more}
+use Rattle.progress.proofs.Spans.{ExchangedBeside, TakenBeside, lost_by_change, missed_by_take, of_own, same_step}
+
+tail_up : (c : ℕ) (cs : List ℕ) → IsStrictlyIncreasing (c ∷ cs) → IsStrictlyIncreasing cs
+tail_up c cs up k h = subst (λ j. slice_index (c ∷ cs) (suc k) < slice_index (c ∷ cs) j) (let e : suc k + 1 ≡ suc (k + 1) = omega arith in e) (up (suc k) (omega arith))
+
+-- an increasing list has each number once
+above_first : (c : ℕ) (cs : List ℕ) → IsStrictlyIncreasing (c ∷ cs) → Each (λ d. c < d) cs
+above_first c [] up = tt
+above_first c (d ∷ ds) up =
+    let first : c < d = up 0 (omega arith) in
+    (first, higher c d ds first (above_first d ds (tail_up c (d ∷ ds) up)))
+  where
+    higher : (c d : ℕ) (es : List ℕ) → c < d → Each (λ e. d < e) es → Each (λ e. c < e) es
+    higher c d [] lt h = tt
+    higher c d (e ∷ es) lt h = (omega (arith, lt, h.0), higher c d es lt h.1)
+
+not_among : (c : ℕ) (cs : List ℕ) → Each (λ d. c < d) cs → IsNotAmong c cs
+not_among c [] h = tt
+not_among c (d ∷ ds) h = (λ same. let lt : c < d = h.0 in omega arith, not_among c ds h.1)
+
+all_distinct : (cs : List ℕ) → IsStrictlyIncreasing cs → AreDistinct cs
+all_distinct [] up = tt
+all_distinct (c ∷ cs) up = (not_among c cs (above_first c cs up), all_distinct cs (tail_up c cs up))
+
+get_drop : {X : Type 0} (xs : List X) (a j : ℕ) → slice_get (drop a xs) j ≡ slice_get xs (a + j)
+get_drop xs zero j = ap (slice_get xs) (let e : j ≡ 0 + j = omega arith in e)
+get_drop [] (suc a) j = refl
+get_drop (x ∷ xs) (suc a) j = get_drop xs a j ∙ ap (slice_get (x ∷ xs)) (let e : suc (a + j) ≡ suc a + j = omega arith in e)
+
+abbrev IsIn : ℕ → List ℕ → Type 0
+IsIn d [] = ⊥
+IsIn d (c ∷ cs) = (d ≡ c) ⊎ IsIn d cs
+
+apart_from : (c d : ℕ) (cs : List ℕ) → IsNotAmong c cs → IsIn d cs → c ≡ d → ⊥
+apart_from c d [] other within same = absurd within
+apart_from c d (e ∷ es) other (inl here) same = other.0 (same ∙ here)
+apart_from c d (e ∷ es) other (inr there) same = apart_from c d es other.1 there same
+
+by_order : (c d : ℕ) → (c < d → ⊥) → (d < c → ⊥) → c ≡ d
+by_order c d lower higher = elim (cases_lt c d) [ inl lt ↦ absurd (lower lt) | inr le ↦ elim (cases_lt d c) [ inl lt ↦ absurd (higher lt) | inr ge ↦ omega arith ] ]
+
+module _ (limits : Limits) (entries : List Entry) (run : IsRun limits entries) (op : Operation) where
+  -- its exchange won
+  record WinsItself (k c : ℕ) : Type 0 where
+    same : k ≡ c
+    slot : ℕ
+    old : ℕ
+    new : ℕ
+    took : TakesOwnStep entries op c (Exchange slot old new) (Whether true)
+
+  -- its exchange lost to another's
+  record LosesTo (k c : ℕ) : Type 0 where
+    slot : ℕ
+    old : ℕ
+    new : ℕ
+    since : ℕ
+    low : since < k
+    high : k < c
+    took : TakesOwnStep entries op c (Exchange slot old new) (Whether false)
+    none : TakesNone limits entries op since c (IsExchangeOf slot)
+    beside : ExchangedBeside limits entries run op slot old k
+
+  -- its take missed what another one took
+  record MissesTo (k c : ℕ) : Type 0 where
+    pids : Bool
+    number : ℕ
+    since : ℕ
+    low : since < k
+    high : k < c
+    took : TakesOwnStep entries op c (take_of pids number) (Whether false)
+    none : TakesNone limits entries op since c IsTake
+    beside : TakenBeside limits entries run op pids number k
+
+  itself : (k c : ℕ) (p : WinsItself k c) → TakesStep entries k op.actor (Exchange p.slot p.old p.new) (Whether true)
+  itself k c p = subst (λ j. TakesStep entries j op.actor (Exchange p.slot p.old p.new) (Whether true)) (sym p.same) (of_own p.took)
+
+  -- the entry at k is what the cause at c needed
+  abbrev Pays : ℕ → ℕ → Type 0
+  Pays k c = (op.start < k) × (k ≤ c) × (WinsItself k c ⊎ LosesTo k c ⊎ MissesTo k c)
+
+  is_take : (pids : Bool) (number : ℕ) → IsTake (take_of pids number)
+  is_take true number = tt
+  is_take false number = tt
+
+  no_take : (pids : Bool) (number slot old new : ℕ) → Exchange slot old new ≡ take_of pids number → ⊥
+  no_take true number slot old new e = cc
+  no_take false number slot old new e = cc
+
+  -- the entry at k, which each of them needed
+  same_cause : (k c d : ℕ) → Pays k c → Pays k d → c ≡ d
+  same_cause k c d (low, high, inl p) (low', high', inl q) = sym p.same ∙ q.same
+  same_cause k c d (low, high, inl p) (low', high', inr (inl q)) =
+      absurd (q.beside.2 (sym (same_step entries k op.actor q.beside.0 _ _ _ _ (itself k _ p) q.beside.3).0))
+  same_cause k c d (low, high, inl p) (low', high', inr (inr q)) =
+      absurd (q.beside.1 (sym (same_step entries k op.actor q.beside.0 _ _ _ _ (itself k _ p) q.beside.2).0))
+  same_cause k c d (low, high, inr (inl p)) (low', high', inl q) =
+      absurd (p.beside.2 (sym (same_step entries k op.actor p.beside.0 _ _ _ _ (itself k _ q) p.beside.3).0))
+  same_cause k c d (low, high, inr (inr p)) (low', high', inl q) =
+      absurd (p.beside.1 (sym (same_step entries k op.actor p.beside.0 _ _ _ _ (itself k _ q) p.beside.2).0))
+  same_cause k c d (low, high, inr (inl p)) (low', high', inr (inr q)) =
+      absurd (no_take q.pids q.number p.slot p.old p.beside.1 (same_step entries k p.beside.0 q.beside.0 _ _ _ _ p.beside.3 q.beside.2).1)
+  same_cause k c d (low, high, inr (inr p)) (low', high', inr (inl q)) =
+      absurd (no_take p.pids p.number q.slot q.old q.beside.1 (same_step entries k q.beside.0 p.beside.0 _ _ _ _ q.beside.3 p.beside.2).1)
+  same_cause k c d (low, high, inr (inl p)) (low', high', inr (inl q)) =
+      let step : Exchange p.slot p.old p.beside.1 ≡ Exchange q.slot q.old q.beside.1 = (same_step entries k p.beside.0 q.beside.0 _ _ _ _ p.beside.3 q.beside.3).1 in
+      let slot : p.slot ≡ q.slot = cc in
+      by_order c d (λ lt. q.none c _ _ (omega (arith, q.low, p.high)) lt p.took slot) (λ lt. p.none d _ _ (omega (arith, p.low, q.high)) lt q.took (sym slot))
+  same_cause k c d (low, high, inr (inr p)) (low', high', inr (inr q)) =
+      by_order c d (λ lt. q.none c _ _ (omega (arith, q.low, p.high)) lt p.took (is_take p.pids p.number)) (λ lt. p.none d _ _ (omega (arith, p.low, q.high)) lt q.took (is_take q.pids q.number))
+
+  -- it counts as one that hinders
+  passes_not : (other : ℕ) → other ≢ op.actor → not (other == op.actor) ≡ true
+  passes_not other ne = elim (eqb_tells other op.actor) [ inl same ↦ absurd (ne same.1) | inr apart ↦ rw apart.0 refl ]
+
+  take_hinders : (pids : Bool) (number other : ℕ) (reply : Option Reply) → other ≢ op.actor → hinders op.actor (Step other (take_of pids number) (Whether true) reply) ≡ true
+  take_hinders true number other reply ne = passes_not other ne
+  take_hinders false number other reply ne = passes_not other ne
+
+  pays_hinders : (k c : ℕ) → WinsItself k c ⊎ LosesTo k c ⊎ MissesTo k c → (e : Entry) × (slice_get entries k ≡ Some e) × (hinders op.actor e ≡ true)
+  pays_hinders k c (inl p) =
+      let e : Entry = Step op.actor (Exchange p.slot p.old p.new) (Whether true) p.took.0 in
+      (e, subst (λ j. slice_get entries j ≡ Some e) (sym p.same) p.took.1.entry, refl)
+  pays_hinders k c (inr (inl p)) = (Step p.beside.0 (Exchange p.slot p.old p.beside.1) (Whether true) p.beside.3.0, p.beside.3.1, refl)
+  pays_hinders k c (inr (inr p)) = (Step p.beside.0 (take_of p.pids p.number) (Whether true) p.beside.2.0, p.beside.2.1, take_hinders p.pids p.number p.beside.0 p.beside.2.0 p.beside.1)
+
+  -- for each of these causes an entry after the begin, and different ones for different ones
+  record PaidBy (cs : List ℕ) : Type 0 where
+    places : List ℕ
+    as_many : length places ≡ length cs
+    distinct : AreDistinct places
+    each : Each (λ j. (d : ℕ) × IsIn d cs × Pays (op.start + j) d) places
+
+  fresh_place : (c j : ℕ) (cs js : List ℕ) → IsNotAmong c cs → Pays (op.start + j) c → Each (λ i. (d : ℕ) × IsIn d cs × Pays (op.start + i) d) js → IsNotAmong j js
+  fresh_place c j cs [] other pays each = tt
+  fresh_place c j cs (i ∷ is) other pays each = (
+    λ same. apart_from c each.0.0 cs other each.0.1 (same_cause (op.start + j) c each.0.0 pays (subst (λ x. Pays (op.start + x) each.0.0) (sym same) each.0.2)),
+    fresh_place c j cs is other pays each.1,
+  )
+
+  more_causes : (c : ℕ) (cs js : List ℕ) → Each (λ j. (d : ℕ) × IsIn d cs × Pays (op.start + j) d) js → Each (λ j. (d : ℕ) × IsIn d (c ∷ cs) × Pays (op.start + j) d) js
+  more_causes c cs [] each = tt
+  more_causes c cs (j ∷ js) each = ((each.0.0, inr each.0.1, each.0.2), more_causes c cs js each.1)
+
+  paid_by : (P : ℕ → Type 0) → ((c : ℕ) → P c → (k : ℕ) × Pays k c) → (cs : List ℕ) → AreDistinct cs → All P cs → PaidBy cs
+  paid_by P pay [] once all = record { places = []; as_many = refl; distinct = tt; each = tt }
+  paid_by P pay (c ∷ cs) once all =
+      let rest = paid_by P pay cs once.1 (All-tail P c cs all) in
+      let paid = pay c (All-head P c cs all) in
+      let low : op.start < paid.0 = paid.1.0 in
+      let at : op.start + (paid.0 - op.start) ≡ paid.0 = omega arith in
+      let pays : Pays (op.start + (paid.0 - op.start)) c = subst (λ k. Pays k c) (sym at) paid.1 in
+      record {
+        places = (paid.0 - op.start) ∷ rest.places;
+        as_many = ap suc rest.as_many;
+        distinct = (fresh_place c (paid.0 - op.start) cs rest.places once.0 pays rest.each, rest.distinct);
+        each = ((c, inl refl, pays), more_causes c cs rest.places rest.each);
+      }
+
+  all_pass : (n : ℕ) (cs js : List ℕ) → ((d : ℕ) → IsIn d cs → d ≤ n) → Each (λ j. (d : ℕ) × IsIn d cs × Pays (op.start + j) d) js
+      → Each (λ j. (j < suc n - op.start) × Passes (hinders op.actor) (drop op.start entries) j) js
+  all_pass n cs [] within each = tt
+  all_pass n cs (j ∷ js) within each =
+      let pays = each.0.2 in
+      let low : op.start < op.start + j = pays.0 in
+      let high : op.start + j ≤ each.0.0 = pays.1 in
+      let most : each.0.0 ≤ n = within each.0.0 each.0.1 in
+      let found = pays_hinders (op.start + j) each.0.0 pays.2 in
+      ((omega arith, (found.0, get_drop entries op.start j ∙ found.1, found.2)), all_pass n cs js within each.1)
+
+  module _ (keeps : KeepsPhases limits entries) (direct : IsDirect limits entries) (begun : IsOperation entries op) (n : ℕ) (none : PlacesNoRemoval (take n entries)) where
+    -- what a cause needed
+    pays_for : (c : ℕ) → (c ≤ n) × IsCause limits entries op c → (k : ℕ) × Pays k c
+    pays_for c (le, inl h) = (c, (h.1.3.1.begun, omega arith, inl (record { same = refl; slot = h.1.0; old = h.1.1; new = h.1.2; took = h.1.3 })))
+    pays_for c (le, inr (inl (slot, old, new, m, lost, lt, read, calm))) =
+        let h = lost_by_change limits entries run op slot old new m c lt lost read calm in
+        let a : op.start < m = read.1.begun in
+        let b : m < h.0 = h.1 in
+        let e : h.0 < c = h.2 in
+        (h.0, (omega arith, omega arith, inr (inl (record { slot = slot; old = old; new = new; since = m; low = h.1; high = h.2; took = lost; none = calm; beside = h.3 }))))
+    pays_for c (le, inr (inr (inl (item, bits, m, lt, bit, calm, inl took)))) =
+        let h = missed_by_take limits entries run op true item bits m c lt bit took.0 took.1 calm in
+        let a : op.start < m = took.1.1.begun in
+        let b : m < h.0 = h.1 in
+        let e : h.0 < c = h.2 in
+        (h.0, (omega arith, omega arith, inr (inr (record { pids = true; number = item; since = m; low = h.1; high = h.2; took = took.0; none = calm; beside = h.3 }))))
+    pays_for c (le, inr (inr (inl (item, bits, m, lt, bit, calm, inr took)))) =
+        let h = missed_by_take limits entries run op false item bits m c lt bit took.0 took.1 calm in
+        let a : op.start < m = took.1.1.begun in
+        let b : m < h.0 = h.1 in
+        let e : h.0 < c = h.2 in
+        (h.0, (omega arith, omega arith, inr (inr (record { pids = false; number = item; since = m; low = h.1; high = h.2; took = took.0; none = calm; beside = h.3 }))))
+    pays_for c (le, inr (inr (inr meets))) = absurd (meets_none limits entries run keeps direct op begun n none c le meets)
+
+    most_of : (cs : List ℕ) → All (λ c. (c ≤ n) × IsCause limits entries op c) cs → (d : ℕ) → IsIn d cs → d ≤ n
+    most_of [] all d within = absurd within
+    most_of (c ∷ cs) all d (inl here) = rw here (All-head (λ c. (c ≤ n) × IsCause limits entries op c) c cs all).0
+    most_of (c ∷ cs) all d (inr there) = most_of cs (All-tail (λ c. (c ≤ n) × IsCause limits entries op c) c cs all) d there
+
+    pub few_causes : (cs : List ℕ) → IsStrictlyIncreasing cs → All (λ c. (c ≤ n) × IsCause limits entries op c) cs → length cs ≤ count_by (hinders op.actor) (slice_range entries op.start (suc n))
+    few_causes cs up all =
+        let paid = paid_by (λ c. (c ≤ n) × IsCause limits entries op c) pays_for cs (all_distinct cs up) all in
+        let pass = all_pass n cs paid.places (most_of cs all) paid.each in
+        let most : length paid.places ≤ count_by (hinders op.actor) (take (suc n - op.start) (drop op.start entries))
+        = no_more (hinders op.actor) (drop op.start entries) (suc n - op.start) paid.places paid.distinct pass in
+        rw paid.as_many at most
+
+pub paid_meanwhile : StepsArePaidMeanwhile
+paid_meanwhile limits entries run keeps direct = record {
+  few = λ op n begun own none.
+      let h = direct.few op n begun own in
+      let most : length h.0 ≤ count_by (hinders op.actor) (slice_range entries op.start (suc n)) = few_causes limits entries run op keeps direct begun n none h.0 h.1 h.2 in
+      more (steps_from entries op.actor op.start n) (cause_worth limits) (length h.0) (count_by (hinders op.actor) (slice_range entries op.start (suc n))) most h.3;
+}
+  where
+    more : (steps worth causes most : ℕ) → causes ≤ most → steps ≤ worth * (causes + 1) → steps ≤ worth * (most + 1)
+    more steps worth causes most le paid = let grown : worth * (causes + 1) ≤ worth * (most + 1) = mul-le-mul_left worth (omega arith) in omega (arith, grown, paid)

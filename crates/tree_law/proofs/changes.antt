@@ -1,0 +1,14 @@
+pub mod Alive
+pub mod Bases
+pub mod Counting
+pub mod Credits
+pub mod Delta
+pub mod Halves
+pub mod Items
+pub mod Linked
+pub mod Listed
+pub mod Lives
+pub mod Outcome
+pub mod Paying
+pub mod Steady
+pub mod Totals

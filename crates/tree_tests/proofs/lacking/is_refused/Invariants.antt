@@ -1,0 +1,5 @@
+use Rattle.bw_tree.specs.Trees.{IsSeatOf}
+use Rattle.tree_tests.proofs.lacking.is_refused.Given as goal
+
+abbrev pub invariant-loop-place : goal.invariant-loop-place
+invariant-loop-place l = record { own : IsSeatOf l.tree l.seat }

@@ -1,0 +1,5 @@
+use Rattle.bw_tree.specs.Trees.{AreSeatsOf}
+use Rattle.tree_tests.proofs.reused_rows.are_done.Given as goal
+
+abbrev pub invariant-loop-place : goal.invariant-loop-place
+invariant-loop-place l = AreSeatsOf l.tree l.seats.items

@@ -1,0 +1,5 @@
+use Rattle.bw_tree.specs.Trees.{AreSeatsOf}
+use Rattle.tree_tests.proofs.reused_rows.are_found.Given as goal
+
+abbrev pub invariant-loop-number : goal.invariant-loop-number
+invariant-loop-number l = AreSeatsOf l.tree l.seats.items
