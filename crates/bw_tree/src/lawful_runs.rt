@@ -6,7 +6,7 @@ ghost use Rattle.bw_tree.specs.Runs.{IsLawfulRun, IsOneHistory, IsSeenRun};
 ghost use Rattle.traces.specs.declared.trace.Entry.{Entry};
 ghost use Rattle.slot_rule.specs.Running.{KeepsRowsApart};
 
-use progress::readers_read_at_once;
+use progress::{readers_read_at_once, runs_make_progress};
 use slot_rule::{Law, Words};
 use tree_law::{
     answers, begins, begins_directly, begins_paid, entries_grow, frees_by_rule, index_is_exact,
@@ -50,6 +50,7 @@ pub(crate) fn runs_are_one_history()
     keeps_phases();
     index_is_exact();
     readers_read_at_once();
+    runs_make_progress();
     frees_by_rule();
 }
 

@@ -1,5 +1,5 @@
 -- What one more entry makes of the phase of a PID.
-use Rattle.std.proofs.Common.{◌≡◌, ◌<◌, ◌≤◌, ℕ, suc, List, [], ◌∷◌, ◌++◌, length, inl, inr, arith}
+use Rattle.std.proofs.Common.{◌≡◌, ◌<◌, ◌≤◌, ℕ, suc, List, [], ◌∷◌, ◌++◌, length, true, inl, inr, arith}
 use Rattle.tree_limits.specs.declared.limits.Limits.{Limits}
 use Rattle.bw_model.specs.declared.step.Link.TheVariants as link
 use Rattle.deltas.specs.declared.record.Record.{Record}
@@ -7,12 +7,17 @@ use Rattle.deltas.specs.declared.record.Record.TheVariants as delta
 use Rattle.deltas.specs.declared.record.Remove.{Remove}
 use Rattle.traces.specs.declared.trace.Entry.{Entry}
 use Rattle.traces.specs.chain.Chains.{IsChainOf}
-use Rattle.traces.specs.trace.Trace.{memory_of, Happens}
+use Rattle.traces.specs.trace.Trace.{memory_of, Happens, IsStep}
+use Rattle.bw_model.specs.declared.step.Answer.{Answer}
+use Rattle.bw_model.specs.declared.step.Answer.TheVariants.{Whether}
+use Rattle.bw_model.specs.declared.step.Step.{Step as StepOf}
+use Rattle.bw_model.specs.declared.step.Step.TheVariants.{Exchange, ReusePids, TakePid}
 use Rattle.traces.specs.chain.Unheld.{IsUnheld}
 use Rattle.deltas.specs.Memory.{Memory}
 use Rattle.traces.proofs.TraceLaws.{Happens-below, Happens-kept, Happens-push_cases, Happens-last}
 use Rattle.op_machine.specs.theorem.Links.{Installs, Wins}
-use Rattle.op_machine.specs.theorem.Phases.{Phase, MovesPhase, Rests, IsInPhase, KeepsPhases, cleared}
+use Rattle.op_machine.specs.theorem.Phases.{Phase, MovesPhase, Rests, IsInPhase, KeepsPhases, cleared, owned}
+use Rattle.op_machine.specs.theorem.Phases.{takes, splits, becomes_root, terms, under_root, holds, removes, merges, unterms, reuses}
 
 module _ (limits : Limits) (entries : List Entry) (last : Entry) where
   pub Rests-kept : (m n pid : ℕ) → n ≤ length entries → Rests limits entries m n pid → Rests limits (entries ++ last ∷ []) m n pid
@@ -43,7 +48,7 @@ module _ (limits : Limits) (entries : List Entry) (last : Entry) where
       → ((actor pid old : ℕ) → Wins (memory_of limits entries) last actor pid old 0 link.Clear → IsInPhase limits entries (length entries) pid cleared)
       → ((pid : ℕ) (remove : Remove) (chain : List Record) → Installs (memory_of limits entries) last pid (delta.Remove remove) → IsChainOf (memory_of limits entries) pid chain → IsUnheld chain)
       → KeepsPhases limits (entries ++ last ∷ [])
-  KeepsPhases-push keeps order empties removes = record {
+  KeepsPhases-push keeps order empties takes_off = record {
     in_order = λ n pid from to moves. elim (Happens-push_cases moves) [
       | inl before ↦ IsInPhase-kept n pid from (within before) (keeps.in_order n pid from to before)
       | inr at ↦ rw (at.0) (IsInPhase-kept (length entries) pid from (omega arith) (order pid from to at.1))
@@ -54,9 +59,35 @@ module _ (limits : Limits) (entries : List Entry) (last : Entry) where
     ];
     unheld = λ n pid remove chain removed. elim (Happens-push_cases removed) [
       | inl before ↦ keeps.unheld n pid remove chain before
-      | inr at ↦ removes pid remove chain at.1.0 at.1.1
+      | inr at ↦ takes_off pid remove chain at.1.0 at.1.1
     ];
   }
     where
       within : {n : ℕ} {P : Memory → Entry → Type 0} → Happens limits entries n P → n ≤ length entries
       within {n = n} h = let lt : n < length entries = Happens-below h in omega arith
+
+-- What moves a page is a step, and what makes it somebody's own takes it.
+module _ {memory : Memory} {entry : Entry} {pid : ℕ} where
+  pub moved_by_step : (from to : Phase) → MovesPhase memory entry pid from to → (actor : ℕ) × (step : StepOf Record) × (answer : Answer Record) × IsStep entry actor step answer
+  moved_by_step from to (takes a is) = (a, TakePid pid, Whether true, is)
+  moved_by_step from to (splits s split i at) = (i.0, Exchange s i.1 i.2, Whether true, i.3.0)
+  moved_by_step from to (becomes_root i) = (i.0, Exchange 0 i.1 pid, Whether true, i.2.0)
+  moved_by_step from to (terms s term i at) = (i.0, Exchange s i.1 i.2, Whether true, i.3.0)
+  moved_by_step from to (under_root r c k h i j l m) = (i.0, Exchange 0 i.1 r, Whether true, i.2.0)
+  moved_by_step from to (holds s hold i at) = (i.0, Exchange s i.1 i.2, Whether true, i.3.0)
+  moved_by_step from to (removes remove i) = (i.0, Exchange pid i.1 i.2, Whether true, i.3.0)
+  moved_by_step from to (merges s merge c i j at) = (i.0, Exchange s i.1 i.2, Whether true, i.3.0)
+  moved_by_step from to (unterms s unterm i at) = (i.0, Exchange s i.1 i.2, Whether true, i.3.0)
+  moved_by_step from to (reuses a w b x is in_word) = (a, ReusePids w b, x, is)
+
+  pub is_taken : (from to : Phase) → MovesPhase memory entry pid from to → to ≡ owned → (actor : ℕ) × IsStep entry actor (TakePid pid) (Whether true)
+  is_taken from to (takes a is) e = (a, is)
+  is_taken from to (splits s split i at) e = absurd (cc e)
+  is_taken from to (becomes_root i) e = absurd (cc e)
+  is_taken from to (terms s term i at) e = absurd (cc e)
+  is_taken from to (under_root r c k h i j l m) e = absurd (cc e)
+  is_taken from to (holds s hold i at) e = absurd (cc e)
+  is_taken from to (removes remove i) e = absurd (cc e)
+  is_taken from to (merges s merge c i j at) e = absurd (cc e)
+  is_taken from to (unterms s unterm i at) e = absurd (cc e)
+  is_taken from to (reuses a w b x is in_word) e = absurd (cc e)

@@ -6,3 +6,4 @@ pub mod RowReuse
 pub mod Refused
 pub mod ClaimedInsert
 pub mod TooMany
+pub mod Foreign

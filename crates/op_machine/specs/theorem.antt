@@ -14,4 +14,5 @@ pub mod Direct
 pub mod Progress
 pub mod Linearized
 pub mod Examples
+pub mod Unhindered
 pub mod Updates

@@ -4,7 +4,7 @@ ghost use Rattle.bw_model.specs.declared.step.Link.TheVariants as link;
 ghost use Rattle.traces.specs.trace.Run.{IsRun};
 ghost use Rattle.traces.specs.chain.SideChain.{IsWhole};
 ghost use Rattle.traces.specs.trace.Trace.{memory_at, turn_of};
-ghost use Rattle.op_machine.specs.theorem.Examples.{small, lookup, insert_and_lookup, page_life, index_above, row_reuse, hurried_reuse, unnamed_read, two_puts, needless_base, nine_bases, taking_reader, claimed_insert};
+ghost use Rattle.op_machine.specs.theorem.Examples.{small, lookup, insert_and_lookup, page_life, index_above, row_reuse, hurried_reuse, unnamed_read, two_puts, needless_base, nine_bases, taking_reader, claimed_insert, foreign_fill, many_takes, unmet_read};
 ghost use Rattle.op_machine.specs.theorem.Changes.{HasFewChanges};
 ghost use Rattle.op_machine.specs.theorem.Direct.{IsDirect};
 ghost use Rattle.op_machine.specs.theorem.Faithful.{IsFaithful};
@@ -76,9 +76,20 @@ pub fn useless_links_are_refused()
     ensures reading { ¬ IsDirect small taking_reader }
 {}
 
+/// Nor is one that finds a row in the slot of a page that nobody has taken, or that fills the slot of one that it has not taken.
+pub fn foreign_slots_are_refused()
+    ensures reading { ¬ IsDirect small unmet_read }
+    ensures filling { ¬ IsDirect small foreign_fill }
+{}
+
 /// One operation that changes the tree nine times is too many changes.
 pub fn nine_changes_are_refused()
     ensures { ¬ HasFewChanges small nine_bases }
+{}
+
+/// One operation that takes 153 rows, and changes nothing, takes too many of 64 rows and 64 PIDs.
+pub fn many_takes_are_refused()
+    ensures { ¬ HasFewChanges small many_takes }
 {}
 
 /// An insert that replies that it inserted, and has exchanged nothing, has no linearization points.

@@ -50,7 +50,7 @@ module _ {memory : Memory} {entry : Entry} {pid : ℕ} where
   to_removed from to (reuses a w b x is in_word) e = absurd (cc e)
 
 -- no page begins removed, merged or cleared
-begins_in_use : (pid : ℕ) (phase : Phase) → phase ≡ first_phase pid → (phase ≡ indexed) ⊎ (phase ≡ free)
+pub begins_in_use : (pid : ℕ) (phase : Phase) → phase ≡ first_phase pid → (phase ≡ indexed) ⊎ (phase ≡ free)
 begins_in_use pid phase = by_test (pid == 1)
   where
     by_test : (b : Bool) → phase ≡ (if b then indexed else free) → (phase ≡ indexed) ⊎ (phase ≡ free)
@@ -64,7 +64,7 @@ module _ (limits : Limits) (entries : List Entry) (keeps : KeepsPhases limits en
   was_moved n phase other another (inr (rests, is)) = elim (begins_in_use pid phase is) [ inl e ↦ absurd (other e) | inr e ↦ absurd (another e) ]
 
   -- the move to the phase started in this one
-  came_from : (m : ℕ) (from to before : Phase) → ((memory : Memory) (entry : Entry) → MovesPhase memory entry pid from to → from ≡ before) → MovesAt limits entries m pid from to
+  pub came_from : (m : ℕ) (from to before : Phase) → ((memory : Memory) (entry : Entry) → MovesPhase memory entry pid from to → from ≡ before) → MovesAt limits entries m pid from to
       → IsInPhase limits entries m pid before
   came_from m from to before is moves = subst (IsInPhase limits entries m pid) (is _ _ moves.holds) (keeps.in_order m pid from to moves)
 

@@ -20,7 +20,7 @@ Each P [] = ⊤
 Each P (k ∷ ks) = P k × Each P ks
 
 -- the list with a number taken out where it first stands
-abbrev without : ℕ → List ℕ → List ℕ
+abbrev pub without : ℕ → List ℕ → List ℕ
 without n [] = []
 without n (k ∷ ks) = cond (k == n) ks (k ∷ without n ks)
 
@@ -28,7 +28,7 @@ not_among_without : (j n : ℕ) (ks : List ℕ) → IsNotAmong j ks → IsNotAmo
 not_among_without j n [] h = tt
 not_among_without j n (k ∷ ks) h = elim (eqb_tells k n) [ inl same ↦ rw same.0 h.1 | inr apart ↦ rw apart.0 (h.0, not_among_without j n ks h.1) ]
 
-distinct_without : (n : ℕ) (ks : List ℕ) → AreDistinct ks → AreDistinct (without n ks)
+pub distinct_without : (n : ℕ) (ks : List ℕ) → AreDistinct ks → AreDistinct (without n ks)
 distinct_without n [] h = tt
 distinct_without n (k ∷ ks) h = elim (eqb_tells k n) [ inl same ↦ rw same.0 h.1 | inr apart ↦ rw apart.0 (not_among_without k n ks h.0, distinct_without n ks h.1) ]
 
@@ -38,7 +38,7 @@ one_less n (k ∷ ks) = elim (eqb_tells k n) [ inl same ↦ rw same.0 (omega ari
 
 module _ (P : ℕ → Type 0) where
   -- what is so of all but the number is so of each without it, where it stands once
-  each_without : (Q : ℕ → Type 0) (n : ℕ) (ks : List ℕ) → ((k : ℕ) → P k → k ≢ n → Q k) → AreDistinct ks → Each P ks → Each Q (without n ks)
+  pub each_without : (Q : ℕ → Type 0) (n : ℕ) (ks : List ℕ) → ((k : ℕ) → P k → k ≢ n → Q k) → AreDistinct ks → Each P ks → Each Q (without n ks)
   each_without Q n [] f distinct h = tt
   each_without Q n (k ∷ ks) f distinct h = elim (eqb_tells k n) [
     | inl same ↦ rw same.0 (rest ks (rw same.1 at distinct.0) h.1)
@@ -50,7 +50,7 @@ module _ (P : ℕ → Type 0) where
       rest (j ∷ js) other each = (f j each.0 (λ e. other.0 (sym e)), rest js other.1 each.1)
 
 -- whether the number is among them
-among : (n : ℕ) (P : ℕ → Type 0) (ks : List ℕ) → Each P ks → (P n × (length ks ≤ suc (length (without n ks)))) ⊎ ((length ks ≡ length (without n ks)))
+pub among : (n : ℕ) (P : ℕ → Type 0) (ks : List ℕ) → Each P ks → (P n × (length ks ≤ suc (length (without n ks)))) ⊎ ((length ks ≡ length (without n ks)))
 among n P [] h = inr refl
 among n P (k ∷ ks) h = elim (eqb_tells k n) [
   | inl same ↦ inl (rw same.1 at h.0, one_less n (k ∷ ks))

@@ -6,3 +6,10 @@ mod Spans
 mod Counted
 mod Payers
 mod Removals
+mod Begun
+mod Tallies
+mod Settled
+mod Hindering
+mod Alone
+mod Together
+mod SmallRuns

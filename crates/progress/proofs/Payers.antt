@@ -9,13 +9,16 @@ use Rattle.std.specs.List.Sorted.{IsStrictlyIncreasing}
 use Rattle.std.specs.Prelude.{◌==◌, not, slice_get, slice_index, slice_range}
 use Rattle.tree_limits.specs.declared.limits.Limits.{Limits}
 use Rattle.bw_model.specs.declared.command.Reply.{Reply}
-use Rattle.bw_model.specs.declared.step.Answer.TheVariants.{Whether}
-use Rattle.bw_model.specs.declared.step.Step.TheVariants.{Exchange}
+use Rattle.bw_model.specs.declared.step.Answer.TheVariants.{Number, Whether}
+use Rattle.bw_model.specs.declared.step.Step.TheVariants.{Exchange, Slot}
+use Rattle.bw_model.specs.declared.step.Link.{Link}
+use Rattle.bw_model.specs.declared.step.Link.TheVariants as link
 use Rattle.traces.specs.declared.trace.Entry.{Entry}
 use Rattle.traces.specs.declared.trace.Entry.TheVariants.{Step}
 use Rattle.traces.specs.discipline.Recalled.{cause_worth}
 use Rattle.traces.specs.trace.Run.{IsRun}
-use Rattle.traces.specs.trace.Trace.{TakesStep}
+use Rattle.traces.specs.trace.Trace.{TakesStep, memory_at}
+use Rattle.op_machine.specs.theorem.Links.{link_of}
 use Rattle.op_machine.specs.theorem.Direct.{IsCause, IsDirect, IsExchangeOf, IsTake, TakesNone}
 use Rattle.op_machine.specs.theorem.Operations.{IsOperation, Operation, TakesOwnStep}
 use Rattle.op_machine.specs.theorem.Phases.{KeepsPhases}
@@ -44,16 +47,16 @@ not_among : (c : ℕ) (cs : List ℕ) → Each (λ d. c < d) cs → IsNotAmong c
 not_among c [] h = tt
 not_among c (d ∷ ds) h = (λ same. let lt : c < d = h.0 in omega arith, not_among c ds h.1)
 
-all_distinct : (cs : List ℕ) → IsStrictlyIncreasing cs → AreDistinct cs
+pub all_distinct : (cs : List ℕ) → IsStrictlyIncreasing cs → AreDistinct cs
 all_distinct [] up = tt
 all_distinct (c ∷ cs) up = (not_among c cs (above_first c cs up), all_distinct cs (tail_up c cs up))
 
-get_drop : {X : Type 0} (xs : List X) (a j : ℕ) → slice_get (drop a xs) j ≡ slice_get xs (a + j)
+pub get_drop : {X : Type 0} (xs : List X) (a j : ℕ) → slice_get (drop a xs) j ≡ slice_get xs (a + j)
 get_drop xs zero j = ap (slice_get xs) (let e : j ≡ 0 + j = omega arith in e)
 get_drop [] (suc a) j = refl
 get_drop (x ∷ xs) (suc a) j = get_drop xs a j ∙ ap (slice_get (x ∷ xs)) (let e : suc (a + j) ≡ suc a + j = omega arith in e)
 
-abbrev IsIn : ℕ → List ℕ → Type 0
+abbrev pub IsIn : ℕ → List ℕ → Type 0
 IsIn d [] = ⊥
 IsIn d (c ∷ cs) = (d ≡ c) ⊎ IsIn d cs
 
@@ -67,41 +70,46 @@ by_order c d lower higher = elim (cases_lt c d) [ inl lt ↦ absurd (lower lt) |
 
 module _ (limits : Limits) (entries : List Entry) (run : IsRun limits entries) (op : Operation) where
   -- its exchange won
-  record WinsItself (k c : ℕ) : Type 0 where
-    same : k ≡ c
-    slot : ℕ
-    old : ℕ
-    new : ℕ
-    took : TakesOwnStep entries op c (Exchange slot old new) (Whether true)
+  pub record WinsItself (k c : ℕ) : Type 0 where
+    pub same : k ≡ c
+    pub slot : ℕ
+    pub old : ℕ
+    pub new : ℕ
+    pub took : TakesOwnStep entries op c (Exchange slot old new) (Whether true)
+    pub kind : Link
+    pub links : link_of (memory_at limits entries c) slot old new ≡ Some kind
+    pub no_ready : kind ≢ link.Ready
+    pub no_undo : kind ≢ link.Undo
 
   -- its exchange lost to another's
-  record LosesTo (k c : ℕ) : Type 0 where
-    slot : ℕ
-    old : ℕ
-    new : ℕ
-    since : ℕ
-    low : since < k
-    high : k < c
-    took : TakesOwnStep entries op c (Exchange slot old new) (Whether false)
-    none : TakesNone limits entries op since c (IsExchangeOf slot)
-    beside : ExchangedBeside limits entries run op slot old k
+  pub record LosesTo (k c : ℕ) : Type 0 where
+    pub slot : ℕ
+    pub old : ℕ
+    pub new : ℕ
+    pub since : ℕ
+    pub low : since < k
+    pub high : k < c
+    pub took : TakesOwnStep entries op c (Exchange slot old new) (Whether false)
+    pub read : TakesOwnStep entries op since (Slot slot) (Number old)
+    pub none : TakesNone limits entries op since c (IsExchangeOf slot)
+    pub beside : ExchangedBeside limits entries run op slot old k
 
   -- its take missed what another one took
-  record MissesTo (k c : ℕ) : Type 0 where
-    pids : Bool
-    number : ℕ
-    since : ℕ
-    low : since < k
-    high : k < c
-    took : TakesOwnStep entries op c (take_of pids number) (Whether false)
-    none : TakesNone limits entries op since c IsTake
-    beside : TakenBeside limits entries run op pids number k
+  pub record MissesTo (k c : ℕ) : Type 0 where
+    pub pids : Bool
+    pub number : ℕ
+    pub since : ℕ
+    pub low : since < k
+    pub high : k < c
+    pub took : TakesOwnStep entries op c (take_of pids number) (Whether false)
+    pub none : TakesNone limits entries op since c IsTake
+    pub beside : TakenBeside limits entries run op pids number k
 
   itself : (k c : ℕ) (p : WinsItself k c) → TakesStep entries k op.actor (Exchange p.slot p.old p.new) (Whether true)
   itself k c p = subst (λ j. TakesStep entries j op.actor (Exchange p.slot p.old p.new) (Whether true)) (sym p.same) (of_own p.took)
 
   -- the entry at k is what the cause at c needed
-  abbrev Pays : ℕ → ℕ → Type 0
+  abbrev pub Pays : ℕ → ℕ → Type 0
   Pays k c = (op.start < k) × (k ≤ c) × (WinsItself k c ⊎ LosesTo k c ⊎ MissesTo k c)
 
   is_take : (pids : Bool) (number : ℕ) → IsTake (take_of pids number)
@@ -150,11 +158,11 @@ module _ (limits : Limits) (entries : List Entry) (run : IsRun limits entries) (
   pays_hinders k c (inr (inr p)) = (Step p.beside.0 (take_of p.pids p.number) (Whether true) p.beside.2.0, p.beside.2.1, take_hinders p.pids p.number p.beside.0 p.beside.2.0 p.beside.1)
 
   -- for each of these causes an entry after the begin, and different ones for different ones
-  record PaidBy (cs : List ℕ) : Type 0 where
-    places : List ℕ
-    as_many : length places ≡ length cs
-    distinct : AreDistinct places
-    each : Each (λ j. (d : ℕ) × IsIn d cs × Pays (op.start + j) d) places
+  pub record PaidBy (cs : List ℕ) : Type 0 where
+    pub places : List ℕ
+    pub as_many : length places ≡ length cs
+    pub distinct : AreDistinct places
+    pub each : Each (λ j. (d : ℕ) × IsIn d cs × Pays (op.start + j) d) places
 
   fresh_place : (c j : ℕ) (cs js : List ℕ) → IsNotAmong c cs → Pays (op.start + j) c → Each (λ i. (d : ℕ) × IsIn d cs × Pays (op.start + i) d) js → IsNotAmong j js
   fresh_place c j cs [] other pays each = tt
@@ -167,7 +175,7 @@ module _ (limits : Limits) (entries : List Entry) (run : IsRun limits entries) (
   more_causes c cs [] each = tt
   more_causes c cs (j ∷ js) each = ((each.0.0, inr each.0.1, each.0.2), more_causes c cs js each.1)
 
-  paid_by : (P : ℕ → Type 0) → ((c : ℕ) → P c → (k : ℕ) × Pays k c) → (cs : List ℕ) → AreDistinct cs → All P cs → PaidBy cs
+  pub paid_by : (P : ℕ → Type 0) → ((c : ℕ) → P c → (k : ℕ) × Pays k c) → (cs : List ℕ) → AreDistinct cs → All P cs → PaidBy cs
   paid_by P pay [] once all = record { places = []; as_many = refl; distinct = tt; each = tt }
   paid_by P pay (c ∷ cs) once all =
       let rest = paid_by P pay cs once.1 (All-tail P c cs all) in
@@ -195,14 +203,14 @@ module _ (limits : Limits) (entries : List Entry) (run : IsRun limits entries) (
 
   module _ (keeps : KeepsPhases limits entries) (direct : IsDirect limits entries) (begun : IsOperation entries op) (n : ℕ) (none : PlacesNoRemoval (take n entries)) where
     -- what a cause needed
-    pays_for : (c : ℕ) → (c ≤ n) × IsCause limits entries op c → (k : ℕ) × Pays k c
-    pays_for c (le, inl h) = (c, (h.1.3.1.begun, omega arith, inl (record { same = refl; slot = h.1.0; old = h.1.1; new = h.1.2; took = h.1.3 })))
+    pub pays_for : (c : ℕ) → (c ≤ n) × IsCause limits entries op c → (k : ℕ) × Pays k c
+    pays_for c (le, inl h) = (c, (h.1.3.1.begun, omega arith, inl (record { same = refl; slot = h.1.0; old = h.1.1; new = h.1.2; took = h.1.3; kind = h.0; links = h.1.4; no_ready = h.2; no_undo = h.3 })))
     pays_for c (le, inr (inl (slot, old, new, m, lost, lt, read, calm))) =
         let h = lost_by_change limits entries run op slot old new m c lt lost read calm in
         let a : op.start < m = read.1.begun in
         let b : m < h.0 = h.1 in
         let e : h.0 < c = h.2 in
-        (h.0, (omega arith, omega arith, inr (inl (record { slot = slot; old = old; new = new; since = m; low = h.1; high = h.2; took = lost; none = calm; beside = h.3 }))))
+        (h.0, (omega arith, omega arith, inr (inl (record { slot = slot; old = old; new = new; since = m; low = h.1; high = h.2; took = lost; read = read; none = calm; beside = h.3 }))))
     pays_for c (le, inr (inr (inl (item, bits, m, lt, bit, calm, inl took)))) =
         let h = missed_by_take limits entries run op true item bits m c lt bit took.0 took.1 calm in
         let a : op.start < m = took.1.1.begun in
@@ -217,7 +225,7 @@ module _ (limits : Limits) (entries : List Entry) (run : IsRun limits entries) (
         (h.0, (omega arith, omega arith, inr (inr (record { pids = false; number = item; since = m; low = h.1; high = h.2; took = took.0; none = calm; beside = h.3 }))))
     pays_for c (le, inr (inr (inr meets))) = absurd (meets_none limits entries run keeps direct op begun n none c le meets)
 
-    most_of : (cs : List ℕ) → All (λ c. (c ≤ n) × IsCause limits entries op c) cs → (d : ℕ) → IsIn d cs → d ≤ n
+    pub most_of : (cs : List ℕ) → All (λ c. (c ≤ n) × IsCause limits entries op c) cs → (d : ℕ) → IsIn d cs → d ≤ n
     most_of [] all d within = absurd within
     most_of (c ∷ cs) all d (inl here) = rw here (All-head (λ c. (c ≤ n) × IsCause limits entries op c) c cs all).0
     most_of (c ∷ cs) all d (inr there) = most_of cs (All-tail (λ c. (c ≤ n) × IsCause limits entries op c) c cs all) d there
@@ -230,13 +238,13 @@ module _ (limits : Limits) (entries : List Entry) (run : IsRun limits entries) (
         = no_more (hinders op.actor) (drop op.start entries) (suc n - op.start) paid.places paid.distinct pass in
         rw paid.as_many at most
 
+pub more_paid : (steps worth causes most : ℕ) → causes ≤ most → steps ≤ worth * (causes + 1) → steps ≤ worth * (most + 1)
+more_paid steps worth causes most le paid = let grown : worth * (causes + 1) ≤ worth * (most + 1) = mul-le-mul_left worth (omega arith) in omega (arith, grown, paid)
+
 pub paid_meanwhile : StepsArePaidMeanwhile
 paid_meanwhile limits entries run keeps direct = record {
   few = λ op n begun own none.
       let h = direct.few op n begun own in
       let most : length h.0 ≤ count_by (hinders op.actor) (slice_range entries op.start (suc n)) = few_causes limits entries run op keeps direct begun n none h.0 h.1 h.2 in
-      more (steps_from entries op.actor op.start n) (cause_worth limits) (length h.0) (count_by (hinders op.actor) (slice_range entries op.start (suc n))) most h.3;
+      more_paid (steps_from entries op.actor op.start n) (cause_worth limits) (length h.0) (count_by (hinders op.actor) (slice_range entries op.start (suc n))) most h.3;
 }
-  where
-    more : (steps worth causes most : ℕ) → causes ≤ most → steps ≤ worth * (causes + 1) → steps ≤ worth * (most + 1)
-    more steps worth causes most le paid = let grown : worth * (causes + 1) ≤ worth * (most + 1) = mul-le-mul_left worth (omega arith) in omega (arith, grown, paid)

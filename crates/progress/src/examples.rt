@@ -1,8 +1,10 @@
 //! What the definitions say of small runs.
 ghost use Rattle.std.specs.Prelude.{◌≡◌};
 ghost use Rattle.std.specs.List.{count_by};
-ghost use Rattle.op_machine.specs.theorem.Examples.{insert_and_lookup, page_life};
+ghost use Rattle.traces.specs.trace.Trace.{Happens};
+ghost use Rattle.op_machine.specs.theorem.Examples.{insert_and_lookup, page_life, small};
 ghost use Rattle.op_machine.specs.theorem.Progress.{PlacesNoRemoval};
+ghost use Rattle.op_machine.specs.theorem.Unhindered.{Hinders};
 ghost use Rattle.progress.specs.Meanwhile.{hinders};
 
 /// An insert hinders its own actor by the exchange that wins, and another one by the row that it takes, too.
@@ -15,4 +17,12 @@ pub fn inserts_hinder()
 pub fn removals_are_seen()
     ensures none { PlacesNoRemoval insert_and_lookup }
     ensures one { ¬ PlacesNoRemoval page_life }
+{}
+
+/// The exchange of an insert hinders its own actor, and the row that it takes another one; a slot that is filled hinders nobody.
+pub fn fills_hinder_nobody()
+    ensures won { Happens small insert_and_lookup 9 (Hinders 0) }
+    ensures taken { Happens small insert_and_lookup 7 (Hinders 1) }
+    ensures itself { ¬ Happens small insert_and_lookup 7 (Hinders 0) }
+    ensures filled { ¬ Happens small page_life 11 (Hinders 1) }
 {}

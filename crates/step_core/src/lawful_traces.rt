@@ -1,5 +1,6 @@
 //! The law over runs, beside the code that comes under it, and what the core's turns rest on: laws of the crates below.
 ghost use Rattle.progress.specs.Readers.{ReadersReadAtOnce};
+ghost use Rattle.progress.specs.Unhindered.{LoneOperationsEnd, RunsAreLockFree, RunsAreUnhindered};
 ghost use Rattle.tree_law.specs.Changes.{IsPaidState, StepsPay};
 ghost use Rattle.tree_law.specs.Direct.{BeginsDirectly, StepsDirectly};
 ghost use Rattle.tree_law.specs.Own.{RowsAreApart};
@@ -53,17 +54,21 @@ pub(crate) fn steps_keep_laws()
     steps_paid();
 }
 
-/// What the tree's law says of states, and of their readers.
+/// What the tree's law says of states, of their readers, and of the progress of all operations.
 pub(crate) fn states_are_lawful()
     ensures linearized { StatesAreLinearized }
     ensures phases { StatesKeepPhases }
     ensures index { StatesAreIndexed }
     ensures reads { ReadersReadAtOnce }
+    ensures unhindered { RunsAreUnhindered }
+    ensures alone { LoneOperationsEnd }
+    ensures together { RunsAreLockFree }
     ensures freed { StatesFreeByRule }
 {
     tree_law::is_one_map();
     tree_law::keeps_phases();
     tree_law::index_is_exact();
     progress::readers_read_at_once();
+    progress::runs_make_progress();
     tree_law::frees_by_rule();
 }

@@ -8,6 +8,7 @@ pub mod Items
 pub mod Linked
 pub mod Listed
 pub mod Lives
+pub mod Numbers
 pub mod Outcome
 pub mod Paying
 pub mod Steady

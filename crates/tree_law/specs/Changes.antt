@@ -15,13 +15,13 @@ use Rattle.traces.specs.declared.trace.Entry.{Entry}
 use Rattle.traces.specs.declared.trace.Entry.TheVariants.{Begin, Step}
 use Rattle.traces.specs.discipline.Discipline.{IsAllowed}
 use Rattle.traces.specs.discipline.Disciplined.{IsDisciplined}
-use Rattle.traces.specs.discipline.Knowledge.{Asked, knows}
+use Rattle.traces.specs.discipline.Knowledge.{Asked, Knowledge, OwnRow, Foreign, Taken, Written, OwnPage, Other, Empty, Ready, Gone, knows}
 use Rattle.traces.specs.discipline.Useful.{IsUseful}
 use Rattle.traces.specs.trace.Steps.{IsAnswer}
 use Rattle.traces.specs.trace.Trace.{Happens, command_of, memory_of}
 use Rattle.op_machine.specs.theorem.Changes.{HasFewChanges}
 use Rattle.op_machine.specs.theorem.Halves.{IsHalved}
-use Rattle.op_machine.specs.theorem.Progress.{ChangesTree, is_begin}
+use Rattle.op_machine.specs.theorem.Progress.{ChangesTree, is_begin, takes_number}
 use Rattle.tree_law.specs.Keys.{Key}
 use Rattle.tree_law.specs.Owners.{Linked, Owners}
 use Rattle.tree_law.specs.Phase.{Fresh, Indexed, Held, Removed, Merged, PageOwner, Nobody, Keeps, Placed, Cleared}
@@ -98,6 +98,36 @@ abbrev pub most_in_store : Limits → ℕ → ℕ
 most_in_store limits zero = 0
 most_in_store limits (suc n) = 154 * limits.pids + 8 * limits.actors
 
+-- whether a row, or a page, is an actor's own, and not in the tree, as a number
+abbrev pub row_mark : OwnRow → ℕ
+row_mark Foreign = 0
+row_mark Taken = 1
+row_mark (Written content) = 1
+
+abbrev pub page_mark : OwnPage → ℕ
+page_mark Other = 0
+page_mark Empty = 1
+page_mark (Ready row) = 1
+page_mark Gone = 0
+
+-- how many rows and PIDs an actor has that are not in the tree
+abbrev pub rows_had : Limits → Knowledge → ℕ
+rows_had limits k = total (λ row. row_mark (k.own.rows row)) limits.rows
+
+abbrev pub pids_had : Limits → Knowledge → ℕ
+pids_had limits k = total (λ page. page_mark (k.own.pages page)) limits.pids
+
+-- how many all actors have
+abbrev pub numbers_had : Limits → (ℕ → Knowledge) → ℕ
+numbers_had limits ks = total (λ actor. rows_had limits (ks actor) + pids_had limits (ks actor)) limits.actors
+
+-- The changes so far have used all numbers that were taken, but those that actors have.
+pub record AreUsed (limits : Limits) (entries : List Entry) : Type 0 where
+  pub changes : List ℕ
+  pub increasing : IsStrictlyIncreasing changes
+  pub each : All (λ place. Happens limits entries place ChangesTree) changes
+  pub used : count_by takes_number entries ≤ numbers_had limits (knows entries) + 3 * length changes
+
 -- There are few changes. What is in store is no more than may have been at any moment before, and the operations that were begun since have
 -- paid, and the changes have not used.
 pub record IsPaidState (limits : Limits) (entries : List Entry) : Type 0 where
@@ -105,6 +135,7 @@ pub record IsPaidState (limits : Limits) (entries : List Entry) : Type 0 where
   pub worths : ℕ → ℕ
   pub each : (page : ℕ) → IsWorth state.owners (shared (memory_of limits entries)) page (worths page)
   pub few : HasFewChanges limits entries
+  pub taken : AreUsed limits entries
   pub paid : (m : ℕ) (changes : List ℕ) → IsStrictlyIncreasing changes → All (λ place. (m ≤ place) × Happens limits entries place ChangesTree) changes
       → length changes + store limits entries state worths ≤ most_in_store limits m + 8 * count_by is_begin (drop m entries)
 

@@ -1,7 +1,10 @@
 -- An actor looks a key up in the opening tree, and finds none: a run with its point, answered, quiet and faithful.
 use Rattle.std.specs.Prelude.{codes}
-use Rattle.std.proofs.Common.{◌≡◌, ◌<◌, ◌≤◌, ℕ, suc, List, [], ◌∷◌, ◌++◌, length, Bool, true, false, Some, None, refl, sym, subst, ap, arith, inl, lit<, lit≤, ◌+◌, ◌*◌, ◌^◌, ◌∙◌}
-use Rattle.std.specs.Prelude.{slice_get}
+use Rattle.std.proofs.Common.{◌≡◌, ◌<◌, ◌≤◌, ℕ, suc, List, [], ◌∷◌, ◌++◌, length, Bool, true, false, Some, None, refl, sym, subst, ap, arith, inl, inr, lit<, lit≤, ◌+◌, ◌*◌, ◌∙◌}
+use Rattle.std.specs.Prelude.{slice_get, take}
+use Rattle.std.specs.List.{count_by}
+use Rattle.std.proofs.lemmas.Bool.{cases_lt}
+use Rattle.std.proofs.lemmas.List.{take_all}
 use Rattle.bw_model.specs.declared.command.Command.{Command}
 use Rattle.bw_model.specs.declared.command.Command.TheVariants.{Get}
 use Rattle.bw_model.specs.declared.command.Reply.{Reply}
@@ -31,14 +34,15 @@ use Rattle.traces.proofs.ChainLaws.{IsChainOf-unique}
 use Rattle.traces.proofs.Pushes.{slice_get_below}
 use Rattle.op_machine.specs.theorem.Changes.{HasFewChanges}
 use Rattle.op_machine.specs.theorem.Direct.{IsDirect}
-use Rattle.op_machine.specs.theorem.Progress.{AreAmong, ChangesTree, ReadsAtOnce, steps_from}
+use Rattle.op_machine.specs.theorem.Progress.{AreAmong, ChangesTree, ReadsAtOnce, is_begin as begins_one, is_end, is_step, steps_from, takes_number}
 use Rattle.op_machine.specs.theorem.Readers.{IsReading}
 use Rattle.op_machine.specs.theorem.Faithful.{IsFaithful, KnowsRow}
 use Rattle.op_machine.specs.theorem.Index.{IsExactIndex, IsPageOfLevel, IsRootLevel}
-use Rattle.op_machine.specs.theorem.Phases.{Phase, MovesPhase, KeepsPhases, takes, splits, becomes_root, terms, under_root, holds, removes, merges, unterms, reuses}
+use Rattle.op_machine.specs.theorem.Phases.{Phase, MovesAt, MovesPhase, KeepsPhases, indexed, takes, splits, becomes_root, terms, under_root, holds, removes, merges, unterms, reuses}
 use Rattle.op_machine.specs.theorem.Reuse.{IsFreedByRule}
 use Rattle.op_machine.specs.theorem.Examples.{small, opening_leaf, lookup}
 use Rattle.op_machine.specs.theorem.Linearized.{IsLinearized, IsOrderly}
+use Rattle.op_machine.specs.theorem.Unhindered.{EndsAlone, IsLockFree, IsUnhindered}
 use Rattle.op_machine.specs.theorem.Updates.{UpdatesAtLinks}
 use Rattle.op_machine.proofs.Listed.{EachAt-get, UpTo-at, passes_at, same_operation, stands_at}
 use Rattle.op_machine.proofs.runs.Kinds.{is_begin, is_done, leaf_at, one_begin, one_reply, one_row, outside, reads_row}
@@ -157,13 +161,9 @@ updates_at_links n = (
     no_one : (u : Update) → ◌≡◌ {A = List Update} [] (u ∷ []) → ⊥
     no_one u e = cc
 
-keeps_phases : KeepsPhases small lookup
+moves_none : (n pid : ℕ) (from to : Phase) → MovesAt small lookup n pid from to → ⊥
 unfolding only_looks
-keeps_phases = record {
-  in_order = λ n pid from to moves. absurd (none_moves moves.entry (looks n moves.entry moves.at) moves.holds);
-  emptied = λ n actor pid old wins. absurd (odd (looks n wins.entry wins.at _ _ _ wins.holds.0));
-  unheld = λ n pid remove chain removes. absurd (odd (looks n removes.entry removes.at _ _ _ removes.holds.0.3.0));
-}
+moves_none n pid from to moves = none_moves moves.entry (looks n moves.entry moves.at) moves.holds
   where
     odd : false ≡ true → ⊥
     odd e = cc
@@ -179,6 +179,17 @@ keeps_phases = record {
     none_moves entry l (merges a b c h i j) = odd (l _ _ _ h.3.0)
     none_moves entry l (unterms a b h e) = odd (l _ _ _ h.3.0)
     none_moves entry l (reuses a b c d is e) = odd (l _ _ _ is)
+
+keeps_phases : KeepsPhases small lookup
+unfolding only_looks
+keeps_phases = record {
+  in_order = λ n pid from to moves. absurd (moves_none n pid from to moves);
+  emptied = λ n actor pid old wins. absurd (odd (looks n wins.entry wins.at _ _ _ wins.holds.0));
+  unheld = λ n pid remove chain removes. absurd (odd (looks n removes.entry removes.at _ _ _ removes.holds.0.3.0));
+}
+  where
+    odd : false ≡ true → ⊥
+    odd e = cc
 
 is_freed_by_rule : IsFreedByRule small lookup
 unfolding only_looks
@@ -225,6 +236,10 @@ is_direct = record {
   useful = λ operation n slot old new chain is own. absurd (odd (looks n _ own.1.entry operation.actor _ _ (own.0, refl)));
   reads = λ operation n step answer is reader own. EachAt-get (λ k. IsOfReader) lookup (tt, (tt, (tt, (tt, (tt, (tt, (tt, tt))))))) n _ own.1.entry;
   emptied = λ operation n pid is own. absurd (EachAt-get (λ k. FindsSome) lookup (tt, (tt, (tt, (some, (some, (tt, (tt, tt))))))) n _ own.1.entry refl);
+  settled = λ operation n pid row is own above held.
+      let one : pid ≡ 1 = EachAt-get (λ k. IsFirstPage) lookup (tt, (tt, (tt, ((λ lt. absurd (omega arith)), ((λ lt. refl), (tt, (tt, tt))))))) n _ own.1.entry above in
+      rw one (indexed, inr ((λ k from to low high moves. moves_none k 1 from to moves), refl), (λ e. cc e), (λ e. cc e));
+  links = λ operation n slot old new is own. absurd (odd (looks n _ own.1.entry operation.actor _ _ (own.0, refl)));
 }
   where
     odd : false ≡ true → ⊥
@@ -236,6 +251,11 @@ is_direct = record {
     IsOfReader : Entry → Type 0
     IsOfReader (Begin actor command) = Unit {0}
     IsOfReader (Step actor step answer reply) = IsReading step
+
+    IsFirstPage : Entry → Type 0
+    IsFirstPage (Begin actor command) = Unit {0}
+    IsFirstPage (Step actor (Slot slot) answer reply) = 0 < slot → slot ≡ 1
+    IsFirstPage (Step actor step answer reply) = Unit {0}
 
     FindsSome : Entry → Type 0
     FindsSome (Begin actor command) = Unit {0}
@@ -254,10 +274,17 @@ unfolding only_looks
 has_few_changes = record {
   few = λ n changes among. let none = no_changes 0 n changes among in omega (arith, none);
   since = λ m n changes le among. let none = no_changes m n changes among in omega (arith, none);
+  takes = λ n. let none = takes_none n in omega (arith, none);
 }
   where
     odd : false ≡ true → ⊥
     odd e = cc
+
+    takes_none : (n : ℕ) → count_by takes_number (take n lookup) ≡ 0
+    takes_none n = elim (cases_lt 7 n) [
+      | inl lt ↦ ap (count_by takes_number) (take_all n lookup (omega arith))
+      | inr le ↦ UpTo-at (λ k. count_by takes_number (take k lookup) ≡ 0) 7 (refl, (refl, (refl, (refl, (refl, (refl, (refl, refl))))))) n le
+    ]
 
     never : (place : ℕ) → Happens small lookup place ChangesTree → ⊥
     never place h = odd (looks place _ h.at _ _ _ h.holds.5.0)
@@ -298,5 +325,48 @@ is_linearized = record {
   faithful = is_faithful;
 }
 
+unhindered : IsUnhindered small lookup
+unhindered = record {
+  few = λ operation n is own none. ([], record { increasing = λ k h. absurd (omega arith); each = λ k d h. absurd (omega arith) }, once_more (few_steps operation n is (at_most n own)));
+}
+  where
+    once_more : {m n : ℕ} → m ≤ n → m ≤ n * (0 + 1)
+    once_more h = omega arith
+
+ends_alone : EndsAlone small lookup
+ends_alone = record {
+  few = λ operation m n is after own alone none.
+      ([], record { increasing = λ k h. absurd (omega arith); each = λ k d h. absurd (omega arith) }, enough (cause_worth small) (few_steps operation n is (at_most n own)));
+  whole = λ operation n is own alone none. enough (cause_worth small) (few_steps operation n is (at_most n own));
+}
+  where
+    enough : {m : ℕ} (worth : ℕ) → m ≤ worth → m ≤ worth * (154 * 64 + 8 * 2 + 1)
+    enough worth h = omega arith
+
+lock_free : IsLockFree small lookup
+unfolding cause_worth
+lock_free = record {
+  few = λ n none. elim (cases_lt 7 n) [
+    | inl lt ↦ let whole : take n lookup ≡ lookup = take_all n lookup (omega arith) in rw whole (lit≤ tt)
+    | inr le ↦ UpTo-at (λ k. count_by is_step (take k lookup) ≤ cause_worth small * (count_by begins_one (take k lookup) + 2 * (32 * count_by begins_one (take k lookup) + 64 + 64))) 7
+        (lit≤ tt, (lit≤ tt, (lit≤ tt, (lit≤ tt, (lit≤ tt, (lit≤ tt, (lit≤ tt, lit≤ tt))))))) n le
+  ];
+  ended = λ n none. elim (cases_lt 7 n) [
+    | inl lt ↦ let whole : take n lookup ≡ lookup = take_all n lookup (omega arith) in rw whole (lit≤ tt)
+    | inr le ↦ UpTo-at (λ k. count_by is_step (take k lookup) ≤ cause_worth small * (count_by is_end (take k lookup) + 2 + 2 * (32 * (count_by is_end (take k lookup) + 2) + 64 + 64))) 7
+        (lit≤ tt, (lit≤ tt, (lit≤ tt, (lit≤ tt, (lit≤ tt, (lit≤ tt, (lit≤ tt, lit≤ tt))))))) n le
+  ];
+}
+
 pub is_orderly : IsOrderly small lookup
-is_orderly = record { phases = keeps_phases; index = is_exact_index; direct = is_direct; few_changes = has_few_changes; reads = reads_at_once; freed = is_freed_by_rule }
+is_orderly = record {
+  phases = keeps_phases;
+  index = is_exact_index;
+  direct = is_direct;
+  few_changes = has_few_changes;
+  reads = reads_at_once;
+  unhindered = unhindered;
+  alone = ends_alone;
+  together = lock_free;
+  freed = is_freed_by_rule;
+}

@@ -22,7 +22,7 @@ use Rattle.traces.specs.chain.Chains.{IsChainOf}
 use Rattle.traces.specs.trace.Trace.{memory_at}
 use Rattle.op_machine.specs.theorem.Links.{link_of}
 use Rattle.op_machine.specs.theorem.Operations.{Operation, IsOperation, IsOwnStep, TakesOwnStep}
-use Rattle.op_machine.specs.theorem.Phases.{IsInPhase, cleared}
+use Rattle.op_machine.specs.theorem.Phases.{Phase, IsInPhase, cleared, free, owned}
 use Rattle.op_machine.specs.theorem.Readers.{IsReading}
 
 abbrev pub IsExchangeOf : ℕ → StepOf Record → Type 0
@@ -70,8 +70,13 @@ abbrev pub is_step_of : ℕ → Entry → Bool
 is_step_of actor (Begin other command) = false
 is_step_of actor (Step other step answer reply) = other == actor
 
+-- The PID is that of a page that is in the tree before step n, or was.
+abbrev pub IsOfTree : Limits → List Entry → ℕ → ℕ → Type 0
+IsOfTree limits entries n pid = (phase : Phase) × IsInPhase limits entries n pid phase × (phase ≢ free) × (phase ≢ owned)
+
 -- Of each operation that has got as far as step n: the causes pay for the steps, it links one update at most, it consolidates no base alone, a
--- reader only reads, and a slot that is found empty is that of a page that was cleared.
+-- reader only reads, and a slot that is found empty is that of a page that was cleared. A slot in which it finds a row is that of a page of the
+-- tree; each exchange that it wins has a link, and one that fills a slot, or empties it again, is of a page which nobody has put into the tree yet.
 pub record IsDirect (limits : Limits) (entries : List Entry) : Type 0 where
   pub few : (operation : Operation) (n : ℕ) → IsOperation entries operation → IsOwnStep entries operation n
       → (causes : List ℕ) × IsStrictlyIncreasing causes × All (λ cause. (cause ≤ n) × IsCause limits entries operation cause) causes
@@ -82,3 +87,6 @@ pub record IsDirect (limits : Limits) (entries : List Entry) : Type 0 where
       → link_of (memory_at limits entries n) slot old new ≡ Some link.Base → IsChainOf (memory_at limits entries n) slot chain → 1 < length chain
   pub reads : (operation : Operation) (n : ℕ) (step : StepOf Record) (answer : Answer Record) → IsOperation entries operation → is_writer operation.command ≡ false → TakesOwnStep entries operation n step answer → IsReading step
   pub emptied : (operation : Operation) (n pid : ℕ) → IsOperation entries operation → TakesOwnStep entries operation n (Slot pid) (Number 0) → IsInPhase limits entries n pid cleared
+  pub settled : (operation : Operation) (n pid row : ℕ) → IsOperation entries operation → TakesOwnStep entries operation n (Slot pid) (Number row) → 0 < pid → 0 < row → IsOfTree limits entries n pid
+  pub links : (operation : Operation) (n slot old new : ℕ) → IsOperation entries operation → TakesOwnStep entries operation n (Exchange slot old new) (Whether true)
+      → (kind : Link) × (link_of (memory_at limits entries n) slot old new ≡ Some kind) × ((kind ≡ link.Ready) ⊎ (kind ≡ link.Undo) → IsInPhase limits entries n slot owned)

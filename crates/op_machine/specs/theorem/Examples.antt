@@ -1,5 +1,5 @@
 -- Small runs step by step, and traces that the definitions refuse.
-use Rattle.std.specs.Prelude.{codes, ◌^◌, ◌-◌, List, [], ◌∷◌, true, false, None, Some}
+use Rattle.std.specs.Prelude.{codes, replicate, ◌^◌, ◌-◌, List, [], ◌∷◌, true, false, None, Some}
 use Rattle.std.proofs.Common.{lit≤, refl}
 use Rattle.tree_limits.specs.Limits.{AreLargeLimits, AreLimits}
 use Rattle.tree_limits.specs.declared.limits.Limits.{Limits}
@@ -235,3 +235,19 @@ claimed_insert = Begin 0 (Insert (codes "a") (codes "1"))
 -- A lookup takes a row: refused.
 abbrev pub taking_reader : List Entry
 taking_reader = Begin 0 (Get (codes "a")) ∷ Step 0 (TakeRow 2) (Whether true) None ∷ []
+
+-- An operation reads a row in the slot of a page that nobody has taken: refused.
+abbrev pub unmet_read : List Entry
+unmet_read = Begin 0 (Insert (codes "a") (codes "1")) ∷ Step 0 (Slot 5) (Number 2) None ∷ []
+
+-- An operation fills the slot of a page that it has not taken: refused.
+abbrev pub foreign_fill : List Entry
+foreign_fill = Begin 0 (Insert (codes "a") (codes "1"))
+    ∷ Step 0 (TakeRow 2) (Whether true) None
+    ∷ Step 0 (Place 2 opening_leaf) Done None
+    ∷ Step 0 (Exchange 5 0 2) (Whether true) None
+    ∷ []
+
+-- An operation takes 153 rows, and changes nothing: refused.
+abbrev pub many_takes : List Entry
+many_takes = Begin 0 (Insert (codes "a") (codes "1")) ∷ replicate 153 (Step 0 (TakeRow 2) (Whether true) None)

@@ -16,6 +16,7 @@ use Rattle.op_machine.specs.theorem.Changes.{HasFewChanges}
 use Rattle.op_machine.specs.theorem.Direct.{IsDirect}
 use Rattle.op_machine.specs.theorem.Progress.{ReadsAtOnce}
 use Rattle.op_machine.specs.theorem.Reuse.{IsFreedByRule}
+use Rattle.op_machine.specs.theorem.Unhindered.{EndsAlone, IsLockFree, IsUnhindered}
 
 -- The entries are a run of the turns, in which each operation ends with its only Leave, with linearization points: each finished
 -- operation replies what one ordered map replies at its point, or Tidied or Full, which have none and tell what it found; that map
@@ -31,12 +32,16 @@ pub record IsLinearized (limits : Limits) (turns : List Turn) (entries : List En
   pub quiet : IsQuiet limits entries points
   pub faithful : IsFaithful limits entries
 
--- What stands beside it: the life of each page, the terms of each level, bounded steps, few changes, readers that take few steps whatever others do,
--- and the rule by which rows and PIDs are used again.
+-- What stands beside it: the life of each page, the terms of each level, bounded steps, few changes, and the rule by which rows and PIDs are used
+-- again. As long as no removal was ever placed: readers that take few steps whatever others do, what hinders a writer, that each operation ends
+-- where it runs alone, and few steps of all together.
 pub record IsOrderly (limits : Limits) (entries : List Entry) : Type 0 where
   pub phases : KeepsPhases limits entries
   pub index : IsExactIndex limits entries
   pub direct : IsDirect limits entries
   pub few_changes : HasFewChanges limits entries
   pub reads : ReadsAtOnce limits entries
+  pub unhindered : IsUnhindered limits entries
+  pub alone : EndsAlone limits entries
+  pub together : IsLockFree limits entries
   pub freed : IsFreedByRule limits entries

@@ -1,5 +1,5 @@
 -- Changes of the tree, and readers that take few steps whatever others do.
-use Rattle.std.specs.Prelude.{◌≡◌, ◌≢◌, ◌≤◌, ◌⊎◌, ℕ, suc, List, Bool, true, false, slice_range, take}
+use Rattle.std.specs.Prelude.{◌≡◌, ◌≢◌, ◌≤◌, ℕ, suc, List, Bool, true, false, None, Some, slice_range, take}
 use Rattle.std.specs.List.{All, count_by}
 use Rattle.std.specs.List.Sorted.{IsStrictlyIncreasing}
 use Rattle.tree_limits.specs.declared.limits.Limits.{Limits}
@@ -8,8 +8,7 @@ use Rattle.bw_model.specs.declared.step.Answer.{Answer}
 use Rattle.bw_model.specs.declared.step.Answer.TheVariants.{Whether}
 use Rattle.bw_model.specs.declared.step.Link.{Link}
 use Rattle.bw_model.specs.declared.step.Link.TheVariants as link
-use Rattle.bw_model.specs.declared.step.Step.{Step as StepOf}
-use Rattle.bw_model.specs.declared.step.Step.TheVariants.{Place}
+use Rattle.bw_model.specs.declared.step.Step.TheVariants.{Place, TakePid, TakeRow}
 use Rattle.deltas.specs.Memory.{Memory}
 use Rattle.deltas.specs.declared.record.Record.{Record}
 use Rattle.deltas.specs.declared.record.Record.TheVariants as delta
@@ -33,6 +32,22 @@ PlacesNoRemoval entries = (n actor row : ℕ) (remove : Remove) (answer : Answer
 abbrev pub is_begin : Entry → Bool
 is_begin (Begin actor command) = true
 is_begin (Step actor step answer reply) = false
+
+abbrev pub is_step : Entry → Bool
+is_step (Begin actor command) = false
+is_step (Step actor step answer reply) = true
+
+-- the entry ends an operation
+abbrev pub is_end : Entry → Bool
+is_end (Begin actor command) = false
+is_end (Step actor step answer None) = false
+is_end (Step actor step answer (Some reply)) = true
+
+-- the entry takes a row or a PID
+abbrev pub takes_number : Entry → Bool
+takes_number (Step actor (TakePid pid) (Whether true) reply) = true
+takes_number (Step actor (TakeRow row) (Whether true) reply) = true
+takes_number entry = false
 
 -- how many steps an actor takes from entry m to entry n
 abbrev pub steps_from : List Entry → ℕ → ℕ → ℕ → ℕ

@@ -8,7 +8,7 @@ use Rattle.std.proofs.lemmas.List.Kept.{AllPairs-from_increasing}
 use Rattle.traces.proofs.TraceLaws.{Happens-below}
 use Rattle.traces.specs.trace.Trace.{Happens}
 use Rattle.op_machine.specs.theorem.Changes.{HasFewChanges}
-use Rattle.op_machine.specs.theorem.Progress.{AreAmong, ChangesTree, is_begin}
+use Rattle.op_machine.specs.theorem.Progress.{AreAmong, ChangesTree, is_begin, takes_number}
 use Rattle.tree_law.proofs.trace.Owned.{pushed_length}
 use Rattle.tree_law.specs.Changes.{most_in_store}
 use Rattle.tree_law.proofs.direct.Counting.{count_push, range_kept}
@@ -106,7 +106,8 @@ module _ (limits : Limits) (entries : List Entry) (last : Entry) (m : ℕ) where
 
 module _ (limits : Limits) (entries : List Entry) (last : Entry) (old : HasFewChanges limits entries)
     (most : (m : ℕ) (changes : List ℕ) → m ≤ length entries → IsStrictlyIncreasing changes → AreChanges limits entries last m (entries ++ last ∷ []) changes
-    → length changes ≤ most_in_store limits m + 8 * count_by is_begin (drop m entries)) where
+    → length changes ≤ most_in_store limits m + 8 * count_by is_begin (drop m entries))
+    (taken : count_by takes_number (entries ++ last ∷ []) ≤ limits.rows + limits.pids + 24 * count_by is_begin (entries ++ last ∷ [])) where
   abbrev trace : List Entry
   trace = entries ++ last ∷ []
 
@@ -144,6 +145,12 @@ module _ (limits : Limits) (entries : List Entry) (last : Entry) (old : HasFewCh
     ]
   ]
 
+  takes : (n : ℕ) → count_by takes_number (take n trace) ≤ limits.rows + limits.pids + 24 * count_by is_begin (take n trace)
+  takes n = elim (cases_lt (length entries) n) [
+    | inr le ↦ let same : take n trace ≡ take n entries = take-push entries (last ∷ []) n le in rw same (old.takes n)
+    | inl gt ↦ let long : length trace ≡ suc (length entries) = pushed_length entries last in let same : take n trace ≡ trace = take_all n trace (omega arith) in rw same taken
+  ]
+
   -- few changes in the longer trace
   pub few_push : HasFewChanges limits trace
-  few_push = record { few = few; since = since }
+  few_push = record { few = few; since = since; takes = takes }

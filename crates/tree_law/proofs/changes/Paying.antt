@@ -1,5 +1,5 @@
 -- What is in store pays for the changes, along a trace.
-use Rattle.tree_law.proofs.Words.{◌⊎◌, [], refl, Option, suc, None, List, inl, length, ◌++◌, ◌≤◌, inr}
+use Rattle.tree_law.proofs.Words.{◌⊎◌, [], cond, refl, take, All-weaker, Option, suc, None, List, inl, length, ◌++◌, ◌≤◌, inr}
 use Rattle.tree_law.proofs.Words.{◌∷◌, ℕ, ◌≡◌, zero, ◌<◌, arith, Some, drop, cases_lt, ◌+◌, ◌*◌, append_assoc, append-nil, IsSome}
 use Rattle.tree_law.proofs.Words.{All, count_by, IsStrictlyIncreasing, Limits, Entry, Begin, Step, Command, Reply, Answer, StepOf, Record, Base}
 use Rattle.tree_law.proofs.Words.{empty_leaf, memory_of, memory_after, memory_of-push, command_of, knows, Knowledge, begun, finished, learn, IsAllowed, IsAnswer, IsUseful, IsDisciplinedFrom}
@@ -9,8 +9,8 @@ use Rattle.traces.specs.trace.Trace.{Happens}
 use Rattle.traces.proofs.TraceLaws.{Happens-below}
 use Rattle.op_machine.specs.theorem.Changes.{HasFewChanges}
 use Rattle.op_machine.specs.theorem.Halves.{IsHalved}
-use Rattle.op_machine.specs.theorem.Progress.{ChangesTree, is_begin}
-use Rattle.tree_law.specs.Changes.{AreUsefulFrom, IsPaidState, IsWorth, RunsHaveFewChanges, StepsPay, credit, life, most_in_store, store, total}
+use Rattle.op_machine.specs.theorem.Progress.{ChangesTree, is_begin, takes_number}
+use Rattle.tree_law.specs.Changes.{AreUsed, AreUsefulFrom, IsPaidState, IsWorth, RunsHaveFewChanges, StepsPay, credit, life, most_in_store, store, total}
 use Rattle.tree_law.specs.TraceLaws.{BeginsKeep}
 use Rattle.tree_law.proofs.shape.Puts.{by_equal}
 use Rattle.tree_law.proofs.trace.Beginning as beginning
@@ -20,8 +20,9 @@ use Rattle.tree_law.proofs.trace.Steps.{Onward, onwards}
 use Rattle.tree_law.proofs.changes.Alive.{worth_bound, worth_of}
 use Rattle.tree_law.proofs.changes.Credits.{begin_credits, credit_most, step_credits, update_credits}
 use Rattle.tree_law.proofs.changes.Linked.{stored}
-use Rattle.tree_law.proofs.changes.Listed.{AreChanges, all_before, begins_from, few_push, most_before, none_later}
+use Rattle.tree_law.proofs.changes.Listed.{AreChanges, all_before, begins_from, begins_push, few_push, most_before, none_later}
 use Rattle.tree_law.proofs.changes.Lives.{life_most}
+use Rattle.tree_law.proofs.changes.Numbers.{had_most, used_begin, used_step}
 use Rattle.tree_law.proofs.changes.Outcome.{outcome}
 use Rattle.tree_law.proofs.changes.Totals.{bounded}
 
@@ -56,6 +57,15 @@ paid_push limits entries last stored more small before brings m changes up all =
     after_first : (m : ℕ) → length entries < m → most_in_store limits m ≡ 154 * limits.pids + 8 * limits.actors
     after_first zero later = absurd (omega arith)
     after_first (suc m) later = refl
+
+-- so many numbers are taken at most
+taken_most : (limits : Limits) (entries : List Entry) (last : Entry) (state : IsState limits (entries ++ last ∷ [])) (used : AreUsed limits (entries ++ last ∷ [])) → length used.changes ≤ 8 * count_by is_begin entries
+    → count_by takes_number (entries ++ last ∷ []) ≤ limits.rows + limits.pids + 24 * count_by is_begin (entries ++ last ∷ [])
+taken_most limits entries last state used few =
+    let most = had_most limits (entries ++ last ∷ []) state in
+    let taken = used.used in
+    let more : count_by is_begin (entries ++ last ∷ []) ≡ count_by is_begin entries + cond (is_begin last) 1 0 = begins_push entries last in
+    omega (arith, most, taken, more, few)
 
 -- an actor whose operation is under way is one of the stated number
 actor_there : (limits : Limits) (entries : List Entry) (a : ℕ) → IsState limits entries → IsSome (command_of entries a) → a < limits.actors
@@ -129,12 +139,19 @@ module _ (limits : Limits) (entries : List Entry) (a : ℕ) (s : StepOf Record) 
         omega (arith, fewer)
   ]
 
+  used : AreUsed limits longer
+  used = used_step limits entries a within s x r paid.state paid.taken allowed.may is
+
   pub step_pays : IsPaidState limits longer
   step_pays = record {
     state = on.after;
     worths = worths';
     each = each';
-    few = few_push limits entries last paid.few (λ m changes le up all. let bound = paid_longer m changes le up all in omega (arith, bound));
+    few = few_push limits entries last paid.few (λ m changes le up all. let bound = paid_longer m changes le up all in omega (arith, bound))
+        (taken_most limits entries last on.after used
+        (let bound = paid_longer 0 used.changes (omega arith) used.increasing (All-weaker (λ place. Happens limits longer place ChangesTree) (λ place. (0 ≤ place) × Happens limits longer place ChangesTree) (λ place h. (omega arith, h)) used.changes used.each) in
+        omega (arith, bound)));
+    taken = used;
     paid = paid_push limits entries last (store limits longer on.after worths') 0 (store_bound limits longer on.after worths' each')
         (λ m changes le up all. let bound = paid_longer m changes le up all in omega (arith, bound)) (λ m le. let same = begins_from limits entries last m le in omega (arith, same));
   }
@@ -172,12 +189,19 @@ module _ (limits : Limits) (entries : List Entry) (a : ℕ) (c : Command) (paid 
   begun_each : (page : ℕ) → IsWorth begun_state.owners (shared (memory_of limits begun_trace)) page (paid.worths page)
   begun_each page = rw (same_owners, memory_of-push limits entries begin) (paid.each page)
 
+  used_begun : AreUsed limits begun_trace
+  used_begun = used_begin limits entries a within c paid.taken
+
   pub begin_pays : IsPaidState limits begun_trace
   begin_pays = record {
     state = begun_state;
     worths = paid.worths;
     each = begun_each;
-    few = few_push limits entries begin paid.few (λ m changes le up all. let bound = paid_begun m changes le up all in omega (arith, bound));
+    few = few_push limits entries begin paid.few (λ m changes le up all. let bound = paid_begun m changes le up all in omega (arith, bound))
+        (taken_most limits entries begin begun_state used_begun
+        (let bound = paid_begun 0 used_begun.changes (omega arith) used_begun.increasing (All-weaker (λ place. Happens limits begun_trace place ChangesTree) (λ place. (0 ≤ place) × Happens limits begun_trace place ChangesTree) (λ place h. (omega arith, h)) used_begun.changes used_begun.each) in
+        omega (arith, bound)));
+    taken = used_begun;
     paid = paid_push limits entries begin (store limits begun_trace begun_state paid.worths) 8 (store_bound limits begun_trace begun_state paid.worths begun_each)
         (λ m changes le up all. let bound = paid_begun m changes le up all in let grown = begun_store in omega (arith, bound, grown))
         (λ m le. let more = begins_from limits entries begin m le in omega (arith, more));
@@ -218,6 +242,10 @@ module _ (limits : Limits) where
   no_changes m [] all = refl
   no_changes m (place ∷ changes) all = let below : place < 0 = Happens-below (all 0 0 (omega arith)).1 in absurd (omega arith)
 
+  first_takes : (n : ℕ) → count_by takes_number (take n []) ≤ limits.rows + limits.pids + 24 * count_by is_begin (take n [])
+  first_takes zero = omega arith
+  first_takes (suc n) = omega arith
+
   pub first_pays : IsPaidState limits []
   first_pays = record {
     state = first_state;
@@ -226,7 +254,9 @@ module _ (limits : Limits) where
     few = record {
       few = λ n changes among. let empty : length changes ≡ 0 = no_changes 0 changes (λ k d lt. let h = among.each k d lt in (h.0, h.2)) in omega arith;
       since = λ m n changes le among. let empty : length changes ≡ 0 = no_changes m changes (λ k d lt. let h = among.each k d lt in (h.0, h.2)) in omega arith;
+      takes = first_takes;
     };
+    taken = record { changes = []; increasing = λ j h. absurd (omega arith); each = λ j d h. absurd (omega arith); used = omega arith };
     paid = λ m changes up all. let empty = no_changes m changes all in let store = first_store in omega (arith, empty, store);
   }
 

@@ -1,11 +1,22 @@
 -- A begin keeps a trace direct, and so does a step that its operation can afford.
-use Rattle.tree_law.proofs.Words.{false, ap, refl, Option, List, true, inl, ◌≢◌, length, ◌++◌, ◌≤◌, inr, ◌∷◌, subst, sym, ℕ, ◌≡◌, ◌∙◌, ◌<◌, arith, Some, ◌^◌, ◌==◌, eqb_tells, same_Some}
+use Rattle.tree_law.proofs.Words.{false, ap, refl, Option, List, true, inl, ◌≢◌, length, ◌++◌, ◌≤◌, inr, ◌∷◌, subst, sym, ℕ, ◌≡◌, ◌∙◌, ◌<◌, arith, Some, ◌==◌, eqb_tells, same_Some}
 use Rattle.tree_law.proofs.Words.{IsSome, Command, Reply, Limits, Answer, Whether, Content, Link, StepOf, Row, Exchange, replaced_at, Record, May, begun, knows, Knowledge, finished, Ready}
 use Rattle.tree_law.proofs.Words.{learn, recall, Recalled, blank, recalls, IsAnswer, memory_of, IsUseful, IsOfUse, IsReading, IsInPhase, cleared, Slot, Number, None, zero, suc, slice_get, Placed, Indexed, phase_of, slot_in, row_in, Entry, Begin, Step, is_step_of, Links, Operation, IsUpdateLink, Accounts}
 use Rattle.tree_law.proofs.Words.{IsLast, Affords, IsDirectState, Recollects, Walks, StaysDirect, IsState, Opens, []}
 use Rattle.traces.specs.discipline.Recalled.{IsStepSpent, cause_worth}
 use Rattle.bw_model.specs.Replies.{is_writer}
 use Rattle.tree_law.proofs.answering.Fitted.{fits}
+use Rattle.std.specs.Prelude.{◌⊎◌}
+use Rattle.bw_model.specs.declared.step.Link.TheVariants as link
+use Rattle.traces.specs.discipline.Discipline.{MayExchange}
+use Rattle.traces.specs.discipline.Knowledge.{OwnPage}
+use Rattle.op_machine.specs.theorem.Direct.{IsOfTree}
+use Rattle.op_machine.specs.theorem.Links.{link_of}
+use Rattle.op_machine.specs.theorem.Phases as phase
+use Rattle.op_machine.specs.theorem.Phases.{owned}
+use Rattle.tree_law.specs.Owners.{Reached}
+use Rattle.tree_law.specs.Keys.{Key}
+use Rattle.tree_law.specs.Phase.{PageOwner, Nobody, Keeps, Cleared, Fresh, Held, Removed, Merged}
 use Rattle.tree_law.proofs.links.Keeping.{met_placed, slot_of}
 use Rattle.tree_law.proofs.trace.Owned.{same_start}
 use Rattle.tree_law.proofs.shape.Puts.{at_place, by_equal}
@@ -24,7 +35,7 @@ not_step_of actor other s x reply ne = elim (eqb_tells other actor) [ inl same �
 
 pub opens : Opens IsDirectState
 opens limits = record {
-  direct = record { few = λ op n begun own. absurd (cc); once = λ op m n first second begun one two is_one is_two. absurd (cc); useful = λ op n slot old new chain begun took is is_chain. absurd (cc); reads = λ op n s x begun reader took. absurd (cc); emptied = λ op n pid begun took. absurd (cc) };
+  direct = record { few = λ op n begun own. absurd (cc); once = λ op m n first second begun one two is_one is_two. absurd (cc); useful = λ op n slot old new chain begun took is is_chain. absurd (cc); reads = λ op n s x begun reader took. absurd (cc); emptied = λ op n pid begun took. absurd (cc); settled = λ op n pid row begun took some held. absurd (cc); links = λ op n slot old new begun took. absurd (cc) };
   recollects = λ op latest. absurd (cc latest.begun);
   walks = λ op latest. absurd (cc latest.begun);
   foreign = λ actor page head base e f. absurd (cc);
@@ -75,7 +86,8 @@ module _ (limits : Limits) (entries : List Entry) (a : ℕ) (c : Command) (kept 
   pub begins : (left : ℕ) → left ≤ cause_worth limits → StaysDirect limits entries (Begin a c) a left
   begins left few = record {
     state = record {
-      direct = direct limits entries last kept (λ op s x reply latest is. absurd (cc)) (λ b slot old new reply is. absurd (cc)) (λ op s x reply latest is reader. absurd (cc)) (λ op pid reply is. absurd (cc));
+      direct = direct limits entries last kept (λ op s x reply latest is. absurd (cc)) (λ b slot old new reply is. absurd (cc)) (λ op s x reply latest is reader. absurd (cc)) (λ op pid reply is. absurd (cc))
+          (λ op pid row reply is some held. absurd (cc)) (λ b slot old new reply is. absurd (cc));
       recollects = recollects_begun;
       walks = walks_begun;
       foreign = foreign_begun;
@@ -90,6 +102,33 @@ module _ (limits : Limits) (entries : List Entry) (a : ℕ) (c : Command) (kept 
 
 same_number : (j k : ℕ) → ◌≡◌ {A = Answer Record} (Whether true) (Whether (j == k)) → j ≡ k
 same_number j k e = elim (eqb_tells j k) [ inl same ↦ same.1 | inr apart ↦ absurd (cc apart.0) ]
+
+-- a page that is reached in the tree is one of the tree
+of_tree : (limits : Limits) (entries : List Entry) (n pid : ℕ) (w : PageOwner) (r l : ℕ) (s : Key) → Reached r l s w → IsInPhase limits entries n pid (phase_of w) → IsOfTree limits entries n pid
+of_tree limits entries n pid Nobody r l s reached at = absurd reached
+of_tree limits entries n pid (Keeps b) r l s reached at = absurd reached
+of_tree limits entries n pid (Placed Fresh l' s') r l s reached at = (phase.fresh, at, (λ e. cc e), (λ e. cc e))
+of_tree limits entries n pid (Placed Indexed l' s') r l s reached at = (phase.indexed, at, (λ e. cc e), (λ e. cc e))
+of_tree limits entries n pid (Placed Held l' s') r l s reached at = (phase.held, at, (λ e. cc e), (λ e. cc e))
+of_tree limits entries n pid (Placed Removed l' s') r l s reached at = (phase.removed, at, (λ e. cc e), (λ e. cc e))
+of_tree limits entries n pid (Placed Merged l' s') r l s reached at = (phase.merged, at, (λ e. cc e), (λ e. cc e))
+of_tree limits entries n pid (Cleared b l' s') r l s reached at = (phase.cleared, at, (λ e. cc e), (λ e. cc e))
+
+-- who fills the slot of a page, or empties it again, keeps the page
+keeps_slot : (limits : Limits) (entries : List Entry) (state : IsState limits entries) (b slot old new : ℕ) (kind : Link) → MayExchange b (knows entries b) slot old new → (memory_of limits entries).slots slot ≡ old
+    → link_of (memory_of limits entries) slot old new ≡ Some kind → (kind ≡ link.Ready) ⊎ (kind ≡ link.Undo) → state.owners.page slot ≡ Keeps b
+keeps_slot limits entries state b zero old new kind may at linked own_kind = absurd (elim own_kind [ inl e ↦ cc (e, linked) | inr e ↦ cc (e, linked) ])
+keeps_slot limits entries state b (suc p) zero zero kind may at linked own_kind = absurd may
+keeps_slot limits entries state b (suc p) zero (suc row) kind may at linked own_kind = (rw may.0 at (state.is_tree.owns_pages b (suc p))).0
+keeps_slot limits entries state b (suc p) (suc old) new kind may at linked own_kind =
+    let made = change limits entries b state (suc p) (suc old) new may at in
+    let same : made.kind ≡ kind = same_Some _ _ (sym made.is ∙ linked) in
+    by_page ((knows entries b).own.pages (suc p)) refl (λ never. let counts = made.counts (omega arith) never in
+    elim own_kind [ inl e ↦ counts.0 (same ∙ e) | inr e ↦ counts.1 (same ∙ e) ])
+  where
+    by_page : (page : OwnPage) → (knows entries b).own.pages (suc p) ≡ page → (((base : ℕ) → (knows entries b).own.pages (suc p) ≡ Ready base → ⊥) → ⊥) → state.owners.page (suc p) ≡ Keeps b
+    by_page (Ready base) e none = (rw e at (state.is_tree.owns_pages b (suc p))).0
+    by_page page e none = absurd (none (λ base f. cc (e, f)))
 
 module _ (limits : Limits) (entries : List Entry) (a : ℕ) (s : StepOf Record) (x : Answer Record) (reply : Option Reply) (state : IsState limits entries) (may : May a (knows entries a) s) (useful : IsOfUse (knows entries a) s)
     (is_answer : IsAnswer (memory_of limits entries) s x) (kept : IsDirectState limits entries) where
@@ -145,6 +184,28 @@ module _ (limits : Limits) (entries : List Entry) (a : ℕ) (s : StepOf Record) 
 
   cleared_now : (op : Operation) (pid : ℕ) (r : Option Reply) → next ≡ Step op.actor (Slot pid) (Number 0) r → IsInPhase limits entries (length entries) pid cleared
   cleared_now op pid r is = finds_cleared pid (let e : s ≡ Slot pid = cc in e) (let e : x ≡ Number 0 = cc in e)
+
+  -- a slot in which a row is found is that of a page of the tree
+  settled_now : (op : Operation) (pid row : ℕ) (r : Option Reply) → next ≡ Step op.actor (Slot pid) (Number row) r → 0 < pid → 0 < row → IsOfTree limits entries (length entries) pid
+  settled_now op pid row r is some held = met pid (let e : s ≡ Slot pid = cc in e) some
+    where
+      met : (p : ℕ) → s ≡ Slot p → 0 < p → IsOfTree limits entries (length entries) p
+      met zero i lt = absurd (omega arith)
+      met (suc p) i lt =
+          let there = met_placed state.is_tree a (suc p) (rw i at may).1 in
+          of_tree limits entries (length entries) (suc p) (state.owners.page (suc p)) 0 there.0 there.1 there.2 (state.in_phase (suc p))
+
+  -- an exchange that wins has a link, and a slot that is filled, or emptied again, is that of an own page
+  links_now : (b slot old new : ℕ) (r : Option Reply) → next ≡ Step b (Exchange slot old new) (Whether true) r
+      → (kind : Link) × (link_of (memory_of limits entries) slot old new ≡ Some kind) × ((kind ≡ link.Ready) ⊎ (kind ≡ link.Undo) → IsInPhase limits entries (length entries) slot owned)
+  links_now b slot old new r is =
+      let h : May b (knows entries b) (Exchange slot old new) × IsUseful (knows entries b) (Exchange slot old new) × IsAnswer (memory_of limits entries) (Exchange slot old new) (Whether true) = subst IsKnown is (may, useful.useful, is_answer) in
+      let made = (changes b slot old new r is).0 in (
+        made.kind,
+        made.is,
+        λ own_kind. subst (IsInPhase limits entries (length entries) slot)
+            (ap phase_of (keeps_slot limits entries state b slot old new made.kind h.0.1 (same_number _ _ h.2) made.is own_kind)) (state.in_phase slot),
+      )
 
   recollects_stepped : (op : Operation) → IsLast grown op → Recollects limits grown op (recalls grown op.actor)
   recollects_stepped op latest = elim (last_cases entries next op latest) [
@@ -225,7 +286,7 @@ module _ (limits : Limits) (entries : List Entry) (a : ℕ) (s : StepOf Record) 
     pub steps : StaysDirect limits entries next a rest
     steps = record {
       state = record {
-        direct = direct limits entries next kept (λ op t y r latest is. (rest, afford op latest (let e : op.actor ≡ a = cc in e))) changes reads_now cleared_now;
+        direct = direct limits entries next kept (λ op t y r latest is. (rest, afford op latest (let e : op.actor ≡ a = cc in e))) changes reads_now cleared_now settled_now links_now;
         recollects = recollects_stepped;
         walks = walks_stepped;
         foreign = foreign_stepped;

@@ -1,11 +1,14 @@
 -- A direct trace stays direct with one entry more, where its operation can afford it.
-use Rattle.tree_law.proofs.Words.{[], ap, Option, suc, None, List, true, inl, length, ◌++◌, ◌≤◌, inr, ◌∷◌, sym, ℕ, ◌≡◌, ◌∙◌, ◌<◌, arith, Some, take, ◌+◌, ◌^◌, drop, ◌*◌, ◌-◌, All-weaker, same_Some}
+use Rattle.tree_law.proofs.Words.{[], ap, Option, suc, None, List, true, inl, length, ◌++◌, ◌≤◌, inr, ◌∷◌, sym, ℕ, ◌≡◌, ◌∙◌, ◌<◌, arith, Some, take, ◌+◌, drop, ◌*◌, ◌-◌, All-weaker, same_Some}
 use Rattle.tree_law.proofs.Words.{All, count_by, IsStrictlyIncreasing, IsSome, slice_range, Reply, Limits, Answer, Whether, Link, StepOf, Exchange, Record, IsChainOf, knows, memory_at, memory_of}
 use Rattle.tree_law.proofs.Words.{IsUseful, IsReading, IsInPhase, cleared, Slot, Number, false, Entry, Step, is_step_of, Links, IsCause, IsDirect, link_of, IsOperation, Operation, IsOwnStep, TakesOwnStep, IsUpdateLink, IsLast, Affords, IsDirectState}
 use Rattle.std.proofs.lemmas.List.{take_rest}
 use Rattle.traces.specs.discipline.Recalled.{cause_worth}
 use Rattle.bw_model.specs.Replies.{is_writer}
 use Rattle.bw_model.specs.declared.step.Link.TheVariants as link
+use Rattle.op_machine.specs.theorem.Direct.{IsOfTree}
+use Rattle.op_machine.specs.theorem.Phases.{owned}
+use Rattle.std.specs.Prelude.{◌⊎◌}
 use Rattle.op_machine.proofs.PhaseLaws.{IsInPhase-kept}
 use Rattle.tree_law.proofs.trace.Owned.{pushed_length}
 use Rattle.tree_law.proofs.direct.Appended.{memory_kept, memory_last, operation_before, takes_below, takes_cases}
@@ -50,7 +53,10 @@ module _ (limits : Limits) (entries : List Entry) (last : Entry) (kept : IsDirec
   module _ (afford : (op : Operation) (s : StepOf Record) (x : Answer Record) (reply : Option Reply) → IsLast entries op → last ≡ Step op.actor s x reply → (rest : ℕ) × Affords limits longer op rest)
       (change : (b slot old new : ℕ) (reply : Option Reply) → last ≡ Step b (Exchange slot old new) (Whether true) reply → IsChange limits entries b slot old new × IsUseful (knows entries b) (Exchange slot old new))
       (reads_now : (op : Operation) (s : StepOf Record) (x : Answer Record) (reply : Option Reply) → IsLast entries op → last ≡ Step op.actor s x reply → is_writer op.command ≡ false → IsReading s)
-      (cleared_now : (op : Operation) (pid : ℕ) (reply : Option Reply) → last ≡ Step op.actor (Slot pid) (Number 0) reply → IsInPhase limits entries (length entries) pid cleared) where
+      (cleared_now : (op : Operation) (pid : ℕ) (reply : Option Reply) → last ≡ Step op.actor (Slot pid) (Number 0) reply → IsInPhase limits entries (length entries) pid cleared)
+      (settled_now : (op : Operation) (pid row : ℕ) (reply : Option Reply) → last ≡ Step op.actor (Slot pid) (Number row) reply → 0 < pid → 0 < row → IsOfTree limits entries (length entries) pid)
+      (links_now : (b slot old new : ℕ) (reply : Option Reply) → last ≡ Step b (Exchange slot old new) (Whether true) reply
+      → (kind : Link) × (link_of (memory_of limits entries) slot old new ≡ Some kind) × ((kind ≡ link.Ready) ⊎ (kind ≡ link.Undo) → IsInPhase limits entries (length entries) slot owned)) where
     few : (op : Operation) (n : ℕ) → IsOperation longer op → IsOwnStep longer op n → Few limits longer op n
     few op n begun own =
         let before : IsOperation entries op = operation_before entries last op n own.0 own.1 begun own.2 in
@@ -118,5 +124,34 @@ module _ (limits : Limits) (entries : List Entry) (last : Entry) (kept : IsDirec
           | inr at ↦ rw at.0 (IsInPhase-kept limits entries last (length entries) pid cleared (omega arith) (cleared_now op pid at.1.0 at.1.1))
         ]
 
+    settled : (op : Operation) (n pid row : ℕ) → IsOperation longer op → TakesOwnStep longer op n (Slot pid) (Number row) → 0 < pid → 0 < row → IsOfTree limits longer n pid
+    settled op n pid row begun took some held =
+        let before : IsOperation entries op = operation_before entries last op n _ _ begun took in
+        elim (takes_cases entries last op n _ _ took) [
+          | inl own ↦
+              let below : n < length entries = takes_below entries last op n _ _ own in
+              let (phase, at, one, two) = kept.direct.settled op n pid row before own some held in
+              (phase, IsInPhase-kept limits entries last n pid phase (omega arith) at, one, two)
+          | inr at ↦
+              let (phase, is, one, two) = settled_now op pid row at.1.0 at.1.1 some held in
+              (phase, rw at.0 (IsInPhase-kept limits entries last (length entries) pid phase (omega arith) is), one, two)
+        ]
+
+    links : (op : Operation) (n slot old new : ℕ) → IsOperation longer op → TakesOwnStep longer op n (Exchange slot old new) (Whether true)
+        → (kind : Link) × (link_of (memory_at limits longer n) slot old new ≡ Some kind) × ((kind ≡ link.Ready) ⊎ (kind ≡ link.Undo) → IsInPhase limits longer n slot owned)
+    links op n slot old new begun took =
+        let before : IsOperation entries op = operation_before entries last op n _ _ begun took in
+        elim (takes_cases entries last op n _ _ took) [
+          | inl own ↦
+              let below : n < length entries = takes_below entries last op n _ _ own in
+              let same : memory_at limits longer n ≡ memory_at limits entries n = memory_kept entries last limits n (omega arith) in
+              let h = kept.direct.links op n slot old new before own in
+              (h.0, rw same h.1, λ kind. IsInPhase-kept limits entries last n slot owned (omega arith) (h.2 kind))
+          | inr at ↦
+              let same : memory_at limits longer n ≡ memory_of limits entries = ap (memory_at limits longer) at.0 ∙ memory_last entries last limits in
+              let h = links_now op.actor slot old new at.1.0 at.1.1 in
+              (h.0, rw same h.1, λ kind. rw at.0 (IsInPhase-kept limits entries last (length entries) slot owned (omega arith) (h.2 kind)))
+        ]
+
     pub direct : IsDirect limits longer
-    direct = record { few = few; once = once; useful = useful; reads = reads; emptied = emptied }
+    direct = record { few = few; once = once; useful = useful; reads = reads; emptied = emptied; settled = settled; links = links }

@@ -12,6 +12,9 @@ returns c limits run seen =
         direct = seen.lawful.direct.direct;
         few_changes = seen.lawful.paid.few;
         reads = c.readers_read_at_once.ensures limits run state.run phases seen.lawful.direct.direct;
+        unhindered = c.runs_make_progress.ensures.unhindered limits run state.run phases seen.lawful.direct.direct;
+        alone = c.runs_make_progress.ensures.alone limits run state.run phases seen.lawful.direct.direct seen.lawful.paid.few;
+        together = c.runs_make_progress.ensures.together limits run state.run phases seen.lawful.direct.direct seen.lawful.paid.few;
         freed = c.frees_by_rule.ensures limits run state;
       };
       begins = seen.begins;

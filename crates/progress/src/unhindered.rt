@@ -1,0 +1,12 @@
+//! All operations, as long as no removal was ever placed: what hinders them, that each ends alone, and how few steps all take.
+ghost use Rattle.progress.specs.Unhindered.{LoneOperationsEnd, RunsAreLockFree, RunsAreUnhindered};
+
+/// In such a run an exchange loses to a change of the tree alone, since a slot that was read is that of a page of the tree, and nobody fills or
+/// empties the slot of such a page. So changes, and numbers that others took, pay for all steps of an operation. While it runs alone it
+/// is hindered by its own changes alone, for which the tree has so much in store. And an entry hinders each actor's operation once at most, so with
+/// few changes, and few numbers to take, all operations together take few steps for each that was begun.
+pub fn runs_make_progress()
+    ensures unhindered { RunsAreUnhindered }
+    ensures alone { LoneOperationsEnd }
+    ensures together { RunsAreLockFree }
+{}
