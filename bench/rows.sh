@@ -1,7 +1,6 @@
 #!/bin/sh
-# How much processor time it takes to read a row of words as a record, to find a key in a chain, and to count its items: bench/rows.sh [TIMES]
-# The rows are a put, and a full leaf of 24 items with keys and values of 4 and of 64 bytes; the chain is one of 8 deltas over a leaf of
-# 15 items, and is searched by the walk and by the page that it makes. The program is proved and built first.
+# How much processor time it takes to read a row of words as a record: bench/rows.sh [TIMES]
+# The rows are a put, and a full leaf of 24 items with keys and values of 4 and of 64 bytes. The program is proved and built first.
 set -eu
 top=$(CDPATH='' cd -- "$(dirname -- "$0")/.." && pwd)
 times=${1:-300000}
@@ -9,7 +8,7 @@ program=$top/crates/bench/out/bench
 [ -x "$program" ] || (cd "$top/crates/bench" && rt run -- put 1) </dev/null >/dev/null
 used=$(mktemp)
 trap 'rm -f "$used"' EXIT
-for kind in put short long find page count; do
+for kind in put short long; do
     (
         read=$("$program" "$kind" "$times")
         [ "$read" = "$times" ] || { echo "expected $times, got $read"; exit 1; }

@@ -2,10 +2,8 @@
 //!
 //! Look first at `What` (worker). Called by nobody but those scripts; it has no contract, and no claim rests on it.
 //!
-//! `bench WHAT TIMES`: where WHAT is `put`, `short` or `long` it reads a row of words as a record: a put, or a leaf of 24 items whose
-//! keys and values have 4 or 64 bytes. Where it is `find` or `page` it searches a key in a chain of 8 deltas over a leaf of 15 items: by
-//! the walk, or by the page that the chain makes. Where it is `count` it counts the items of that chain. It prints how often that
-//! succeeded; bench/rows.sh times it.
+//! `bench WHAT TIMES`: it reads a row of words as a record: a put where WHAT is `put`, or a leaf of 24 items whose keys and values have 4
+//! bytes where it is `short`, 64 where it is `long`. It prints how often that succeeded; bench/rows.sh times it.
 //!
 //! `bench WHAT SIZE THREADS OPERATIONS BYTES`: it opens a tree, a large one where SIZE is above 20,000, and inserts SIZE keys of so many
 //! bytes, 16 at least, by one seat; that is all where WHAT is `load` or `ascend`, which inserts them in ascending order. Where it is `reads`,
@@ -19,7 +17,6 @@
 mod amounts;
 mod records;
 mod rows;
-mod searches;
 mod trees;
 mod worker;
 
@@ -34,10 +31,7 @@ fn main(rt: HostRuntime) -> io::Result<()> {
     let words = env::args(&rt)?.collect::<Vec<String>>(rt.alloc())?;
     match words.as_slice() {
         [_, what, times] => {
-            println!(rt;
-                "{}",
-                records::run(rt.alloc(), what.as_str(), number(times.as_str()))
-            )?;
+            println!(rt; "{}", records::run(what.as_str(), number(times.as_str())))?;
         }
         [_, what, size, threads, operations, bytes] => {
             let scale = Scale {

@@ -1,21 +1,18 @@
-//! Rows of words that are read as records, and chains over them that are searched.
+//! Rows of words that are read as records.
 ghost use Rattle.std.specs.Prelude.{◌≤◌};
 
-use crate::searches::{count_again, search_again};
 use record_slots::{
     FIRST_ITEM, FORM, FORM_UNIT, ITEM_CONTENT, ITEM_UNIT, ITEM_WORDS, NO_BOUND, ROW_WORDS,
     SECOND_KEY, from_words,
 };
-use std::alloc::Global;
 
 /// Does what the word names so often, and answers how often it succeeded.
-pub(crate) fn run(alloc: Global, what: &str, times: u32) -> u32 {
+pub(crate) fn run(what: &str, times: u32) -> u32 {
     match what {
         "put" => read_again(put(), times),
         "short" => read_again(leaf(24, 4), times),
         "long" => read_again(leaf(24, 64), times),
-        "count" => count_again(alloc, &leaf(15, 4), times),
-        other => search_again(alloc, &leaf(15, 4), other == "page", times),
+        _ => 0,
     }
 }
 

@@ -2,7 +2,7 @@
 use Rattle.std.proofs.Common.{◌≡◌, ℕ, List, Option, sym, subst}
 use Rattle.std.specs.Prelude.{IsSome, Some, None}
 use Rattle.atomic_table.specs.Seated.{TableId}
-use Rattle.op_machine.specs.machine.Actors.{Actor, ActsOn, IsGoing, IsToldActor, command_left, running_command, wanted_by}
+use Rattle.op_machine.specs.machine.Actors.{Actor, ActsOn, IsGoing, IsToldActor, IsToldActorThere, command_left, running_command, wanted_by}
 use Rattle.bw_model.specs.declared.command.Reply.{Reply}
 use Rattle.tree_limits.specs.declared.limits.Limits.{Limits}
 use Rattle.bw_model.specs.declared.step.Answer.{Answer}
@@ -10,10 +10,11 @@ use Rattle.bw_model.specs.declared.step.Answer.TheVariants.{Done}
 use Rattle.bw_model.specs.declared.step.Step.{Step as StepOf}
 use Rattle.bw_model.specs.declared.step.Step.TheVariants.{Leave}
 use Rattle.deltas.specs.declared.record.Record.{Record}
+use Rattle.descent.specs.Machines.{AreThere}
 use Rattle.traces.specs.declared.trace.Entry.{Entry}
 use Rattle.traces.specs.discipline.Discipline.{May}
 use Rattle.traces.specs.discipline.Fitting.{Fits}
-use Rattle.traces.specs.discipline.Knowledge.{Knowledge, knows}
+use Rattle.traces.specs.discipline.Knowledge.{Knowledge, knows, learn}
 use Rattle.traces.specs.discipline.Recalled.{Recalled, recalls}
 use Rattle.traces.specs.trace.Trace.{command_of}
 use Rattle.traces.specs.trace.Within.{IsWithin}
@@ -22,7 +23,7 @@ use Rattle.bw_tree.specs.Calls.{Advances}
 use Rattle.bw_tree.specs.SeatLaws.{HaveLaws}
 use Rattle.bw_tree.specs.Runs.{IsLawfulRun}
 use Rattle.bw_tree.specs.Seats.{IsSeated, Seat, unfinished_command}
-use Rattle.bw_tree.proofs.Seats.{Wants, wants, may, allowed, useful, halved, due, going, is_told, goes_so, no_reply, may_take, grown, leaves, command_then, seated_then}
+use Rattle.bw_tree.proofs.Seats.{Wants, known_after, wants, may, allowed, useful, halved, due, going, is_told, goes_so, no_reply, may_take, grown, leaves, command_then, seated_then}
 
 -- what an actor promises of an answer that it takes
 abbrev pub Takes : Actor → Answer Record → Option Reply → Actor → Type 0
@@ -86,6 +87,17 @@ module _ (laws : HaveLaws) (limits : Limits) (a : ℕ) (seen : List Entry) (now 
 
     pub told_on : IsToldActor now told
     told_on = is_told limits a k r now asked w told fit
+
+    -- what was read then is there, where that holds of all that is known later
+    pub told_there : (is_there : ℕ → Record → Type 0) → AreThere is_there (knows later a) → IsToldActorThere is_there now told
+    told_there is_there there = record {
+      limits = limits;
+      actor = a;
+      k = k;
+      r = r;
+      going = going limits a k r now asked w told fit;
+      there = subst (λ s. AreThere is_there (learn k s told)) (sym w.wanted) (subst (AreThere is_there) (known_after laws limits a seen asked told None later took) there);
+    }
 
     module _ (reply : Option Reply) (new : Actor) (other : asked ≡ Leave → ⊥) (takes : Takes now told reply new) where
       none : reply ≡ None

@@ -20,3 +20,4 @@ mod Leaving
 mod Counting
 mod Holding
 mod LackLaws
+mod Standing

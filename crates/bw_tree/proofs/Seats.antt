@@ -1,5 +1,5 @@
 -- A seat whose operation wants a step may take it, whatever the others have done; and what the seat keeps then.
-use Rattle.std.proofs.Common.{◌≡◌, ◌<◌, ◌+◌, ◌-◌, inl, ℕ, List, [], ◌∷◌, ◌++◌, Option, refl, sym, ap, ◌∙◌, subst, arith, append-nil}
+use Rattle.std.proofs.Common.{◌≡◌, ◌<◌, ◌≤◌, ◌+◌, ◌*◌, inl, ℕ, List, [], ◌∷◌, ◌++◌, Option, refl, sym, ap, ◌∙◌, subst, arith, append-nil}
 use Rattle.std.specs.Prelude.{IsSome, IfSome, Some, None}
 use Rattle.std.proofs.lemmas.Option.{same_Some}
 use Rattle.op_machine.specs.machine.UnderWay.{UnderWay}
@@ -19,7 +19,7 @@ use Rattle.traces.specs.discipline.Discipline.{IsAllowed, May, MayFree, MayReply
 use Rattle.traces.specs.discipline.Disciplined.{Extends}
 use Rattle.traces.specs.discipline.Fitting.{Fits}
 use Rattle.traces.specs.discipline.Knowledge.{Knowledge, finished, knows, learn}
-use Rattle.traces.specs.discipline.Recalled.{IsStepSpent, Recalled, recall, recalls}
+use Rattle.traces.specs.discipline.Recalled.{IsStepSpent, cause_worth, Recalled, recall, recalls}
 use Rattle.traces.specs.trace.Steps.{IsAnswer}
 use Rattle.traces.specs.trace.Trace.{command_of, commands_after, memory_of}
 use Rattle.traces.specs.discipline.Useful.{IsUseful}
@@ -112,34 +112,40 @@ pub no_reply : (limits : Limits) (a : ℕ) (k : Knowledge) (step : StepOf Record
 no_reply limits a k step None other h = refl
 no_reply limits a k step (Some reply) other h = absurd (other h.replied.0)
 
+-- what is known after a step
+pub grown_so : (limits : Limits) (a : ℕ) (seen : List Entry) (asked : StepOf Record) (told : Answer Record) (reply : Option Reply) (later : List Entry) → (took : Took IsLawfulRun limits a seen None asked told reply later) → later ≡ took.run ++ Step a asked told reply ∷ []
+grown_so limits a seen asked told reply later took = took.grown ∙ sym (without_begin took.run a asked told reply)
+
+pub known_after : HaveLaws → (limits : Limits) (a : ℕ) (seen : List Entry) (asked : StepOf Record) (told : Answer Record) (reply : Option Reply) (later : List Entry) → Took IsLawfulRun limits a seen None asked told reply later → knows later a ≡ knows_then (knows seen a) asked told reply
+known_after laws limits a seen asked told reply later took = ap (λ run. knows run a) (grown_so limits a seen asked told reply later took) ∙ ap (λ (ks : ℕ → Knowledge). ks a) (laws.grow limits took.run (Step a asked told reply)).known
+    ∙ replaced_same a (finished (learn (knows took.run a) asked told) reply) (knows took.run) ∙ ap (λ q. knows_then q asked told reply) (laws.own limits a seen took.run took.extends).known
+
 module _ (laws : HaveLaws) (limits : Limits) (a : ℕ) (seen : List Entry) (now : Actor) (h : IsSeated limits a seen now) (asked : StepOf Record) (reply : Option Reply)
     (allowed : IsAllowed limits a (knows seen a) asked reply) (useful : IsOfUse (knows seen a) asked) (halved : IsHalved (knows seen a) asked) where
   abbrev k : Knowledge
   k = knows seen a
 
   stays : (run : List Entry) (told : Answer Record) (rest : ℕ) → IsLawfulRun limits run → Extends a seen run → IsAnswer (memory_of limits run) asked told
-      → IsStepSpent limits (recalls seen a) asked told (steps_due (recalls seen a) now.hand now.running) rest → StaysDirect limits run (Step a asked told reply) a rest
-  stays run told rest legal x is spent =
+      → IsStepSpent limits (recalls seen a) asked told (steps_due (recalls seen a) now.hand now.running) rest → rest ≤ cause_worth limits * 10 → StaysDirect limits run (Step a asked told reply) a rest
+  stays run told rest legal x is spent few =
       let lasts = laws.own limits a seen run x in
       laws.steps_directly limits run a (steps_due (recalls seen a) now.hand now.running) rest asked told reply legal.state
       (subst (λ q. IsAllowed limits a q asked reply) (sym lasts.known) allowed) (subst (λ q. IsOfUse q asked) (sym lasts.known) useful) is legal.direct (lasts.affords _ h.pays)
       (subst (λ q. IsStepSpent limits q asked told (steps_due (recalls seen a) now.hand now.running) rest) (sym lasts.recalled) spent)
+      few
 
   pub may_take : IsSome (command_of seen a) → 0 < steps_due (recalls seen a) now.hand now.running → IsLawfulStep IsLawfulRun limits a seen None asked reply
   may_take busy some run told legal x is =
       let lasts = laws.own limits a seen run x in
       subst (IsLawfulRun limits) (without_begin run a asked told reply) (record {
         state = laws.steps limits run a asked told reply legal.state (subst IsSome (sym lasts.command) busy) (subst (λ q. IsAllowed limits a q asked reply) (sym lasts.known) allowed) is;
-        direct = (stays run told (steps_due (recalls seen a) now.hand now.running - 1) legal x is (inl (less (steps_due (recalls seen a) now.hand now.running) some))).state;
+        direct = (stays run told 0 legal x is (inl some) (omega arith)).state;
         paid = laws.steps_paid limits run a asked told reply legal.paid (subst IsSome (sym lasts.command) busy) (subst (λ q. IsAllowed limits a q asked reply) (sym lasts.known) allowed) (subst (λ q. IsUseful q asked) (sym lasts.known) useful.useful) (subst (λ q. IsHalved q asked) (sym lasts.known) halved) is;
       })
-    where
-      less : (n : ℕ) → 0 < n → n - 1 < n
-      less n some = omega arith
 
   module _ (told : Answer Record) (later : List Entry) (took : Took IsLawfulRun limits a seen None asked told reply later) where
     pub grown : later ≡ took.run ++ Step a asked told reply ∷ []
-    grown = took.grown ∙ sym (without_begin took.run a asked told reply)
+    grown = grown_so limits a seen asked told reply later took
 
     pub leaves : IfSome reply (λ given. (asked ≡ Leave) × (told ≡ answer.Done))
     leaves = last_of reply allowed.replied
@@ -149,8 +155,7 @@ module _ (laws : HaveLaws) (limits : Limits) (a : ℕ) (seen : List Entry) (now 
         last_of (Some given) e = let is : IsAnswer (memory_of limits took.run) Leave told = subst (λ s. IsAnswer (memory_of limits took.run) s told) e.0 took.answered in (e.0, is)
 
     pub known_then : knows later a ≡ knows_then k asked told reply
-    known_then = ap (λ run. knows run a) grown ∙ ap (λ (ks : ℕ → Knowledge). ks a) (laws.grow limits took.run (Step a asked told reply)).known
-        ∙ replaced_same a (finished (learn (knows took.run a) asked told) reply) (knows took.run) ∙ ap (λ q. knows_then q asked told reply) (laws.own limits a seen took.run took.extends).known
+    known_then = known_after laws limits a seen asked told reply later took
 
     pub recalled_then : recalls later a ≡ recall (recalls seen a) asked told
     recalled_then = ap (λ run. recalls run a) grown ∙ ap (λ (rs : ℕ → Recalled). rs a) (laws.grow limits took.run (Step a asked told reply)).recalled
@@ -177,7 +182,7 @@ module _ (laws : HaveLaws) (limits : Limits) (a : ℕ) (seen : List Entry) (now 
       runs = runs ∙ ap (command_left reply) h.runs ∙ sym command_then;
       pays = subst (λ q. Accounts limits later a (steps_due q new.hand new.running)) (sym recalled_then)
           (subst (λ run. Accounts limits run a (steps_due (recall (recalls seen a) asked told) new.hand new.running)) (sym grown)
-          (stays took.run told (steps_due (recall (recalls seen a) asked told) new.hand new.running) took.legal took.extends took.answered goes.spends).account);
+          (stays took.run told (steps_due (recall (recalls seen a) asked told) new.hand new.running) took.legal took.extends took.answered goes.spends goes.few).account);
       lacks = subst (λ run. KeepsLack limits a run new.lacks) (sym grown) (lack_stepped limits a seen took.run asked told reply now.lacks new.lacks took.extends busy h.lacks goes.lacks replies_last
           (ap (λ run. knows run a) (sym grown) ∙ known_then) (ap (λ run. command_of run a) (sym grown) ∙ command_then));
     }

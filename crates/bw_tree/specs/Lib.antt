@@ -12,3 +12,4 @@ pub mod Examples
 pub mod Closed
 pub mod Room
 pub mod Held
+pub mod Stands

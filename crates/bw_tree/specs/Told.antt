@@ -1,15 +1,21 @@
--- What a step answers, where a record that was read, or the reply, stands in a place of its own.
-use Rattle.std.specs.Prelude.{Bool, true, false, Option, Some, None}
+-- What a step answers, where a record that was read stays where it lies, and the reply stands in a place of its own.
+use Rattle.std.specs.Prelude.{◌≡◌, ℕ, List, Bool, true, false, Option, Some, None}
+use Rattle.tree_limits.specs.declared.limits.Limits.{Limits}
 use Rattle.bw_model.specs.Answers.{answer_of}
 use Rattle.bw_model.specs.declared.command.Reply.{Reply}
-use Rattle.bw_model.specs.declared.step.Answer.{Answer}
-use Rattle.bw_model.specs.declared.step.Answer.TheVariants.{Content}
-use Rattle.bw_model.specs.declared.step.Told.{Told}
+use Rattle.bw_model.specs.declared.step.Step.{Step}
+use Rattle.bw_model.specs.declared.step.Step.TheVariants.{Row}
 use Rattle.deltas.specs.declared.record.Record.{Record}
+use Rattle.traces.specs.declared.trace.Entry.{Entry}
+use Rattle.slot_rule.specs.Steps.{ReadsFirst, Took}
+use Rattle.bw_tree.specs.Runs.{IsLawfulRun}
+use Rattle.bw_tree.specs.declared.taking.Taken.{Taken}
+use Rattle.bw_tree.specs.declared.taking.Taken.TheVariants.{First, Told}
 
-abbrev pub told_or_read : Option Told → Record → Answer Record
-told_or_read None read = Content read
-told_or_read (Some told) read = answer_of told
+-- The actor took the step, of which its seat is told: of a record that was read, the row and the first word.
+abbrev pub HasTaken : Limits → ℕ → List Entry → Step Record → Taken → List Entry → Type 0
+HasTaken limits actor seen step (First row word) later = (step ≡ Row row) × ReadsFirst IsLawfulRun limits actor seen row word later
+HasTaken limits actor seen step (Told told) later = Took IsLawfulRun limits actor seen None step (answer_of told) None later
 
 -- the reply in its place, if the operation is done
 abbrev pub reply_if : Bool → Reply → Option Reply

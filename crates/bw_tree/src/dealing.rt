@@ -8,13 +8,13 @@ ghost use Rattle.traces.specs.discipline.Disciplined.{Extends};
 ghost use Rattle.slot_rule.specs.Running.{Each, ExtendsFor};
 ghost use Rattle.slot_rule.specs.Views.{dealt, other_parts, refreshed};
 
+use crate::desk::Desk;
 use crate::lawful_runs::{TreeLaw, empty_run_is_lawful, runs_are_one_history};
 use crate::seat::BwSeat;
 use crate::tree::Tree;
 use atomic_table::Table;
 use bw_model::Limits;
 use op_machine::{Actor, idle_actors_rest};
-use row_chain::HeldRow;
 use slot_rule::{TableSeat, cut, join, opening_keeps, refresh};
 use std::alloc::{AllocError, Allocator};
 use std::mem::replace;
@@ -35,18 +35,15 @@ pub(crate) fn begun<A: Allocator + Copy>(
     opening_keeps::<TreeLaw>();
     idle_actors_rest();
     let words = opening_words(alloc, &limits)?;
-    let Ok(actor) = Actor::<A>::idle(alloc, &limits) else {
+    let Ok(actor) = Actor::<Tree<A>, A>::idle(alloc, &limits) else {
         return Err(AllocError);
     };
-    let room = HeldRow::<A>::new(alloc)?;
     let (table, mut place) = Table::of_words(alloc, words.as_slice(), &limits)?;
     let others = cut(&table.shared, &mut place, &limits);
     let first = BwSeat {
-        place,
+        desk: Desk { place, number: 0 },
         limits,
-        number: 0,
         actor,
-        room,
     };
     Ok((Tree { limits, table }, first, others))
 }
@@ -70,9 +67,9 @@ pub(crate) fn gathered<A: Allocator>(
     runs_are_one_history();
     own_lasts();
     let words = &tree.table.shared;
-    join(words, &mut seat.place, others, &tree.limits);
-    refresh(words, &mut seat.place, &tree.limits);
-    cut(words, &mut seat.place, &tree.limits)
+    join(words, &mut seat.desk.place, others, &tree.limits);
+    refresh(words, &mut seat.desk.place, &tree.limits);
+    cut(words, &mut seat.desk.place, &tree.limits)
 }
 
 /// All seats, in order: the first one, and one for each of the others, which have seen the same run and have no step in it.
@@ -100,15 +97,13 @@ pub(crate) fn dealt_out<A: Allocator + Copy>(
     for number in 1..limits.actors as u8 {
         let others = cut(&tree.table.shared, &mut rest, &limits);
         let place = replace(&mut rest, others);
-        let Ok(actor) = Actor::<A>::idle(alloc, &limits) else {
+        let Ok(actor) = Actor::<Tree<A>, A>::idle(alloc, &limits) else {
             return Err(AllocError);
         };
         seats.push(BwSeat {
-            place,
+            desk: Desk { place, number },
             limits,
-            number,
             actor,
-            room: HeldRow::<A>::new(alloc)?,
         })?;
     }
     Ok(seats)

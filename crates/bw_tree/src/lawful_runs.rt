@@ -54,12 +54,13 @@ pub(crate) fn runs_are_one_history()
     frees_by_rule();
 }
 
-/// What a seat counts on: what is an actor's own outlasts the steps of others, and begins and steps keep a run lawful.
+/// What a seat counts on: what is an actor's own outlasts the steps of others, and stands, and begins and steps keep a run lawful.
 pub(crate) fn laws_of_runs()
     ensures { HaveLaws }
 {
     entries_grow();
     own_lasts();
+    rows_are_apart();
     answers();
     begins();
     begins_directly();

@@ -39,7 +39,7 @@ impl<A: Allocator> Tree<A> {
         ensures noted { result ≡ note_of seat.old }
     {
         Note {
-            place: note(&self.table.shared, &mut seat.place, &self.limits),
+            place: note(&self.table.shared, &mut seat.desk.place, &self.limits),
             limits: seat.limits,
         }
     }
@@ -54,8 +54,8 @@ impl<A: Allocator> Tree<A> {
         runs_are_one_history();
         own_lasts();
         let words = &self.table.shared;
-        join(words, &mut seat.place, note.place, &self.limits);
-        refresh(words, &mut seat.place, &self.limits);
-        cut(words, &mut seat.place, &self.limits);
+        join(words, &mut seat.desk.place, note.place, &self.limits);
+        refresh(words, &mut seat.desk.place, &self.limits);
+        cut(words, &mut seat.desk.place, &self.limits);
     }
 }

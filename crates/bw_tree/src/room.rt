@@ -72,7 +72,14 @@ impl<A: Allocator> BwSeat<A> {
     {
         own_lasts();
         let step = bits(kind, word);
-        watch(words, &mut self.place, &self.limits, self.number, &step).count_ones()
+        watch(
+            words,
+            &mut self.desk.place,
+            &self.limits,
+            self.desk.number,
+            &step,
+        )
+        .count_ones()
     }
 }
 

@@ -9,36 +9,35 @@ ghost use Rattle.bw_tree.specs.Seats.{IsSame, unfinished_command};
 ghost use Rattle.bw_tree.specs.Told.{reply_if};
 ghost use Rattle.traces.specs.discipline.Knowledge.{Knowledge};
 ghost use Rattle.traces.specs.discipline.Recalled.{Recalled};
-ghost use Rattle.slot_rule.specs.Views.{IsOf, part};
+ghost use Rattle.bw_tree.specs.Trees.{IsSeatOf};
+ghost use Rattle.slot_rule.specs.Views.{part};
 ghost use Rattle.slot_rule.specs.declared.view.Reach.TheVariants.{Idle};
 
 use crate::called::Called;
-use crate::lawful_runs::{TreeWords, laws_of_runs, runs_are_one_history};
-use crate::taking::take;
+use crate::desk::Desk;
+use crate::lawful_runs::{laws_of_runs, runs_are_one_history};
+use crate::taking::{Taken, take};
+use crate::tree::Tree;
 use bw_model::{Command, Limits, Reply, Step};
 use op_machine::Actor;
-use row_chain::HeldRow;
+use row_search::RowAt;
 use slot_rule::{TableSeat, act};
 use std::alloc::{Allocator, Global};
 use std::marker::Model;
 
-/// A seat of a tree: one actor, and the thread that has the seat is the actor. It has room for the row that is read.
+/// A seat of a tree: one actor, and the thread that has the seat is the actor.
 pub struct BwSeat<A: Allocator = Global> {
-    pub(crate) place: TableSeat,
+    pub(crate) desk: Desk,
     pub(crate) limits: Limits,
-    pub(crate) number: u8,
-    pub(crate) actor: Actor<A>,
-    pub(crate) room: HeldRow<A>,
+    pub(crate) actor: Actor<Tree<A>, A>,
 }
 
 impl<A: Allocator> Drop for BwSeat<A> {
     fn drop(self) {
         let BwSeat {
-            place: _,
+            desk: _,
             limits: _,
-            number: _,
             actor: _,
-            room: _,
         } = self;
     }
 }
@@ -49,9 +48,9 @@ impl<A: Allocator> Model for BwSeat<A> {
 
     ghost Value = { Seat };
 
-    ghost view = { λ s. record { table = s.place.table_id; limits = s.limits; actor = s.number; seen = seen_of s.place.me } };
+    ghost view = { λ s. record { table = s.desk.place.table_id; limits = s.limits; actor = s.desk.number; seen = seen_of s.desk.place.me } };
 
-    ghost invariant = { λ s. IsSeat s.limits s.number s.place.me s.actor };
+    ghost invariant = { λ s. IsSeat s.limits s.desk.number s.desk.place.me s.actor };
 }
 
 impl<A: Allocator> BwSeat<A> {
@@ -68,12 +67,11 @@ impl<A: Allocator> BwSeat<A> {
         ensures part { result.me ≡ (part self.limits self.actor self.seen Idle ∷ [], []) }
     {
         let BwSeat {
-            place,
+            desk,
             limits: _,
-            number: _,
             actor: _,
-            room: _,
         } = self;
+        let Desk { place, number: _ } = desk;
         place
     }
 
@@ -87,19 +85,19 @@ impl<A: Allocator> BwSeat<A> {
 
     /// Begins an operation, with its first step.
     #[inline(never)]
-    pub(crate) fn begin(&mut self, words: &TreeWords, command: Command)
-        requires own { IsOf self.old.limits words.now.key words.now.table_id self.old.table }
+    pub(crate) fn begin(&mut self, tree: &Tree<A>, command: Command)
+        requires own { IsSeatOf tree.now self.old }
         requires idle { unfinished_command self.old ≡ None }
         ensures same { IsSame self.old self.new }
         ensures begins { HasBegun self.old command self.new }
     {
         laws_of_runs();
-        self.actor.begin(command, self.number, &self.limits);
+        self.actor.begin(command, self.desk.number, &self.limits);
         let told = act(
-            words,
-            &mut self.place,
+            &tree.table.shared,
+            &mut self.desk.place,
             &self.limits,
-            self.number,
+            self.desk.number,
             &self.actor.wanted(),
             self.actor.command(),
             None,
@@ -108,15 +106,15 @@ impl<A: Allocator> BwSeat<A> {
     }
 
     /// Goes on with its operation for so many steps, or to its end.
-    pub(crate) fn go_on(&mut self, words: &TreeWords, budget: u32) -> Called
-        requires own { IsOf self.old.limits words.now.key words.now.table_id self.old.table }
+    pub(crate) fn go_on(&mut self, tree: &Tree<A>, budget: u32) -> Called
+        requires own { IsSeatOf tree.now self.old }
         requires busy { IsSome (unfinished_command self.old) }
         ensures same { IsSame self.old self.new }
         ensures goes { IsResumed self.old budget result self.new }
     {
         let mut reply = Reply::None;
         for _ in 0..budget {
-            if self.advance(words, &mut reply) {
+            if self.advance(tree, &mut reply) {
                 return Called::Done(reply);
             }
         }
@@ -124,8 +122,8 @@ impl<A: Allocator> BwSeat<A> {
     }
 
     /// Takes the one step that its operation wants, and tells whether it is done, with the reply in its place.
-    fn advance(&mut self, words: &TreeWords, reply: &mut Reply) -> bool
-        requires own { IsOf self.old.limits words.now.key words.now.table_id self.old.table }
+    fn advance(&mut self, tree: &Tree<A>, reply: &mut Reply) -> bool
+        requires own { IsSeatOf tree.now self.old }
         requires busy { IsSome (unfinished_command self.old) }
         ensures same { IsSame self.old self.new }
         ensures advances { Advances self.old (reply_if result reply.new) self.new }
@@ -135,27 +133,29 @@ impl<A: Allocator> BwSeat<A> {
             // A leave answers nothing, so the reply is asked for before the store that ends the operation.
             leave(&mut self.actor, reply);
             act(
-                words,
-                &mut self.place,
+                &tree.table.shared,
+                &mut self.desk.place,
                 &self.limits,
-                self.number,
+                self.desk.number,
                 &Step::Leave,
                 None,
                 Some(&*reply),
             );
             return true;
         }
-        let told = take(
-            words,
-            &mut self.place,
+        let taken = take(
+            &tree.table.shared,
+            &mut self.desk.place,
             &self.limits,
-            self.number,
+            self.desk.number,
             &self.actor.wanted(),
-            &mut self.room,
         );
-        match told {
-            None => self.actor.take_row(&mut self.room),
-            Some(told) => self.actor.go_on(told),
+        match taken {
+            Taken::First(row, first) => {
+                let record = RowAt::<Tree<A>>::of(row, first, &self.desk);
+                self.actor.take_record(record, tree, &mut self.desk);
+            }
+            Taken::Told(told) => self.actor.go_on(told),
         }
         false
     }
@@ -163,7 +163,7 @@ impl<A: Allocator> BwSeat<A> {
 
 /// Ends an actor's operation with its reply, which comes into its place. Not inlined: no other step needs room for one.
 #[inline(never)]
-fn leave<A: Allocator>(actor: &mut Actor<A>, reply: &mut Reply)
+fn leave<A: Allocator>(actor: &mut Actor<Tree<A>, A>, reply: &mut Reply)
     requires told { IsToldActor actor.old Done }
     requires leaves { wanted_by actor.old.running ≡ Some Step.Leave }
     ensures goes { (limits : LimitsSeen) (number : ℕ) (k : Knowledge) (r : Recalled) (going : IsGoing limits number k r actor.old Done) → ActsOn limits number k r actor.old going.running.wanted Done (Some reply.new) actor.new }

@@ -3,7 +3,7 @@ ghost use Rattle.std.specs.Prelude.{◌≡◌, ◌<◌, None};
 ghost use Rattle.bw_model.specs.Lent.{lent};
 ghost use Rattle.bw_model.specs.declared.step.Answer.TheVariants as Answer;
 ghost use Rattle.bw_tree.specs.Runs.{IsLawfulRun};
-ghost use Rattle.bw_tree.specs.Told.{told_or_read};
+ghost use Rattle.bw_tree.specs.Told.{HasTaken};
 ghost use Rattle.traces.specs.discipline.Discipline.{May};
 ghost use Rattle.traces.specs.discipline.Knowledge.{knows};
 ghost use Rattle.traces.specs.trace.Within.{IsWithin};
@@ -12,23 +12,28 @@ ghost use Rattle.slot_rule.specs.Steps.{IsLawfulStep, Took};
 ghost use Rattle.slot_rule.specs.Views.{SitsAt, IsOf, seen_of};
 
 use crate::lawful_runs::{TreeWords, runs_keep_rows_apart};
-use crate::reading::read_held;
 use bw_model::{Limits, Step, Told};
 use deltas::Record;
 use record_slots::to_words;
-use row_chain::HeldRow;
-use slot_rule::{TableSeat, act, place_row};
-use std::alloc::Allocator;
+use slot_rule::{TableSeat, act, place_row, read_first};
 
-/// Takes a step that the seat's actor may take, and answers what is told; none where a row was read, which stands in the room then.
-pub(crate) fn take<A: Allocator>(
+/// What a step answers.
+#[derive(Drop)]
+pub(crate) enum Taken {
+    /// A record was read: its row, and its first word. It stays where it lies.
+    First(u32, u64),
+    /// Any other step is told this.
+    Told(Told),
+}
+
+/// Takes a step that the seat's actor may take.
+pub(crate) fn take(
     words: &TreeWords,
     place: &mut TableSeat,
     limits: &Limits,
     number: u8,
     step: &Step<&Record>,
-    room: &mut HeldRow<A>,
-) -> Option<Told>
+) -> Taken
     requires table { IsOf limits.now words.now.key words.now.table_id place.old.table_id }
     requires there { number < limits.now.actors }
     requires within { IsWithin limits.now (lent step.now) }
@@ -37,18 +42,19 @@ pub(crate) fn take<A: Allocator>(
     requires may { IsLawfulStep IsLawfulRun limits.now number (seen_of place.old.me) None (lent step.now) None }
     ensures same { place.new.table_id ≡ place.old.table_id }
     ensures seat { SitsAt limits.now number Idle place.new.me }
-    ensures took { Took IsLawfulRun limits.now number (seen_of place.old.me) None (lent step.now) (told_or_read result room.new) None (seen_of place.new.me) }
+    ensures took { HasTaken limits.now number (seen_of place.old.me) (lent step.now) result (seen_of place.new.me) }
 {
     match step {
         Step::Row(row) => {
-            read_held(words, place, limits, number, *row, room);
-            None
+            runs_keep_rows_apart();
+            let first = read_first(words, place, limits, number, *row);
+            Taken::First(*row, first)
         }
         Step::Place(row, record) => {
             place_record(words, place, limits, number, *row, record);
-            Some(Told::Done)
+            Taken::Told(Told::Done)
         }
-        _ => Some(act(words, place, limits, number, step, None, None)),
+        _ => Taken::Told(act(words, place, limits, number, step, None, None)),
     }
 }
 

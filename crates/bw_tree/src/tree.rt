@@ -44,8 +44,8 @@ impl<A: Allocator> Tree<A> {
         ensures called { IsCalled seat.old command budget result seat.new }
         ensures history { IsOneHistory seat.new.limits seat.new.seen }
     {
-        seat.begin(&self.table.shared, command);
-        let called = seat.go_on(&self.table.shared, budget - 1);
+        seat.begin(self, command);
+        let called = seat.go_on(self, budget - 1);
         seat.saw_one_history();
         called
     }
@@ -59,7 +59,7 @@ impl<A: Allocator> Tree<A> {
         ensures resumed { IsResumed seat.old budget result seat.new }
         ensures history { IsOneHistory seat.new.limits seat.new.seen }
     {
-        let called = seat.go_on(&self.table.shared, budget);
+        let called = seat.go_on(self, budget);
         seat.saw_one_history();
         called
     }
@@ -75,9 +75,9 @@ impl<A: Allocator> Tree<A> {
         runs_are_one_history();
         own_lasts();
         let words = &self.table.shared;
-        let others = replace(&mut other.place, blank(words));
-        join(words, &mut one.place, others, &self.limits);
-        refresh(words, &mut one.place, &self.limits);
-        other.place = cut(words, &mut one.place, &self.limits);
+        let others = replace(&mut other.desk.place, blank(words));
+        join(words, &mut one.desk.place, others, &self.limits);
+        refresh(words, &mut one.desk.place, &self.limits);
+        other.desk.place = cut(words, &mut one.desk.place, &self.limits);
     }
 }

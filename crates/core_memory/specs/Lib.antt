@@ -1,4 +1,5 @@
 pub mod Entries
+pub mod Looks
 pub mod Replies
 pub mod Shared
 pub mod Tables

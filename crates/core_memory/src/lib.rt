@@ -1,13 +1,15 @@
 //! What one process keeps of the memory that its actors share, and of what they did: a table, and entries.
 //!
 //! Look first at `CoreTable`: it answers a step and takes it, as specs of `traces` say. `Entries` is the trace, with room that is asked
-//! for before a turn; `SharedRecord` is a record with several owners, so that what was placed and what was read is kept once.
+//! for before a turn; `SharedRecord` is a record with several owners, so that what was placed and what was read is kept once. `CoreRows` are
+//! a table's rows as searches look at them.
 //!
 //! Called by `step_core`; `scene` and `listing` read a table. It knows no operation and no law: whether a step may be taken is not asked
 //! here.
 #![tactic(auto)]
 
 mod entries;
+mod looks;
 mod replies;
 mod rows;
 mod shared;
@@ -15,6 +17,7 @@ mod steps;
 mod table;
 
 pub use entries::Entries;
+pub use looks::CoreRows;
 pub use replies::{BoxedPairs, BoxedReply};
 pub use shared::SharedRecord;
 pub use steps::{shared_step, step_again};

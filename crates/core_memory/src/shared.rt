@@ -1,12 +1,12 @@
 //! Records that rows and entries own together.
-ghost use Rattle.std.specs.Prelude.{◌≡◌, IfOk};
+ghost use Rattle.std.specs.Prelude.{◌≡◌, IfOk, slice_index};
 ghost use Rattle.deltas.specs.Spellable.{IsSpellable};
+ghost use Rattle.record_slots.specs.Spelling.{words_of};
+ghost use Rattle.row_search.specs.Placed.{HasSpelling};
 
 use crate::rows::{used, write_row};
 use deltas::Record;
 use record_slots::{ROW_WORDS, read_words, to_words};
-use row_chain::HeldRow;
-use row_search::Row;
 use std::alloc::{AllocError, Allocator, Global};
 use std::marker::Model;
 use std::rc::RcSlice;
@@ -63,16 +63,18 @@ impl<A: Allocator> SharedRecord<A> {
         read_words(&row).unwrap()
     }
 
-    /// Writes the record over the one that stands in a room.
-    pub fn write_to<B: Allocator>(&self, room: &mut HeldRow<B>)
-        ensures { room.new ≡ self.now }
+    /// Shows that a row of words can spell it, at no cost.
+    pub fn keeps_spelling(&self)
+        ensures { HasSpelling self.now }
     {
-        self.write_in(room.owner.as_mut());
+        let _ = &self.words;
     }
 
-    fn write_in(&self, row: &mut Row)
-        ensures { row.new ≡ self.now }
+    /// A word of its row; behind those that are kept it is 0.
+    pub fn word(&self, at: usize) -> u64
+        ensures { result ≡ slice_index (words_of self.now) at }
     {
-        write_row(&mut row.words, self.words.as_slice());
+        let words = self.words.as_slice();
+        if at < words.len() { words[at] } else { 0 }
     }
 }

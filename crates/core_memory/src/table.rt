@@ -1,7 +1,9 @@
 //! The memory that all actors share, and what one step makes of it.
-ghost use Rattle.std.specs.Prelude.{◌≡◌, ◌<◌, ◌≤◌, ◌*◌, ◌%◌, ◌&&◌, ◌||◌, None, false, length, nat_le, nat_lt, replicate, slice_set, IfOk, OnErr, Some};
+ghost use Rattle.std.specs.Prelude.{◌≡◌, ◌<◌, ◌≤◌, ◌*◌, ◌%◌, ◌&&◌, ◌||◌, None, false, length, nat_le, nat_lt, replicate, slice_index, slice_set, IfOk, OnErr, Some};
 ghost use Rattle.base_page.specs.Pages.{empty_leaf};
 ghost use Rattle.deltas.specs.Memory.{opening, replaced_at};
+ghost use Rattle.deltas.specs.declared.record.Record.{Record as RecordOf};
+ghost use Rattle.record_slots.specs.Spelling.{words_of};
 ghost use Rattle.tree_limits.specs.Words.{is_among};
 ghost use Rattle.traces.specs.trace.Steps.{IsAnswer, IsWordOf, MovesRecord, memory_after};
 ghost use Rattle.core_memory.specs.Tables.{IsWithinTable, is_free, memory_in};
@@ -86,6 +88,16 @@ impl<A: Allocator> CoreTable<A> {
         match self.rows.get(row as usize) {
             Some(Some(shared)) => Some(shared.record()),
             _ => None,
+        }
+    }
+
+    /// A word of the record that was placed last in a row; where none was, it is 0.
+    pub fn word(&self, row: u32, at: usize) -> u64
+        ensures { (content : RecordOf) → (memory_in self.now).rows row ≡ Some content → result ≡ slice_index (words_of content) at }
+    {
+        match self.rows.get(row as usize) {
+            Some(Some(shared)) => shared.word(at),
+            _ => 0,
         }
     }
 

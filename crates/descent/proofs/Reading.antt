@@ -28,7 +28,7 @@ use Rattle.descent.proofs.Spending.{base_passed, left_empty, left_gone, left_kep
 use Rattle.descent.proofs.WayLaws.{covers_here}
 
 -- by the leg of a round: a page was read whole
-abbrev HasRead : Limits → List ℕ → ReadGoal → Leg → Knowledge → Knowledge → Recalled → Version → Type 0
+abbrev pub HasRead : Limits → List ℕ → ReadGoal → Leg → Knowledge → Knowledge → Recalled → Version → Type 0
 HasRead limits key goal (Down above) k now r version = HasReached limits key goal (Down above) k now r version
 HasRead limits key goal (Round removed) k now r version = HasNeared limits key goal removed k now r version
 HasRead limits key goal (Past above) k now r version = HasReached limits key goal (Past above) k now r version
@@ -158,7 +158,7 @@ module _ (limits : Limits) (key : List ℕ) (goal : ReadGoal) (k : Knowledge) (r
   }
   on_visit (Past above) h new moves = visits_next limits key goal (Past above) k r visit told h f new moves
 
-  whole : (leg : Leg) → ShowsVisit limits key goal leg k r visit → (version : Version) → page.Completes visit told version → HasRead limits key goal leg k (learn k (page.wanted visit) told) (recall r (page.wanted visit) told) version
+  pub whole : (leg : Leg) → ShowsVisit limits key goal leg k r visit → (version : Version) → page.Completes visit told version → HasRead limits key goal leg k (learn k (page.wanted visit) told) (recall r (page.wanted visit) told) version
   whole (Down above) h version b = reached_next limits key goal (Down above) k r visit told h f version b
   whole (Round removed) h version b = record {
     nears = reached_next limits key (Left removed) (Round removed) k r visit told h.nears f version b;

@@ -1,1 +1,4 @@
+pub mod Apart
+pub mod Deletes
 pub mod IndexPages
+pub mod Reading

@@ -1,29 +1,84 @@
-//! Pages that are put together row by row.
-ghost use Rattle.std.specs.Prelude.{◌≡◌, ◌≤◌, ◌+◌, ◌∷◌, [], ◌++◌, length};
+//! Pages that are put together record by record.
+ghost use Rattle.std.specs.Prelude.{◌≡◌, ◌≤◌, ◌+◌, ◌∷◌, [], ◌++◌, length, option_copied};
 ghost use Rattle.deltas.specs.Spellable.{IsPid, IsRow};
 ghost use Rattle.deltas.specs.declared.record.Record.TheVariants.{Base};
 ghost use Rattle.traces.specs.chain.Fitted.{FitsOver, IsPageChain};
+ghost use Rattle.layer_tests.specs.Held.{record_in};
 
+mod asked;
+mod planned;
+mod shelf;
+
+pub(crate) use asked::{consolidated, low, takes_delete};
 use base_page::Page;
 use deltas::Record;
-use row_chain::{ChainPart, HeldRow};
-use smo::PageInHand;
+pub(crate) use planned::{
+    hold, merge, merge_into_itself, remove, root, split, term, unterm, unterm_beside_itself,
+};
+use smo::Name;
+use std::marker::Model;
 use std::process::Abort;
 
-/// The rows of these deltas over the base.
-fn rows<R: Abort + AllocGlobal>(rt: &R, deltas: &[Record], base: Page) -> ChainPart
-    requires { IsPageChain (deltas.now ++ Base base ∷ []) }
-    ensures { result ≡ deltas.now ++ Base base ∷ [] }
-{
-    let mut part = ChainPart::new(rt.alloc()).expect(rt, "memory for rows");
-    let mut row = HeldRow::new(rt.alloc()).expect(rt, "memory for a row");
-    for delta in deltas {
-        row.write(delta);
-        part.push(&mut row);
+/// A page by hand. Its newest record stands in its head, and each other one in the row before.
+#[derive(Drop)]
+pub(crate) struct Held {
+    name: Name,
+    records: Vec<Record>,
+}
+
+impl Model for Held {
+    ghost use Rattle.smo.specs.Versions.{Version};
+    ghost use Rattle.traces.specs.chain.Fitted.{IsPageChain};
+
+    ghost Value = { Version };
+
+    ghost view = { λ p. record { pid = p.name.pid; head = p.name.head; chain = p.records.items; is_pid = p.name.is_pid; is_row = p.name.is_row } };
+
+    ghost invariant = { λ p. IsPageChain p.records.items };
+}
+
+impl Held {
+    /// The page's PID.
+    pub(crate) fn pid(&self) -> u32
+        ensures { result ≡ self.now.pid }
+    {
+        self.name.pid
     }
-    row.write(&Record::Base(base));
-    part.push(&mut row);
-    part
+
+    /// The row of its newest record.
+    pub(crate) fn head(&self) -> u32
+        ensures { result ≡ self.now.head }
+    {
+        self.name.head
+    }
+
+    /// Shows that its records are a page's chain, at no cost.
+    pub(crate) fn keeps_rules(&self)
+        ensures { IsPageChain self.now.chain }
+    {
+        let _ = &self.records;
+    }
+
+    /// The page's record in the row.
+    fn record_in(&self, row: u32) -> Option<&Record>
+        ensures { option_copied result ≡ record_in self.now row }
+    {
+        if row > self.name.head {
+            return None;
+        }
+        self.records.get((self.name.head - row) as usize)
+    }
+}
+
+/// The records get these too.
+fn copy_all<R: Abort>(rt: &R, records: &mut Vec<Record>, more: &[Record])
+    ensures { records.new.items ≡ records.old.items ++ more.now }
+{
+    for record in more {
+        records
+            .push(record.copied())
+            .expect(rt, "memory for a record");
+    }
 }
 
 /// The page of these deltas over the base, whose newest record stands in this row.
@@ -33,49 +88,48 @@ pub(crate) fn page<R: Abort + AllocGlobal>(
     head: u32,
     deltas: &[Record],
     base: Page,
-) -> PageInHand
+) -> Held
     requires pid { IsPid pid }
     requires head { IsRow head }
     requires chain { IsPageChain (deltas.now ++ Base base ∷ []) }
     ensures pid { result.pid ≡ pid }
     ensures chain { result.chain ≡ deltas.now ++ Base base ∷ [] }
 {
-    let mut part = rows(rt, deltas, base);
-    let mut page = PageInHand::new(rt.alloc()).expect(rt, "memory for a page");
-    page.receive(pid, head, &mut part);
-    page
-}
-
-/// The row gets what the other one has.
-fn copy(row: &mut HeldRow, other: &HeldRow)
-    ensures { row.new ≡ other.now }
-{
-    other.row().keeps_rules();
-    row.write(&other.row().record());
-}
-
-/// The part gets these rows too.
-fn copy_all(part: &mut ChainPart, row: &mut HeldRow, rows: &[HeldRow])
-    requires { length part.old + length rows.now ≤ 13 }
-    ensures { part.new ≡ part.old ++ rows.now }
-{
-    for under in rows {
-        copy(row, under);
-        part.push(row);
+    let mut records = Vec::new(rt.alloc());
+    copy_all(rt, &mut records, deltas);
+    records
+        .push(Record::Base(base))
+        .expect(rt, "memory for a record");
+    Held {
+        name: Name { pid, head },
+        records,
     }
 }
 
-/// The page gets one delta more, in row 7.
-pub(crate) fn grow<R: Abort + AllocGlobal>(rt: &R, page: &mut PageInHand, newest: Record)
+/// The page gets one delta more, in the row after its head.
+pub(crate) fn grow<R: Abort + AllocGlobal>(rt: &R, page: &mut Held, newest: Record)
     requires over { FitsOver page.old.chain newest × (length page.old.chain ≤ 12) }
     ensures pid { page.new.pid ≡ page.old.pid }
     ensures chain { page.new.chain ≡ newest ∷ page.old.chain }
 {
-    page.chain().keeps_rules();
-    let mut part = ChainPart::new(rt.alloc()).expect(rt, "memory for rows");
-    let mut row = HeldRow::new(rt.alloc()).expect(rt, "memory for a row");
-    row.write(&newest);
-    part.push(&mut row);
-    copy_all(&mut part, &mut row, page.chain().as_slice());
-    page.receive(page.pid(), 7, &mut part);
+    let head = above(rt, page.head());
+    let mut records = Vec::new(rt.alloc());
+    records.push(newest).expect(rt, "memory for a record");
+    copy_all(rt, &mut records, page.records.as_slice());
+    *page = Held {
+        name: Name {
+            pid: page.pid(),
+            head,
+        },
+        records,
+    };
+}
+
+/// The row after this one.
+fn above<R: Abort>(rt: &R, row: u32) -> u32
+    ensures { IsRow result }
+{
+    let above = row.saturating_add(1);
+    assert!(rt; above < 67108864);
+    above
 }

@@ -16,13 +16,12 @@ mod merges;
 mod roots;
 mod terms;
 
-use crate::built;
+use crate::built::{self, Held};
 use crate::plans::grown::{at, based, delete};
 use crate::plans::index_pages::index_from;
 use base_page::{Content, Items, Page};
 use bw_model::{Key, Value};
 use deltas::{Hold, Record, Term};
-use smo::{PageInHand, plan_hold, plan_split, plan_term};
 use std::process::Abort;
 
 pub(crate) fn key(text: &[u8]) -> Key
@@ -80,7 +79,7 @@ pub(crate) fn leaf(low: Key, count: u8) -> Page
 }
 
 /// That leaf as it was read.
-pub(crate) fn leaf_of<R: Abort + AllocGlobal>(rt: &R, pid: u32, low: Key, count: u8) -> PageInHand
+pub(crate) fn leaf_of<R: Abort + AllocGlobal>(rt: &R, pid: u32, low: Key, count: u8) -> Held
     requires pid { IsPid pid }
     ensures alive { is_removed result.chain ≡ false }
 {
@@ -88,19 +87,13 @@ pub(crate) fn leaf_of<R: Abort + AllocGlobal>(rt: &R, pid: u32, low: Key, count:
 }
 
 /// The same under so many deltas, which change nothing, and twelve at most.
-fn leaf_under<R: Abort + AllocGlobal>(
-    rt: &R,
-    pid: u32,
-    low: Key,
-    count: u8,
-    deltas: u8,
-) -> PageInHand
+fn leaf_under<R: Abort + AllocGlobal>(rt: &R, pid: u32, low: Key, count: u8, deltas: u8) -> Held
     requires pid { IsPid pid }
     ensures alive { is_removed result.chain ≡ false }
 {
     let mut page = leaf_of(rt, pid, low, count);
     for _ in 0..deltas {
-        let low = page.chain().low();
+        let low = built::low(rt, &page);
         delete(rt, &mut page, low);
     }
     page
@@ -116,8 +109,12 @@ const SPLIT: &[(u8, u8, Option<(bool, usize)>)] = &[
 ];
 
 /// Whether the page is split at the place, and how many items go; none where it isn't split.
-pub(crate) fn split_at(page: &PageInHand, place: u8) -> Option<(bool, usize)> {
-    match plan_split(page) {
+pub(crate) fn split_at<R: Abort + AllocGlobal>(
+    rt: &R,
+    page: &Held,
+    place: u8,
+) -> Option<(bool, usize)> {
+    match built::split(rt, page) {
         None => None,
         Some(plan) => Some((plan.upper.low() == &at(place), plan.upper.items().len())),
     }
@@ -126,7 +123,7 @@ pub(crate) fn split_at(page: &PageInHand, place: u8) -> Option<(bool, usize)> {
 /// Whether each of them is.
 fn are_split<R: Abort + AllocGlobal>(rt: &R) -> bool {
     for (items, deltas, split) in SPLIT {
-        if split_at(&leaf_under(rt, 2, key(b"k"), *items, *deltas), 8) != *split {
+        if split_at(rt, &leaf_under(rt, 2, key(b"k"), *items, *deltas), 8) != *split {
             return false;
         }
     }
@@ -141,29 +138,34 @@ fn index() -> Page
 }
 
 /// The same as page 5, in row 8.
-pub(crate) fn bare<R: Abort + AllocGlobal>(rt: &R) -> PageInHand
+pub(crate) fn bare<R: Abort + AllocGlobal>(rt: &R) -> Held
     ensures { result.chain ≡ index_page }
 {
     built::page(rt, 5, 8, &[], index())
 }
 
-/// The same with the term of page 2.
-fn termed<R: Abort + AllocGlobal>(rt: &R) -> PageInHand
+/// The same with the term of page 2, in row 5.
+fn termed<R: Abort + AllocGlobal>(rt: &R) -> Held
     ensures { result.chain ≡ termed_page }
 {
-    built::page(rt, 5, 8, &[term_of(4, 2)], index())
+    built::page(rt, 5, 5, &[term_of(4, 2)], index())
 }
 
-/// The same with the term held.
-fn held<R: Abort + AllocGlobal>(rt: &R) -> PageInHand
+/// The same with the term held, in row 6.
+fn held<R: Abort + AllocGlobal>(rt: &R) -> Held
     ensures { result.chain ≡ held_page }
 {
-    built::page(rt, 5, 8, &[hold_of(5, 2), term_of(4, 2)], index())
+    built::page(rt, 5, 6, &[hold_of(5, 2), term_of(4, 2)], index())
 }
 
 /// Whether the parent gets a term of the page that has this level, row and child; or none.
-fn posts(parent: &PageInHand, page: &PageInHand, wanted: Option<(u8, u32, u32)>) -> bool {
-    match plan_term(parent, page) {
+fn posts<R: Abort + AllocGlobal>(
+    rt: &R,
+    parent: &Held,
+    page: &Held,
+    wanted: Option<(u8, u32, u32)>,
+) -> bool {
+    match built::term(rt, parent, page) {
         None => wanted.is_none(),
         Some(term) => wanted == Some((term.level, term.next, term.child)),
     }
@@ -172,16 +174,16 @@ fn posts(parent: &PageInHand, page: &PageInHand, wanted: Option<(u8, u32, u32)>)
 /// Whether an index page gets the term of page 2, over row 8, and not again.
 fn posts_once<R: Abort + AllocGlobal>(rt: &R) -> bool {
     let page = leaf_of(rt, 2, key(b"k09"), 3);
-    let given = posts(&bare(rt), &page, Some((1, 8, 2)));
-    given & posts(&termed(rt), &page, None)
+    let given = posts(rt, &bare(rt), &page, Some((1, 8, 2)));
+    given & posts(rt, &termed(rt), &page, None)
 }
 
 /// Whether the parent's term of the page may be held, if the page begins at the key.
-fn may_be_held<R: Abort + AllocGlobal>(rt: &R, parent: &PageInHand, pid: u32, low: &[u8]) -> bool
+fn may_be_held<R: Abort + AllocGlobal>(rt: &R, parent: &Held, pid: u32, low: &[u8]) -> bool
     requires pid { IsPid pid }
     requires low { length low.now ≤ longest }
 {
-    plan_hold(parent, &leaf_of(rt, pid, key(low), 3)).is_some()
+    built::hold(rt, parent, &leaf_of(rt, pid, key(low), 3)).is_some()
 }
 
 /// Whether a free term that isn't the first may be held, and no other one.
@@ -196,7 +198,7 @@ fn removes<R: Abort + AllocGlobal>(rt: &R, pid: u32, items: u8, deltas: u8) -> b
     requires pid { IsPid pid }
 {
     let page = leaf_under(rt, pid, key(b"k09"), items, deltas);
-    merges::removes(&held(rt), &page)
+    merges::removes(rt, &held(rt), &page)
 }
 
 /// Whether leaves of four items under seven deltas may be removed, and no others.

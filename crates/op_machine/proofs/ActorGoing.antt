@@ -1,5 +1,5 @@
 -- One step of an operation, from what `next` promises.
-use Rattle.std.proofs.Common.{◌≡◌, ◌≢◌, ◌<◌, ℕ, Bool, Option, Some, None, is_some, true, false, sym, ap, ◌∙◌, subst, refl, arith}
+use Rattle.std.proofs.Common.{◌≡◌, ◌≢◌, ◌<◌, ◌≤◌, ◌*◌, ℕ, length, Bool, Option, Some, None, is_some, true, false, sym, ap, ◌∙◌, subst, refl, arith}
 use Rattle.std.specs.Prelude.{IsSome}
 use Rattle.std.proofs.lemmas.Option.{same_Some}
 use Rattle.bw_model.specs.declared.command.Reply.{Reply}
@@ -10,13 +10,14 @@ use Rattle.bw_model.specs.declared.step.Step.{Step as StepOf}
 use Rattle.bw_model.specs.declared.step.Step.TheVariants as step
 use Rattle.deltas.specs.declared.record.Record.{Record}
 use Rattle.traces.specs.discipline.Fitting.{Fits}
-use Rattle.traces.specs.discipline.Knowledge.{Knowledge}
-use Rattle.traces.specs.discipline.Recalled.{Recalled, blank}
+use Rattle.traces.specs.discipline.Knowledge.{Knowledge, learn}
+use Rattle.traces.specs.discipline.Recalled.{Recalled, blank, cause_worth, recall}
+use Rattle.descent.specs.Machines.{AreThere}
 use Rattle.op_machine.specs.machine.Hands.{Hand}
 use Rattle.op_machine.specs.machine.Bounded.{IsSpentLast}
 use Rattle.op_machine.specs.machine.Spending.{Spends, steps_left}
 use Rattle.op_machine.specs.machine.InPlace.{IsOpShown, Takes, Wants}
-use Rattle.op_machine.specs.machine.Ops.{Goes, HoldsLimbo, IsAtRestWith, IsOver, IsToldOp, Obeys, Op, Shows, asked_by, wanted_of}
+use Rattle.op_machine.specs.machine.Ops.{Goes, HoldsLimbo, IsAtRestWith, IsOver, IsToldOp, IsToldOpThere, Obeys, Op, Shows, asked_by, wanted_of}
 use Rattle.op_machine.specs.machine.Outcomes.{HasLeft, is_leaving}
 use Rattle.op_machine.specs.machine.Shows.{FitsLast, ShowsState, learn_last, recall_last, wanted_at}
 use Rattle.op_machine.specs.machine.Tasks.{IsSameTask, Task}
@@ -33,6 +34,7 @@ use Rattle.op_machine.specs.machine.Actors.{ActsOn, IsActorWith, IsGoing, IsRunn
 use Rattle.op_machine.proofs.Leaving.{leaves_at}
 use Rattle.op_machine.proofs.ActorSpending.{spends_last, spent_last}
 use Rattle.op_machine.proofs.Readers.{of_use}
+use Rattle.op_machine.proofs.Worth.{due_few}
 
 -- an actor without an operation, and one with an operation
 idle_of : (limits : Limits) (actor : ℕ) (k : Knowledge) (r : Recalled) (hand : Hand) (running : Option UnderWay) → command_at running ≡ None → IsActorWith limits actor k r hand running → IsAtRestWith limits actor hand k
@@ -97,20 +99,24 @@ module _ (limits : Limits) (actor : ℕ) (k : Knowledge) (r : Recalled) (had has
   pub stays_at : old.wanted ≢ step.Leave → is_leaving old.op.state ≡ false
   stays_at stays = stays_in old.op.task had.spares had.limbo k old.op.sweep old.op.state running.goes.shows.limbo (λ e. stays (same_Some old.wanted step.Leave (sym running.goes.wanted ∙ e)))
 
-  pub goes_on : (lacks : Option Kind) (asked : StepOf Record) → old.wanted ≢ step.Leave → Obeys old.op had a new has (Step asked) → Spends old.op had a new has (Step asked) → IsSameTask old.op.task new.task
+  pub goes_on : (lacks : Option Kind) (asked : StepOf Record) → old.wanted ≢ step.Leave → Obeys old.op had a new has (Step asked) → Spends old.op had a new has (Step asked) → IsSameTask old.op.task new.task → length new.task.errands ≤ 16
       → ActsOn limits actor k r (at_work had old lacks) old.wanted a None (at_work has (record { op = new; wanted = asked }) lacks)
-  goes_on lacks asked other o spends same = record {
+  goes_on lacks asked other o spends same short = record {
     allowed = record { may = rw (← running.own_actor) running.goes.may.may; frees = rw (← running.own_limits, ← running.own_actor) running.goes.may.frees; replied = tt; ends = λ e. absurd (other e) };
     useful = of_use k r old.op had old.wanted running.goes;
     halved = running.goes.may.halved;
     shows = record {
       own_limits = same.limits ∙ running.own_limits;
       own_actor = same.actor ∙ running.own_actor;
-      goes = subst (λ w. Goes (learn_last k w a) (recall_last r w a) new has asked) running.goes.wanted (o k r running.goes.shows fits_last);
+      goes = goes;
     };
+    few = subst (λ l. steps_left (recall r old.wanted a) new has ≤ cause_worth l * 10) (same.limits ∙ running.own_limits) (due_few (learn k old.wanted a) (recall r old.wanted a) new has goes.shows short);
     spends = rw (← running.own_limits) (spent_last old.op.task.limits r (wanted_of old.op had) old.wanted a (steps_left r old.op had) (λ q. steps_left q new has) running.goes.wanted (spends k r running.goes.shows fits_last));
     lacks = refl;
   }
+    where
+      goes : Goes (learn k old.wanted a) (recall r old.wanted a) new has asked
+      goes = subst (λ w. Goes (learn_last k w a) (recall_last r w a) new has asked) running.goes.wanted (o k r running.goes.shows fits_last)
 
   -- what an operation that leaves tells of what ran out
   tells_lack : (reply : Reply) (lacks : Option Kind) → old.op.state ≡ Leave reply lacks → TellsLack limits k reply lacks
@@ -126,6 +132,7 @@ module _ (limits : Limits) (actor : ℕ) (k : Knowledge) (r : Recalled) (had has
       limbo = rw (← running.own_limits, ← running.own_actor) (subst (λ w. AreKept old.op.task.limits old.op.task.actor has.limbo (learn_last k w a).limbo) running.goes.wanted over.limbo);
     };
     spends = rw (← running.own_limits) (spends_last r had has old a ends.is_last);
+    few = omega arith;
     lacks = tells_lack reply lacks is;
   }
     where
@@ -184,6 +191,19 @@ module _ (limits : Limits) (actor : ℕ) (k : Knowledge) (r : Recalled) (on : Bo
   pub told_here : IsToldOp op had a
   told_here = subst (λ o. IsToldOp o had a) found.1 (told_with limits actor k r had had going.running going.running.op a going.shows going.fits)
 
+  pub told_there_here : (is_there : ℕ → Record → Type 0) → AreThere is_there (learn k going.running.wanted a) → IsToldOpThere is_there op had a
+  told_there_here is_there there = subst (λ o. IsToldOpThere is_there o had a) found.1 (record {
+    k = k;
+    r = r;
+    shows = going.shows.goes.shows;
+    fits = fits_last limits actor k r had had going.running going.running.op a going.shows going.fits;
+    there = subst (λ w. AreThere is_there (learn_last k w a)) (sym going.shows.goes.wanted) there;
+  })
+
+  -- it wants what the actor wants
+  pub asked_here : (asked : StepOf Record) → wanted_by (running_at on op had) ≡ Some asked → wanted_of op had ≡ Some asked
+  asked_here asked wants = found.2 ∙ sym (ap wanted_by going.is) ∙ wants
+
   pub stays_here : wanted_by (running_at on op had) ≢ Some step.Leave → is_leaving op.state ≡ false
   stays_here stays = subst (λ (o : Op). is_leaving o.state ≡ false) found.1 (stays_at limits actor k r had had going.running going.running.op a going.shows going.fits (λ e. stays (ap wanted_by going.is ∙ ap Some e)))
 
@@ -194,12 +214,12 @@ module _ (limits : Limits) (actor : ℕ) (k : Knowledge) (r : Recalled) (on : Bo
     pub shown_then : IsOpShown new has
     shown_then = (learn_last told_here.k (wanted_of op had) a, recall_last told_here.r (wanted_of op had) a, takes.shows told_here.k told_here.r told_here.shows told_here.fits)
 
-    pub goes_here : (asked : StepOf Record) → wanted_by (running_at on op had) ≢ Some step.Leave → Wants new has asked
+    pub goes_here : (asked : StepOf Record) → wanted_by (running_at on op had) ≢ Some step.Leave → Wants new has asked → length new.task.errands ≤ 16
         → ActsOn limits actor k r (record { hand = had; running = running_at on op had; lacks = before }) going.running.wanted a None (record { hand = has; running = running_at on new has; lacks = before })
-    goes_here asked stays wants =
+    goes_here asked stays wants short =
         let from : Takes going.running.op had a new has = subst (λ o. Takes o had a new has) (sym found.1) takes in
         let went : ActsOn limits actor k r (at_work had going.running before) going.running.wanted a None (at_work has (record { op = new; wanted = asked }) before) =
-        goes_on limits actor k r had has going.running new a going.shows going.fits before asked (λ e. stays (ap wanted_by going.is ∙ ap Some e)) (from.obeys asked wants) (from.spends asked) from.same in
+        goes_on limits actor k r had has going.running new a going.shows going.fits before asked (λ e. stays (ap wanted_by going.is ∙ ap Some e)) (from.obeys asked wants) (from.spends asked) from.same short in
         let is : running_at on new has ≡ Some (record { op = new; wanted = asked }) = rw found.0 (is_asking new has asked (wants shown_then.0 shown_then.1 shown_then.2).wanted) in
         subst (λ (o : Option UnderWay). ActsOn limits actor k r (record { hand = had; running = o; lacks = before }) going.running.wanted a None (record { hand = has; running = running_at on new has; lacks = before })) (sym going.is)
         (subst (λ (o : Option UnderWay). ActsOn limits actor k r (at_work had going.running before) going.running.wanted a None (record { hand = has; running = o; lacks = before })) (sym is) went)

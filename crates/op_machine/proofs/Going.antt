@@ -6,19 +6,23 @@ use Rattle.bw_model.specs.declared.step.Step.{Step}
 use Rattle.deltas.specs.declared.record.Record.{Record}
 use Rattle.traces.specs.discipline.Knowledge.{Knowledge}
 use Rattle.traces.specs.discipline.Recalled.{Recalled}
+use Rattle.descent.specs.Machines.{AreThere}
 use Rattle.installs.specs.Spares.{Spares}
 use Rattle.op_machine.specs.machine.Bounded.{IsSpentLast, LeavesFor, left_at, with_errands}
 use Rattle.op_machine.specs.machine.Hands.{Hand}
 use Rattle.op_machine.specs.machine.Ops.{Op}
-use Rattle.op_machine.specs.machine.Outcomes.{Comes, Entered, Faces, IsFaced, IsToldAt, Outcome}
+use Rattle.op_machine.specs.machine.Outcomes.{Comes, Entered, Faces, IsToldAt, Outcome}
 use Rattle.op_machine.specs.machine.Shows.{FitsLast, learn_last, recall_last}
-use Rattle.op_machine.specs.machine.Works.{AsksOn, FollowsOutcome, IsToldChange, IsToldOn, IsToldWith, TurnsInto, Works, asked_of}
+use Rattle.op_machine.specs.machine.Works.{AsksOn, FollowsOutcome, IsToldChange, IsToldOn, IsToldOnThere, IsToldWith, TurnsInto, Works, asked_of}
 use Rattle.op_machine.specs.machine.States.{State}
 use Rattle.op_machine.specs.machine.States as at
 
 -- what is told of an operation is told of its state
 abbrev pub told_at : (op : Op) (spares : Spares) (told : Answer Record) → IsToldOn op spares told → IsToldAt op.state spares told
 told_at op spares told is = record { task = op.task; k = is.k; r = is.r; stands = is.works; fits = is.fits }
+
+pub told_alone : (is_there : ℕ → Record → Type 0) (op : Op) (spares : Spares) (told : Answer Record) → IsToldOnThere is_there op spares told → IsToldOn op spares told
+told_alone is_there op spares told is = record { k = is.k; r = is.r; works = is.works; fits = is.fits }
 
 pub told_change : (op : Op) (hand : Hand) (told : Answer Record) → IsToldWith op hand told → IsToldChange op.state hand told
 told_change op hand told is = record { told_at = told_at op hand.spares told is.told_on; kept = is.kept }
@@ -73,9 +77,6 @@ module _ (old : Op) (had has : Spares) (told : Answer Record) (is : IsToldOn old
     faces : (k : Knowledge) (r : Recalled) → Works old had k r → FitsLast old.task.limits k last told → Faces old.task has (learn_last k last told) (recall_last r last told) to
     faces k r works fits = subst (λ o. Comes old.task k r last told state has o) come (makes.comes old.task k r works fits)
 
-    pub faced : IsFaced old.task has to
-    faced = record { k = learn_last is.k last told; r = recall_last is.r last told; faces = faces is.k is.r is.works is.fits }
-
     pub follows : (new : Op) → FollowsOutcome went has to new → AsksOn old had told new has
     follows new after = record {
       works = λ k r works fits. after.stands _ _ (faces k r works fits);
@@ -84,3 +85,10 @@ module _ (old : Op) (had has : Spares) (told : Answer Record) (is : IsToldOn old
       same = after.same;
       sweep = after.sweep;
     }
+
+-- Something is known that it faces then, and what was read is there.
+pub faced : (is_there : ℕ → Record → Type 0) (old : Op) (had has : Spares) (told : Answer Record) → IsToldOnThere is_there old had told → (state : State) (outcome : Option Outcome) → TurnsInto old.state had told state has outcome → (to : Outcome) → outcome ≡ Some to
+    → (k : Knowledge) × (r : Recalled) × Faces old.task has k r to × AreThere is_there k
+faced is_there old had has told is state outcome makes to come =
+    let alone = told_alone is_there old had told is in
+    (learn_last is.k (asked_of old had) told, recall_last is.r (asked_of old had) told, faces old had has told alone state outcome makes to come is.k is.r is.works is.fits, is.there)

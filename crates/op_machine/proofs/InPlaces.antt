@@ -1,6 +1,7 @@
 -- What an answer makes of an operation's places.
-use Rattle.std.proofs.Common.{◌≡◌, ◌≤◌, inl, inr, ℕ, zero, suc, Option, true, refl, ap, ◌∙◌, arith}
+use Rattle.std.proofs.Common.{◌≡◌, ◌≤◌, inl, inr, ℕ, zero, suc, Option, Some, true, refl, ap, ◌∙◌, arith}
 use Rattle.std.specs.Prelude.{IsSome}
+use Rattle.std.proofs.lemmas.Option.{same_Some}
 use Rattle.bw_model.specs.Answers.{TellsNumber, answer_of}
 use Rattle.bw_model.specs.Replies.{command_key}
 use Rattle.bw_model.specs.declared.command.Reply.{Reply}
@@ -12,7 +13,7 @@ use Rattle.deltas.specs.declared.record.Record.{Record}
 use Rattle.traces.specs.discipline.Fitting.{Fits}
 use Rattle.traces.specs.discipline.Knowledge.{Knowledge}
 use Rattle.traces.specs.discipline.Recalled.{Recalled}
-use Rattle.descent.specs.Machines.{IsTold}
+use Rattle.descent.specs.Machines.{AreThere, IsTold, IsToldThere}
 use Rattle.descent.specs.ReadRounds as read
 use Rattle.descent.specs.Rounds.{machine}
 use Rattle.descent.specs.WriteResponses as response
@@ -27,7 +28,7 @@ use Rattle.installs.specs.declared.taking.Kind.{Kind}
 use Rattle.op_machine.specs.machine.Bounded.{left_at, left_for, left_round, one_round}
 use Rattle.op_machine.specs.machine.Outcomes.{Faces, Outcome, is_changing, is_leaving, is_reading, is_writing, read_out, written_out}
 use Rattle.op_machine.specs.machine.Places.{HaveLimits, OpPlaces, ReadsOn, WritesOn, state_at, state_of}
-use Rattle.op_machine.specs.machine.Shows.{FitsLast, ShowsState, wanted_at}
+use Rattle.op_machine.specs.machine.Shows.{FitsLast, ShowsState, learn_last, wanted_at}
 use Rattle.op_machine.specs.machine.Tasks.{Task}
 use Rattle.op_machine.specs.machine.Works.{FollowsOutcome, TurnsInto}
 use Rattle.op_machine.specs.declared.places.Stand.{Stand}
@@ -108,6 +109,9 @@ module _ (task : Task) (spares : Spares) (k : Knowledge) (r : Recalled) (places 
   abbrev FitsThere : Answer Record → Type 0
   FitsThere told = FitsLast task.limits k (wanted_at spares (state_of places)) told
 
+  abbrev ThenThere : (ℕ → Record → Type 0) → Answer Record → Type 0
+  ThenThere is_there told = AreThere is_there (learn_last k (wanted_at spares (state_of places)) told)
+
   -- a reader's round is told numbers and rows,
   pub reader_number : (told : Told) → places.stand ≡ Read → Stands → FitsThere (answer_of told) → TellsNumber told
   reader_number told is h f =
@@ -119,6 +123,16 @@ module _ (task : Task) (spares : Spares) (k : Knowledge) (r : Recalled) (places 
       let shows = rw is at h in
       let fits : Fits task.limits k (read.wanted places.reader.round) told = rw is at f in
       record { k = k; r = r; shows = shows.shows; fits = rw shows.limits fits }
+
+  -- it has what was read there, and wants what the operation wants,
+  pub reader_told_there : (is_there : ℕ → Record → Type 0) (told : Answer Record) → places.stand ≡ Read → Stands → FitsThere told → ThenThere is_there told → IsToldThere is_there (machine read.reading) places.reader.round told
+  reader_told_there is_there told is h f there =
+      let shows = rw is at h in
+      let fits : Fits task.limits k (read.wanted places.reader.round) told = rw is at f in
+      record { k = k; r = r; shows = shows.shows; fits = rw shows.limits fits; there = rw is at there }
+
+  pub reader_asked : (asked : Step Record) → places.stand ≡ Read → wanted_at spares (state_of places) ≡ Some asked → read.wanted places.reader.round ≡ asked
+  reader_asked asked is wants = same_Some (read.wanted places.reader.round) asked (rw is at wants)
 
   -- for the command's key
   pub reader_key : places.stand ≡ Read → Stands → places.reader.round.key ≡ command_key task.command
@@ -135,6 +149,15 @@ module _ (task : Task) (spares : Spares) (k : Knowledge) (r : Recalled) (places 
       let shows = rw is at h in
       let fits : Fits task.limits k (write.wanted places.writer.round) told = rw is at f in
       record { k = k; r = r; shows = shows.shows; fits = rw shows.round_of.limits fits }
+
+  pub writer_told_there : (is_there : ℕ → Record → Type 0) (told : Answer Record) → places.stand ≡ Write → Stands → FitsThere told → ThenThere is_there told → IsToldThere is_there (machine response.writing) places.writer.round told
+  writer_told_there is_there told is h f there =
+      let shows = rw is at h in
+      let fits : Fits task.limits k (write.wanted places.writer.round) told = rw is at f in
+      record { k = k; r = r; shows = shows.shows; fits = rw shows.round_of.limits fits; there = rw is at there }
+
+  pub writer_asked : (asked : Step Record) → places.stand ≡ Write → wanted_at spares (state_of places) ≡ Some asked → write.wanted places.writer.round ≡ asked
+  writer_asked asked is wants = same_Some (write.wanted places.writer.round) asked (rw is at wants)
 
 -- what the rounds make of an answer
 module _ (old new : OpPlaces) (spares : Spares) (told : Answer Record) where

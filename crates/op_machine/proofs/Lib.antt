@@ -9,6 +9,7 @@ pub mod Rounds
 pub mod Changing
 pub mod Stepping
 pub mod Plans
+pub mod ReadPages
 pub mod Unlinking
 pub mod Tending
 pub mod Commands

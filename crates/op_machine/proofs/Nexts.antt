@@ -7,16 +7,17 @@ use Rattle.bw_model.specs.declared.step.Step.{Step as StepOf}
 use Rattle.deltas.specs.declared.record.Record.{Record}
 use Rattle.traces.specs.discipline.Knowledge.{Knowledge}
 use Rattle.traces.specs.discipline.Recalled.{Recalled}
+use Rattle.descent.specs.Machines.{AreThere}
 use Rattle.epochs.specs.Limbo.{Limbo}
 use Rattle.installs.specs.Spares.{Spares}
 use Rattle.op_machine.specs.machine.Bounded.{IsSpentLast, left_at, one_round, with_errands}
 use Rattle.op_machine.specs.machine.Hands.{Hand}
-use Rattle.op_machine.specs.machine.Ops.{HoldsLimbo, IsToldOp, Op, Shows, asked_by, wanted_of}
+use Rattle.op_machine.specs.machine.Ops.{HoldsLimbo, IsToldOp, IsToldOpThere, Op, Shows, asked_by, wanted_of}
 use Rattle.op_machine.specs.machine.Outcomes.{has_begun}
 use Rattle.op_machine.specs.machine.Shows.{FitsLast, learn_last, recall_last, wanted_at}
 use Rattle.op_machine.specs.machine.Spending.{steps_left, sweep_left}
 use Rattle.op_machine.specs.machine.Sweeping.{IsSameWork, ObeysSweep, swept_by, with_limbo}
-use Rattle.op_machine.specs.machine.Works.{IsToldWith, asked_of}
+use Rattle.op_machine.specs.machine.Works.{IsToldOnThere, IsToldWith, asked_of}
 use Rattle.op_machine.specs.machine.States.{State, Begun, Epoch, Enter, Read, Write, Change, Leave}
 use Rattle.sweep.specs.Kept.{AreKept}
 use Rattle.sweep.specs.Sweeps.{Sweep}
@@ -57,6 +58,18 @@ module _ (old : Op) (had : Hand) (told : Answer Record) (begun : has_begun old.s
   told_begun is = record {
     told_on = record { k = is.k; r = is.r; works = is.shows.stands; fits = fits_on is.k is.r is.shows is.fits };
     kept = kept_begun is.k is.r is.shows;
+  }
+
+  pub told_alone : (is_there : ℕ → Record → Type 0) → IsToldOpThere is_there old had told → IsToldOp old had told
+  told_alone is_there is = record { k = is.k; r = is.r; shows = is.shows; fits = is.fits }
+
+  pub told_there : (is_there : ℕ → Record → Type 0) → IsToldOpThere is_there old had told → IsToldOnThere is_there old had.spares told
+  told_there is_there is = record {
+    k = is.k;
+    r = is.r;
+    works = is.shows.stands;
+    fits = fits_on is.k is.r is.shows is.fits;
+    there = subst (λ w. AreThere is_there (learn_last is.k w told)) (asks is.k is.r is.shows) is.there;
   }
 
 -- before the first step of the work the sweep alone asks

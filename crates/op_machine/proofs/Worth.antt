@@ -1,11 +1,47 @@
--- A cause is worth what it has to pay for.
-use Rattle.std.proofs.Common.{◌≡◌, ◌<◌, ◌≤◌, ◌+◌, ◌*◌, [], Bool, true, false, refl, arith}
+-- A cause is worth what it has to pay for, and ten are worth all that an operation has left.
+use Rattle.std.proofs.Common.{◌≡◌, ◌<◌, ◌≤◌, ◌+◌, ◌-◌, ◌*◌, ℕ, List, [], length, Option, None, Some, Bool, true, false, refl, subst, arith}
+use Rattle.std.proofs.Math.Nat.{mul-le-mul_left}
 use Rattle.std.specs.Prelude.{if◌then◌else◌, ◌^◌}
 use Rattle.tree_limits.specs.declared.limits.Limits.{Limits}
-use Rattle.traces.specs.discipline.Recalled.{cause_worth}
-use Rattle.installs.specs.Taking.{most_reads}
-use Rattle.sweep.specs.Bounded.{most_steps}
-use Rattle.op_machine.specs.machine.Bounded.{few_changes, one_round, with_errands}
+use Rattle.deltas.specs.declared.record.Record.{Record}
+use Rattle.traces.specs.chain.Chains.{is_removed}
+use Rattle.traces.specs.discipline.Knowledge.{Knowledge}
+use Rattle.traces.specs.discipline.Recalled.{Recalled, Walk, cause_worth}
+use Rattle.descent.specs.Descents.{WayState, Root, Page, left_from}
+use Rattle.descent.specs.ReadGoals as read
+use Rattle.descent.specs.ReadGoals.{ReadGoal}
+use Rattle.descent.specs.ReadRounds.{read_round_kept}
+use Rattle.descent.specs.Visits.{VisitState, Slot, Row}
+use Rattle.descent.specs.Courses as write
+use Rattle.descent.specs.Courses.{WriteGoal}
+use Rattle.descent.specs.Walks.{left_at, with_walk}
+use Rattle.descent.specs.WriteRounds.{write_round_kept}
+use Rattle.epochs.specs.declared.item.Reuse.{Reuse}
+use Rattle.epochs.specs.declared.item.Reuse.TheVariants.{Rows, Pids}
+use Rattle.installs.specs.Bounded as change
+use Rattle.installs.specs.Bounded.{few_steps, numbers_missing, pids_missing}
+use Rattle.installs.specs.Changes.{needs_pid, rows_needed}
+use Rattle.installs.specs.Spares.{Spares}
+use Rattle.installs.specs.Taking.{most_reads, number_left}
+use Rattle.installs.specs.declared.change.State.{State as ChangeState}
+use Rattle.installs.specs.declared.change.State.TheVariants as changing
+use Rattle.installs.specs.declared.plan.Plan.{Plan}
+use Rattle.installs.specs.declared.plan.Plan.TheVariants.{Install, Split, Root as NewRoot, Unlink}
+use Rattle.installs.specs.declared.taking.Taking.{Taking}
+use Rattle.installs.specs.declared.taking.Taking.TheVariants.{Bits, Take}
+use Rattle.sweep.specs.Bounded.{most_steps, reuses_left}
+use Rattle.sweep.specs.Bounded as sweep
+use Rattle.sweep.specs.Sweeps.{Sweep}
+use Rattle.sweep.specs.declared.sweep.State.{State as SweepState}
+use Rattle.sweep.specs.declared.sweep.State.TheVariants as sweeping
+use Rattle.op_machine.specs.machine.Bounded.{few_changes, left_round, one_round, with_errands}
+use Rattle.op_machine.specs.machine.Bounded as op
+use Rattle.op_machine.specs.machine.Hands.{Hand}
+use Rattle.op_machine.specs.machine.Ops.{Op, Shows}
+use Rattle.op_machine.specs.machine.Shows.{ShowsState}
+use Rattle.op_machine.specs.machine.Spending.{steps_left, sweep_left}
+use Rattle.op_machine.specs.machine.States.{State, Begun, Epoch, Enter, Read, Write, Change, Leave}
+use Rattle.op_machine.specs.machine.Tasks.{Task}
 
 pub enough : (limits : Limits) → 42 * limits.pids + 2 * few_changes limits + 20 ≤ cause_worth limits
 unfolding cause_worth most_reads
@@ -19,3 +55,116 @@ enough limits = by_test limits.is_large refl
 pub begin_few : (limits : Limits) → with_errands limits [] (most_steps limits + 1 + (one_round limits + 3)) < cause_worth limits
 unfolding most_reads
 begin_few limits = let e = enough limits in let some = limits.allowed.some_pids in omega (arith, e, some)
+
+-- a sweep
+reuses_few : (limits : Limits) (reuse : Reuse) → reuses_left limits reuse ≤ most_steps limits
+reuses_few limits (Rows word bits) = omega arith
+reuses_few limits (Pids word bits) = omega arith
+
+sweep_few : (limits : Limits) (state : SweepState) → sweep.steps_left limits state ≤ most_steps limits
+sweep_few limits sweeping.Epoch = omega arith
+sweep_few limits (sweeping.Retire epoch) = omega arith
+sweep_few limits (sweeping.Announce announces) = omega arith
+sweep_few limits (sweeping.Reuse reuse) = reuses_few limits reuse
+
+sweeps_few : (limits : Limits) (now : Option Sweep) (state : State) → sweep_left limits now state ≤ most_steps limits + 1
+sweeps_few limits (Some now) state = let few = sweep_few limits now.state in omega (arith, few)
+sweeps_few limits None Begun = omega arith
+sweeps_few limits None Epoch = omega arith
+sweeps_few limits None (Enter epoch) = omega arith
+sweeps_few limits None (Read round) = omega arith
+sweeps_few limits None (Write round) = omega arith
+sweeps_few limits None (Change now next) = omega arith
+sweeps_few limits None (Leave reply lacks) = omega arith
+
+-- a change
+number_few : (limits : Limits) (taking : Taking) → number_left limits taking ≤ most_reads limits
+unfolding most_reads
+number_few limits (Bits kind word true) = omega arith
+number_few limits (Bits kind word false) = omega arith
+number_few limits (Take kind number whole) = omega arith
+
+pids_few : (needs : Bool) (pid : Option ℕ) → pids_missing needs pid ≤ 1
+pids_few false pid = omega arith
+pids_few true None = omega arith
+pids_few true (Some pid) = omega arith
+
+rows_few : (plan : Plan) → rows_needed plan ≤ 2
+rows_few (Install pid head content) = omega arith
+rows_few (Split pid plan) = omega arith
+rows_few (NewRoot left root) = omega arith
+rows_few (Unlink pid head unterm removal) = omega arith
+
+missing_few : (plan : Plan) (spares : Spares) → numbers_missing plan spares - 1 ≤ 2
+missing_few plan spares = let pids = pids_few (needs_pid plan) spares.pid in let rows = rows_few plan in omega (arith, pids, rows)
+
+change_few : (limits : Limits) (after : ℕ) (plan : Plan) (spares : Spares) (state : ChangeState) → change.left_at limits after plan spares state ≤ few_steps limits + after
+change_few limits after plan spares (changing.Taking taking) =
+    let number = number_few limits taking in
+    let most : most_reads limits * (numbers_missing plan spares - 1) ≤ most_reads limits * 2 = mul-le-mul_left (most_reads limits) (missing_few plan spares) in
+    omega (arith, number, most)
+change_few limits after plan spares changing.Base = omega arith
+change_few limits after plan spares changing.Ready = omega arith
+change_few limits after plan spares changing.Place = omega arith
+change_few limits after plan spares changing.Link = omega arith
+change_few limits after plan spares changing.Undo = omega arith
+change_few limits after plan spares changing.Clear = omega arith
+
+-- a round
+if_few : (t : Bool) (n : ℕ) → (if t then n else 0) ≤ n
+if_few true n = omega arith
+if_few false n = omega arith
+
+either_few : (t u : Bool) (m n : ℕ) → m ≤ n → (if t then m else (if u then n else 0)) ≤ n
+either_few true u m n le = le
+either_few false u m n le = if_few u n
+
+visit_few : (limits : Limits) (reserve : ℕ) (walk : Walk) (part : List Record) (state : VisitState) → left_at limits reserve walk part state ≤ 28 * limits.pids + 13 + reserve
+visit_few limits reserve walk part Slot = let most = if_few walk.removed reserve in omega (arith, most)
+visit_few limits reserve walk part (Row head row) = let most = either_few walk.passed (is_removed part) reserve (with_walk limits reserve) (omega arith) in omega (arith, most)
+
+way_few : (limits : Limits) (reserve : ℕ) (r : Recalled) (state : WayState) → left_from limits reserve r state ≤ 28 * limits.pids + 13 + reserve
+way_few limits reserve r Root = omega arith
+way_few limits reserve r (Page visit) = visit_few limits reserve r.walk visit.part visit.state
+
+read_kept : (kept : ℕ) (goal : ReadGoal) → read_round_kept kept goal ≤ kept
+read_kept kept read.Seek = omega arith
+read_kept kept (read.Left removed) = omega arith
+read_kept kept read.Beyond = omega arith
+
+write_kept : (kept : ℕ) (goal : WriteGoal) → write_round_kept kept goal ≤ kept
+write_kept kept write.Seek = omega arith
+write_kept kept (write.Left pid) = omega arith
+write_kept kept (write.Merge left) = omega arith
+write_kept kept (write.Unterm parent left) = omega arith
+
+-- what an operation has left but for its sweep and its errands
+state_few : (task : Task) (spares : Spares) (k : Knowledge) (r : Recalled) (state : State) → ShowsState task spares k r state → op.left_at task.limits r spares state ≤ 70 * task.limits.pids + 3 * few_changes task.limits + 20
+state_few task spares k r Begun shows = omega arith
+state_few task spares k r Epoch shows = omega arith
+state_few task spares k r (Enter epoch) shows = omega arith
+state_few task spares k r (Read round) shows =
+    let way : left_from round.limits (left_round task.limits) r round.state ≤ 28 * task.limits.pids + 13 + left_round task.limits =
+    subst (λ l. left_from round.limits (left_round task.limits) r round.state ≤ 28 * l.pids + 13 + left_round task.limits) shows.limits (way_few round.limits (left_round task.limits) r round.state) in
+    let kept = read_kept (one_round task.limits) round.goal in
+    omega (arith, way, kept)
+state_few task spares k r (Write round) shows =
+    let way : left_from round.limits (left_round task.limits) r round.state ≤ 28 * task.limits.pids + 13 + left_round task.limits =
+    subst (λ l. left_from round.limits (left_round task.limits) r round.state ≤ 28 * l.pids + 13 + left_round task.limits) shows.round_of.limits (way_few round.limits (left_round task.limits) r round.state) in
+    let kept = write_kept (one_round task.limits) round.goal in
+    omega (arith, way, kept)
+state_few task spares k r (Change now next) shows =
+    let some : change.left_at now.limits (one_round task.limits) now.plan spares now.state ≤ few_steps task.limits + one_round task.limits =
+    subst (λ l. change.left_at now.limits (one_round task.limits) now.plan spares now.state ≤ few_steps l + one_round task.limits) shows.limits (change_few now.limits (one_round task.limits) now.plan spares now.state) in
+    omega (arith, some)
+state_few task spares k r (Leave reply lacks) shows = omega arith
+
+-- all that an operation has left
+pub due_few : (k : Knowledge) (r : Recalled) (now : Op) (hand : Hand) → Shows now hand k r → length now.task.errands ≤ 16 → steps_left r now hand ≤ cause_worth now.task.limits * 10
+unfolding most_reads
+due_few k r now hand shows short =
+    let state : op.left_at now.task.limits r hand.spares now.state ≤ 70 * now.task.limits.pids + 3 * few_changes now.task.limits + 20 = state_few now.task hand.spares k r now.state shows.stands in
+    let swept : sweep_left now.task.limits now.sweep now.state ≤ most_steps now.task.limits + 1 = sweeps_few now.task.limits now.sweep now.state in
+    let errands : one_round now.task.limits * length now.task.errands ≤ one_round now.task.limits * 16 = mul-le-mul_left (one_round now.task.limits) short in
+    let worth : 42 * now.task.limits.pids + 2 * few_changes now.task.limits + 20 ≤ cause_worth now.task.limits = enough now.task.limits in
+    omega (arith, state, swept, errands, worth)

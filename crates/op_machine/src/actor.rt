@@ -1,11 +1,12 @@
 //! One actor.
 ghost use Rattle.std.specs.Prelude.{◌≡◌, ◌≢◌, ◌<◌, ◌^◌, ℕ, IfErr, IfOk, IsSome, MatchBool, None, Some, is_some, option_copied};
-ghost use Rattle.op_machine.specs.machine.Actors.{ActsOn, IsActor, IsGoing, IsActorShown, IsToldActor, errands_of, idle_actor, running_command, wanted_by};
+ghost use Rattle.op_machine.specs.machine.Actors.{ActsOn, IsActor, IsGoing, IsActorShown, IsToldActor, IsToldActorThere, errands_of, idle_actor, running_command, wanted_by};
 ghost use Rattle.op_machine.specs.machine.UnderWay.{steps_due};
 ghost use Rattle.bw_model.specs.Answers.{answer_of};
 ghost use Rattle.bw_model.specs.Lent.{lent};
 ghost use Rattle.tree_limits.specs.declared.limits.Limits.{Limits as LimitsSeen};
 ghost use Rattle.bw_model.specs.declared.step.Answer.TheVariants.{Content, Done};
+ghost use Rattle.bw_model.specs.declared.step.Step.TheVariants.{Row};
 ghost use Rattle.traces.specs.discipline.Knowledge.{Knowledge, begun, nothing};
 ghost use Rattle.traces.specs.discipline.Recalled.{Recalled, blank, cause_worth};
 
@@ -13,19 +14,19 @@ use crate::{Hand, Operation};
 use bw_model::{Command, Key, Limits, OpenError, Reply, Step, Told};
 use deltas::Record;
 use installs::Kind;
-use row_chain::HeldRow;
+use row_search::{RowAt, Rows};
 use std::alloc::{Allocator, Global};
 use std::marker::Model;
 
 /// What an actor keeps between operations, and the operation that it is at, or the room for the next one.
-pub struct Actor<A: Allocator = Global> {
+pub struct Actor<R: Rows, A: Allocator = Global> {
     hand: Hand<A>,
-    operation: Operation<A>,
+    operation: Operation<R, A>,
     is_running: bool,
     lacks: Option<Kind>,
 }
 
-impl<A: Allocator> Drop for Actor<A> {
+impl<R: Rows, A: Allocator> Drop for Actor<R, A> {
     fn drop(self) {
         let Actor {
             hand: _,
@@ -36,7 +37,7 @@ impl<A: Allocator> Drop for Actor<A> {
     }
 }
 
-impl<A: Allocator> Model for Actor<A> {
+impl<R: Rows, A: Allocator> Model for Actor<R, A> {
     ghost use Rattle.op_machine.specs.machine.Actors.{Actor};
     ghost use Rattle.op_machine.specs.machine.UnderWay.{AsksIf, running_at};
 
@@ -52,15 +53,15 @@ pub fn idle_actors_rest()
     ensures { (limits : LimitsSeen) (number : ℕ) (r : Recalled) → IsActor limits number nothing r (idle_actor limits) }
 {}
 
-impl<A: Allocator + Copy> Actor<A> {
+impl<R: Rows, A: Allocator + Copy> Actor<R, A> {
     /// An actor that holds nothing and has no operation. Takes the memory for its limbo and for the pages of its operations' rounds,
     /// and is refused for want of it alone. No later call takes memory.
-    pub fn idle(alloc: A, limits: &Limits) -> Result<Actor<A>, OpenError>
+    pub fn idle(alloc: A, limits: &Limits) -> Result<Actor<R, A>, OpenError>
         ensures ok { IfOk result (λ actor. actor ≡ idle_actor limits.now) }
         ensures err { IfErr result (λ error. error ≡ OpenError.Memory) }
     {
         let hand = Hand::<A>::new(alloc, limits)?;
-        match Operation::<A>::new(alloc, limits) {
+        match Operation::<R, A>::new(alloc, limits) {
             Ok(operation) => Ok(Actor {
                 hand,
                 operation,
@@ -72,7 +73,7 @@ impl<A: Allocator + Copy> Actor<A> {
     }
 }
 
-impl<A: Allocator> Actor<A> {
+impl<R: Rows, A: Allocator> Actor<R, A> {
     /// Whether it has an operation.
     pub fn is_running(&self) -> bool
         ensures { result ≡ is_some (running_command self.now) }
@@ -160,17 +161,21 @@ impl<A: Allocator> Actor<A> {
     {
         self.operation.go_on(&mut self.hand, told);
         let _ = self.operation.wanted(&self.hand);
+        let _ = self.operation.errands();
     }
 
-    /// Takes the row that its operation wanted to read, and gives another one in its place.
-    pub fn take_row(&mut self, row: &mut HeldRow<A>)
-        requires told { IsToldActor self.old (Content row.old) }
-        requires stays { wanted_by self.old.running ≢ Some Step.Leave }
-        ensures goes { (limits : LimitsSeen) (number : ℕ) (k : Knowledge) (r : Recalled) (going : IsGoing limits number k r self.old (Content row.old)) → ActsOn limits number k r self.old going.running.wanted (Content row.old) None self.new }
+    /// Takes the record that its operation wanted to read, and looks at it, and at what was read before, where they lie.
+    pub fn take_record(&mut self, found: RowAt<R>, rows: &R, pass: &mut R::Pass)
+        requires asked { wanted_by self.old.running ≡ Some (Row found.row) }
+        requires told { IsToldActorThere (R.has rows.now pass.old) self.old (Content found.content) }
+        ensures goes { (limits : LimitsSeen) (number : ℕ) (k : Knowledge) (r : Recalled) (going : IsGoing limits number k r self.old (Content found.content)) → ActsOn limits number k r self.old going.running.wanted (Content found.content) None self.new }
         ensures command { running_command self.new ≡ running_command self.old }
+        ensures same { pass.new ≡ pass.old }
     {
-        self.operation.take_row(&mut self.hand, row);
+        self.operation
+            .take_record(&mut self.hand, found, rows, pass);
         let _ = self.operation.wanted(&self.hand);
+        let _ = self.operation.errands();
     }
 
     /// Takes the leave that its operation wants, and answers the reply: the operation is done.

@@ -1,5 +1,5 @@
 //! What an operation is still to visit for the splits that it has linked.
-ghost use Rattle.std.specs.Prelude.{◌≡◌, ◌-◌, [], length, option_copied, slice_get, take};
+ghost use Rattle.std.specs.Prelude.{◌≡◌, ◌≤◌, ◌-◌, [], length, option_copied, slice_get, take};
 ghost use Rattle.op_machine.specs.machine.Errands.{with_errand};
 
 use arrayvec::ArrayVec;
@@ -34,9 +34,10 @@ impl Errands {
         }
     }
 
-    /// All of them, the newest last.
+    /// All of them, the newest last: at most `MAX_ERRANDS`.
     pub(crate) fn keys(&self) -> &[Key]
-        ensures { result.now ≡ self.now }
+        ensures keys { result.now ≡ self.now }
+        ensures few { length self.now ≤ 16 }
     {
         self.keys.as_slice()
     }

@@ -1,7 +1,7 @@
 //! Operations, as the steps of one actor, what an actor keeps between them, and the laws of their runs. Whoever has the memory asks for
 //! the step that is wanted, takes it, and tells the answer.
 //!
-//! Look first at `Actor`: `begin`, `wanted`, then `go_on` or `take_row`, and `leave` at the end. Behind it `Operation` stands in its
+//! Look first at `Actor`: `begin`, `wanted`, then `go_on` or `take_record`, and `leave` at the end. Behind it `Operation` stands in its
 //! places (`Places`): a reader's round, a writer's round, a change, the reply. `Task` is what was asked, with the errands of splits, and
 //! decides what follows an end. specs/machine defines all of it; specs/theorem says what it means that a run is linearized.
 //!

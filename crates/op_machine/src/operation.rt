@@ -1,9 +1,10 @@
 //! One operation as a machine that stays in its place, apart from the memory: it is told an answer, and then wants one step.
-ghost use Rattle.std.specs.Prelude.{◌≡◌, ◌<◌, ◌^◌, [], IfOk, IfSome, IsSome, None, Some, false, is_some, true};
+ghost use Rattle.std.specs.Prelude.{◌≡◌, ◌<◌, ◌≤◌, ◌^◌, [], IfOk, IfSome, IsSome, None, Some, false, is_some, length, true};
 ghost use Rattle.bw_model.specs.Answers.{answer_of};
 ghost use Rattle.bw_model.specs.Lent.{lent};
 ghost use Rattle.bw_model.specs.declared.step.Answer.{Answer as AnswerOf};
 ghost use Rattle.bw_model.specs.declared.step.Answer.TheVariants.{Content};
+ghost use Rattle.bw_model.specs.declared.step.Step.TheVariants.{Row};
 ghost use Rattle.traces.specs.discipline.Discipline.{May, MayFree};
 ghost use Rattle.traces.specs.discipline.Knowledge.{Knowledge, begun, learn};
 ghost use Rattle.traces.specs.discipline.Recalled.{Recalled, blank, cause_worth};
@@ -14,14 +15,14 @@ ghost use Rattle.deltas.specs.declared.record.Record.{Record as RecordOf};
 ghost use Rattle.epochs.specs.Limbo.{Limbo as LimboSeen};
 ghost use Rattle.op_machine.specs.machine.Hands.{Hand as HandSeen};
 ghost use Rattle.op_machine.specs.machine.InPlace.{IsOpShown, Takes, Wants};
-ghost use Rattle.op_machine.specs.machine.Ops.{EndsAtLeave, IsAtRestWith, IsToldOp, Obeys, Shows, wanted_of};
+ghost use Rattle.op_machine.specs.machine.Ops.{EndsAtLeave, IsAtRestWith, IsToldOp, IsToldOpThere, Obeys, Shows, wanted_of};
 ghost use Rattle.op_machine.specs.machine.Outcomes.{changed, has_machine, is_changing, is_leaving, is_reading, is_writing, lacks_at};
 ghost use Rattle.op_machine.specs.machine.Places.{ended_with, state_of};
 ghost use Rattle.op_machine.specs.machine.Shows.{FitsLast, ShowsState, learn_last, wanted_at};
 ghost use Rattle.op_machine.specs.machine.Spending.{steps_left};
 ghost use Rattle.op_machine.specs.machine.Sweeping.{FollowsSweep, HasFewer, IsSameWork, IsToldSweep, MovesSweep};
 ghost use Rattle.op_machine.specs.machine.Tasks.{Task as TaskSeen};
-ghost use Rattle.op_machine.specs.machine.Works.{AsksOn, IsToldChange, IsToldOn, IsToldWith, KeepsLimbo, TurnsInto};
+ghost use Rattle.op_machine.specs.machine.Works.{AsksOn, IsToldChange, IsToldOn, IsToldOnThere, IsToldWith, KeepsLimbo, TurnsInto, asked_of};
 ghost use Rattle.op_machine.specs.machine.Wants as Want;
 ghost use Rattle.op_machine.specs.machine.States as State;
 ghost use Rattle.sweep.specs.Kept.{AreKept};
@@ -36,20 +37,20 @@ use bw_model::{Command, Key, Limits, Reply, Step, Told};
 use deltas::Record;
 use epochs::Limbo;
 use installs::{End, Kind, Spares};
-use row_chain::HeldRow;
+use row_search::{RowAt, Rows};
 use std::alloc::{AllocError, Allocator, Global};
 use std::marker::Model;
 use sweep::{Sweep, limbos_are_kept};
 
 /// An operation that is under way, or the room for the next one: what it was asked, the sweep with which a writer begins, and the
 /// places of what comes after that.
-pub struct Operation<A: Allocator = Global> {
+pub struct Operation<R: Rows, A: Allocator = Global> {
     task: Task,
     sweep: Option<Sweep>,
-    places: Places<A>,
+    places: Places<R, A>,
 }
 
-impl<A: Allocator> Drop for Operation<A> {
+impl<R: Rows, A: Allocator> Drop for Operation<R, A> {
     fn drop(self) {
         let Operation {
             task: _,
@@ -59,7 +60,7 @@ impl<A: Allocator> Drop for Operation<A> {
     }
 }
 
-impl<A: Allocator> Model for Operation<A> {
+impl<R: Rows, A: Allocator> Model for Operation<R, A> {
     ghost use Rattle.op_machine.specs.machine.Ops.{Op};
     ghost use Rattle.op_machine.specs.machine.Places.{HaveLimits, state_of};
 
@@ -70,21 +71,21 @@ impl<A: Allocator> Model for Operation<A> {
     ghost invariant = { λ o. HaveLimits o.task.limits o.places };
 }
 
-impl<A: Allocator + Copy> Operation<A> {
+impl<R: Rows, A: Allocator + Copy> Operation<R, A> {
     /// The room for operations on a tree of these limits. Takes the memory for the pages of both rounds, and is refused for want of it
     /// alone. No later call takes memory.
-    pub fn new(alloc: A, limits: &Limits) -> Result<Operation<A>, AllocError>
+    pub fn new(alloc: A, limits: &Limits) -> Result<Operation<R, A>, AllocError>
         ensures { IfOk result (λ operation. operation.task.limits ≡ limits.now) }
     {
         Ok(Operation {
             task: Task::new(Command::Get(Key::default()), 0, limits),
             sweep: None,
-            places: Places::<A>::new(alloc, limits)?,
+            places: Places::<R, A>::new(alloc, limits)?,
         })
     }
 }
 
-impl<A: Allocator> Operation<A> {
+impl<R: Rows, A: Allocator> Operation<R, A> {
     /// An operation of an actor begins on a tree of these limits, in the place of the one that was there before; its first step isn't
     /// wanted yet.
     pub fn begin(&mut self, command: Command, actor: u8, limits: &Limits)
@@ -107,9 +108,10 @@ impl<A: Allocator> Operation<A> {
         self.task.command()
     }
 
-    /// The separators of splits that it has linked and is still to visit, the newest last.
+    /// The separators of splits that it has linked and is still to visit, the newest last: 16 at most.
     pub fn errands(&self) -> &[Key]
-        ensures { result.now ≡ self.now.task.errands }
+        ensures keys { result.now ≡ self.now.task.errands }
+        ensures few { length self.now.task.errands ≤ 16 }
     {
         self.task.errands()
     }
@@ -156,14 +158,17 @@ impl<A: Allocator> Operation<A> {
         self.sweep_first(hand, told);
     }
 
-    /// Takes the row that it wanted to read, and gives another one in its place.
-    pub fn take_row(&mut self, hand: &mut Hand<A>, row: &mut HeldRow<A>)
-        requires told { IsToldOp self.old hand.old (Content row.old) }
-        ensures { Takes self.old hand.old (Content row.old) self.new hand.new }
+    /// Takes the record that it wanted to read.
+    pub fn take_record(&mut self, hand: &mut Hand<A>, found: RowAt<R>, rows: &R, pass: &mut R::Pass)
+        requires asked { wanted_of self.old hand.old ≡ Some (Row found.row) }
+        requires told { IsToldOpThere (R.has rows.now pass.old) self.old hand.old (Content found.content) }
+        ensures takes { Takes self.old hand.old (Content found.content) self.new hand.new }
+        ensures same { pass.new ≡ pass.old }
     {
         limbos_are_kept();
-        self.round_row(&hand.spares, row);
+        self.round_record(&hand.spares, found, rows, pass);
     }
+
     /// Takes an answer before the first step of its work, which comes after a writer's sweep.
     #[inline(never)]
     fn sweep_first(&mut self, hand: &mut Hand<A>, told: Told)
@@ -253,14 +258,16 @@ impl<A: Allocator> Operation<A> {
         }
     }
 
-    /// The round that is under way takes a row.
-    fn round_row(&mut self, spares: &Spares, row: &mut HeldRow<A>)
-        requires told { IsToldOn self.old spares.now (Content row.old) }
-        ensures { AsksOn self.old spares.now (Content row.old) self.new spares.now }
+    /// The round that is under way takes a record.
+    fn round_record(&mut self, spares: &Spares, found: RowAt<R>, rows: &R, pass: &mut R::Pass)
+        requires asked { asked_of self.old spares.now ≡ Some (Row found.row) }
+        requires told { IsToldOnThere (R.has rows.now pass.old) self.old spares.now (Content found.content) }
+        ensures asks { AsksOn self.old spares.now (Content found.content) self.new spares.now }
+        ensures same { pass.new ≡ pass.old }
     {
         match self.places.stand() {
-            Stand::Read => self.read_row(spares, row),
-            Stand::Write => self.write_row(spares, row),
+            Stand::Read => self.read_record(spares, found, rows, pass),
+            Stand::Write => self.write_record(spares, found, rows, pass),
             _ => unreachable!(),
         }
     }
@@ -271,19 +278,21 @@ impl<A: Allocator> Operation<A> {
         requires reading { is_reading self.old.state ≡ true }
         ensures { AsksOn self.old spares.now (answer_of told) self.new spares.now }
     {
-        if let Some(ended) = self.places.read_number(told.number()) {
-            self.task.end_reading(ended, &mut self.places);
+        if self.places.read_number(told.number()) {
+            self.task.begin_round(&mut self.places);
         }
     }
 
-    /// A reader's round takes a row.
-    fn read_row(&mut self, spares: &Spares, row: &mut HeldRow<A>)
-        requires told { IsToldOn self.old spares.now (Content row.old) }
+    /// A reader's round takes a record.
+    fn read_record(&mut self, spares: &Spares, found: RowAt<R>, rows: &R, pass: &mut R::Pass)
+        requires asked { asked_of self.old spares.now ≡ Some (Row found.row) }
+        requires told { IsToldOnThere (R.has rows.now pass.old) self.old spares.now (Content found.content) }
         requires reading { is_reading self.old.state ≡ true }
-        ensures { AsksOn self.old spares.now (Content row.old) self.new spares.now }
+        ensures asks { AsksOn self.old spares.now (Content found.content) self.new spares.now }
+        ensures same { pass.new ≡ pass.old }
     {
-        if let Some(ended) = self.places.read_row(row) {
-            self.task.end_reading(ended, &mut self.places);
+        if let Some(ended) = self.places.read_record(found, rows, pass) {
+            self.task.end_reading(ended, &mut self.places, rows, pass);
         }
     }
 
@@ -298,33 +307,42 @@ impl<A: Allocator> Operation<A> {
         }
     }
 
-    /// A writer's round takes a row.
-    fn write_row(&mut self, spares: &Spares, row: &mut HeldRow<A>)
-        requires told { IsToldOn self.old spares.now (Content row.old) }
+    /// A writer's round takes a record.
+    fn write_record(&mut self, spares: &Spares, found: RowAt<R>, rows: &R, pass: &mut R::Pass)
+        requires asked { asked_of self.old spares.now ≡ Some (Row found.row) }
+        requires told { IsToldOnThere (R.has rows.now pass.old) self.old spares.now (Content found.content) }
         requires writing { is_writing self.old.state ≡ true }
-        ensures { AsksOn self.old spares.now (Content row.old) self.new spares.now }
+        ensures asks { AsksOn self.old spares.now (Content found.content) self.new spares.now }
+        ensures same { pass.new ≡ pass.old }
     {
-        if row.row().next().is_some() {
-            return self.places.write_on(row);
+        if found.next(rows, pass).is_some() {
+            return self.places.write_on(found, rows, pass);
         }
-        self.write_last_row(spares, row);
+        self.write_last_record(spares, found, rows, pass);
     }
 
-    /// A writer's round takes the last row of a page.
+    /// A writer's round takes the last record of a page.
     #[inline(never)]
-    fn write_last_row(&mut self, spares: &Spares, row: &mut HeldRow<A>)
-        requires told { IsToldOn self.old spares.now (Content row.old) }
+    fn write_last_record(&mut self, spares: &Spares, found: RowAt<R>, rows: &R, pass: &mut R::Pass)
+        requires asked { asked_of self.old spares.now ≡ Some (Row found.row) }
+        requires told { IsToldOnThere (R.has rows.now pass.old) self.old spares.now (Content found.content) }
         requires writing { is_writing self.old.state ≡ true }
-        ensures { AsksOn self.old spares.now (Content row.old) self.new spares.now }
+        ensures asks { AsksOn self.old spares.now (Content found.content) self.new spares.now }
+        ensures same { pass.new ≡ pass.old }
     {
-        if let Some(ended) = self.places.write_row(row) {
-            self.task.end_writing(spares, ended, &mut self.places);
+        if let Some(ended) = self.places.write_record(found, rows, pass) {
+            self.task
+                .end_writing(spares, ended, &mut self.places, rows, pass);
         }
     }
 }
 
 /// How a change has ended, once it has. What it has taken out of the tree comes into limbo.
-fn ended<A: Allocator>(places: &mut Places<A>, hand: &mut Hand<A>, told: Told) -> Option<End>
+fn ended<R: Rows, A: Allocator>(
+    places: &mut Places<R, A>,
+    hand: &mut Hand<A>,
+    told: Told,
+) -> Option<End>
     requires told { IsToldChange (state_of places.old) hand.old (answer_of told) }
     requires changing { places.old.stand ≡ Stand.Change }
     ensures makes { TurnsInto (state_of places.old) hand.old.spares (answer_of told) (state_of places.new) hand.new.spares (changed (ended_with places.old.then result)) }

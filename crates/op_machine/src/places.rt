@@ -5,10 +5,11 @@ ghost use Rattle.bw_model.specs.Answers.{answer_of};
 ghost use Rattle.bw_model.specs.Lent.{lent};
 ghost use Rattle.bw_model.specs.declared.command.Reply.TheVariants as Reply;
 ghost use Rattle.bw_model.specs.declared.step.Answer.TheVariants.{Content, Number};
+ghost use Rattle.bw_model.specs.declared.step.Step.TheVariants.{Row};
 ghost use Rattle.traces.specs.discipline.Knowledge.{Knowledge};
 ghost use Rattle.traces.specs.discipline.Recalled.{Recalled};
 ghost use Rattle.descent.specs.Courses as course;
-ghost use Rattle.descent.specs.Machines.{IsTold};
+ghost use Rattle.descent.specs.Machines.{IsTold, IsToldThere};
 ghost use Rattle.descent.specs.ReadLegs.{Down};
 ghost use Rattle.descent.specs.ReadRounds as read;
 ghost use Rattle.descent.specs.Rounds.{machine};
@@ -24,10 +25,12 @@ ghost use Rattle.op_machine.specs.machine.Places.{HaveLimits, ReadsOn, WritesOn,
 ghost use Rattle.op_machine.specs.machine.Shows.{FitsLast, MayBegin, MayStep, ShowsState, learn_last, wanted_at};
 ghost use Rattle.op_machine.specs.machine.Tasks.{Task as TaskSeen};
 ghost use Rattle.op_machine.specs.machine.Works.{TurnsInto};
+ghost use Rattle.descent.specs.WriteRounds as write;
 ghost use Rattle.rounds.specs.Descents.{asked_step};
 ghost use Rattle.rounds.specs.ReadRounds as reads;
 ghost use Rattle.rounds.specs.WriteRounds as writes;
 ghost use Rattle.rounds.specs.WriteRounds.{again_if};
+ghost use Rattle.smo.specs.Reads.{IsReadPage};
 
 use crate::task::Task;
 use crate::then::Then;
@@ -35,7 +38,7 @@ use bw_model::{Key, Limits, Reply, Step, Told};
 use deltas::{Record, Remove};
 use installs::{Change, End, Kind, Plan, Spares};
 use rounds::{Asked, ReadEnded, ReadRound, WriteEnded, WriteRound};
-use row_chain::HeldRow;
+use row_search::{RowAt, Rows};
 use std::alloc::{AllocError, Allocator, Global};
 use std::marker::Model;
 
@@ -53,17 +56,17 @@ pub(crate) enum Stand {
 
 /// The places of an operation's rounds and of its change, what comes after the change, and the reply, with the kind that ran out
 /// where it is `Full`.
-pub(crate) struct Places<A: Allocator = Global> {
+pub(crate) struct Places<R: Rows, A: Allocator = Global> {
     stand: Stand,
-    reader: ReadRound<A>,
-    writer: WriteRound<A>,
+    reader: ReadRound<R, A>,
+    writer: WriteRound<R, A>,
     change: Change,
     then: Then,
     reply: Reply,
     lacks: Option<Kind>,
 }
 
-impl<A: Allocator> Drop for Places<A> {
+impl<R: Rows, A: Allocator> Drop for Places<R, A> {
     fn drop(self) {
         let Places {
             stand: _,
@@ -77,7 +80,7 @@ impl<A: Allocator> Drop for Places<A> {
     }
 }
 
-impl<A: Allocator> Model for Places<A> {
+impl<R: Rows, A: Allocator> Model for Places<R, A> {
     ghost use Rattle.op_machine.specs.machine.Places.{OpPlaces};
 
     ghost Value = { OpPlaces };
@@ -85,17 +88,17 @@ impl<A: Allocator> Model for Places<A> {
     ghost view = { λ p. record { stand = p.stand; reader = p.reader; writer = p.writer; change = p.change; then = p.then; reply = p.reply; lacks = p.lacks } };
 }
 
-impl<A: Allocator + Copy> Places<A> {
-    /// Places in which nothing was done yet. Takes the memory for the rows of both rounds, 426 KB, and is refused for want of it
-    /// alone. No later call takes memory.
-    pub(crate) fn new(alloc: A, limits: &Limits) -> Result<Places<A>, AllocError>
+impl<R: Rows, A: Allocator + Copy> Places<R, A> {
+    /// Places in which nothing was done yet. Takes the memory for the records of both rounds, 1,664 bytes, and is refused for want of
+    /// it alone. No later call takes memory.
+    pub(crate) fn new(alloc: A, limits: &Limits) -> Result<Places<R, A>, AllocError>
         ensures reader { IfOk result (λ places. places.reader.round.limits ≡ limits.now) }
         ensures writer { IfOk result (λ places. places.writer.round.limits ≡ limits.now) }
     {
         Ok(Places {
             stand: Stand::Begun,
-            reader: ReadRound::<A>::new(alloc, limits)?,
-            writer: WriteRound::<A>::new(alloc, limits)?,
+            reader: ReadRound::<R, A>::new(alloc, limits)?,
+            writer: WriteRound::<R, A>::new(alloc, limits)?,
             change: no_change(limits),
             then: Then::Round,
             reply: Reply::None,
@@ -104,16 +107,16 @@ impl<A: Allocator + Copy> Places<A> {
     }
 }
 
-impl<A: Allocator> Places<A> {
+impl<R: Rows, A: Allocator> Places<R, A> {
     /// The place of the reader's round.
-    pub(crate) fn reader(&self) -> &ReadRound<A>
+    pub(crate) fn reader(&self) -> &ReadRound<R, A>
         ensures { result.now ≡ self.now.reader }
     {
         &self.reader
     }
 
     /// The place of the writer's round.
-    pub(crate) fn writer(&self) -> &WriteRound<A>
+    pub(crate) fn writer(&self) -> &WriteRound<R, A>
         ensures { result.now ≡ self.now.writer }
     {
         &self.writer
@@ -187,13 +190,16 @@ impl<A: Allocator> Places<A> {
 
     /// A writer's round to the left of the page in its hand begins, which is removed.
     #[inline(never)]
-    pub(crate) fn write_left(&mut self)
-        ensures { self.new ≡ record self.old { stand = Stand.Write; writer = record self.old.writer { round = left_round_of self.old.writer } } }
+    pub(crate) fn write_left(&mut self, rows: &R, pass: &mut R::Pass)
+        requires read { IsReadPage (R.has rows.now pass.old) self.old.writer.page }
+        ensures goes { self.new ≡ record self.old { stand = Stand.Write; writer = record self.old.writer { round = left_round_of self.old.writer } } }
+        ensures same { pass.new ≡ pass.old }
     {
         let removed = self.writer.page();
+        removed.chain().was_read(rows, pass);
         let (pid, low, level) = (
             removed.pid(),
-            removed.chain().low(),
+            removed.chain().low(rows, pass),
             removed.chain().level(),
         );
         self.writer.restart_left(&low, pid, level);
@@ -271,20 +277,27 @@ impl<A: Allocator> Places<A> {
         }
     }
 
-    /// The reader's round takes a number, and tells how it ends, once it does.
-    pub(crate) fn read_number(&mut self, number: u64) -> Option<ReadEnded>
+    /// The reader's round takes a number, and tells whether it has ended: a page that was named isn't there.
+    pub(crate) fn read_number(&mut self, number: u64) -> bool
         requires told { IsTold (machine read.reading) self.old.reader.round (Number number) }
-        ensures { ReadsOn self.old (Number number) self.new (option_map (reads.ended_read self.new.reader) result) }
+        ensures { ReadsOn self.old (Number number) self.new (reads.again_if result) }
     {
         self.reader.told(number)
     }
 
-    /// The reader's round takes a row, gives another one in its place, and tells how it ends, once it does.
-    pub(crate) fn read_row(&mut self, row: &mut HeldRow<A>) -> Option<ReadEnded>
-        requires told { IsTold (machine read.reading) self.old.reader.round (Content row.old) }
-        ensures { ReadsOn self.old (Content row.old) self.new (option_map (reads.ended_read self.new.reader) result) }
+    /// The reader's round takes a record, and tells how it ends, once it does.
+    pub(crate) fn read_record(
+        &mut self,
+        found: RowAt<R>,
+        rows: &R,
+        pass: &mut R::Pass,
+    ) -> Option<ReadEnded>
+        requires asked { read.wanted self.old.reader.round ≡ Row found.row }
+        requires told { IsToldThere (R.has rows.now pass.old) (machine read.reading) self.old.reader.round (Content found.content) }
+        ensures reads { ReadsOn self.old (Content found.content) self.new (option_map (reads.ended_read self.new.reader) result) }
+        ensures same { pass.new ≡ pass.old }
     {
-        self.reader.take_row(row)
+        self.reader.take_record(found, rows, pass)
     }
 
     /// The writer's round takes a number, and tells whether it has ended: a page that was named isn't there.
@@ -295,21 +308,30 @@ impl<A: Allocator> Places<A> {
         self.writer.told(number)
     }
 
-    /// The writer's round takes a row that stands over another one, and gives another one in its place.
-    pub(crate) fn write_on(&mut self, row: &mut HeldRow<A>)
-        requires told { IsTold (machine response.writing) self.old.writer.round (Content row.old) }
-        requires on { reads_on (Content row.old) ≡ true }
-        ensures { WritesOn self.old (Content row.old) self.new None }
+    /// The writer's round takes a record that stands over another one.
+    pub(crate) fn write_on(&mut self, found: RowAt<R>, rows: &R, pass: &mut R::Pass)
+        requires asked { write.wanted self.old.writer.round ≡ Row found.row }
+        requires told { IsToldThere (R.has rows.now pass.old) (machine response.writing) self.old.writer.round (Content found.content) }
+        requires on { reads_on (Content found.content) ≡ true }
+        ensures writes { WritesOn self.old (Content found.content) self.new None }
+        ensures same { pass.new ≡ pass.old }
     {
-        self.writer.read_on(row);
+        self.writer.read_on(found, rows, pass);
     }
 
-    /// The writer's round takes a row, gives another one in its place, and tells how it ends, once it does.
-    pub(crate) fn write_row(&mut self, row: &mut HeldRow<A>) -> Option<WriteEnded>
-        requires told { IsTold (machine response.writing) self.old.writer.round (Content row.old) }
-        ensures { WritesOn self.old (Content row.old) self.new (option_map (writes.ended_write self.new.writer) result) }
+    /// The writer's round takes a record, and tells how it ends, once it does.
+    pub(crate) fn write_record(
+        &mut self,
+        found: RowAt<R>,
+        rows: &R,
+        pass: &mut R::Pass,
+    ) -> Option<WriteEnded>
+        requires asked { write.wanted self.old.writer.round ≡ Row found.row }
+        requires told { IsToldThere (R.has rows.now pass.old) (machine response.writing) self.old.writer.round (Content found.content) }
+        ensures writes { WritesOn self.old (Content found.content) self.new (option_map (writes.ended_write self.new.writer) result) }
+        ensures same { pass.new ≡ pass.old }
     {
-        self.writer.take_row(row)
+        self.writer.take_record(found, rows, pass)
     }
 
     /// The change takes the answer to the step that it wanted, and tells how it has ended, once it has.

@@ -2,9 +2,11 @@
 ghost use Rattle.std.specs.Prelude.{◌≡◌, ◌≢◌, ◌≤◌, ℕ, IsSome};
 ghost use Rattle.bw_model.specs.Replies.{command_key};
 ghost use Rattle.bw_model.specs.declared.command.Reply.TheVariants as reply;
+ghost use Rattle.row_chain.specs.Placed.{IsReadChain};
 ghost use Rattle.traces.specs.discipline.Discipline.{MayReply};
 ghost use Rattle.traces.specs.discipline.Knowledge.{Knowledge};
 ghost use Rattle.traces.specs.discipline.Recalled.{Recalled};
+ghost use Rattle.descent.specs.Machines.{AreThere};
 ghost use Rattle.installs.specs.Spares.{Spares};
 ghost use Rattle.op_machine.specs.machine.Bounded.{left_at, left_for, one_round};
 ghost use Rattle.op_machine.specs.machine.Outcomes as Outcome;
@@ -20,12 +22,12 @@ use bw_model::Reply;
 use descent::read_leaves_stood;
 use rounds::ReadEnded;
 use row_chain::Chain;
-use row_search::KeyWords;
+use row_search::{KeyWords, Rows};
 use std::alloc::Allocator;
 
 impl Task {
     /// A new round begins: for the newest errand, or for the command's key.
-    pub(crate) fn begin_round<A: Allocator>(&self, places: &mut Places<A>)
+    pub(crate) fn begin_round<R: Rows, A: Allocator>(&self, places: &mut Places<R, A>)
         requires have { HaveLimits self.now.limits places.old }
         ensures stands { (spares : Spares) (k : Knowledge) (r : Recalled) → Seeks self.now spares k → ShowsState self.now spares k r (state_of places.new) }
         ensures few { (spares : Spares) (r : Recalled) → left_at self.now.limits r spares (state_of places.new) ≤ one_round self.now.limits }
@@ -42,9 +44,17 @@ impl Task {
     /// A reader answers at the leaf of its key, or from what it read of a removed one, whose left page it has read since; where its
     /// round was cut off, a new one begins, which goes to the left of a removed page.
     #[inline(never)]
-    pub(crate) fn end_reading<A: Allocator>(&self, ended: ReadEnded, places: &mut Places<A>)
+    pub(crate) fn end_reading<R: Rows, A: Allocator>(
+        &self,
+        ended: ReadEnded,
+        places: &mut Places<R, A>,
+        rows: &R,
+        pass: &mut R::Pass,
+    )
         requires have { HaveLimits self.now.limits places.old }
         requires key { places.old.reader.round.key ≡ command_key self.now.command }
+        requires faced { (spares : Spares) × (k : Knowledge) × (r : Recalled) × FacesRead self.now spares k r (ended_read places.old.reader ended) × AreThere (R.has rows.now pass.old) k }
+        ensures looks { pass.new ≡ pass.old }
         ensures stands { (spares : Spares) (k : Knowledge) (r : Recalled) → FacesRead self.now spares k r (ended_read places.old.reader ended) → ShowsState self.now spares k r (state_of places.new) }
         ensures few { (spares : Spares) (r : Recalled) → left_at self.now.limits r spares (state_of places.new) ≤ left_for self.now.limits (Outcome.Read (ended_read places.old.reader ended)) }
         ensures asks { (spares : Spares) → IsSome (wanted_at spares (state_of places.new)) }
@@ -55,26 +65,33 @@ impl Task {
             ReadEnded::Again => self.begin_round(places),
             ReadEnded::Removed => places.read_left(),
             ReadEnded::Leaf => {
-                let reply = self.reply_over(places.reader().page().chain());
+                let reply = self.reply_over(places.reader().page().chain(), rows, pass);
                 places.leave(reply);
             }
             ReadEnded::Beside => {
-                let reply = self.reply_over(places.reader().aside().chain());
+                let reply = self.reply_over(places.reader().aside().chain(), rows, pass);
                 places.leave(reply);
             }
         }
     }
 
     /// A reader's reply over the chain of a leaf that stood.
-    fn reply_over<A: Allocator>(&self, leaf: &Chain<A>) -> Reply
-        ensures may { (spares : Spares) (k : Knowledge) (head : ℕ) → StandsForReader self.now spares k head leaf.now → IsBetweenChanges self.now spares k × MayReply self.now.limits self.now.actor k result }
+    fn reply_over<R: Rows, A: Allocator>(
+        &self,
+        leaf: &Chain<R, A>,
+        rows: &R,
+        pass: &mut R::Pass,
+    ) -> Reply
+        requires read { IsReadChain (R.has rows.now pass.old) leaf.now }
+        ensures looks { pass.new ≡ pass.old }
+        ensures may { (spares : Spares) (k : Knowledge) (head : ℕ) → StandsForReader self.now spares k head leaf.now.records → IsBetweenChanges self.now spares k × MayReply self.now.limits self.now.actor k result }
         ensures answers { result ≢ reply.Full }
     {
         let key = self.command().key();
-        let found = leaf.find(&KeyWords::of(key));
+        let found = leaf.find(rows, pass, &KeyWords::of(key));
         match self.command().reply(found.as_ref()) {
             Some(reply) => reply,
-            None => cursor_page(leaf, key),
+            None => cursor_page(leaf, rows, pass, key),
         }
     }
 }

@@ -1,9 +1,10 @@
 //! What a change takes out of the tree.
-ghost use Rattle.std.specs.Prelude.{◌≡◌, None, Some};
+ghost use Rattle.std.specs.Prelude.{◌≡◌, ◌<◌, None, Some, length};
 ghost use Rattle.traces.specs.chain.Chains.{chain_rows};
 
 use arrayvec::ArrayVec;
 use row_chain::MAX_RECORDS;
+use row_search::Rows;
 use smo::PageInHand;
 use std::alloc::Allocator;
 
@@ -16,23 +17,25 @@ pub(crate) struct Unlinked {
 
 impl Unlinked {
     /// The chain of a page that stays.
-    pub(crate) fn chain<A: Allocator>(page: &PageInHand<A>) -> Unlinked
+    pub(crate) fn chain<R: Rows, A: Allocator>(page: &PageInHand<R, A>) -> Unlinked
+        requires some { 0 < length page.now.chain }
         ensures rows { result.rows.items ≡ chain_rows page.now.head page.now.chain }
         ensures pid { result.pid ≡ None }
     {
         Unlinked {
-            rows: page.chain().rows(page.head()),
+            rows: page.chain().rows(),
             pid: None,
         }
     }
 
     /// A page with its chain.
-    pub(crate) fn page<A: Allocator>(page: &PageInHand<A>) -> Unlinked
+    pub(crate) fn page<R: Rows, A: Allocator>(page: &PageInHand<R, A>) -> Unlinked
+        requires some { 0 < length page.now.chain }
         ensures rows { result.rows.items ≡ chain_rows page.now.head page.now.chain }
         ensures pid { result.pid ≡ Some page.now.pid }
     {
         Unlinked {
-            rows: page.chain().rows(page.head()),
+            rows: page.chain().rows(),
             pid: Some(page.pid()),
         }
     }

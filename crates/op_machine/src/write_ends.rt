@@ -1,7 +1,8 @@
 //! What an operation makes of the end of a writer's round, where its pages stand, and of the end of a change.
-ghost use Rattle.std.specs.Prelude.{◌≡◌, ◌≤◌, ◌+◌, ◌-◌, [], Option, IsSome, MatchOption, length, take};
+ghost use Rattle.std.specs.Prelude.{◌≡◌, ◌≤◌, ◌+◌, ◌-◌, [], IfSome, Option, IsSome, MatchOption, length, take};
 ghost use Rattle.traces.specs.discipline.Knowledge.{Knowledge};
 ghost use Rattle.traces.specs.discipline.Recalled.{Recalled};
+ghost use Rattle.descent.specs.Machines.{AreThere};
 ghost use Rattle.descent.specs.WriteEnds as end;
 ghost use Rattle.installs.specs.Spares.{Spares as SparesOf};
 ghost use Rattle.op_machine.specs.machine.Bounded.{few_changes, left_at, left_for, with_errands};
@@ -13,6 +14,7 @@ ghost use Rattle.op_machine.specs.machine.Shows.{ShowsState, wanted_at};
 ghost use Rattle.op_machine.specs.machine.Tasks.{IsSameTask};
 ghost use Rattle.op_machine.specs.machine.Upkeep.{IsIdleFor, IsUpkeepFor, IsUpkeepPlan, plan_of};
 ghost use Rattle.rounds.specs.WriteRounds.{ended_write};
+ghost use Rattle.smo.specs.Reads.{IsReadPage};
 ghost use Rattle.smo.specs.Upkeep.{IsIdle};
 ghost use Rattle.smo.specs.Versions.{Version};
 
@@ -25,21 +27,24 @@ use bw_model::{Command, Reply};
 use deltas::{Merge, Record, Term, Unterm};
 use installs::{End, Plan, Spares, plans_may_be_linked};
 use rounds::{WriteEnded, WriteRound};
-use row_search::KeyWords;
+use row_search::{KeyWords, Rows};
 use smo::{PageInHand, SplitPlan, Upkeep, plan_upkeep};
 use std::alloc::Allocator;
 use traces::{chain_is_one, chains_make_pages, updates_fit};
 
 impl Task {
     /// A writer makes the change that is due where its round ended, or goes on at the leaf.
-    pub(crate) fn end_writing<A: Allocator>(
+    pub(crate) fn end_writing<R: Rows, A: Allocator>(
         &mut self,
         spares: &Spares,
         ended: WriteEnded,
-        places: &mut Places<A>,
+        places: &mut Places<R, A>,
+        rows: &R,
+        pass: &mut R::Pass,
     )
         requires have { HaveLimits self.old.limits places.old }
-        requires faced { (k : Knowledge) × (r : Recalled) × FacesWritten self.old spares.now k r (ended_write places.old.writer ended) }
+        requires faced { (k : Knowledge) × (r : Recalled) × FacesWritten self.old spares.now k r (ended_write places.old.writer ended) × AreThere (R.has rows.now pass.old) k }
+        ensures looks { pass.new ≡ pass.old }
         ensures stands { (k : Knowledge) (r : Recalled) → FacesWritten self.old spares.now k r (ended_write places.old.writer ended) → ShowsState self.new spares.now k r (state_of places.new) }
         ensures few { (k : Knowledge) (r : Recalled) → FacesWritten self.old spares.now k r (ended_write places.old.writer ended) → with_errands self.old.limits self.new.errands (left_at self.old.limits r spares.now (state_of places.new)) ≤ with_errands self.old.limits self.old.errands (left_for self.old.limits (Outcome.Written (ended_write places.old.writer ended))) }
         ensures asks { IsSome (wanted_at spares.now (state_of places.new)) }
@@ -48,22 +53,29 @@ impl Task {
     {
         match ended {
             WriteEnded::Again | WriteEnded::Done => self.begin_round(places),
-            WriteEnded::Removed => places.write_left(),
-            WriteEnded::Consolidate => self.begin_consolidation(spares, places),
+            WriteEnded::Removed => places.write_left(rows, pass),
+            WriteEnded::Consolidate => self.begin_consolidation(spares, places, rows, pass),
             WriteEnded::Split(plan) => self.begin_split(spares, plan, places),
             WriteEnded::Term(term) => self.begin_term(spares, term, places),
             WriteEnded::Root(root) => self.begin_root(spares, root, places),
             WriteEnded::Tend(upkeep) => self.begin_upkeep(spares, upkeep, places),
-            WriteEnded::Leaf => self.end_at_sought_leaf(spares, places),
+            WriteEnded::Leaf => self.end_at_sought_leaf(spares, places, rows, pass),
             WriteEnded::Merge(merge) => self.begin_merge(spares, merge, places),
             WriteEnded::Unterm(unterm) => self.begin_unlink(spares, unterm, places),
         }
     }
 
     /// At the leaf of an errand the errand is done; at that of its key the leaf is tended.
-    fn end_at_sought_leaf<A: Allocator>(&mut self, spares: &Spares, places: &mut Places<A>)
+    fn end_at_sought_leaf<R: Rows, A: Allocator>(
+        &mut self,
+        spares: &Spares,
+        places: &mut Places<R, A>,
+        rows: &R,
+        pass: &mut R::Pass,
+    )
         requires have { HaveLimits self.old.limits places.old }
-        requires faced { (k : Knowledge) × (r : Recalled) × IsAtLeafBelow self.old spares.now k r places.old.writer.round.parent places.old.writer.page }
+        requires faced { (k : Knowledge) × (r : Recalled) × IsAtLeafBelow self.old spares.now k r places.old.writer.round.parent places.old.writer.page × AreThere (R.has rows.now pass.old) k }
+        ensures looks { pass.new ≡ pass.old }
         ensures stands { (k : Knowledge) (r : Recalled) → IsAtLeafBelow self.old spares.now k r places.old.writer.round.parent places.old.writer.page → ShowsState self.new spares.now k r (state_of places.new) }
         ensures few { (r : Recalled) → with_errands self.old.limits self.new.errands (left_at self.old.limits r spares.now (state_of places.new)) ≤ with_errands self.old.limits self.old.errands (few_changes self.old.limits + 1) }
         ensures asks { IsSome (wanted_at spares.now (state_of places.new)) }
@@ -72,7 +84,7 @@ impl Task {
         ensures have { HaveLimits self.new.limits places.new }
     {
         match self.errand() {
-            None => self.tend_leaf(spares, places),
+            None => self.tend_leaf(spares, places, rows, pass),
             Some(_) => {
                 self.finish_errand();
                 self.begin_round(places);
@@ -81,29 +93,44 @@ impl Task {
     }
 
     /// At the leaf of its key a deletion or a tidying removes a small leaf first; then the command is executed.
-    fn tend_leaf<A: Allocator>(&self, spares: &Spares, places: &mut Places<A>)
+    fn tend_leaf<R: Rows, A: Allocator>(
+        &self,
+        spares: &Spares,
+        places: &mut Places<R, A>,
+        rows: &R,
+        pass: &mut R::Pass,
+    )
         requires have { HaveLimits self.now.limits places.old }
-        requires faced { (k : Knowledge) × (r : Recalled) × IsAtLeafBelow self.now spares.now k r places.old.writer.round.parent places.old.writer.page }
+        requires faced { (k : Knowledge) × (r : Recalled) × IsAtLeafBelow self.now spares.now k r places.old.writer.round.parent places.old.writer.page × AreThere (R.has rows.now pass.old) k }
         requires last { self.now.errands ≡ [] }
+        ensures looks { pass.new ≡ pass.old }
         ensures stands { (k : Knowledge) (r : Recalled) → IsAtLeafBelow self.now spares.now k r places.old.writer.round.parent places.old.writer.page → ShowsState self.now spares.now k r (state_of places.new) }
         ensures few { (r : Recalled) → left_at self.now.limits r spares.now (state_of places.new) ≤ few_changes self.now.limits + 1 }
         ensures asks { IsSome (wanted_at spares.now (state_of places.new)) }
         ensures have { HaveLimits self.now.limits places.new }
     {
         plans_may_be_linked();
-        match self.upkeep_at(places.writer()) {
+        match self.upkeep_at(places.writer(), rows, pass) {
             Some(plan) => places.begin_change(self, spares, plan, Then::Round),
-            None => self.execute_at_leaf(spares, places),
+            None => self.execute_at_leaf(spares, places, rows, pass),
         }
     }
 
     /// What a deletion or a tidying does first at the small leaf where its round has ended.
-    fn upkeep_at<A: Allocator>(&self, round: &WriteRound<A>) -> Option<Plan>
-        ensures { MatchOption result (IsIdleFor self.now.command round.now.round.parent round.now.page) (IsUpkeepFor self.now.command round.now.round.parent round.now.page) }
+    fn upkeep_at<R: Rows, A: Allocator>(
+        &self,
+        round: &WriteRound<R, A>,
+        rows: &R,
+        pass: &mut R::Pass,
+    ) -> Option<Plan>
+        requires parent { IfSome round.now.round.parent (IsReadPage (R.has rows.now pass.old)) }
+        requires page { IsReadPage (R.has rows.now pass.old) round.now.page }
+        ensures looks { pass.new ≡ pass.old }
+        ensures due { MatchOption result (IsIdleFor self.now.command round.now.round.parent round.now.page) (IsUpkeepFor self.now.command round.now.round.parent round.now.page) }
     {
         match (self.command(), round.kept_parent()) {
             (Command::Delete(_) | Command::Tidy(_), Some(parent)) => {
-                upkeep_at_leaf(parent, round.page())
+                upkeep_at_leaf(parent, round.page(), rows, pass)
             }
             _ => None,
         }
@@ -112,10 +139,17 @@ impl Task {
     /// At the leaf of its key the command answers, where nothing is to be changed, a tidying so that nothing is left to do; else
     /// its update is linked.
     #[inline(never)]
-    fn execute_at_leaf<A: Allocator>(&self, spares: &Spares, places: &mut Places<A>)
+    fn execute_at_leaf<R: Rows, A: Allocator>(
+        &self,
+        spares: &Spares,
+        places: &mut Places<R, A>,
+        rows: &R,
+        pass: &mut R::Pass,
+    )
         requires have { HaveLimits self.now.limits places.old }
-        requires faced { (k : Knowledge) × (r : Recalled) × IsAtLeaf self.now spares.now k r places.old.writer.page }
+        requires faced { (k : Knowledge) × (r : Recalled) × IsAtLeaf self.now spares.now k r places.old.writer.page × AreThere (R.has rows.now pass.old) k }
         requires last { self.now.errands ≡ [] }
+        ensures looks { pass.new ≡ pass.old }
         ensures stands { (parent : Option Version) (k : Knowledge) (r : Recalled) → IsAtLeafBelow self.now spares.now k r parent places.old.writer.page → IsIdleFor self.now.command parent places.old.writer.page → ShowsState self.now spares.now k r (state_of places.new) }
         ensures few { (r : Recalled) → left_at self.now.limits r spares.now (state_of places.new) ≤ few_changes self.now.limits + 1 }
         ensures asks { IsSome (wanted_at spares.now (state_of places.new)) }
@@ -125,8 +159,8 @@ impl Task {
         chains_make_pages();
         plans_may_be_linked();
         let leaf = places.writer().page();
-        leaf.chain().keeps_rules();
-        let old = leaf.chain().find(&KeyWords::of(self.command().key()));
+        let key = KeyWords::of(self.command().key());
+        let old = leaf.chain().find(rows, pass, &key);
         let Some(reply) = self.command().reply(old.as_ref()) else {
             return places.leave(Reply::Tidied);
         };
@@ -143,9 +177,16 @@ impl Task {
 
     /// A base is linked in the place of the chain of the page in hand.
     #[inline(never)]
-    fn begin_consolidation<A: Allocator>(&self, spares: &Spares, places: &mut Places<A>)
+    fn begin_consolidation<R: Rows, A: Allocator>(
+        &self,
+        spares: &Spares,
+        places: &mut Places<R, A>,
+        rows: &R,
+        pass: &mut R::Pass,
+    )
         requires have { HaveLimits self.now.limits places.old }
-        requires faced { (k : Knowledge) × (r : Recalled) × FacesWritten self.now spares.now k r (end.Consolidate places.old.writer.page) }
+        requires faced { (k : Knowledge) × (r : Recalled) × FacesWritten self.now spares.now k r (end.Consolidate places.old.writer.page) × AreThere (R.has rows.now pass.old) k }
+        ensures looks { pass.new ≡ pass.old }
         ensures stands { (k : Knowledge) (r : Recalled) → FacesWritten self.now spares.now k r (end.Consolidate places.old.writer.page) → ShowsState self.now spares.now k r (state_of places.new) }
         ensures few { (r : Recalled) → left_at self.now.limits r spares.now (state_of places.new) ≤ few_changes self.now.limits + 1 }
         ensures asks { IsSome (wanted_at spares.now (state_of places.new)) }
@@ -154,7 +195,7 @@ impl Task {
         plans_may_be_linked();
         chain_is_one();
         let page = places.writer().page();
-        let base = page.chain().consolidated();
+        let base = page.chain().consolidated(rows, pass);
         let plan = Plan::Install {
             pid: page.pid(),
             head: page.head(),
@@ -166,7 +207,12 @@ impl Task {
 
     /// The page in hand is split; its new page is an errand then.
     #[inline(never)]
-    fn begin_split<A: Allocator>(&self, spares: &Spares, plan: SplitPlan, places: &mut Places<A>)
+    fn begin_split<R: Rows, A: Allocator>(
+        &self,
+        spares: &Spares,
+        plan: SplitPlan,
+        places: &mut Places<R, A>,
+    )
         requires have { HaveLimits self.now.limits places.old }
         requires faced { (k : Knowledge) × (r : Recalled) × FacesWritten self.now spares.now k r (end.Split places.old.writer.page plan) }
         ensures stands { (k : Knowledge) (r : Recalled) → FacesWritten self.now spares.now k r (end.Split places.old.writer.page plan) → ShowsState self.now spares.now k r (state_of places.new) }
@@ -183,7 +229,12 @@ impl Task {
 
     /// A page's term is linked on the page in the parent's place.
     #[inline(never)]
-    fn begin_term<A: Allocator>(&self, spares: &Spares, term: Term, places: &mut Places<A>)
+    fn begin_term<R: Rows, A: Allocator>(
+        &self,
+        spares: &Spares,
+        term: Term,
+        places: &mut Places<R, A>,
+    )
         requires have { HaveLimits self.now.limits places.old }
         requires faced { (k : Knowledge) × (r : Recalled) × FacesWritten self.now spares.now k r (end.Term places.old.writer.parent term) }
         ensures stands { (k : Knowledge) (r : Recalled) → FacesWritten self.now spares.now k r (end.Term places.old.writer.parent term) → ShowsState self.now spares.now k r (state_of places.new) }
@@ -203,7 +254,12 @@ impl Task {
 
     /// A root is linked over the page in the left one's place and its right.
     #[inline(never)]
-    fn begin_root<A: Allocator>(&self, spares: &Spares, root: Page, places: &mut Places<A>)
+    fn begin_root<R: Rows, A: Allocator>(
+        &self,
+        spares: &Spares,
+        root: Page,
+        places: &mut Places<R, A>,
+    )
         requires have { HaveLimits self.now.limits places.old }
         requires faced { (k : Knowledge) × (r : Recalled) × FacesWritten self.now spares.now k r (end.Root places.old.writer.left root) }
         ensures stands { (k : Knowledge) (r : Recalled) → FacesWritten self.now spares.now k r (end.Root places.old.writer.left root) → ShowsState self.now spares.now k r (state_of places.new) }
@@ -219,7 +275,12 @@ impl Task {
 
     /// The page in hand, which is small, is removed, or the page in the parent's place holds its term.
     #[inline(never)]
-    fn begin_upkeep<A: Allocator>(&self, spares: &Spares, upkeep: Upkeep, places: &mut Places<A>)
+    fn begin_upkeep<R: Rows, A: Allocator>(
+        &self,
+        spares: &Spares,
+        upkeep: Upkeep,
+        places: &mut Places<R, A>,
+    )
         requires have { HaveLimits self.now.limits places.old }
         requires faced { (k : Knowledge) × (r : Recalled) × FacesWritten self.now spares.now k r (end.Tend places.old.writer.parent places.old.writer.page upkeep) }
         ensures stands { (k : Knowledge) (r : Recalled) → FacesWritten self.now spares.now k r (end.Tend places.old.writer.parent places.old.writer.page upkeep) → ShowsState self.now spares.now k r (state_of places.new) }
@@ -234,7 +295,12 @@ impl Task {
 
     /// What the page in hand has, which is removed, comes into the leaf in the left one's place.
     #[inline(never)]
-    fn begin_merge<A: Allocator>(&self, spares: &Spares, merge: Merge, places: &mut Places<A>)
+    fn begin_merge<R: Rows, A: Allocator>(
+        &self,
+        spares: &Spares,
+        merge: Merge,
+        places: &mut Places<R, A>,
+    )
         requires have { HaveLimits self.now.limits places.old }
         requires faced { (k : Knowledge) × (r : Recalled) × FacesWritten self.now spares.now k r (end.Merge places.old.writer.left places.old.writer.page merge) }
         ensures stands { (k : Knowledge) (r : Recalled) → FacesWritten self.now spares.now k r (end.Merge places.old.writer.left places.old.writer.page merge) → ShowsState self.now spares.now k r (state_of places.new) }
@@ -254,7 +320,12 @@ impl Task {
 
     /// The page in the parent's place loses the term of the page in hand, which was merged, and that page is cleared.
     #[inline(never)]
-    fn begin_unlink<A: Allocator>(&self, spares: &Spares, unterm: Unterm, places: &mut Places<A>)
+    fn begin_unlink<R: Rows, A: Allocator>(
+        &self,
+        spares: &Spares,
+        unterm: Unterm,
+        places: &mut Places<R, A>,
+    )
         requires have { HaveLimits self.now.limits places.old }
         requires faced { (k : Knowledge) × (r : Recalled) × FacesWritten self.now spares.now k r (end.Unterm places.old.writer.parent places.old.writer.left places.old.writer.page unterm) }
         ensures stands { (k : Knowledge) (r : Recalled) → FacesWritten self.now spares.now k r (end.Unterm places.old.writer.parent places.old.writer.left places.old.writer.page unterm) → ShowsState self.now spares.now k r (state_of places.new) }
@@ -276,7 +347,11 @@ impl Task {
     }
 
     /// An update that won has its reply; any other change is followed by a new round, and one for which nothing was free by none.
-    pub(crate) fn end_changing<A: Allocator>(&mut self, end: End, places: &mut Places<A>)
+    pub(crate) fn end_changing<R: Rows, A: Allocator>(
+        &mut self,
+        end: End,
+        places: &mut Places<R, A>,
+    )
         requires have { HaveLimits self.old.limits places.old }
         ensures stands { (spares : SparesOf) (k : Knowledge) (r : Recalled) → FacesChanged self.old spares k end places.old.then → ShowsState self.new spares k r (state_of places.new) }
         ensures few { (spares : SparesOf) (r : Recalled) → with_errands self.old.limits self.new.errands (left_at self.old.limits r spares (state_of places.new)) ≤ with_errands self.old.limits self.old.errands (left_for self.old.limits (Outcome.Changed end places.old.then)) }
@@ -302,16 +377,28 @@ impl Task {
 }
 
 /// What is done first at a small leaf below a page.
-fn upkeep_at_leaf<A: Allocator>(parent: &PageInHand<A>, leaf: &PageInHand<A>) -> Option<Plan>
-    ensures { MatchOption result (IsIdle parent.now leaf.now) (IsUpkeepPlan parent.now leaf.now) }
+fn upkeep_at_leaf<R: Rows, A: Allocator>(
+    parent: &PageInHand<R, A>,
+    leaf: &PageInHand<R, A>,
+    rows: &R,
+    pass: &mut R::Pass,
+) -> Option<Plan>
+    requires parent { IsReadPage (R.has rows.now pass.old) parent.now }
+    requires page { IsReadPage (R.has rows.now pass.old) leaf.now }
+    ensures looks { pass.new ≡ pass.old }
+    ensures due { MatchOption result (IsIdle parent.now leaf.now) (IsUpkeepPlan parent.now leaf.now) }
 {
-    let upkeep = plan_upkeep(parent, leaf)?;
+    let upkeep = plan_upkeep(parent, leaf, rows, pass)?;
     Some(planned(upkeep, parent, leaf))
 }
 
 /// The change by which the page is removed, or its parent holds its term.
 #[inline(never)]
-fn planned<A: Allocator>(upkeep: Upkeep, parent: &PageInHand<A>, page: &PageInHand<A>) -> Plan
+fn planned<R: Rows, A: Allocator>(
+    upkeep: Upkeep,
+    parent: &PageInHand<R, A>,
+    page: &PageInHand<R, A>,
+) -> Plan
     ensures { result ≡ plan_of parent.now page.now upkeep }
 {
     match upkeep {

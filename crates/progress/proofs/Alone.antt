@@ -18,6 +18,7 @@ use Rattle.op_machine.specs.theorem.Unhindered.{Hinders, RunsAlone}
 use Rattle.progress.specs.Unhindered.{LoneOperationsEnd}
 use Rattle.bw_model.specs.declared.command.Command.{Command}
 use Rattle.progress.proofs.Hindering.{among_hinder, changes_at, hinder, takes_beside, paid_by_hinder}
+use Rattle.progress.proofs.Later.{paid_since}
 use Rattle.progress.proofs.Tallies.{counted_range, listed, passes, passes_in, tally, tally_none, tally_split}
 
 module _ (limits : Limits) (entries : List Entry) (a m n : ℕ) (alone : RunsAlone entries a m n) where
@@ -37,7 +38,7 @@ module _ (limits : Limits) (entries : List Entry) (a m n : ℕ) (alone : RunsAlo
   begins_none : count_by is_begin (slice_range entries m n) ≡ 0
   begins_none = counted_range is_begin entries m (n - m) ∙ tally_none (passes_in is_begin entries) m (n - m) (λ i lt. ap (passes is_begin) (alone (m + i) (omega arith) (omega arith)).2.1)
 
-  lone_changes : HasFewChanges limits entries → m ≤ n → tally (hinder limits entries a) m (suc n - m) ≤ 154 * limits.pids + 8 * limits.actors
+  pub lone_changes : HasFewChanges limits entries → m ≤ n → tally (hinder limits entries a) m (suc n - m) ≤ 154 * limits.pids + 8 * limits.actors
   lone_changes few le =
       let list = listed (hinder limits entries a) m (suc n - m) in
       let among = among_hinder limits entries a m (suc n - m) n (omega arith) list in
@@ -100,6 +101,11 @@ lone_end limits entries run keeps direct changes = record {
       subst (λ k. steps_from entries op.actor op.start n ≤ cause_worth limits * k) same
       (lone_pays limits entries changes op.actor op.start (suc op.start) n (steps_from entries op.actor op.start n) 0 (omega arith) (omega arith) alone (none_first limits entries op.actor op.start op.command begun)
       (paid_by_hinder limits entries run keeps direct op begun n none own));
+  since = λ op m n begun after le own alone none.
+      let paid = paid_since limits entries run keeps direct op begun n none m after le own in
+      let most = lone_changes limits entries op.actor m n alone changes le in
+      let grown : cause_worth limits * (tally (hinder limits entries op.actor) m (suc n - m) + limits.pids + 11) ≤ cause_worth limits * (155 * limits.pids + 8 * limits.actors + 11) = mul-le-mul_left (cause_worth limits) (omega (arith, most)) in
+      omega (arith, paid, grown);
 }
   where
     enough : (limits : Limits) (hindrances steps : ℕ) → steps ≤ cause_worth limits * (hindrances + 1) → steps ≤ cause_worth limits * (hindrances + 154 * limits.pids + 8 * limits.actors + 1)

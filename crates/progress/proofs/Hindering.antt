@@ -22,13 +22,12 @@ use Rattle.op_machine.specs.theorem.Operations.{IsOperation, IsOwnStep, Operatio
 use Rattle.op_machine.specs.theorem.Phases.{IsInPhase, KeepsPhases, owned}
 use Rattle.op_machine.specs.theorem.Progress.{AreAmong, ChangesTree, PlacesNoRemoval, steps_from, takes_number}
 use Rattle.op_machine.specs.theorem.Unhindered.{Hinders, TakesBeside}
-use Rattle.progress.specs.Unhindered.{RunsAreUnhindered}
 use Rattle.progress.proofs.Begun.{one_of}
 use Rattle.progress.proofs.Between.{take_of}
 use Rattle.progress.proofs.Counted.{Each}
 use Rattle.progress.proofs.Payers.{IsIn, Pays, all_distinct, more_paid, most_of, paid_by, pays_for}
 use Rattle.progress.proofs.Settled.{cleared_none, owned_none}
-use Rattle.progress.proofs.Tallies.{Listed, listed, passes, passes_in, tally, tally_either, tally_most}
+use Rattle.progress.proofs.Tallies.{Listed, passes, passes_in, tally, tally_either, tally_most}
 
 -- whether a link changes the tree
 abbrev pub counts : Option Link → Bool
@@ -162,7 +161,7 @@ module _ (limits : Limits) (entries : List Entry) where
         let never = λ (at : IsInPhase limits entries k (suc p) owned). owned_none limits entries keeps n none m (suc p) tree.0 tree.1 tree.2 tree.3 k le within at in
         changes_by k b (suc p) (suc row) new links.0 took links.1 (λ e. never (links.2 (inl e))) (λ e. never (links.2 (inr e)))
 
-    pays_hinder : (k c : ℕ) → k ≤ n → Pays limits entries run op k c → hinder op.actor k ≡ true
+    pub pays_hinder : (k c : ℕ) → k ≤ n → Pays limits entries run op k c → hinder op.actor k ≡ true
     pays_hinder k c le (low, high, inl p) =
         or_left (is_change k) (beside op.actor k) (subst (λ j. is_change j ≡ true) (sym p.same) (changes_by c op.actor p.slot p.old p.new p.kind (p.took.0, p.took.1.entry) p.links p.no_ready p.no_undo))
     pays_hinder k c le (low, high, inr (inl p)) = let since = p.low in or_left (is_change k) (beside op.actor k) (beats p.since k p.beside.0 p.slot p.old p.beside.1 (omega arith) le p.read p.beside.3)
@@ -198,12 +197,3 @@ module _ (limits : Limits) (entries : List Entry) where
     increasing = list.increasing;
     each = All-weaker (λ p. (m ≤ p) × (p < m + k) × (hinder a p ≡ true)) (λ p. (m ≤ p) × (p ≤ n) × Happens limits entries p (Hinders a)) (λ p h. (h.0, (let lt : p < m + k = h.1 in omega arith), hinders_at a p h.2)) list.places list.each;
   }
-
-pub unhindered : RunsAreUnhindered
-unhindered limits entries run keeps direct = record {
-  few = λ op n begun own none.
-      let list = listed (hinder limits entries op.actor) op.start (suc n - op.start) in
-      let start : op.start < n = own.2.1.begun in
-      let paid = paid_by_hinder limits entries run keeps direct op begun n none own in
-      (list.places, among_hinder limits entries op.actor op.start (suc n - op.start) n (omega arith) list, rw list.counts paid);
-}

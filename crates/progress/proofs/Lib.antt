@@ -10,6 +10,7 @@ mod Begun
 mod Tallies
 mod Settled
 mod Hindering
+mod Later
 mod Alone
 mod Together
 mod SmallRuns

@@ -60,12 +60,12 @@ abbrev pub IsIn : ℕ → List ℕ → Type 0
 IsIn d [] = ⊥
 IsIn d (c ∷ cs) = (d ≡ c) ⊎ IsIn d cs
 
-apart_from : (c d : ℕ) (cs : List ℕ) → IsNotAmong c cs → IsIn d cs → c ≡ d → ⊥
+pub apart_from : (c d : ℕ) (cs : List ℕ) → IsNotAmong c cs → IsIn d cs → c ≡ d → ⊥
 apart_from c d [] other within same = absurd within
 apart_from c d (e ∷ es) other (inl here) same = other.0 (same ∙ here)
 apart_from c d (e ∷ es) other (inr there) same = apart_from c d es other.1 there same
 
-by_order : (c d : ℕ) → (c < d → ⊥) → (d < c → ⊥) → c ≡ d
+pub by_order : (c d : ℕ) → (c < d → ⊥) → (d < c → ⊥) → c ≡ d
 by_order c d lower higher = elim (cases_lt c d) [ inl lt ↦ absurd (lower lt) | inr le ↦ elim (cases_lt d c) [ inl lt ↦ absurd (higher lt) | inr ge ↦ omega arith ] ]
 
 module _ (limits : Limits) (entries : List Entry) (run : IsRun limits entries) (op : Operation) where
@@ -112,7 +112,7 @@ module _ (limits : Limits) (entries : List Entry) (run : IsRun limits entries) (
   abbrev pub Pays : ℕ → ℕ → Type 0
   Pays k c = (op.start < k) × (k ≤ c) × (WinsItself k c ⊎ LosesTo k c ⊎ MissesTo k c)
 
-  is_take : (pids : Bool) (number : ℕ) → IsTake (take_of pids number)
+  pub is_take : (pids : Bool) (number : ℕ) → IsTake (take_of pids number)
   is_take true number = tt
   is_take false number = tt
 
@@ -121,7 +121,7 @@ module _ (limits : Limits) (entries : List Entry) (run : IsRun limits entries) (
   no_take false number slot old new e = cc
 
   -- the entry at k, which each of them needed
-  same_cause : (k c d : ℕ) → Pays k c → Pays k d → c ≡ d
+  pub same_cause : (k c d : ℕ) → Pays k c → Pays k d → c ≡ d
   same_cause k c d (low, high, inl p) (low', high', inl q) = sym p.same ∙ q.same
   same_cause k c d (low, high, inl p) (low', high', inr (inl q)) =
       absurd (q.beside.2 (sym (same_step entries k op.actor q.beside.0 _ _ _ _ (itself k _ p) q.beside.3).0))

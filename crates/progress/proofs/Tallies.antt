@@ -55,6 +55,14 @@ tally_none t m (suc n) each =
     let here : cond {A = ℕ} (t (m + n)) 1 0 ≡ 0 = ap (λ (b : Bool). cond {A = ℕ} b 1 0) (each n (omega arith)) in
     omega (arith, rest, here)
 
+pub tally_within : (t : ℕ → Bool) (m n : ℕ) → tally t m n ≤ n
+tally_within t m zero = omega arith
+tally_within t m (suc n) = let rest = tally_within t m n in let here = one_at_most (t (m + n)) in omega (arith, rest, here)
+  where
+    one_at_most : (b : Bool) → cond b 1 0 ≤ 1
+    one_at_most true = omega arith
+    one_at_most false = omega arith
+
 pushed_length : (xs : List ℕ) (x : ℕ) → length (xs ++ x ∷ []) ≡ suc (length xs)
 pushed_length [] x = refl
 pushed_length (y ∷ xs) x = ap suc (pushed_length xs x)

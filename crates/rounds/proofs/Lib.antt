@@ -1,8 +1,10 @@
 pub mod Placed
 pub mod Seeing
+pub mod Reading
 pub mod LegTurns
 pub mod SmallRounds
 pub mod SmallWriteRounds
 pub mod Turning
 pub mod WayTurns
+pub mod WriteReading
 pub mod WriteSeeing

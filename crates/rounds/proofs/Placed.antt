@@ -1,13 +1,17 @@
 -- What an answer makes of a descent in its place.
 use Rattle.std.proofs.Common.{◌≡◌, ◌<◌, ◌++◌, inl, inr, ℕ, List, [], ◌∷◌, length, Option, Some, None, refl, sym, ap, subst}
-use Rattle.std.specs.Prelude.{IfSome}
+use Rattle.std.specs.Prelude.{IfSome, MatchOption, unwrap_or}
 use Rattle.tree_limits.specs.declared.limits.Limits.{Limits}
+use Rattle.bw_model.specs.declared.step.Step.TheVariants as step
 use Rattle.bw_model.specs.declared.step.Answer.TheVariants.{Number, Content}
 use Rattle.deltas.specs.declared.record.Record.{Record}
 use Rattle.deltas.specs.Records.{next_row}
+use Rattle.traces.specs.chain.Chains.{IsFront, chain_rows}
 use Rattle.traces.specs.chain.Fitted.{IsPageChain}
+use Rattle.row_chain.specs.Placed.{PlacedChain}
+use Rattle.smo.specs.Reads.{chain_of}
 use Rattle.smo.specs.Versions.{Version}
-use Rattle.descent.specs.Descents.{Descent, Responds, Root, Page, descending}
+use Rattle.descent.specs.Descents.{Descent, Responds, Root, Page, descending, wanted}
 use Rattle.descent.specs.Machines.{IsTold}
 use Rattle.descent.specs.Visits as page
 use Rattle.descent.specs.Visits.{Empty, Whole, VisitState, Slot, Row}
@@ -16,6 +20,16 @@ use Rattle.descent.proofs.Visiting.{row_below, whole_chain}
 -- a descent at a page
 abbrev pub visiting : Limits → ℕ → List Record → VisitState → Descent
 visiting limits pid part state = record { limits = limits; state = Page (record { limits = limits; pid = pid; part = part; state = state }) }
+
+-- a record that is read next lies in the row to which the others lead
+lies_behind : (seen : ℕ → Option Record) (part : List Record) (head row : ℕ) (w : Record) → IsFront seen head part row → chain_rows head (part ++ w ∷ []) ≡ chain_rows head part ++ row ∷ []
+lies_behind seen [] head row w is = ap (λ n. n ∷ []) is
+lies_behind seen (newest ∷ under) head row w is = ap (λ (rows : List ℕ). head ∷ rows) (deeper (next_row newest) (λ below. lies_behind seen under below row w) is.1)
+  where
+    deeper : (next : Option ℕ) → ((below : ℕ) → IsFront seen below under row → chain_rows below (under ++ w ∷ []) ≡ chain_rows below under ++ row ∷ []) → MatchOption next ⊥ (λ below. IsFront seen below under row)
+        → chain_rows (unwrap_or next 0) (under ++ w ∷ []) ≡ chain_rows (unwrap_or next 0) under ++ row ∷ []
+    deeper None on is = absurd is
+    deeper (Some below) on is = on below is
 
 -- the page that slot 0 has is one that there may be
 pub root_within : (limits : Limits) (n : ℕ) → IsTold descending (record { limits = limits; state = Root }) (Number n) → (0 < n) × (n < limits.pids)
@@ -42,6 +56,11 @@ module _ (limits : Limits) (pid head row : ℕ) (part : List Record) (w : Record
   pub few : Told → length part < 13
   few told = told.fits.short pid head part told.shows.stands.in_slot told.shows.stands.seen
 
+  pub lies_next : (asked : ℕ) → wanted (visiting limits pid part (Row head row)) ≡ step.Row asked → Told → chain_rows head (part ++ w ∷ []) ≡ chain_rows head part ++ asked ∷ []
+  lies_next asked is told =
+      let same : row ≡ asked = cc in
+      subst (λ (n : ℕ). chain_rows head (part ++ w ∷ []) ≡ chain_rows head part ++ n ∷ []) same (lies_behind told.k.read.seen part head row w told.shows.stands.seen)
+
   pub under_within : (under : ℕ) → next_row w ≡ Some under → Told → (0 < under) × (under < limits.rows)
   under_within under is told = subst (λ (o : Option ℕ). IfSome o (λ n. (0 < n) × (n < limits.rows))) is told.fits.next
 
@@ -57,11 +76,10 @@ module _ (limits : Limits) (pid head row : ℕ) (part : List Record) (w : Record
     goes = refl;
   })
 
-  pub completes : (new : Descent) (version : Version) → next_row w ≡ None → version.pid ≡ pid → version.head ≡ head → version.chain ≡ part ++ w ∷ []
-      → Responds (visiting limits pid part (Row head row)) (Content w) new (Some (Whole version))
-  completes new version last is_pid is_head is_chain = record {
+  pub completes : (new : Descent) (version : Version) → next_row w ≡ None → version.pid ≡ pid → chain_of version ≡ record { head = head; records = part ++ w ∷ [] } → Responds (visiting limits pid part (Row head row)) (Content w) new (Some (Whole version))
+  completes new version last is_pid is = record {
     visit = visit;
     next = visit;
     asked = refl;
-    responds = record { row = row; content = w; asked = ap (λ h. Row h row) (sym is_head); is = refl; last = last; pid = is_pid; chain = is_chain };
+    responds = record { row = row; content = w; asked = ap (λ (chain : PlacedChain). Row chain.head row) (sym is); is = refl; last = last; pid = is_pid; chain = ap (λ (chain : PlacedChain). chain.records) is };
   }

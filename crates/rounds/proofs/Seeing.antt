@@ -1,19 +1,23 @@
 -- What a reader's round in its place makes of an answer, by what its descent makes of it.
-use Rattle.std.proofs.Common.{◌≡◌, inl, inr, Option, None, sym, ap, subst, ◌∙◌}
+use Rattle.std.proofs.Common.{◌≡◌, inl, inr, ℕ, List, Option, None, Some, refl, sym, ap, subst}
 use Rattle.std.specs.Option.{option_map}
 use Rattle.tree_limits.specs.declared.limits.Limits.{Limits}
 use Rattle.bw_model.specs.declared.step.Answer.{Answer}
 use Rattle.deltas.specs.declared.record.Record.{Record}
+use Rattle.smo.specs.Versions.{Version}
 use Rattle.descent.specs.Descents as from_root
 use Rattle.descent.specs.Machines.{IsTold}
+use Rattle.descent.specs.ReadEnds as end
 use Rattle.descent.specs.ReadRounds as reader
-use Rattle.descent.specs.Rounds.{Responds, Sees, machine}
+use Rattle.descent.specs.Rounds.{Responds, machine}
 use Rattle.descent.specs.Visits as sight
 use Rattle.descent.proofs.Reading.{can_see, treats_as, way_shows}
 use Rattle.rounds.specs.Descents.{PlacedDescent, sight_of}
-use Rattle.rounds.specs.ReadRounds.{CanSeeToRead, PlacedRead, SeesToRead, ended_read}
+use Rattle.rounds.specs.Legs.{PlacedLeg}
+use Rattle.rounds.specs.ReadRounds.{PlacedRead, ended_read, read_goal}
 use Rattle.rounds.specs.declared.descents.Seen.{Seen}
 use Rattle.rounds.specs.declared.descents.Seen.TheVariants.{On, Empty, Whole}
+use Rattle.rounds.specs.declared.read_round.Going.{Going}
 use Rattle.rounds.specs.declared.read_round.ReadEnded.{ReadEnded}
 
 -- an answer that fits the round fits its descent
@@ -25,31 +29,40 @@ abbrev pub after : PlacedRead → PlacedDescent → PlacedRead
 after was now = record { round = record was.round { limits = now.way.limits; state = now.way.state }; page = now.page; aside = was.aside; met = was.met }
 
 module _ (was : PlacedRead) (now : PlacedDescent) (told : Answer Record) where
-  abbrev Moved : Seen → Type 0
+  abbrev pub Moved : Seen → Type 0
   Moved seen = from_root.Responds (reader.reading.way was.round) told now.way (sight_of seen now.page)
 
   -- with the limits that it had
   abbrev with_limits : Limits → reader.ReadRound
   with_limits limits = record was.round { limits = limits; state = now.way.state }
 
-  -- what was seen is a page that the round has reached
-  pub can_see_now : (seen : Seen) → Moved seen → now.way.limits ≡ was.round.limits → IsTold (machine reader.reading) was.round told → CanSeeToRead (after was now) seen
-  can_see_now On b limits t = tt
-  can_see_now Empty b limits t = tt
-  can_see_now Whole b limits t = subst (λ (l : Limits). reader.CanTreatRead (with_limits l) now.page) (sym limits) (can_see was.round now.way.state told (sight.Whole now.page) b t)
+  -- the page that is whole is one that the round has reached
+  pub can_treat_now : Moved Whole → now.way.limits ≡ was.round.limits → IsTold (machine reader.reading) was.round told → reader.CanTreatRead (after was now).round now.page
+  can_treat_now b limits t = subst (λ (l : Limits). reader.CanTreatRead (with_limits l) now.page) (sym limits) (can_see was.round now.way.state told (sight.Whole now.page) b t)
 
-  -- the round responds as it does with what was seen
-  pub responds_now : (seen : Seen) (new : PlacedRead) (result : Option ReadEnded) → Moved seen → now.way.limits ≡ was.round.limits → SeesToRead (after was now) seen new result
+  -- the round reads on
+  pub goes_on : Moved On → now.way.limits ≡ was.round.limits → Responds reader.reading was.round told (after was now).round None
+  goes_on b limits =
+      let same : (after was now).round ≡ with_limits was.round.limits = ap with_limits limits in
+      inl (record { on = b; same = same; none = refl })
+
+  -- a page that was named isn't there
+  pub is_missing : Moved Empty → Responds reader.reading was.round told (after was now).round (Some end.Again)
+  is_missing b = inr (record { sight = sight.Empty; finds = b; sees = refl })
+
+  -- the round responds as it treats the page that is whole
+  pub treats_now : (new : PlacedRead) (result : Option ReadEnded) → Moved Whole → now.way.limits ≡ was.round.limits → reader.TreatsRead (after was now).round now.page new.round (option_map (ended_read new) result)
       → Responds reader.reading was.round told new.round (option_map (ended_read new) result)
-  responds_now On new result b limits sees =
-      let same : new.round ≡ with_limits was.round.limits = ap (λ (r : PlacedRead). r.round) sees.0 ∙ ap with_limits limits in
-      inl (record {
-        on = subst (λ (r : PlacedRead). from_root.Responds (reader.reading.way was.round) told (reader.reading.way r.round) None) (sym sees.0) b;
-        same = same ∙ ap (λ (r : reader.ReadRound). reader.at was.round r.state) (sym same);
-        none = ap (option_map (ended_read new)) sees.1;
-      })
-  responds_now Empty new result b limits sees = inr (record { sight = sight.Empty; finds = b; sees = ap (option_map (ended_read new)) sees })
-  responds_now Whole new result b limits sees =
-      let there : Sees reader.reading (with_limits was.round.limits) (sight.Whole now.page) new.round (option_map (ended_read new) result) =
-      subst (λ (l : Limits). Sees reader.reading (with_limits l) (sight.Whole now.page) new.round (option_map (ended_read new) result)) limits sees in
+  treats_now new result b limits treats =
+      let there : reader.TreatsRead (with_limits was.round.limits) now.page new.round (option_map (ended_read new) result) =
+      subst (λ (l : Limits). reader.TreatsRead (with_limits l) now.page new.round (option_map (ended_read new) result)) limits treats in
       inr (record { sight = sight.Whole now.page; finds = b; sees = treats_as was.round new.round was.round.state now.way.state now.page (option_map (ended_read new) result) there })
+
+-- the round whose fields these are
+abbrev pub placed : List ℕ → Going → Version → PlacedLeg → PlacedDescent → PlacedRead
+placed key going aside leg descent = record {
+  round = record { limits = descent.way.limits; key = key; goal = read_goal going aside; leg = leg.leg; state = descent.way.state };
+  page = descent.page;
+  aside = aside;
+  met = leg.page;
+}

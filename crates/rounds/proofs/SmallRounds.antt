@@ -1,18 +1,20 @@
 -- What the definitions of rounds in place say of small cases.
-use Rattle.std.proofs.Common.{◌≡◌, [], ◌∷◌, Some, None, refl}
+use Rattle.std.proofs.Common.{◌≡◌, ℕ, [], ◌∷◌, Some, None, true, refl}
 use Rattle.std.specs.Option.{option_map}
 use Rattle.tree_limits.specs.declared.limits.Limits.{Limits}
 use Rattle.bw_model.specs.declared.step.Step.TheVariants as step
 use Rattle.deltas.specs.declared.record.Record.{Record}
+use Rattle.smo.specs.Reads.{IsReadPage}
 use Rattle.smo.specs.Versions.{Version}
 use Rattle.descent.specs.Descents.{going_to, wanted_at}
 use Rattle.descent.specs.ReadRounds as reader
 use Rattle.descent.specs.Descents as stands
 use Rattle.descent.specs.ReadGoals as goal
+use Rattle.descent.specs.ReadLegs as legs
 use Rattle.descent.specs.ReadEnds as end
 use Rattle.descent.specs.Visits as sight
 use Rattle.rounds.specs.Descents.{sight_of, placed_state, asked_step}
-use Rattle.rounds.specs.ReadRounds.{ended_read, read_goal}
+use Rattle.rounds.specs.ReadRounds.{AreReadFor, again_if, ended_read, read_goal}
 use Rattle.rounds.specs.declared.asked.Asked.TheVariants as asked
 use Rattle.rounds.specs.declared.descents.At.TheVariants.{Root, Slot, Row}
 use Rattle.rounds.specs.declared.descents.Seen.TheVariants.{On, Empty, Whole}
@@ -21,16 +23,16 @@ use Rattle.rounds.specs.declared.read_round.ReadEnded.TheVariants.{Removed, Besi
 
 module _ (limits : Limits) (one : Record) (round : reader.ReadRound) (first second : Version) where
   -- slot 0, then the slot of page 5, then row 8 under one that was read from row 9 on
-  asks_slot_0 : wanted_at (placed_state limits Root []) ≡ step.Slot 0
+  asks_slot_0 : wanted_at (placed_state limits Root (record { head = 9; records = [] })) ≡ step.Slot 0
   asks_slot_0 = refl
 
-  goes_to_5 : placed_state limits (Slot 5) [] ≡ (going_to 5 (record { limits = limits; state = stands.Root })).state
+  goes_to_5 : placed_state limits (Slot 5) (record { head = 9; records = [] }) ≡ (going_to 5 (record { limits = limits; state = stands.Root })).state
   goes_to_5 = refl
 
-  asks_slot_5 : wanted_at (placed_state limits (Slot 5) []) ≡ asked_step (asked.Slot 5)
+  asks_slot_5 : wanted_at (placed_state limits (Slot 5) (record { head = 9; records = [] })) ≡ asked_step (asked.Slot 5)
   asks_slot_5 = refl
 
-  asks_row_8 : wanted_at (placed_state limits (Row 5 9 8) (one ∷ [])) ≡ asked_step (asked.Row 8)
+  asks_row_8 : wanted_at (placed_state limits (Row 5 8) (record { head = 9; records = one ∷ [] })) ≡ asked_step (asked.Row 8)
   asks_row_8 = refl
 
   -- the page that is whole is the one in hand
@@ -58,3 +60,22 @@ module _ (limits : Limits) (one : Record) (round : reader.ReadRound) (first seco
 
   goes_on : option_map (ended_read (record { round = round; page = first; aside = second; met = second })) None ≡ None
   goes_on = refl
+
+  module _ (is_there : ℕ → Record → Type 0) where
+    -- on the way to the leaf of the key, with no page above, the page in hand is looked at
+    looks_at_first : IsReadPage is_there first → AreReadFor is_there (record round { goal = goal.Seek; leg = legs.Down None }) first
+    looks_at_first read = record { page = read; aside = tt; leg = tt }
+
+    -- to the left of the second page, that one is, too; so is the page above, and the page that a round goes round
+    looks_at_aside : AreReadFor is_there (record round { goal = goal.Left second }) first → IsReadPage is_there second
+    looks_at_aside are = are.aside
+
+    looks_at_above : AreReadFor is_there (record round { leg = legs.Past (Some second) }) first → IsReadPage is_there second
+    looks_at_above are = are.leg
+
+    looks_at_removed : AreReadFor is_there (record round { leg = legs.Round second }) first → IsReadPage is_there second
+    looks_at_removed are = are.leg
+
+-- an empty slot ends a round
+missing : again_if true ≡ Some end.Again
+missing = refl

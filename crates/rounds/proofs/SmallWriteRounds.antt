@@ -1,16 +1,18 @@
 -- What the definitions of a writer's round in its place say of small cases.
-use Rattle.std.proofs.Common.{◌≡◌, true, false, Some, None, refl}
+use Rattle.std.proofs.Common.{◌≡◌, ℕ, true, false, Some, None, refl}
 use Rattle.std.specs.Option.{option_map}
+use Rattle.deltas.specs.declared.record.Record.{Record}
 use Rattle.deltas.specs.declared.record.Merge.{Merge as MergeRecord}
 use Rattle.deltas.specs.declared.record.Term.{Term as TermRecord}
 use Rattle.deltas.specs.declared.record.Unterm.{Unterm as UntermRecord}
 use Rattle.smo.specs.declared.upkeep.Upkeep.{Upkeep}
+use Rattle.smo.specs.Reads.{IsReadPage}
 use Rattle.smo.specs.Versions.{Version}
 use Rattle.descent.specs.Courses as kept
 use Rattle.descent.specs.WriteRounds as writer
 use Rattle.descent.specs.WriteEnds as end
 use Rattle.rounds.specs.Courses.{write_goal, kept_if}
-use Rattle.rounds.specs.WriteRounds.{PlacedWrite, again_if, ended_write}
+use Rattle.rounds.specs.WriteRounds.{AreReadToWrite, PlacedWrite, again_if, ended_write}
 use Rattle.rounds.specs.declared.course.Aim.TheVariants as aim
 use Rattle.rounds.specs.declared.write_ended.WriteEnded.TheVariants.{Removed, Term, Tend, Leaf, Merge, Unterm}
 
@@ -55,6 +57,17 @@ module _ (round : writer.WriteRound) (first second third : Version) where
 
   is_kept : kept_if true second ≡ Some second
   is_kept = refl
+
+  module _ (is_there : ℕ → Record → Type 0) where
+    -- on the way to a leaf, with no page kept, the page in hand is looked at; to cut a term, both that are kept, too
+    looks_at_first : IsReadPage is_there first → AreReadToWrite is_there (record round { goal = kept.Seek; parent = None; left = None }) first
+    looks_at_first read = record { page = read; parent = tt; left = tt; goal = tt }
+
+    looks_at_second : AreReadToWrite is_there (record round { parent = Some second }) first → IsReadPage is_there second
+    looks_at_second are = are.parent
+
+    looks_at_both : AreReadToWrite is_there (record round { goal = kept.Unterm second third }) first → IsReadPage is_there second × IsReadPage is_there third
+    looks_at_both are = are.goal
 
 -- an empty slot ends a round
 missing : again_if true ≡ Some end.Again

@@ -1,12 +1,12 @@
 -- What a writer's round in its place makes of an answer, by what its descent makes of it.
-use Rattle.std.proofs.Common.{◌≡◌, inl, inr, ℕ, List, Bool, Option, None, Some, refl, sym, ap, subst, ◌∙◌}
+use Rattle.std.proofs.Common.{◌≡◌, inl, inr, ℕ, List, Bool, Option, None, Some, refl, sym, ap, subst}
 use Rattle.std.specs.Option.{option_map}
 use Rattle.tree_limits.specs.declared.limits.Limits.{Limits}
 use Rattle.bw_model.specs.declared.step.Answer.{Answer}
 use Rattle.deltas.specs.declared.record.Record.{Record}
 use Rattle.descent.specs.Descents as from_root
 use Rattle.descent.specs.Machines.{IsTold}
-use Rattle.descent.specs.Rounds.{Responds, Sees, machine}
+use Rattle.descent.specs.Rounds.{Responds, machine}
 use Rattle.descent.specs.WriteResponses as response
 use Rattle.descent.specs.WriteRounds as writer
 use Rattle.descent.specs.Visits as sight
@@ -14,7 +14,7 @@ use Rattle.descent.specs.WriteEnds as end
 use Rattle.descent.proofs.Writing.{can_see, treats_as, way_shows}
 use Rattle.rounds.specs.Courses.{PlacedCourse}
 use Rattle.rounds.specs.Descents.{PlacedDescent, sight_of}
-use Rattle.rounds.specs.WriteRounds.{CanSeeToWrite, SeesToWrite, PlacedWrite, ended_write}
+use Rattle.rounds.specs.WriteRounds.{PlacedWrite, ended_write}
 use Rattle.rounds.specs.declared.descents.Seen.{Seen}
 use Rattle.rounds.specs.declared.descents.Seen.TheVariants.{On, Empty, Whole}
 use Rattle.rounds.specs.declared.write_ended.WriteEnded.{WriteEnded}
@@ -35,11 +35,9 @@ module _ (was : PlacedWrite) (now : PlacedDescent) (told : Answer Record) where
   abbrev with_limits : Limits → writer.WriteRound
   with_limits limits = record was.round { limits = limits; state = now.way.state }
 
-  -- what was seen is a page that the round has reached
-  pub can_see_now : (seen : Seen) → Moved seen → now.way.limits ≡ was.round.limits → IsTold (machine response.writing) was.round told → CanSeeToWrite (after was now) seen
-  can_see_now On b limits t = tt
-  can_see_now Empty b limits t = tt
-  can_see_now Whole b limits t = subst (λ (l : Limits). response.CanTreatWrite (with_limits l) now.page) (sym limits) (can_see was.round now.way.state told (sight.Whole now.page) b t)
+  -- the page that is whole is one that the round has reached
+  pub can_treat_now : Moved Whole → now.way.limits ≡ was.round.limits → IsTold (machine response.writing) was.round told → response.CanTreatWrite (after was now).round now.page
+  can_treat_now b limits t = subst (λ (l : Limits). response.CanTreatWrite (with_limits l) now.page) (sym limits) (can_see was.round now.way.state told (sight.Whole now.page) b t)
 
   -- the round reads on
   pub goes_on : Moved On → now.way.limits ≡ was.round.limits → Responds response.writing was.round told (after was now).round None
@@ -51,20 +49,12 @@ module _ (was : PlacedWrite) (now : PlacedDescent) (told : Answer Record) where
   pub is_missing : Moved Empty → Responds response.writing was.round told (after was now).round (Some end.Again)
   is_missing b = inr (record { sight = sight.Empty; finds = b; sees = refl })
 
-  -- the round responds as it does with what was seen
-  pub responds_now : (seen : Seen) (new : PlacedWrite) (result : Option WriteEnded) → Moved seen → now.way.limits ≡ was.round.limits → SeesToWrite (after was now) seen new result
+  -- the round responds as it treats the page that is whole
+  pub treats_now : (new : PlacedWrite) (result : Option WriteEnded) → Moved Whole → now.way.limits ≡ was.round.limits → response.TreatsWrite (after was now).round now.page new.round (option_map (ended_write new) result)
       → Responds response.writing was.round told new.round (option_map (ended_write new) result)
-  responds_now On new result b limits sees =
-      let same : new.round ≡ with_limits was.round.limits = ap (λ (r : PlacedWrite). r.round) sees.0 ∙ ap with_limits limits in
-      inl (record {
-        on = subst (λ (r : PlacedWrite). from_root.Responds (response.writing.way was.round) told (response.writing.way r.round) None) (sym sees.0) b;
-        same = same ∙ ap (λ (r : writer.WriteRound). writer.at was.round r.state) (sym same);
-        none = ap (option_map (ended_write new)) sees.1;
-      })
-  responds_now Empty new result b limits sees = inr (record { sight = sight.Empty; finds = b; sees = ap (option_map (ended_write new)) sees })
-  responds_now Whole new result b limits sees =
-      let there : Sees response.writing (with_limits was.round.limits) (sight.Whole now.page) new.round (option_map (ended_write new) result) =
-      subst (λ (l : Limits). Sees response.writing (with_limits l) (sight.Whole now.page) new.round (option_map (ended_write new) result)) limits sees in
+  treats_now new result b limits treats =
+      let there : response.TreatsWrite (with_limits was.round.limits) now.page new.round (option_map (ended_write new) result) =
+      subst (λ (l : Limits). response.TreatsWrite (with_limits l) now.page new.round (option_map (ended_write new) result)) limits treats in
       inr (record { sight = sight.Whole now.page; finds = b; sees = treats_as was.round new.round was.round.state now.way.state now.page (option_map (ended_write new) result) there })
 
 -- the round whose fields these are

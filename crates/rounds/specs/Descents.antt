@@ -1,9 +1,10 @@
 -- Where a descent stands in its place, and the page in hand.
-use Rattle.std.specs.Prelude.{List, Option, Some, None, ⊤}
+use Rattle.std.specs.Prelude.{ℕ, Option, Some, None, ⊤}
 use Rattle.tree_limits.specs.declared.limits.Limits.{Limits}
 use Rattle.bw_model.specs.declared.step.Step.{Step as StepOf}
 use Rattle.bw_model.specs.declared.step.Step.TheVariants as step
 use Rattle.deltas.specs.declared.record.Record.{Record}
+use Rattle.row_chain.specs.Placed.{PlacedChain}
 use Rattle.smo.specs.Versions.{Version}
 use Rattle.descent.specs.Descents as from_root
 use Rattle.descent.specs.Visits as visit
@@ -21,15 +22,16 @@ pub record PlacedDescent : Type 0 where
   pub page : Version
 
 -- the state that a place is, with the records that were read of the page's chain
-abbrev pub placed_state : Limits → At → List Record → from_root.WayState
+abbrev pub placed_state : Limits → At → PlacedChain → from_root.WayState
 placed_state limits Root part = from_root.Root
-placed_state limits (Slot pid) part = from_root.Page (record { limits = limits; pid = pid; part = part; state = visit.Slot })
-placed_state limits (Row pid head row) part = from_root.Page (record { limits = limits; pid = pid; part = part; state = visit.Row head row })
+placed_state limits (Slot pid) part = from_root.Page (record { limits = limits; pid = pid; part = part.records; state = visit.Slot })
+placed_state limits (Row pid row) part = from_root.Page (record { limits = limits; pid = pid; part = part.records; state = visit.Row part.head row })
 
-abbrev pub IsSoundAt : Limits → At → Type 0
-IsSoundAt limits Root = ⊤
-IsSoundAt limits (Slot pid) = visit.IsSoundState limits pid visit.Slot
-IsSoundAt limits (Row pid head row) = visit.IsSoundState limits pid (visit.Row head row)
+-- by the row at which the page's chain begins
+abbrev pub IsSoundAt : Limits → ℕ → At → Type 0
+IsSoundAt limits head Root = ⊤
+IsSoundAt limits head (Slot pid) = visit.IsSoundState limits pid visit.Slot
+IsSoundAt limits head (Row pid row) = visit.IsSoundState limits pid (visit.Row head row)
 
 -- the step that is asked for
 abbrev pub asked_step : Asked → StepOf Record

@@ -1,7 +1,8 @@
 -- A reader's round in its place: its pages stand in it, and an end names them there.
-use Rattle.std.specs.Prelude.{◌≡◌, ℕ, Option, Some, None, false, ⊤}
-use Rattle.std.specs.Option.{option_map}
+use Rattle.std.specs.Prelude.{◌≡◌, ℕ, Bool, Option, Some, None, true, false, IfSome, ⊤}
+use Rattle.deltas.specs.declared.record.Record.{Record}
 use Rattle.traces.specs.chain.Chains.{is_removed, level_in}
+use Rattle.smo.specs.Reads.{IsReadPage}
 use Rattle.smo.specs.Versions.{Version}
 use Rattle.descent.specs.ReadRounds as rounds
 use Rattle.descent.specs.ReadLegs.{Leg, Down, Round, Past, IsPlain}
@@ -11,8 +12,6 @@ use Rattle.descent.specs.ReadGoals.{ReadGoal}
 use Rattle.descent.specs.ReadGoals as goal
 use Rattle.descent.specs.ReadEnds.{ReadEnd}
 use Rattle.descent.specs.ReadEnds as end
-use Rattle.rounds.specs.declared.descents.Seen.{Seen}
-use Rattle.rounds.specs.declared.descents.Seen.TheVariants.{On, Empty, Whole}
 use Rattle.rounds.specs.declared.read_round.Going.{Going}
 use Rattle.rounds.specs.declared.read_round.Going.TheVariants.{Seek, Left, Beyond}
 use Rattle.rounds.specs.declared.read_round.ReadEnded.{ReadEnded}
@@ -39,17 +38,28 @@ ended_read round Removed = end.Removed round.page
 ended_read round Leaf = end.Leaf round.page
 ended_read round Beside = end.Beside round.page round.aside
 
--- what was seen is a page in hand that the round has reached, or no page
-abbrev pub CanSeeToRead : PlacedRead → Seen → Type 0
-CanSeeToRead round On = ⊤
-CanSeeToRead round Empty = ⊤
-CanSeeToRead round Whole = rounds.CanTreatRead round.round round.page
+-- a page that was named isn't there, or the round reads on
+abbrev pub again_if : Bool → Option ReadEnd
+again_if false = None
+again_if true = Some end.Again
 
--- what a round does with what was seen
-abbrev pub SeesToRead : PlacedRead → Seen → PlacedRead → Option ReadEnded → Type 0
-SeesToRead old On new result = (new ≡ old) × (result ≡ None)
-SeesToRead old Empty new result = result ≡ Some Again
-SeesToRead old Whole new result = rounds.TreatsRead old.round old.page new.round (option_map (ended_read new) result)
+-- the page to whose left a round goes is there
+abbrev pub IsReadGoal : (ℕ → Record → Type 0) → ReadGoal → Type 0
+IsReadGoal is_there goal.Seek = ⊤
+IsReadGoal is_there (goal.Left removed) = IsReadPage is_there removed
+IsReadGoal is_there goal.Beyond = ⊤
+
+-- so is the page above, or the removed page that a round goes round
+abbrev pub IsReadLeg : (ℕ → Record → Type 0) → Leg → Type 0
+IsReadLeg is_there (Down above) = IfSome above (IsReadPage is_there)
+IsReadLeg is_there (Round removed) = IsReadPage is_there removed
+IsReadLeg is_there (Past above) = IfSome above (IsReadPage is_there)
+
+-- The page was read, and the pages that the round keeps: their records are there.
+pub record AreReadFor (is_there : ℕ → Record → Type 0) (round : rounds.ReadRound) (version : Version) : Type 0 where
+  pub page : IsReadPage is_there version
+  pub aside : IsReadGoal is_there round.goal
+  pub leg : IsReadLeg is_there round.leg
 
 -- The page isn't removed, and the round has reached it on the way of its goal.
 pub record CanGoOn (round : rounds.ReadRound) (version : Version) : Type 0 where

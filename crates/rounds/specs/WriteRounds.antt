@@ -1,13 +1,13 @@
 -- A writer's round in its place: its pages stand in it, and an end names them there.
-use Rattle.std.specs.Prelude.{◌≡◌, Bool, true, false, Option, Some, None, ⊤}
-use Rattle.std.specs.Option.{option_map}
+use Rattle.std.specs.Prelude.{ℕ, Bool, true, false, Option, Some, None, IfSome, ⊤}
+use Rattle.deltas.specs.declared.record.Record.{Record}
+use Rattle.smo.specs.Reads.{IsReadPage}
 use Rattle.smo.specs.Versions.{Version}
-use Rattle.descent.specs.WriteResponses as response
+use Rattle.descent.specs.Courses.{WriteGoal, Seek, Left}
+use Rattle.descent.specs.Courses as goal
 use Rattle.descent.specs.WriteRounds as rounds
 use Rattle.descent.specs.WriteEnds.{WriteEnd}
 use Rattle.descent.specs.WriteEnds as end
-use Rattle.rounds.specs.declared.descents.Seen.{Seen}
-use Rattle.rounds.specs.declared.descents.Seen.TheVariants.{On, Empty, Whole}
 use Rattle.rounds.specs.declared.write_ended.WriteEnded.{WriteEnded}
 use Rattle.rounds.specs.declared.write_ended.WriteEnded.TheVariants.{Again, Removed, Consolidate, Split, Term, Root, Tend, Leaf, Merge, Unterm, Done}
 
@@ -37,14 +37,16 @@ abbrev pub again_if : Bool → Option WriteEnd
 again_if false = None
 again_if true = Some end.Again
 
--- what was seen is a page in hand that the round has reached, or no page
-abbrev pub CanSeeToWrite : PlacedWrite → Seen → Type 0
-CanSeeToWrite round On = ⊤
-CanSeeToWrite round Empty = ⊤
-CanSeeToWrite round Whole = response.CanTreatWrite round.round round.page
+-- by the goal: the pages that the round keeps to end with the removed one were read, and their records are there
+abbrev pub IsGoalRead : (ℕ → Record → Type 0) → WriteGoal → Type 0
+IsGoalRead is_there Seek = ⊤
+IsGoalRead is_there (Left pid) = ⊤
+IsGoalRead is_there (goal.Merge left) = IsReadPage is_there left
+IsGoalRead is_there (goal.Unterm parent left) = IsReadPage is_there parent × IsReadPage is_there left
 
--- what a round does with what was seen
-abbrev pub SeesToWrite : PlacedWrite → Seen → PlacedWrite → Option WriteEnded → Type 0
-SeesToWrite old On new result = (new ≡ old) × (result ≡ None)
-SeesToWrite old Empty new result = result ≡ Some Again
-SeesToWrite old Whole new result = response.TreatsWrite old.round old.page new.round (option_map (ended_write new) result)
+-- The page and those that the round keeps were read, and their records are there.
+pub record AreReadToWrite (is_there : ℕ → Record → Type 0) (round : rounds.WriteRound) (version : Version) : Type 0 where
+  pub page : IsReadPage is_there version
+  pub parent : IfSome round.parent (IsReadPage is_there)
+  pub left : IfSome round.left (IsReadPage is_there)
+  pub goal : IsGoalRead is_there round.goal

@@ -8,6 +8,7 @@ ghost use Rattle.rounds.specs.Courses.{write_goal, kept_if};
 ghost use Rattle.smo.specs.Versions.{Version};
 
 use crate::Descent;
+use row_search::Rows;
 use smo::PageInHand;
 use std::alloc::{AllocError, Allocator, Global};
 use std::marker::Model;
@@ -27,15 +28,15 @@ pub(crate) enum Aim {
 
 /// Where a writer's round goes, with a place for the parent of the pages that are read, and one for the page to whose right the round
 /// has gone. Where such a page isn't kept, one from before stands in its place.
-pub(crate) struct Course<A: Allocator = Global> {
+pub(crate) struct Course<R: Rows, A: Allocator = Global> {
     aim: Aim,
     has_parent: bool,
     has_left: bool,
-    parent: PageInHand<A>,
-    left: PageInHand<A>,
+    parent: PageInHand<R, A>,
+    left: PageInHand<R, A>,
 }
 
-impl<A: Allocator> Drop for Course<A> {
+impl<R: Rows, A: Allocator> Drop for Course<R, A> {
     fn drop(self) {
         let Course {
             aim: _,
@@ -47,7 +48,7 @@ impl<A: Allocator> Drop for Course<A> {
     }
 }
 
-impl<A: Allocator> Model for Course<A> {
+impl<R: Rows, A: Allocator> Model for Course<R, A> {
     ghost use Rattle.rounds.specs.Courses.{PlacedCourse, write_goal, kept_if};
 
     ghost Value = { PlacedCourse };
@@ -55,23 +56,23 @@ impl<A: Allocator> Model for Course<A> {
     ghost view = { λ c. record { course = record { goal = write_goal c.aim c.parent c.left; parent = kept_if c.has_parent c.parent; left = kept_if c.has_left c.left }; parent = c.parent; left = c.left } };
 }
 
-impl<A: Allocator + Copy> Course<A> {
-    /// Down to the leaf of the key. Takes the memory for the rows of two pages, 106 KB, and is refused for want of it alone. No later
+impl<R: Rows, A: Allocator + Copy> Course<R, A> {
+    /// Down to the leaf of the key. Takes the memory for two pages, 416 bytes, and is refused for want of it alone. No later
     /// call takes memory.
-    pub(crate) fn new(alloc: A) -> Result<Course<A>, AllocError>
+    pub(crate) fn new(alloc: A) -> Result<Course<R, A>, AllocError>
         ensures { IfOk result (λ course. course.course ≡ record { goal = down_to None; parent = None; left = None }) }
     {
         Ok(Course {
             aim: Aim::Seek,
             has_parent: false,
             has_left: false,
-            parent: PageInHand::<A>::new(alloc)?,
-            left: PageInHand::<A>::new(alloc)?,
+            parent: PageInHand::<R, A>::new(alloc)?,
+            left: PageInHand::<R, A>::new(alloc)?,
         })
     }
 }
 
-impl<A: Allocator> Course<A> {
+impl<R: Rows, A: Allocator> Course<R, A> {
     /// Goes down to the page to the left of this removed page, or to the leaf of the key, and keeps no page.
     pub(crate) fn restart(&mut self, removed: Option<u32>)
         ensures { self.new ≡ record self.old { course = record { goal = down_to removed; parent = None; left = None } } }
@@ -106,14 +107,14 @@ impl<A: Allocator> Course<A> {
     }
 
     /// The page that stands in the parent's place.
-    pub(crate) fn parent(&self) -> &PageInHand<A>
+    pub(crate) fn parent(&self) -> &PageInHand<R, A>
         ensures { result.now ≡ self.now.parent }
     {
         &self.parent
     }
 
     /// The page that stands in the left one's place.
-    pub(crate) fn left(&self) -> &PageInHand<A>
+    pub(crate) fn left(&self) -> &PageInHand<R, A>
         ensures { result.now ≡ self.now.left }
     {
         &self.left
@@ -134,7 +135,7 @@ impl<A: Allocator> Course<A> {
     }
 
     /// Keeps the page in hand, to whose right the round goes.
-    pub(crate) fn keep_left(&mut self, descent: &mut Descent<A>)
+    pub(crate) fn keep_left(&mut self, descent: &mut Descent<R, A>)
         requires seeks { SeeksLeaf self.old.course.goal }
         ensures kept { self.new ≡ record self.old { course = record self.old.course { left = Some descent.old.page }; left = descent.old.page } }
         ensures way { descent.new.way ≡ descent.old.way }
@@ -144,7 +145,7 @@ impl<A: Allocator> Course<A> {
     }
 
     /// Keeps the page in hand as the parent of the pages that are read from now on.
-    pub(crate) fn go_below(&mut self, descent: &mut Descent<A>)
+    pub(crate) fn go_below(&mut self, descent: &mut Descent<R, A>)
         requires seeks { SeeksLeaf self.old.course.goal }
         ensures kept { self.new ≡ record self.old { course = record self.old.course { parent = Some descent.old.page; left = None }; parent = descent.old.page } }
         ensures way { descent.new.way ≡ descent.old.way }
@@ -155,7 +156,7 @@ impl<A: Allocator> Course<A> {
     }
 
     /// Goes to the removed page, which is to come into the page in hand.
-    pub(crate) fn go_to_merge(&mut self, descent: &mut Descent<A>)
+    pub(crate) fn go_to_merge(&mut self, descent: &mut Descent<R, A>)
         ensures kept { self.new ≡ record self.old { course = record { goal = goal.Merge descent.old.page; parent = None; left = None }; left = descent.old.page } }
         ensures way { descent.new.way ≡ descent.old.way }
     {
@@ -165,7 +166,7 @@ impl<A: Allocator> Course<A> {
     }
 
     /// Goes to the removed page, whose term the parent is to lose, as the page in hand shows.
-    pub(crate) fn go_to_unterm(&mut self, descent: &mut Descent<A>)
+    pub(crate) fn go_to_unterm(&mut self, descent: &mut Descent<R, A>)
         ensures kept { self.new ≡ record self.old { course = record { goal = goal.Unterm self.old.parent descent.old.page; parent = None; left = None }; left = descent.old.page } }
         ensures way { descent.new.way ≡ descent.old.way }
     {

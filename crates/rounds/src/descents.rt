@@ -1,6 +1,7 @@
 //! The way from the root to a page, as far as a round goes on, in one place.
 ghost use Rattle.std.specs.Prelude.{◌≡◌, ◌<◌, ℕ, [], IfOk};
 ghost use Rattle.bw_model.specs.declared.step.Answer.TheVariants.{Content, Number};
+ghost use Rattle.bw_model.specs.declared.step.Step.TheVariants as step;
 ghost use Rattle.traces.specs.discipline.Discipline.{May};
 ghost use Rattle.traces.specs.discipline.Knowledge.{Knowledge};
 ghost use Rattle.descent.specs.Descents.{Responds, Shows, descending, going_to, wanted};
@@ -11,18 +12,20 @@ ghost use Rattle.rounds.specs.Descents.{sight_of, placed_state, asked_step};
 
 use crate::Asked;
 use bw_model::Limits;
-use row_chain::{ChainPart, HeldRow};
+use row_chain::ChainPart;
+use row_search::{RowAt, Rows};
 use smo::PageInHand;
 use std::alloc::{AllocError, Allocator, Global};
 use std::marker::Model;
 use std::mem;
 
-/// Where a descent stands: each state is named by what it reads, slot 0, a page's slot, or a row of a page.
+/// Where a descent stands: each state is named by what it reads, slot 0, a page's slot, or a row of a page, whose chain so far tells
+/// where it begins.
 #[derive(Clone, Copy)]
 pub(crate) enum At {
     Root,
     Slot { pid: u32 },
-    Row { pid: u32, head: u32, row: u32 },
+    Row { pid: u32, row: u32 },
 }
 
 /// What an answer has shown.
@@ -37,15 +40,15 @@ pub(crate) enum Seen {
 }
 
 /// A way from the root, page by page: slot 0 is read first, then the page that it names, and then each page to which its round
-/// goes on. The rows of the page that is read have places of their own, until it is whole and becomes the page in hand.
-pub(crate) struct Descent<A: Allocator = Global> {
+/// goes on. The records of the page that is read have places of their own, until it is whole and becomes the page in hand.
+pub(crate) struct Descent<R: Rows, A: Allocator = Global> {
     limits: Limits,
     at: At,
-    part: ChainPart<A>,
-    page: PageInHand<A>,
+    part: ChainPart<R, A>,
+    page: PageInHand<R, A>,
 }
 
-impl<A: Allocator> Drop for Descent<A> {
+impl<R: Rows, A: Allocator> Drop for Descent<R, A> {
     fn drop(self) {
         let Descent {
             limits: _,
@@ -56,32 +59,32 @@ impl<A: Allocator> Drop for Descent<A> {
     }
 }
 
-impl<A: Allocator> Model for Descent<A> {
+impl<R: Rows, A: Allocator> Model for Descent<R, A> {
     ghost use Rattle.rounds.specs.Descents.{PlacedDescent, IsSoundAt, placed_state};
 
     ghost Value = { PlacedDescent };
 
     ghost view = { λ d. record { way = record { limits = d.limits; state = placed_state d.limits d.at d.part }; page = d.page } };
 
-    ghost invariant = { λ d. IsSoundAt d.limits d.at };
+    ghost invariant = { λ d. IsSoundAt d.limits d.part.head d.at };
 }
 
-impl<A: Allocator + Copy> Descent<A> {
-    /// A descent before its first step. Takes the memory for the rows of two pages, 106 KB, and is refused for want of it alone. No
+impl<R: Rows, A: Allocator + Copy> Descent<R, A> {
+    /// A descent before its first step. Takes the memory for the records of two pages, 416 bytes, and is refused for want of it alone. No
     /// later call takes memory.
-    pub(crate) fn new(alloc: A, limits: &Limits) -> Result<Descent<A>, AllocError>
+    pub(crate) fn new(alloc: A, limits: &Limits) -> Result<Descent<R, A>, AllocError>
         ensures { IfOk result (λ descent. descent.way ≡ record { limits = limits.now; state = state.Root }) }
     {
         Ok(Descent {
             limits: *limits,
             at: At::Root,
-            part: ChainPart::<A>::new(alloc)?,
-            page: PageInHand::<A>::new(alloc)?,
+            part: ChainPart::<R, A>::new(alloc)?,
+            page: PageInHand::<R, A>::new(alloc)?,
         })
     }
 }
 
-impl<A: Allocator> Descent<A> {
+impl<R: Rows, A: Allocator> Descent<R, A> {
     /// Goes back to the root.
     pub(crate) fn restart(&mut self)
         ensures { self.new ≡ record self.old { way = record self.old.way { state = state.Root } } }
@@ -110,7 +113,7 @@ impl<A: Allocator> Descent<A> {
         requires below { pid < self.old.way.limits.pids }
         ensures { self.new ≡ record self.old { way = going_to pid self.old.way } }
     {
-        self.part.restart();
+        self.part.restart(1);
         self.at = At::Slot { pid };
     }
 
@@ -128,14 +131,14 @@ impl<A: Allocator> Descent<A> {
     }
 
     /// The page in hand: the one that was read whole last, until another one changed places with it.
-    pub(crate) fn page(&self) -> &PageInHand<A>
+    pub(crate) fn page(&self) -> &PageInHand<R, A>
         ensures { result.now ≡ self.now.page }
     {
         &self.page
     }
 
     /// The page in hand and another one change places.
-    pub(crate) fn swap_page(&mut self, other: &mut PageInHand<A>)
+    pub(crate) fn swap_page(&mut self, other: &mut PageInHand<R, A>)
         ensures way { self.new.way ≡ self.old.way }
         ensures page { self.new.page ≡ other.old }
         ensures other { other.new ≡ self.old.page }
@@ -170,31 +173,35 @@ impl<A: Allocator> Descent<A> {
         requires page_below { pid < self.old.way.limits.pids }
         requires some { 0 < head }
         requires below { head < self.old.way.limits.rows }
-        ensures { self.new ≡ record self.old { way = record self.old.way { state = placed_state self.old.way.limits (At.Row pid head head) [] } } }
+        ensures { self.new ≡ record self.old { way = record self.old.way { state = placed_state self.old.way.limits (At.Row pid head) (record { head = head; records = [] }) } } }
     {
-        self.part.restart();
-        let row = head;
-        self.at = At::Row { pid, head, row };
+        self.part.restart(head);
+        self.at = At::Row { pid, row: head };
     }
 
-    /// Takes the row that the descent asked for, and gives another one in its place. With the base the page is whole.
-    pub(crate) fn take_row(&mut self, row: &mut HeldRow<A>) -> Seen
-        requires told { IsTold descending self.old.way (Content row.old) }
-        ensures responds { Responds self.old.way (Content row.old) self.new.way (sight_of result self.new.page) }
+    /// Takes the record that was read in the row that the descent asked for. With the base the page is whole.
+    pub(crate) fn take_record(&mut self, found: RowAt<R>, rows: &R, pass: &mut R::Pass) -> Seen
+        requires asked { wanted self.old.way ≡ step.Row found.row }
+        requires told { IsTold descending self.old.way (Content found.content) }
+        requires read { R.has rows.now pass.old found.row found.content }
+        ensures responds { Responds self.old.way (Content found.content) self.new.way (sight_of result self.new.page) }
         ensures limits { self.new.way.limits ≡ self.old.way.limits }
+        ensures looks { pass.new ≡ pass.old }
     {
-        let At::Row { pid, head, .. } = self.at else {
+        let At::Row { pid, .. } = self.at else {
             unreachable!()
         };
-        let next = row.row().next();
-        self.part.push(row);
+        let next = found.next(rows, pass);
+        self.part.push(found);
         match next {
             Some(row) => {
-                self.at = At::Row { pid, head, row };
+                self.at = At::Row { pid, row };
                 Seen::On
             }
             None => {
-                self.page.receive(pid, head, &mut self.part);
+                self.page.receive(pid, &mut self.part);
+                // What has the part's place now are records of another page.
+                self.at = At::Root;
                 Seen::Whole
             }
         }

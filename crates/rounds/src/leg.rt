@@ -4,6 +4,7 @@ ghost use Rattle.descent.specs.ReadLegs.{Down, IsPlain, Past, Round, above_of, b
 ghost use Rattle.rounds.specs.Legs.{IsPlainWithout};
 
 use crate::Descent;
+use row_search::Rows;
 use smo::PageInHand;
 use std::alloc::{AllocError, Allocator, Global};
 use std::marker::Model;
@@ -24,18 +25,18 @@ pub(crate) enum On {
 }
 
 /// The leg on which a round is, with a place for the page above, or for the removed page that the round goes round.
-pub(crate) struct Leg<A: Allocator = Global> {
+pub(crate) struct Leg<R: Rows, A: Allocator = Global> {
     on: On,
-    page: PageInHand<A>,
+    page: PageInHand<R, A>,
 }
 
-impl<A: Allocator> Drop for Leg<A> {
+impl<R: Rows, A: Allocator> Drop for Leg<R, A> {
     fn drop(self) {
         let Leg { on: _, page: _ } = self;
     }
 }
 
-impl<A: Allocator> Model for Leg<A> {
+impl<R: Rows, A: Allocator> Model for Leg<R, A> {
     ghost use Rattle.rounds.specs.Legs.{PlacedLeg, leg_of};
 
     ghost Value = { PlacedLeg };
@@ -43,20 +44,20 @@ impl<A: Allocator> Model for Leg<A> {
     ghost view = { λ l. record { leg = leg_of l.on l.page; page = l.page } };
 }
 
-impl<A: Allocator + Copy> Leg<A> {
-    /// Down, with no page above. Takes the memory for the rows of a page, 53 KB, and is refused for want of it alone. No later call
+impl<R: Rows, A: Allocator + Copy> Leg<R, A> {
+    /// Down, with no page above. Takes the memory for the records of a page, 208 bytes, and is refused for want of it alone. No later call
     /// takes memory.
-    pub(crate) fn new(alloc: A) -> Result<Leg<A>, AllocError>
+    pub(crate) fn new(alloc: A) -> Result<Leg<R, A>, AllocError>
         ensures { IfOk result (λ leg. leg.leg ≡ Down None) }
     {
         Ok(Leg {
             on: On::Top,
-            page: PageInHand::<A>::new(alloc)?,
+            page: PageInHand::<R, A>::new(alloc)?,
         })
     }
 }
 
-impl<A: Allocator> Leg<A> {
+impl<R: Rows, A: Allocator> Leg<R, A> {
     /// Begins again, with no page above.
     pub(crate) fn restart(&mut self)
         ensures { self.new ≡ record self.old { leg = Down None } }
@@ -65,7 +66,7 @@ impl<A: Allocator> Leg<A> {
     }
 
     /// The page that stands in the place.
-    pub(crate) fn page(&self) -> &PageInHand<A>
+    pub(crate) fn page(&self) -> &PageInHand<R, A>
         ensures { result.now ≡ self.now.page }
     {
         &self.page
@@ -88,7 +89,7 @@ impl<A: Allocator> Leg<A> {
     }
 
     /// Keeps the page in hand as the page above, from which the round goes down; it is no more on its way round a removed page.
-    pub(crate) fn go_below(&mut self, descent: &mut Descent<A>)
+    pub(crate) fn go_below(&mut self, descent: &mut Descent<R, A>)
         ensures plain { IsPlain self.old.leg → self.new.leg ≡ below descent.old.page self.old.leg }
         ensures round { self.old.leg ≡ Round self.old.page → self.new.leg ≡ Past (Some descent.old.page) }
         ensures way { descent.new.way ≡ descent.old.way }
@@ -112,7 +113,7 @@ impl<A: Allocator> Leg<A> {
     }
 
     /// Goes round the page in hand, which is removed.
-    pub(crate) fn go_round(&mut self, descent: &mut Descent<A>)
+    pub(crate) fn go_round(&mut self, descent: &mut Descent<R, A>)
         ensures leg { self.new.leg ≡ Round descent.old.page }
         ensures way { descent.new.way ≡ descent.old.way }
     {

@@ -3,11 +3,13 @@ ghost use Rattle.std.specs.Prelude.{◌≡◌, ◌<◌, ℕ, IfOk, IsTrue, Match
 ghost use Rattle.std.specs.Bool.{Decides};
 ghost use Rattle.std.specs.Option.{option_map};
 ghost use Rattle.bw_model.specs.declared.step.Answer.TheVariants.{Content, Number};
+ghost use Rattle.bw_model.specs.declared.step.Step.TheVariants.{Row};
 ghost use Rattle.traces.specs.chain.Chains.{level_in, low_in, right_in};
 ghost use Rattle.traces.specs.discipline.Discipline.{May};
 ghost use Rattle.traces.specs.discipline.Knowledge.{Knowledge};
 ghost use Rattle.traces.specs.discipline.Recalled.{Recalled};
-ghost use Rattle.descent.specs.Machines.{IsTold};
+ghost use Rattle.smo.specs.Reads.{IsReadPage};
+ghost use Rattle.descent.specs.Machines.{IsTold, IsToldThere};
 ghost use Rattle.descent.specs.ReadLegs.{Down, level_on};
 ghost use Rattle.descent.specs.ReadRounds.{CanTreatRead, IsSame, Shows, TreatsRead, going_to, on, read_way, reading, toward, wanted};
 ghost use Rattle.descent.specs.Rounds.{Responds, machine};
@@ -16,15 +18,14 @@ ghost use Rattle.descent.specs.Ways.{EndsHere, LeadsDown, LeadsRight, StaysLeft,
 ghost use Rattle.descent.specs.Descents.{Root};
 ghost use Rattle.descent.specs.ReadGoals as goal;
 ghost use Rattle.rounds.specs.Descents.{asked_step};
-ghost use Rattle.rounds.specs.ReadRounds.{CanGoOn, CanSeeToRead, SeesToRead, ended_read};
+ghost use Rattle.rounds.specs.ReadRounds.{AreReadFor, CanGoOn, again_if, ended_read};
 
 mod detour;
 
 use crate::way::{child_on_way, right_on_way};
 use crate::{Asked, Descent, Leg, Seen};
 use bw_model::{Key, Limits};
-use row_chain::HeldRow;
-use row_search::KeyWords;
+use row_search::{KeyWords, RowAt, Rows};
 use smo::PageInHand;
 use std::alloc::{AllocError, Allocator, Global};
 use std::marker::Model;
@@ -55,15 +56,15 @@ pub(crate) enum Going {
 }
 
 /// One round of a reader from the root to a leaf, and the next one in the same place.
-pub struct ReadRound<A: Allocator = Global> {
+pub struct ReadRound<R: Rows, A: Allocator = Global> {
     key: KeyWords,
     going: Going,
-    leg: Leg<A>,
-    aside: PageInHand<A>,
-    descent: Descent<A>,
+    leg: Leg<R, A>,
+    aside: PageInHand<R, A>,
+    descent: Descent<R, A>,
 }
 
-impl<A: Allocator> Drop for ReadRound<A> {
+impl<R: Rows, A: Allocator> Drop for ReadRound<R, A> {
     fn drop(self) {
         let ReadRound {
             key: _,
@@ -75,7 +76,7 @@ impl<A: Allocator> Drop for ReadRound<A> {
     }
 }
 
-impl<A: Allocator> Model for ReadRound<A> {
+impl<R: Rows, A: Allocator> Model for ReadRound<R, A> {
     ghost use Rattle.rounds.specs.ReadRounds.{PlacedRead, read_goal};
 
     ghost Value = { PlacedRead };
@@ -83,23 +84,23 @@ impl<A: Allocator> Model for ReadRound<A> {
     ghost view = { λ r. record { round = record { limits = r.descent.way.limits; key = r.key; goal = read_goal r.going r.aside; leg = r.leg.leg; state = r.descent.way.state }; page = r.descent.page; aside = r.aside; met = r.leg.page } };
 }
 
-impl<A: Allocator + Copy> ReadRound<A> {
-    /// The round to the leaf of the lowest key, before its first step. Takes the memory for the rows of four pages, 213 KB, and is
+impl<R: Rows, A: Allocator + Copy> ReadRound<R, A> {
+    /// The round to the leaf of the lowest key, before its first step. Takes the memory for the records of four pages, 832 bytes, and is
     /// refused for want of it alone. No later call takes memory.
-    pub fn new(alloc: A, limits: &Limits) -> Result<ReadRound<A>, AllocError>
+    pub fn new(alloc: A, limits: &Limits) -> Result<ReadRound<R, A>, AllocError>
         ensures { IfOk result (λ round. round.round ≡ record { limits = limits.now; key = []; goal = goal.Seek; leg = Down None; state = Root }) }
     {
         Ok(ReadRound {
             key: KeyWords::of(&Key::default()),
             going: Going::Seek,
-            leg: Leg::<A>::new(alloc)?,
-            aside: PageInHand::<A>::new(alloc)?,
-            descent: Descent::<A>::new(alloc, limits)?,
+            leg: Leg::<R, A>::new(alloc)?,
+            aside: PageInHand::<R, A>::new(alloc)?,
+            descent: Descent::<R, A>::new(alloc, limits)?,
         })
     }
 }
 
-impl<A: Allocator> ReadRound<A> {
+impl<R: Rows, A: Allocator> ReadRound<R, A> {
     /// Goes back to the root of a tree of these limits.
     pub fn reset(&mut self, limits: &Limits)
         ensures { self.new ≡ record self.old { round = record self.old.round { limits = limits.now; state = Root } } }
@@ -131,14 +132,14 @@ impl<A: Allocator> ReadRound<A> {
     }
 
     /// The page in hand: the one that was read whole last.
-    pub fn page(&self) -> &PageInHand<A>
+    pub fn page(&self) -> &PageInHand<R, A>
         ensures { result.now ≡ self.now.page }
     {
         self.descent.page()
     }
 
     /// The page that is kept aside.
-    pub fn aside(&self) -> &PageInHand<A>
+    pub fn aside(&self) -> &PageInHand<R, A>
         ensures { result.now ≡ self.now.aside }
     {
         &self.aside
@@ -153,164 +154,194 @@ impl<A: Allocator> ReadRound<A> {
         self.descent.asks()
     }
 
-    /// Takes the number that was read in the slot that the round asked for, and tells how the round ends, once it does.
-    pub fn told(&mut self, number: u64) -> Option<ReadEnded>
+    /// Takes the number that was read in the slot that the round asked for, and tells whether the page isn't there, which ends the round:
+    /// a new one begins.
+    pub fn told(&mut self, number: u64) -> bool
         requires told { IsTold (machine reading) self.old.round (Number number) }
-        ensures responds { Responds reading self.old.round (Number number) self.new.round (option_map (ended_read self.new) result) }
+        ensures responds { Responds reading self.old.round (Number number) self.new.round (again_if result) }
         ensures same { IsSame self.old.round self.new.round }
     {
-        let seen = self.descent.told(number);
-        self.see(seen)
+        match self.descent.told(number) {
+            Seen::On => false,
+            Seen::Empty => true,
+            Seen::Whole => unreachable!(),
+        }
     }
 
-    /// Takes the row that the round asked for, gives another one in its place, and tells how the round ends, once it does.
-    pub fn take_row(&mut self, row: &mut HeldRow<A>) -> Option<ReadEnded>
-        requires told { IsTold (machine reading) self.old.round (Content row.old) }
-        ensures responds { Responds reading self.old.round (Content row.old) self.new.round (option_map (ended_read self.new) result) }
+    /// Takes the record that was read in the row that the round asked for, and tells how the round ends, once it does.
+    pub fn take_record(
+        &mut self,
+        found: RowAt<R>,
+        rows: &R,
+        pass: &mut R::Pass,
+    ) -> Option<ReadEnded>
+        requires asked { wanted self.old.round ≡ Row found.row }
+        requires told { IsToldThere (R.has rows.now pass.old) (machine reading) self.old.round (Content found.content) }
+        ensures responds { Responds reading self.old.round (Content found.content) self.new.round (option_map (ended_read self.new) result) }
         ensures same { IsSame self.old.round self.new.round }
+        ensures looks { pass.new ≡ pass.old }
     {
-        let seen = self.descent.take_row(row);
-        self.see(seen)
-    }
-
-    /// Goes on from what was seen, or ends.
-    fn see(&mut self, seen: Seen) -> Option<ReadEnded>
-        requires can { CanSeeToRead self.old seen }
-        ensures sees { SeesToRead self.old seen self.new result }
-        ensures same { IsSame self.old.round self.new.round }
-    {
-        match seen {
+        match self.descent.take_record(found, rows, pass) {
             Seen::On => None,
-            Seen::Empty => Some(ReadEnded::Again),
-            Seen::Whole => self.treat(),
+            Seen::Whole => self.treat(rows, pass),
+            Seen::Empty => unreachable!(),
         }
     }
 
     /// Goes on from the page in hand, which was read now, or ends there.
-    fn treat(&mut self) -> Option<ReadEnded>
+    fn treat(&mut self, rows: &R, pass: &mut R::Pass) -> Option<ReadEnded>
         requires can { CanTreatRead self.old.round self.old.page }
+        requires read { AreReadFor (R.has rows.now pass.old) self.old.round self.old.page }
         ensures treats { TreatsRead self.old.round self.old.page self.new.round (option_map (ended_read self.new) result) }
         ensures same { IsSame self.old.round self.new.round }
+        ensures looks { pass.new ≡ pass.old }
     {
         if self.leg.is_round() {
-            return self.come_nearer();
+            return self.come_nearer(rows, pass);
         }
+        self.page().chain().was_read(rows, pass);
         if self.page().chain().is_removed() {
-            return self.meet_removed();
+            return self.meet_removed(rows, pass);
         }
-        self.go_on()
+        self.go_on(rows, pass)
     }
 
     /// Goes on from the page in hand, which isn't removed, or ends there.
-    fn go_on(&mut self) -> Option<ReadEnded>
+    fn go_on(&mut self, rows: &R, pass: &mut R::Pass) -> Option<ReadEnded>
         requires can { CanGoOn self.old.round self.old.page }
+        requires read { AreReadFor (R.has rows.now pass.old) self.old.round self.old.page }
         ensures treats { TreatsRead self.old.round self.old.page self.new.round (option_map (ended_read self.new) result) }
         ensures same { IsSame self.old.round self.new.round }
+        ensures looks { pass.new ≡ pass.old }
     {
-        if let Some(right) = self.next_aside() {
+        if let Some(right) = self.next_aside(rows, pass) {
             self.descent.go_to(right);
             return None;
         }
+        self.page().chain().was_read(rows, pass);
         if self.page().chain().level() == 0 {
-            return self.end();
+            return self.end(rows, pass);
         }
-        self.go_below();
+        self.go_below(rows, pass);
         None
     }
 
     /// The page's right, where the page in hand ends on the way.
-    fn next_aside(&self) -> Option<u32>
-        ensures { MatchOption result (StaysLeft (read_way self.now.round.goal self.now.round.key) self.now.page.chain) (LeadsRight (read_way self.now.round.goal self.now.round.key) self.now.page.chain) }
+    fn next_aside(&self, rows: &R, pass: &mut R::Pass) -> Option<u32>
+        requires read { AreReadFor (R.has rows.now pass.old) self.now.round self.now.page }
+        ensures looks { pass.new ≡ pass.old }
+        ensures leads { MatchOption result (StaysLeft (read_way self.now.round.goal self.now.round.key) self.now.page.chain) (LeadsRight (read_way self.now.round.goal self.now.round.key) self.now.page.chain) }
     {
         match self.going {
-            Going::Left => self.right_to_the_left(),
-            Going::Seek | Going::Beyond => right_on_way(self.page().chain(), &self.key, false),
+            Going::Left => self.right_to_the_left(rows, pass),
+            Going::Seek | Going::Beyond => {
+                right_on_way(self.page().chain(), rows, pass, &self.key, false)
+            }
         }
     }
 
     /// The same on the way to the left of the page that is kept aside.
     #[inline(never)]
-    fn right_to_the_left(&self) -> Option<u32>
-        ensures { MatchOption result (StaysLeft (precedes (low_in self.now.aside.chain)) self.now.page.chain) (LeadsRight (precedes (low_in self.now.aside.chain)) self.now.page.chain) }
+    fn right_to_the_left(&self, rows: &R, pass: &mut R::Pass) -> Option<u32>
+        requires read { IsReadPage (R.has rows.now pass.old) self.now.page }
+        requires aside { IsReadPage (R.has rows.now pass.old) self.now.aside }
+        ensures looks { pass.new ≡ pass.old }
+        ensures leads { MatchOption result (StaysLeft (precedes (low_in self.now.aside.chain)) self.now.page.chain) (LeadsRight (precedes (low_in self.now.aside.chain)) self.now.page.chain) }
     {
-        let low = KeyWords::of(&self.aside.chain().low());
-        right_on_way(self.page().chain(), &low, true)
+        let low = KeyWords::of(&self.aside.chain().low(rows, pass));
+        right_on_way(self.page().chain(), rows, pass, &low, true)
     }
 
     /// Goes down to a child of the page in hand, which is the page above from then on.
-    fn go_below(&mut self)
+    fn go_below(&mut self, rows: &R, pass: &mut R::Pass)
         requires can { CanGoOn self.old.round self.old.page }
+        requires read { AreReadFor (R.has rows.now pass.old) self.old.round self.old.page }
         requires stays { StaysLeft (read_way self.old.round.goal self.old.round.key) self.old.page.chain }
         requires index { 0 < level_in self.old.page.chain }
         ensures treats { TreatsRead self.old.round self.old.page self.new.round None }
         ensures same { IsSame self.old.round self.new.round }
+        ensures looks { pass.new ≡ pass.old }
     {
-        let child = self.next_below();
+        let child = self.next_below(rows, pass);
         self.leg.go_below(&mut self.descent);
         self.descent.go_to(child);
     }
 
     /// The child of the greatest term on the way.
-    fn next_below(&self) -> u32
+    fn next_below(&self, rows: &R, pass: &mut R::Pass) -> u32
+        requires read { AreReadFor (R.has rows.now pass.old) self.now.round self.now.page }
         requires index { 0 < level_in self.now.page.chain }
         requires reached { IsTrue (read_way self.now.round.goal self.now.round.key (low_in self.now.page.chain)) }
-        ensures { LeadsDown (read_way self.now.round.goal self.now.round.key) self.now.page.chain result }
+        ensures looks { pass.new ≡ pass.old }
+        ensures leads { LeadsDown (read_way self.now.round.goal self.now.round.key) self.now.page.chain result }
     {
         match self.going {
-            Going::Left => self.child_to_the_left(),
-            Going::Seek | Going::Beyond => child_on_way(self.page().chain(), &self.key, false),
+            Going::Left => self.child_to_the_left(rows, pass),
+            Going::Seek | Going::Beyond => {
+                child_on_way(self.page().chain(), rows, pass, &self.key, false)
+            }
         }
     }
 
     /// The same on the way to the left of the page that is kept aside.
     #[inline(never)]
-    fn child_to_the_left(&self) -> u32
+    fn child_to_the_left(&self, rows: &R, pass: &mut R::Pass) -> u32
+        requires read { IsReadPage (R.has rows.now pass.old) self.now.page }
+        requires aside { IsReadPage (R.has rows.now pass.old) self.now.aside }
         requires index { 0 < level_in self.now.page.chain }
         requires reached { IsTrue (precedes (low_in self.now.aside.chain) (low_in self.now.page.chain)) }
-        ensures { LeadsDown (precedes (low_in self.now.aside.chain)) self.now.page.chain result }
+        ensures looks { pass.new ≡ pass.old }
+        ensures leads { LeadsDown (precedes (low_in self.now.aside.chain)) self.now.page.chain result }
     {
-        let low = KeyWords::of(&self.aside.chain().low());
-        child_on_way(self.page().chain(), &low, true)
+        let low = KeyWords::of(&self.aside.chain().low(rows, pass));
+        child_on_way(self.page().chain(), rows, pass, &low, true)
     }
 
     /// Ends at the leaf where the way ends; to the left of a removed page, passes that page.
-    fn end(&mut self) -> Option<ReadEnded>
+    fn end(&mut self, rows: &R, pass: &mut R::Pass) -> Option<ReadEnded>
         requires can { CanGoOn self.old.round self.old.page }
+        requires read { AreReadFor (R.has rows.now pass.old) self.old.round self.old.page }
         requires ends { EndsHere (read_way self.old.round.goal self.old.round.key) self.old.page.chain }
         ensures treats { TreatsRead self.old.round self.old.page self.new.round (option_map (ended_read self.new) result) }
         ensures same { IsSame self.old.round self.new.round }
+        ensures looks { pass.new ≡ pass.old }
     {
         match self.going {
-            Going::Left => self.pass(),
+            Going::Left => self.pass_removed(rows, pass),
             Going::Seek | Going::Beyond => Some(ReadEnded::Leaf),
         }
     }
 
     /// Ends beside the removed page, or goes on to the right of it; where it was merged, goes on for the key.
     #[inline(never)]
-    fn pass(&mut self) -> Option<ReadEnded>
+    fn pass_removed(&mut self, rows: &R, pass: &mut R::Pass) -> Option<ReadEnded>
         requires can { CanGoOn (toward (goal.Left self.old.aside) self.old.round) self.old.page }
+        requires read { IsReadPage (R.has rows.now pass.old) self.old.page }
+        requires aside { IsReadPage (R.has rows.now pass.old) self.old.aside }
         requires ends { EndsHere (precedes (low_in self.old.aside.chain)) self.old.page.chain }
         ensures treats { TreatsRead (toward (goal.Left self.old.aside) self.old.round) self.old.page self.new.round (option_map (ended_read self.new) result) }
         ensures same { IsSame self.old.round self.new.round }
+        ensures looks { pass.new ≡ pass.old }
     {
-        if self.is_beside() {
-            return match right_on_way(self.aside.chain(), &self.key, false) {
+        if self.is_beside(rows, pass) {
+            return match right_on_way(self.aside.chain(), rows, pass, &self.key, false) {
                 None => Some(ReadEnded::Beside),
                 Some(right) => self.go_beyond(right),
             };
         }
-        match right_on_way(self.descent.page().chain(), &self.key, false) {
+        match right_on_way(self.descent.page().chain(), rows, pass, &self.key, false) {
             None => Some(ReadEnded::Leaf),
             Some(right) => self.go_beyond(right),
         }
     }
 
     /// Whether the page that is kept aside is the right of the page in hand.
-    fn is_beside(&self) -> bool
-        ensures { Decides result (right_in self.now.page.chain ≡ Some self.now.aside.pid) }
+    fn is_beside(&self, rows: &R, pass: &mut R::Pass) -> bool
+        requires read { IsReadPage (R.has rows.now pass.old) self.now.page }
+        ensures looks { pass.new ≡ pass.old }
+        ensures beside { Decides result (right_in self.now.page.chain ≡ Some self.now.aside.pid) }
     {
-        match self.descent.page().chain().right() {
+        match self.descent.page().chain().right(rows, pass) {
             Some(right) => right == self.aside.pid(),
             None => false,
         }

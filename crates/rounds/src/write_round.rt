@@ -2,12 +2,13 @@
 ghost use Rattle.std.specs.Prelude.{◌≡◌, ◌<◌, ℕ, IfOk, IsTrue, MatchOption, None, Some, [], true, false, option_copied};
 ghost use Rattle.std.specs.Option.{option_map};
 ghost use Rattle.bw_model.specs.declared.step.Answer.TheVariants.{Content, Number};
+ghost use Rattle.bw_model.specs.declared.step.Step.TheVariants.{Row};
 ghost use Rattle.traces.specs.chain.Chains.{is_removed, level_in, low_in};
 ghost use Rattle.traces.specs.discipline.Discipline.{May};
 ghost use Rattle.traces.specs.discipline.Knowledge.{Knowledge};
 ghost use Rattle.traces.specs.discipline.Recalled.{Recalled};
 ghost use Rattle.descent.specs.Courses as goal;
-ghost use Rattle.descent.specs.Machines.{IsTold};
+ghost use Rattle.descent.specs.Machines.{IsTold, IsToldThere};
 ghost use Rattle.descent.specs.Rounds.{Responds, machine};
 ghost use Rattle.descent.specs.Visits.{ReadsWithin, reads_on};
 ghost use Rattle.descent.specs.WriteResponses.{CanTreatWrite, IsFine, IsHere, IsIdleOnWay, IsAtLeft, IsSplitFinished, TreatsWrite, writing};
@@ -15,7 +16,8 @@ ghost use Rattle.descent.specs.WriteRounds.{IsSame, SeeksLeaf, Shows, ends_at, g
 ghost use Rattle.descent.specs.Ways.{LeadsDown, LeadsRight, StaysLeft};
 ghost use Rattle.descent.specs.Descents.{Root};
 ghost use Rattle.rounds.specs.Descents.{asked_step};
-ghost use Rattle.rounds.specs.WriteRounds.{CanSeeToWrite, SeesToWrite, again_if, ended_write};
+ghost use Rattle.rounds.specs.WriteRounds.{AreReadToWrite, again_if, ended_write};
+ghost use Rattle.smo.specs.Reads.{IsReadPage};
 
 mod due;
 
@@ -23,23 +25,22 @@ use crate::course::{Aim, Course};
 use crate::way::{child_on_way, right_on_way};
 use crate::{Asked, Descent, Seen, WriteEnded};
 use bw_model::{Key, Limits};
-use row_chain::HeldRow;
-use row_search::KeyWords;
+use row_search::{KeyWords, RowAt, Rows};
 use smo::{MANY_DELTAS, PageInHand};
 use std::alloc::{AllocError, Allocator, Global};
 use std::marker::Model;
 
 /// One round of a writer from the root, and the next one in the same place.
-pub struct WriteRound<A: Allocator = Global> {
+pub struct WriteRound<R: Rows, A: Allocator = Global> {
     key: KeyWords,
     due: usize,
     tends: bool,
     floor: u8,
-    course: Course<A>,
-    descent: Descent<A>,
+    course: Course<R, A>,
+    descent: Descent<R, A>,
 }
 
-impl<A: Allocator> Drop for WriteRound<A> {
+impl<R: Rows, A: Allocator> Drop for WriteRound<R, A> {
     fn drop(self) {
         let WriteRound {
             key: _,
@@ -52,7 +53,7 @@ impl<A: Allocator> Drop for WriteRound<A> {
     }
 }
 
-impl<A: Allocator> Model for WriteRound<A> {
+impl<R: Rows, A: Allocator> Model for WriteRound<R, A> {
     ghost use Rattle.rounds.specs.WriteRounds.{PlacedWrite};
 
     ghost Value = { PlacedWrite };
@@ -60,11 +61,10 @@ impl<A: Allocator> Model for WriteRound<A> {
     ghost view = { λ r. record { round = record { limits = r.descent.way.limits; key = r.key; due = r.due; tends = r.tends; floor = r.floor; goal = r.course.course.goal; parent = r.course.course.parent; left = r.course.course.left; state = r.descent.way.state }; page = r.descent.page; parent = r.course.parent; left = r.course.left } };
 }
 
-impl<A: Allocator + Copy> WriteRound<A> {
+impl<R: Rows, A: Allocator + Copy> WriteRound<R, A> {
     /// The round to the leaf of the lowest key, before its first step, where as many deltas are due as on any page, and no index page is
-    /// held or removed. Takes the memory for
-    /// the rows of four pages, 213 KB, and is refused for want of it alone. No later call takes memory.
-    pub fn new(alloc: A, limits: &Limits) -> Result<WriteRound<A>, AllocError>
+    /// held or removed. Takes the memory for four pages, 832 bytes, and is refused for want of it alone. No later call takes memory.
+    pub fn new(alloc: A, limits: &Limits) -> Result<WriteRound<R, A>, AllocError>
         ensures { IfOk result (λ round. round.round ≡ record { limits = limits.now; key = []; due = 8; tends = false; floor = 0; goal = goal.Seek; parent = None; left = None; state = Root }) }
     {
         Ok(WriteRound {
@@ -72,13 +72,13 @@ impl<A: Allocator + Copy> WriteRound<A> {
             due: MANY_DELTAS,
             tends: false,
             floor: 0,
-            course: Course::<A>::new(alloc)?,
-            descent: Descent::<A>::new(alloc, limits)?,
+            course: Course::<R, A>::new(alloc)?,
+            descent: Descent::<R, A>::new(alloc, limits)?,
         })
     }
 }
 
-impl<A: Allocator> WriteRound<A> {
+impl<R: Rows, A: Allocator> WriteRound<R, A> {
     /// Goes back to the root of a tree of these limits.
     pub fn reset(&mut self, limits: &Limits)
         ensures { self.new ≡ record self.old { round = record self.old.round { limits = limits.now; state = Root } } }
@@ -113,28 +113,28 @@ impl<A: Allocator> WriteRound<A> {
     }
 
     /// The page in hand: the one that was read whole last, until it was kept.
-    pub fn page(&self) -> &PageInHand<A>
+    pub fn page(&self) -> &PageInHand<R, A>
         ensures { result.now ≡ self.now.page }
     {
         self.descent.page()
     }
 
     /// The page that stands in the parent's place.
-    pub fn parent(&self) -> &PageInHand<A>
+    pub fn parent(&self) -> &PageInHand<R, A>
         ensures { result.now ≡ self.now.parent }
     {
         self.course.parent()
     }
 
     /// The page that stands in the left one's place.
-    pub fn left(&self) -> &PageInHand<A>
+    pub fn left(&self) -> &PageInHand<R, A>
         ensures { result.now ≡ self.now.left }
     {
         self.course.left()
     }
 
     /// The parent of the pages that are read, where one is kept.
-    pub fn kept_parent(&self) -> Option<&PageInHand<A>>
+    pub fn kept_parent(&self) -> Option<&PageInHand<R, A>>
         ensures { option_copied result ≡ self.now.round.parent }
     {
         if self.course.has_parent() {
@@ -166,115 +166,125 @@ impl<A: Allocator> WriteRound<A> {
         }
     }
 
-    /// Takes the row that the round asked for, which stands over another one, and gives another one in its place.
-    pub fn read_on(&mut self, row: &mut HeldRow<A>)
-        requires told { IsTold (machine writing) self.old.round (Content row.old) }
-        requires on { reads_on (Content row.old) ≡ true }
-        ensures responds { Responds writing self.old.round (Content row.old) self.new.round None }
+    /// Takes the record that was read in the row that the round asked for, which stands over another one.
+    pub fn read_on(&mut self, found: RowAt<R>, rows: &R, pass: &mut R::Pass)
+        requires asked { wanted self.old.round ≡ Row found.row }
+        requires told { IsToldThere (R.has rows.now pass.old) (machine writing) self.old.round (Content found.content) }
+        requires on { reads_on (Content found.content) ≡ true }
+        ensures looks { pass.new ≡ pass.old }
+        ensures responds { Responds writing self.old.round (Content found.content) self.new.round None }
         ensures same { IsSame self.old.round self.new.round }
     {
-        self.descent.take_row(row);
+        self.descent.take_record(found, rows, pass);
     }
 
-    /// Takes the row that the round asked for, gives another one in its place, and tells how the round ends, once it does.
+    /// Takes the record that was read in the row that the round asked for, and tells how the round ends, once it does.
     #[inline(never)]
-    pub fn take_row(&mut self, row: &mut HeldRow<A>) -> Option<WriteEnded>
-        requires told { IsTold (machine writing) self.old.round (Content row.old) }
-        ensures responds { Responds writing self.old.round (Content row.old) self.new.round (option_map (ended_write self.new) result) }
+    pub fn take_record(
+        &mut self,
+        found: RowAt<R>,
+        rows: &R,
+        pass: &mut R::Pass,
+    ) -> Option<WriteEnded>
+        requires asked { wanted self.old.round ≡ Row found.row }
+        requires told { IsToldThere (R.has rows.now pass.old) (machine writing) self.old.round (Content found.content) }
+        ensures looks { pass.new ≡ pass.old }
+        ensures responds { Responds writing self.old.round (Content found.content) self.new.round (option_map (ended_write self.new) result) }
         ensures same { IsSame self.old.round self.new.round }
     {
-        let seen = self.descent.take_row(row);
-        self.see(seen)
-    }
-
-    /// Goes on from what was seen, or ends.
-    fn see(&mut self, seen: Seen) -> Option<WriteEnded>
-        requires can { CanSeeToWrite self.old seen }
-        ensures sees { SeesToWrite self.old seen self.new result }
-        ensures same { IsSame self.old.round self.new.round }
-    {
-        match seen {
+        match self.descent.take_record(found, rows, pass) {
             Seen::On => None,
-            Seen::Empty => Some(WriteEnded::Again),
-            Seen::Whole => self.treat(),
+            Seen::Whole => self.treat(rows, pass),
+            Seen::Empty => unreachable!(),
         }
     }
 
     /// Goes on from the page in hand, which was read now, or ends there, by what it was read for.
-    fn treat(&mut self) -> Option<WriteEnded>
+    fn treat(&mut self, rows: &R, pass: &mut R::Pass) -> Option<WriteEnded>
+        requires read { AreReadToWrite (R.has rows.now pass.old) self.old.round self.old.page }
         requires can { CanTreatWrite self.old.round self.old.page }
+        ensures looks { pass.new ≡ pass.old }
         ensures treats { TreatsWrite self.old.round self.old.page self.new.round (option_map (ended_write self.new) result) }
         ensures same { IsSame self.old.round self.new.round }
     {
         if self.course.seeks_leaf() {
-            return self.meet();
+            return self.meet(rows, pass);
         }
-        Some(self.end_again())
+        Some(self.end_again(rows, pass))
     }
 
     /// Ends at the removed page, which was read again.
     #[inline(never)]
-    fn end_again(&self) -> WriteEnded
+    fn end_again(&self, rows: &R, pass: &mut R::Pass) -> WriteEnded
+        requires read { AreReadToWrite (R.has rows.now pass.old) self.now.round self.now.page }
         requires can { CanTreatWrite self.now.round self.now.page }
         requires again { ¬ SeeksLeaf self.now.round.goal }
-        ensures { TreatsWrite self.now.round self.now.page self.now.round (Some (ended_write self.now result)) }
+        ensures looks { pass.new ≡ pass.old }
+        ensures treats { TreatsWrite self.now.round self.now.page self.now.round (Some (ended_write self.now result)) }
     {
         match self.course.aim() {
             Aim::Seek | Aim::Left(_) => unreachable!(),
-            Aim::Merge => self.end_merge(),
-            Aim::Unterm => self.end_unterm(),
+            Aim::Merge => self.end_merge(rows, pass),
+            Aim::Unterm => self.end_unterm(rows, pass),
         }
     }
 
     /// Ends at a removed page; else goes on from the page, or ends there.
-    fn meet(&mut self) -> Option<WriteEnded>
+    fn meet(&mut self, rows: &R, pass: &mut R::Pass) -> Option<WriteEnded>
+        requires read { AreReadToWrite (R.has rows.now pass.old) self.old.round self.old.page }
         requires can { CanTreatWrite self.old.round self.old.page }
         requires seeks { SeeksLeaf self.old.round.goal }
+        ensures looks { pass.new ≡ pass.old }
         ensures treats { TreatsWrite self.old.round self.old.page self.new.round (option_map (ended_write self.new) result) }
         ensures same { IsSame self.old.round self.new.round }
     {
+        self.page().chain().was_read(rows, pass);
         if self.page().chain().is_removed() {
             return Some(WriteEnded::Removed);
         }
         if self.course.has_left() {
-            return self.finish();
+            return self.finish(rows, pass);
         }
-        self.decide()
+        self.decide(rows, pass)
     }
 
     /// Ends where a change is due that finishes the split of the left page; else treats the page as any other.
     #[inline(never)]
-    fn finish(&mut self) -> Option<WriteEnded>
+    fn finish(&mut self, rows: &R, pass: &mut R::Pass) -> Option<WriteEnded>
+        requires read { AreReadToWrite (R.has rows.now pass.old) self.old.round self.old.page }
         requires can { CanTreatWrite self.old.round self.old.page }
         requires seeks { SeeksLeaf self.old.round.goal }
         requires alive { is_removed self.old.page.chain ≡ false }
         requires left { self.old.round.left ≡ Some self.old.left }
+        ensures looks { pass.new ≡ pass.old }
         ensures treats { TreatsWrite self.old.round self.old.page self.new.round (option_map (ended_write self.new) result) }
         ensures same { IsSame self.old.round self.new.round }
     {
         if self.course.has_parent() {
-            return match self.due_term() {
+            return match self.due_term(rows, pass) {
                 Some(term) => Some(WriteEnded::Term(term)),
-                None => self.decide(),
+                None => self.decide(rows, pass),
             };
         }
-        match self.due_root() {
+        match self.due_root(rows, pass) {
             Some(root) => Some(WriteEnded::Root(root)),
-            None => self.decide(),
+            None => self.decide(rows, pass),
         }
     }
 
     /// Goes on to the right of a page that ends on the way; else settles what is due at the page.
-    fn decide(&mut self) -> Option<WriteEnded>
+    fn decide(&mut self, rows: &R, pass: &mut R::Pass) -> Option<WriteEnded>
+        requires read { AreReadToWrite (R.has rows.now pass.old) self.old.round self.old.page }
         requires can { CanTreatWrite self.old.round self.old.page }
         requires seeks { SeeksLeaf self.old.round.goal }
         requires alive { is_removed self.old.page.chain ≡ false }
         requires finished { IsSplitFinished self.old.round.parent self.old.round.left self.old.page }
+        ensures looks { pass.new ≡ pass.old }
         ensures treats { TreatsWrite self.old.round self.old.page self.new.round (option_map (ended_write self.new) result) }
         ensures same { IsSame self.old.round self.new.round }
     {
-        match self.next_aside() {
-            None => self.settle(),
+        match self.next_aside(rows, pass) {
+            None => self.settle(rows, pass),
             Some(right) => {
                 self.course.keep_left(&mut self.descent);
                 self.descent.go_to(right);
@@ -284,126 +294,143 @@ impl<A: Allocator> WriteRound<A> {
     }
 
     /// The page's right, where the page ends on the way.
-    fn next_aside(&self) -> Option<u32>
-        ensures { MatchOption result (StaysLeft (write_way self.now.round.goal self.now.round.key) self.now.page.chain) (LeadsRight (write_way self.now.round.goal self.now.round.key) self.now.page.chain) }
+    fn next_aside(&self, rows: &R, pass: &mut R::Pass) -> Option<u32>
+        requires read { IsReadPage (R.has rows.now pass.old) self.now.page }
+        ensures looks { pass.new ≡ pass.old }
+        ensures aside { MatchOption result (StaysLeft (write_way self.now.round.goal self.now.round.key) self.now.page.chain) (LeadsRight (write_way self.now.round.goal self.now.round.key) self.now.page.chain) }
     {
-        right_on_way(self.page().chain(), &self.key, self.is_left())
+        right_on_way(self.page().chain(), rows, pass, &self.key, self.is_left())
     }
 
     /// Ends where the page is to be consolidated or split; else ends at it, or goes down.
-    fn settle(&mut self) -> Option<WriteEnded>
+    fn settle(&mut self, rows: &R, pass: &mut R::Pass) -> Option<WriteEnded>
+        requires read { AreReadToWrite (R.has rows.now pass.old) self.old.round self.old.page }
         requires can { CanTreatWrite self.old.round self.old.page }
         requires here { IsHere self.old.round self.old.page }
+        ensures looks { pass.new ≡ pass.old }
         ensures treats { TreatsWrite self.old.round self.old.page self.new.round (option_map (ended_write self.new) result) }
         ensures same { IsSame self.old.round self.new.round }
     {
-        if self.is_long() {
+        if self.is_long(rows, pass) {
             return Some(WriteEnded::Consolidate);
         }
-        if self.is_wide() {
-            return Some(WriteEnded::Split(self.due_split()));
+        if self.is_wide(rows, pass) {
+            return Some(WriteEnded::Split(self.due_split(rows, pass)));
         }
-        self.go_on()
+        self.go_on(rows, pass)
     }
 
     /// Goes down from a page at which nothing is due, or ends there, where the round ends at its level.
-    fn go_on(&mut self) -> Option<WriteEnded>
+    fn go_on(&mut self, rows: &R, pass: &mut R::Pass) -> Option<WriteEnded>
+        requires read { AreReadToWrite (R.has rows.now pass.old) self.old.round self.old.page }
         requires can { CanTreatWrite self.old.round self.old.page }
         requires here { IsHere self.old.round self.old.page }
         requires fine { IsFine self.old.round.limits self.old.round.due self.old.page }
+        ensures looks { pass.new ≡ pass.old }
         ensures treats { TreatsWrite self.old.round self.old.page self.new.round (option_map (ended_write self.new) result) }
         ensures same { IsSame self.old.round self.new.round }
     {
+        self.page().chain().was_read(rows, pass);
         let level = self.page().chain().level();
         let floor = self.floor();
         if level < floor {
             return Some(WriteEnded::Again);
         }
         if level == floor {
-            return self.end();
+            return self.end(rows, pass);
         }
         if self.tends {
-            return self.tend();
+            return self.tend(rows, pass);
         }
-        self.go_below();
+        self.go_below(rows, pass);
         None
     }
 
     /// Ends at a small index page where it is to be removed or its term to be held; else goes down.
     #[inline(never)]
-    fn tend(&mut self) -> Option<WriteEnded>
+    fn tend(&mut self, rows: &R, pass: &mut R::Pass) -> Option<WriteEnded>
+        requires read { AreReadToWrite (R.has rows.now pass.old) self.old.round self.old.page }
         requires can { CanTreatWrite self.old.round self.old.page }
         requires here { IsHere self.old.round self.old.page }
         requires fine { IsFine self.old.round.limits self.old.round.due self.old.page }
         requires index { ends_at self.old.round.goal self.old.round.floor < level_in self.old.page.chain }
         requires tends { self.old.round.tends ≡ true }
+        ensures looks { pass.new ≡ pass.old }
         ensures treats { TreatsWrite self.old.round self.old.page self.new.round (option_map (ended_write self.new) result) }
         ensures same { IsSame self.old.round self.new.round }
     {
-        match self.due_upkeep() {
+        match self.due_upkeep(rows, pass) {
             Some(upkeep) => Some(WriteEnded::Tend(upkeep)),
             None => {
-                self.go_below();
+                self.go_below(rows, pass);
                 None
             }
         }
     }
 
     /// Goes down to a child of the page, which is the parent of those that are read from now on.
-    fn go_below(&mut self)
+    fn go_below(&mut self, rows: &R, pass: &mut R::Pass)
+        requires read { AreReadToWrite (R.has rows.now pass.old) self.old.round self.old.page }
         requires can { CanTreatWrite self.old.round self.old.page }
         requires here { IsHere self.old.round self.old.page }
         requires fine { IsFine self.old.round.limits self.old.round.due self.old.page }
         requires index { ends_at self.old.round.goal self.old.round.floor < level_in self.old.page.chain }
         requires idle { IsIdleOnWay self.old.round self.old.page }
+        ensures looks { pass.new ≡ pass.old }
         ensures treats { TreatsWrite self.old.round self.old.page self.new.round None }
         ensures same { IsSame self.old.round self.new.round }
     {
-        let child = self.next_below();
+        let child = self.next_below(rows, pass);
         self.course.go_below(&mut self.descent);
         self.descent.go_to(child);
     }
 
     /// The child of the greatest term on the way.
-    fn next_below(&self) -> u32
+    fn next_below(&self, rows: &R, pass: &mut R::Pass) -> u32
+        requires read { IsReadPage (R.has rows.now pass.old) self.now.page }
         requires index { 0 < level_in self.now.page.chain }
         requires reached { IsTrue (write_way self.now.round.goal self.now.round.key (low_in self.now.page.chain)) }
         requires stays { StaysLeft (write_way self.now.round.goal self.now.round.key) self.now.page.chain }
-        ensures { LeadsDown (write_way self.now.round.goal self.now.round.key) self.now.page.chain result }
+        ensures looks { pass.new ≡ pass.old }
+        ensures leads { LeadsDown (write_way self.now.round.goal self.now.round.key) self.now.page.chain result }
     {
-        child_on_way(self.page().chain(), &self.key, self.is_left())
+        child_on_way(self.page().chain(), rows, pass, &self.key, self.is_left())
     }
 
     /// Ends at the leaf; to the left of a removed page, reads that one again where a change may be due.
-    fn end(&mut self) -> Option<WriteEnded>
+    fn end(&mut self, rows: &R, pass: &mut R::Pass) -> Option<WriteEnded>
+        requires read { AreReadToWrite (R.has rows.now pass.old) self.old.round self.old.page }
         requires can { CanTreatWrite self.old.round self.old.page }
         requires here { IsHere self.old.round self.old.page }
         requires fine { IsFine self.old.round.limits self.old.round.due self.old.page }
         requires level { level_in self.old.page.chain ≡ ends_at self.old.round.goal self.old.round.floor }
+        ensures looks { pass.new ≡ pass.old }
         ensures treats { TreatsWrite self.old.round self.old.page self.new.round (option_map (ended_write self.new) result) }
         ensures same { IsSame self.old.round self.new.round }
     {
         match self.course.removed() {
-            Some(pid) => self.end_left(pid),
+            Some(pid) => self.end_left(rows, pass, pid),
             None => Some(WriteEnded::Leaf),
         }
     }
 
     /// Reads the removed page again where it is the page's right, or the parent has its term; else nothing is due.
     #[inline(never)]
-    fn end_left(&mut self, pid: u32) -> Option<WriteEnded>
+    fn end_left(&mut self, rows: &R, pass: &mut R::Pass, pid: u32) -> Option<WriteEnded>
+        requires read { AreReadToWrite (R.has rows.now pass.old) self.old.round self.old.page }
         requires some { 0 < pid }
         requires below { pid < self.old.round.limits.pids }
         requires left { IsAtLeft self.old.round self.old.page pid }
+        ensures looks { pass.new ≡ pass.old }
         ensures treats { TreatsWrite self.old.round self.old.page self.new.round (option_map (ended_write self.new) result) }
         ensures same { IsSame self.old.round self.new.round }
     {
-        if self.page().chain().right() == Some(pid) {
+        if self.page().chain().right(rows, pass) == Some(pid) {
             self.course.go_to_merge(&mut self.descent);
             self.descent.go_to(pid);
             return None;
         }
-        if !self.has_term(pid) {
+        if !self.has_term(rows, pass, pid) {
             return Some(WriteEnded::Done);
         }
         self.course.go_to_unterm(&mut self.descent);

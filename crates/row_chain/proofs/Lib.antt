@@ -6,6 +6,7 @@ pub mod Making
 pub mod Newest
 pub mod Offers
 pub mod OneKeys
-pub mod Opening
 pub mod PairLaws
+pub mod Places
+pub mod Standing
 pub mod WalkLaws

@@ -1,11 +1,11 @@
-//! The chain of a page as it was read.
-ghost use Rattle.std.specs.Prelude.{◌≡◌, ◌+◌, ◌∷◌, [], IfOk, length};
+//! The chain of a page as it was read, where its records lie.
+ghost use Rattle.std.specs.Prelude.{◌≡◌, ◌<◌, ◌+◌, [], IfOk, length};
+ghost use Rattle.std.specs.List.{All};
 ghost use Rattle.bw_model.specs.Bytes.{is_under};
-ghost use Rattle.base_page.specs.Pages.{empty_leaf};
-ghost use Rattle.deltas.specs.declared.record.Record.TheVariants.{Base};
 ghost use Rattle.record_slots.specs.Parts.{row_of};
 ghost use Rattle.traces.specs.chain.Chains.{covers, high_in, is_removed, level_in, low_in, right_in};
 ghost use Rattle.traces.specs.chain.Fitted.{IsPageChain};
+ghost use Rattle.row_chain.specs.Placed.{AreFrom, IsReadChain, contents};
 
 mod count;
 mod pages;
@@ -14,51 +14,45 @@ mod rows;
 mod search;
 mod walk;
 
-use crate::{ChainPart, HeldRow};
-use base_page::Page;
+use crate::ChainPart;
 use bw_model::Key;
-use deltas::Record;
-use row_search::{KeyWords, Row};
+use row_search::{KeyWords, RowAt, Rows};
 use std::alloc::{AllocError, Allocator, Global};
 use std::marker::Model;
 use std::mem;
 
-/// The records of one page, each of which fits what is under it: at most twelve deltas, the newest first, over a base.
+/// The records of one page, each of which fits what is under it: at most twelve deltas, the newest first, over a base. Before the first
+/// page was received there are none.
 #[derive(Drop)]
-pub struct Chain<A: Allocator = Global> {
-    part: ChainPart<A>,
+pub struct Chain<R: Rows, A: Allocator = Global> {
+    part: ChainPart<R, A>,
 }
 
-impl<A: Allocator> Model for Chain<A> {
-    ghost use Rattle.std.specs.Prelude.{List};
-    ghost use Rattle.deltas.specs.declared.record.Record.{Record};
+impl<R: Rows, A: Allocator> Model for Chain<R, A> {
+    ghost use Rattle.std.specs.Prelude.{◌<◌, length};
     ghost use Rattle.traces.specs.chain.Fitted.{IsPageChain};
+    ghost use Rattle.row_chain.specs.Placed.{PlacedChain};
 
-    ghost Value = { List Record };
+    ghost Value = { PlacedChain };
 
     ghost view = { λ c. c.part };
 
-    ghost invariant = { λ c. IsPageChain c.part };
+    ghost invariant = { λ c. 0 < length c.part.records → IsPageChain c.part.records };
 }
 
-impl<A: Allocator + Copy> Chain<A> {
-    /// The chain of the page that opens a tree. Takes the memory for all rows, as a part does, and is refused for want of it alone. No
-    /// later call takes memory.
-    pub fn new(alloc: A) -> Result<Chain<A>, AllocError>
-        ensures { IfOk result (λ chain. chain ≡ Base empty_leaf ∷ []) }
+impl<R: Rows, A: Allocator> Chain<R, A> {
+    /// No records yet, of a page that begins in row 1. Takes the memory for all, 208 bytes, and is refused for want of it alone. No later call takes memory.
+    pub fn new(alloc: A) -> Result<Chain<R, A>, AllocError>
+        ensures { IfOk result (λ chain. chain ≡ record { head = 1; records = [] }) }
     {
-        let mut part = ChainPart::<A>::new(alloc)?;
-        let mut row = HeldRow::<A>::new(alloc)?;
-        row.write(&Record::Base(Page::empty_leaf()));
-        part.push(&mut row);
-        Ok(Chain { part })
+        Ok(Chain {
+            part: ChainPart::<R, A>::new(alloc)?,
+        })
     }
-}
 
-impl<A: Allocator> Chain<A> {
-    /// Receives what was read as a page's whole chain, and gives the chain that it was: the two change hands, and no row is moved.
-    pub fn receive(&mut self, part: &mut ChainPart<A>)
-        requires { IsPageChain part.old }
+    /// Receives what was read as a page's whole chain, and gives the chain that it was: the two change hands, and no record is moved.
+    pub fn receive(&mut self, part: &mut ChainPart<R, A>)
+        requires { IsPageChain part.old.records }
         ensures chain { self.new ≡ part.old }
         ensures part { part.new ≡ self.old }
     {
@@ -67,98 +61,136 @@ impl<A: Allocator> Chain<A> {
 
     /// Shows that the chain keeps the rules of a page's chain, at no cost.
     pub fn keeps_rules(&self)
-        ensures { IsPageChain self.now }
+        requires { 0 < length self.now.records }
+        ensures { IsPageChain self.now.records }
     {
         let _ = &self.part;
     }
 
     /// How many deltas stand over the base.
     pub fn deltas(&self) -> usize
-        ensures { result + 1 ≡ length self.now }
+        requires { 0 < length self.now.records }
+        ensures { result + 1 ≡ length self.now.records }
     {
-        self.keeps_rules();
-        self.as_slice().len() - 1
+        self.part.len() - 1
     }
 
     /// The level: 0 for leaves, one more for each level above.
     pub fn level(&self) -> u8
-        ensures { result ≡ level_in self.now }
+        requires { 0 < length self.now.records }
+        ensures { result ≡ level_in self.now.records }
     {
         self.base().level()
     }
 
     /// The lowest key that the page may have.
-    pub fn low(&self) -> Key
-        ensures { result ≡ low_in self.now }
+    pub fn low(&self, rows: &R, pass: &mut R::Pass) -> Key
+        requires read { IsReadChain (R.has rows.now pass.old) self.now }
+        ensures same { pass.new ≡ pass.old }
+        ensures low { result ≡ low_in self.now.records }
     {
-        self.base().first()
+        self.base_read(rows, pass).first(rows, pass)
     }
 
     /// Whether the page is removed: nothing stands over a removal.
     pub fn is_removed(&self) -> bool
-        ensures { result ≡ is_removed self.now }
+        requires { 0 < length self.now.records }
+        ensures { result ≡ is_removed self.now.records }
     {
         self.keeps_rules();
-        self.as_slice()[0].row().removes()
+        self.part.as_slice()[0].removes()
     }
 
     /// The base, which is the last record; no delta changes its level nor its lowest key.
-    fn base(&self) -> &Row
-        ensures level { (row_of result.now).level ≡ level_in self.now }
-        ensures low { (row_of result.now).first ≡ low_in self.now }
+    fn base(&self) -> &RowAt<R>
+        requires { 0 < length self.now.records }
+        ensures level { (row_of result.now.content).level ≡ level_in self.now.records }
+        ensures low { (row_of result.now.content).first ≡ low_in self.now.records }
     {
         self.keeps_rules();
-        self.as_slice()[self.deltas()].row()
+        &self.part.as_slice()[self.deltas()]
     }
 
-    /// Its rows in order, the newest first.
-    pub fn as_slice(&self) -> &[HeldRow<A>]
-        ensures { result.now ≡ self.now }
+    /// The same, to look at.
+    fn base_read(&self, rows: &R, pass: &R::Pass) -> &RowAt<R>
+        requires { IsReadChain (R.has rows.now pass.now) self.now }
+        ensures there { R.has rows.now pass.now result.now.row result.now.content }
+        ensures low { (row_of result.now.content).first ≡ low_in self.now.records }
     {
+        self.was_read(rows, pass);
+        self.keeps_rules();
+        &self.as_read(rows, pass)[self.deltas()]
+    }
+
+    /// Shows that a chain that was read has a record, at no cost.
+    pub fn was_read(&self, rows: &R, pass: &R::Pass)
+        requires { IsReadChain (R.has rows.now pass.now) self.now }
+        ensures { 0 < length self.now.records }
+    {
+        let _ = rows;
+        let _ = pass;
+    }
+
+    /// Its records in order, the newest first: each may be looked at.
+    pub fn as_read(&self, rows: &R, pass: &R::Pass) -> &[RowAt<R>]
+        requires { IsReadChain (R.has rows.now pass.now) self.now }
+        ensures records { contents result.now ≡ self.now.records }
+        ensures there { All (λ placed. R.has rows.now pass.now placed.row placed.content) result.now }
+    {
+        let _ = rows;
+        let _ = pass;
         self.part.as_slice()
     }
 
     /// The key from which on keys are in pages to the right, or none.
-    pub fn high(&self) -> Option<Key>
-        ensures { result ≡ high_in self.now }
+    pub fn high(&self, rows: &R, pass: &mut R::Pass) -> Option<Key>
+        requires read { IsReadChain (R.has rows.now pass.old) self.now }
+        ensures same { pass.new ≡ pass.old }
+        ensures high { result ≡ high_in self.now.records }
     {
-        for newest in self.as_slice() {
-            if newest.row().ends() {
-                return newest.row().high();
+        for newest in self.as_read(rows, pass) {
+            if newest.ends() {
+                return newest.high(rows, pass);
             }
         }
         None
     }
 
     /// The PID of the next page to the right on the level, or none.
-    pub fn right(&self) -> Option<u32>
-        ensures { result ≡ right_in self.now }
+    pub fn right(&self, rows: &R, pass: &mut R::Pass) -> Option<u32>
+        requires read { IsReadChain (R.has rows.now pass.old) self.now }
+        ensures same { pass.new ≡ pass.old }
+        ensures right { result ≡ right_in self.now.records }
     {
-        for newest in self.as_slice() {
-            if newest.row().ends() {
-                return newest.row().right();
+        for newest in self.as_read(rows, pass) {
+            if newest.ends() {
+                return newest.right(rows, pass);
             }
         }
         None
     }
 
     /// Whether the key is in the page's range.
-    pub fn covers(&self, key: &KeyWords) -> bool
-        ensures { result ≡ covers self.now key.now }
+    pub fn covers(&self, rows: &R, pass: &mut R::Pass, key: &KeyWords) -> bool
+        requires read { IsReadChain (R.has rows.now pass.old) self.now }
+        ensures same { pass.new ≡ pass.old }
+        ensures covers { result ≡ covers self.now.records key.now }
     {
-        if !self.base().begins_by(key) {
+        if !self.base_read(rows, pass).begins_by(rows, pass, key) {
             return false;
         }
-        self.ends_after(key)
+        self.ends_after(rows, pass, key)
     }
 
     /// Whether the key is below the page's end.
-    pub fn ends_after(&self, key: &KeyWords) -> bool
-        ensures { result ≡ is_under key.now (high_in self.now) }
+    pub fn ends_after(&self, rows: &R, pass: &mut R::Pass, key: &KeyWords) -> bool
+        requires read { IsReadChain (R.has rows.now pass.old) self.now }
+        ensures same { pass.new ≡ pass.old }
+        ensures ends { result ≡ is_under key.now (high_in self.now.records) }
     {
-        for newest in self.as_slice() {
-            if newest.row().ends() {
-                return newest.row().ends_after(key);
+        for newest in self.as_read(rows, pass) {
+            if newest.ends() {
+                return newest.ends_after(rows, pass, key);
             }
         }
         true

@@ -1,17 +1,14 @@
-//! A page's chain of records whose rows stay words, in places of their own on the heap.
+//! A page's chain of records where they lie, in rows that were read and stay: 16 bytes a record, and no row is copied.
 //!
 //! Look first at `Chain`: what it decides for a key, where its page ends, what its right is, and the page that it makes (`page`, which
-//! decodes; the searches don't). `ChainPart` is a chain that is being read, row by row, and `HeldRow` a row in its place. Rows and chains
-//! change places, and none is copied.
+//! decodes; the searches look at the words that they need). `ChainPart` is a chain that is being read, record by record.
 //!
-//! Called by `smo` and `rounds`, which keep pages as chains, and by `core_memory` and `bw_tree`, which read into a `HeldRow`. It knows no
-//! slot and no step: who reads a row, and when, is told by a round.
+//! Called by `smo`, whose pages are such chains, by `rounds` and `op_machine`. It knows no slot and no step: each search asks, as its
+//! premise, that its chain was read (`IsReadChain`).
 #![tactic(auto)]
 
 mod chain;
 mod chain_part;
-mod held_row;
 
 pub use chain::Chain;
 pub use chain_part::{ChainPart, MAX_RECORDS};
-pub use held_row::HeldRow;

@@ -1,4 +1,5 @@
 pub mod Bisect
+pub mod Bounds
 pub mod Found
 pub mod ItemReads
 pub mod ItemTexts
@@ -6,4 +7,5 @@ pub mod KeyOrder
 pub mod ReadingLaws
 pub mod RowTexts
 pub mod SaidLaws
+pub mod WordByWord
 pub mod WordsCmp

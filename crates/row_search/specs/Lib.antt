@@ -1,3 +1,4 @@
 pub mod OneKey
+pub mod Placed
 pub mod Reading
 pub mod Rows

@@ -1,11 +1,13 @@
 //! Keys as words.
-ghost use Rattle.std.specs.Prelude.{◌≡◌, ◌≤◌, ◌+◌, List, ℕ, take, drop};
+ghost use Rattle.std.specs.Prelude.{◌≡◌, ◌≤◌, ◌+◌, List, ℕ, Some, take, drop};
 ghost use Rattle.bw_model.specs.Bytes.{key_cmp};
 ghost use Rattle.record_slots.specs.Spelling.{text_words};
 ghost use Rattle.record_slots.specs.Texts.{IsText};
 ghost use Rattle.record_slots.specs.declared.layout.TheConstants.{ROW_WORDS, TEXT_WORDS};
+ghost use Rattle.row_search.specs.Placed.{row_words_of};
 ghost use Rattle.row_search.specs.Reading.{text_in};
 
+use crate::{RowAt, Rows};
 use bw_model::Key;
 use record_slots::{ROW_WORDS, TEXT_WORDS, key_bytes, word_at};
 use std::cmp::Ordering;
@@ -41,15 +43,24 @@ impl KeyWords {
         }
     }
 
-    /// The key of that length which words of a row spell.
-    pub(crate) fn at(row: &[u64; ROW_WORDS], at: usize, count: u64) -> KeyWords
+    /// The key of that length which words of a record spell, from a place on.
+    pub(crate) fn at<R: Rows>(
+        row: &RowAt<R>,
+        rows: &R,
+        pass: &mut R::Pass,
+        at: usize,
+        count: u64,
+    ) -> KeyWords
+        requires read { R.has rows.now pass.old row.now.row row.now.content }
         requires room { at + TEXT_WORDS ≤ ROW_WORDS }
-        requires text { IsText count (take TEXT_WORDS (drop at row.now)) (text_in count (drop at row.now)) }
-        ensures { result ≡ text_in count (drop at row.now) }
+        requires text { IsText count (take TEXT_WORDS (drop at (row_words_of row.now))) (text_in count (drop at (row_words_of row.now))) }
+        ensures same { pass.new ≡ pass.old }
+        ensures key { result ≡ text_in count (drop at (row_words_of row.now)) }
     {
-        let mut words = [0; TEXT_WORDS];
-        words.copy_from_slice(&row[at..at + TEXT_WORDS]);
-        KeyWords { words, count }
+        KeyWords {
+            words: row.text(rows, pass, at),
+            count,
+        }
     }
 
     /// How it compares with another key.
@@ -61,14 +72,32 @@ impl KeyWords {
             .then(self.count.cmp(&other.count))
     }
 
-    /// How the text of that length which words of a row spell compares with the key: word by word, and then by the lengths.
+    /// How the text of that length which words of a record spell, from a place on, compares with the key: word by word up to the first
+    /// one that differs, and then by the lengths.
     #[inline]
-    pub fn compare_at(&self, row: &[u64; ROW_WORDS], at: usize, count: u64) -> Ordering
-        requires { at + TEXT_WORDS ≤ ROW_WORDS }
-        ensures { (text : List ℕ) → IsText count (take TEXT_WORDS (drop at row.now)) text → result ≡ key_cmp text self.now }
+    pub(crate) fn compare_at<R: Rows>(
+        &self,
+        row: &RowAt<R>,
+        rows: &R,
+        pass: &mut R::Pass,
+        at: usize,
+        count: u64,
+    ) -> Ordering
+        requires read { R.has rows.now pass.old row.now.row row.now.content }
+        requires within { at + TEXT_WORDS ≤ ROW_WORDS }
+        ensures same { pass.new ≡ pass.old }
+        ensures compared { (text : List ℕ) → IsText count (take TEXT_WORDS (drop at (row_words_of row.now))) text → result ≡ key_cmp text self.now }
     {
-        let words = &row[at..at + TEXT_WORDS];
-        words.cmp(&self.words[..]).then(count.cmp(&self.count))
+        let mut place = 0;
+        while place < TEXT_WORDS {
+            let word = row.word(rows, pass, at + place);
+            let order = word.cmp(&self.words[place]);
+            if !order.is_eq() {
+                return order;
+            }
+            place += 1;
+        }
+        count.cmp(&self.count)
     }
 }
 

@@ -1,16 +1,20 @@
-//! Searches on rows of words, which aren't decoded for them.
+//! Searches on a record where it lies, in a row that was read and stays: they look at the words that they need, and copy no row.
 //!
-//! Look first at `Row`: a record as the words of its row, which is asked what it says of a key, its bounds, the row under it, its items'
-//! keys, and how many items are below a bound. `KeyWords` is a key as words, compared word by word.
+//! Look first at `RowAt`: a record that was read, as its row's number and its first word, which is asked what it says of a key, its
+//! bounds, the row under it, its items' keys, and how many items are below a bound. `Rows` is where the row lies: what a look takes, and
+//! what a look finds. `KeyWords` is a key as words, compared word by word.
 //!
-//! Called by `row_chain` for every record of a page, by `rounds`, and by whoever lays a row into a place (`bw_tree`, `core_memory`). It
-//! knows one row at a time: what a chain of rows decides is said in `row_chain`.
+//! Called by `row_chain` for every record of a page, by `rounds`, and by whoever reads a record (`step_core`, `bw_tree`), whose memories
+//! are such rows. It knows one row at a time, and neither how it was read nor why it stays: each search asks, as its premise, that its
+//! record was read. What a chain of rows decides is said in `row_chain`.
 #![tactic(auto)]
 
 mod key_words;
-mod places;
-mod row;
+mod row_at;
+mod rows;
+mod told;
 
 pub use key_words::KeyWords;
-pub use places::place_of;
-pub use row::Row;
+pub use row_at::RowAt;
+pub use rows::Rows;
+pub(crate) use told::Told;

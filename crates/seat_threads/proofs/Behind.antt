@@ -1,5 +1,5 @@
 -- Lists behind which stand what is taken of another one's elements.
-use Rattle.std.proofs.Common.{◌≡◌, ◌++◌, ◌∷◌, [], ◌∙◌, List, Some, ap, arith, refl, suc, ℕ}
+use Rattle.std.proofs.Common.{◌≡◌, ◌++◌, ◌∷◌, [], ◌∙◌, List, Some, ap, arith, length, refl, suc, ℕ}
 use Rattle.std.specs.Prelude.{slice_get}
 use Rattle.bw_tree.specs.Seats.{Seat}
 use Rattle.bw_tree.specs.Trees.{AreSeatsOf, IsSeatOf, Tree}
@@ -10,6 +10,11 @@ use Rattle.seats.proofs.Pushed.{all_pushed}
 pub behind_push : {X Y : Type 0} (f : X → Y) (ys : List Y) (xs : List X) (x : X) → behind f ys (xs ++ x ∷ []) ≡ behind f (ys ++ f x ∷ []) xs
 behind_push f ys [] x = refl
 behind_push f ys (first ∷ xs) x = ap (λ z. z ++ f first ∷ []) (behind_push f ys xs x)
+
+-- nothing is taken of an empty list
+pub behind_none : {X Y : Type 0} (f : X → Y) (ys : List Y) (xs : List X) → length xs ≡ 0 → behind f ys xs ≡ ys
+behind_none f ys [] none = refl
+behind_none f ys (x ∷ xs) none = absurd (omega (arith, none))
 
 abbrev seat_of : {W : Type 0} → Seat × W → Seat
 seat_of job = job.0

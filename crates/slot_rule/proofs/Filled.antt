@@ -33,7 +33,7 @@ use Rattle.slot_rule.specs.Running.{IsPartWritten, IsSettled, KnowsPlaceable, Ke
 use Rattle.slot_rule.specs.Steps.{IsLawfulStep, Took, Fills, Places, tail_from, used_by, used_by_either, written_over}
 use Rattle.slot_rule.specs.Views.{part, alone, Mine, seen_of, SitsAt}
 use Rattle.slot_rule.proofs.ByWord.{spells_row}
-use Rattle.slot_rule.proofs.Copied.{few_of_either, zero_behind, zero_behind_in}
+use Rattle.slot_rule.proofs.UsedWords.{few_of_either, zero_behind, zero_behind_in}
 use Rattle.slot_rule.proofs.Measured.{no_other}
 use Rattle.slot_rule.proofs.Parts.{goes_extends, settled_back, starts_self}
 use Rattle.slot_rule.proofs.Roster.{set_at}

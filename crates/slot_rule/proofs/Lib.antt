@@ -3,7 +3,7 @@ mod Turns
 mod Acting
 mod ByWord
 mod RowReads
-mod Copied
+mod UsedWords
 mod Measured
 mod Filled
 mod Roster

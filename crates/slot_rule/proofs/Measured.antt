@@ -21,7 +21,7 @@ use Rattle.slot_rule.specs.declared.view.Part.{Part}
 use Rattle.slot_rule.specs.Running.{Each, IsSettled, KnowsPlaceable, KeepsRowsApart, LeavesRow, PartFits, ReachFits}
 use Rattle.slot_rule.specs.Steps.{Measures, used_by}
 use Rattle.slot_rule.specs.Views.{alone, part, Mine, seen_of, SitsAt}
-use Rattle.slot_rule.proofs.Copied.{few_in}
+use Rattle.slot_rule.proofs.UsedWords.{few_in}
 use Rattle.slot_rule.proofs.Parts.{IsApart, apart_ne, each_zip, elsewhere, goes_extends, times_alone}
 use Rattle.slot_rule.proofs.Roster.{same_view}
 use Rattle.slot_rule.proofs.Turns.{TableState, Rule, turn, same_actor, same_limits, spares_quiet, spells_quiet}

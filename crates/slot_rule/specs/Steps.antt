@@ -17,7 +17,6 @@ use Rattle.traces.specs.trace.Steps.{IsAnswer}
 use Rattle.traces.specs.trace.Trace.{memory_of}
 use Rattle.record_slots.specs.Layout.{count_unit, item_size, items_at, part_limit, row_size}
 use Rattle.record_slots.specs.Spelling.{words_of}
-use Rattle.record_slots.specs.Spells.{IsSpelling}
 use Rattle.tree_words.specs.Changes.{HasWord, changed_word, operation_of, told}
 use Rattle.tree_words.specs.declared.operations.Operation.TheVariants.{Load}
 use Rattle.tree_words.specs.Layout.{row_at}
@@ -55,10 +54,6 @@ pub record Took (law : Limits → List Entry → Type 0) (limits : Limits) (acto
 -- A record was read: this is its first word, and the record has a spelling.
 abbrev pub ReadsFirst : (Limits → List Entry → Type 0) → Limits → ℕ → List Entry → ℕ → ℕ → List Entry → Type 0
 ReadsFirst law limits actor seen row word later = (content : Record) × HasSpelling content × (word ≡ slice_index (words_of content) 0) × Took law limits actor seen None (Row row) (Content content) None later
-
--- These words spell the record that was read.
-abbrev pub ReadsRow : (Limits → List Entry → Type 0) → Limits → ℕ → List Entry → ℕ → List ℕ → List Entry → Type 0
-ReadsRow law limits actor seen row words later = (content : Record) × IsSpelling content words × Took law limits actor seen None (Row row) (Content content) None later
 
 -- The actor may read the row, and has read this record there since it entered.
 pub record HasReadRecord (k : Knowledge) (row : ℕ) (content : Record) : Type 0 where

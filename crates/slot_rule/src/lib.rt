@@ -1,7 +1,7 @@
 //! The rule of a tree that runs on threads: the words of a table spell a memory, whatever its seats do in whatever order, and each atomic
 //! operation on a word is one step of an actor of the tree.
 //!
-//! Look first at `Rule`, and at `Running` (specs/Running), then at `act`, `read_used` and `place_row`, the steps.
+//! Look first at `Rule`, and at `Running` (specs/Running), then at `act`, `read_first` and `place_row`, the steps.
 //!
 //! A table has words that change in single atomic operations, and seats, each of which is one thread's. What a seat knows is its view,
 //! which takes no memory: the run of the tree that it has seen, up to its own last step, and the row that it is in the midst of placing.
@@ -13,7 +13,6 @@
 //! a law (`Law`) that keeps the rows of actors apart.
 #![tactic(auto)]
 
-mod copies;
 mod placing;
 mod plays;
 mod reading;
@@ -24,7 +23,6 @@ mod used;
 mod view;
 mod watching;
 
-pub use copies::read_used;
 pub use placing::place_row;
 pub use reading::{look_at, read_first};
 pub use rule::{Law, Rule, TableSeat, Words, closing_spells, longest_is_seen, opening_keeps};

@@ -21,8 +21,13 @@ use Rattle.deltas.specs.Spellable.{IsSpellableLink}
 use Rattle.traces.specs.chain.Chains.{level_in, low_in}
 use Rattle.traces.specs.chain.Fitted.{IsFitted, Makes}
 use Rattle.traces.proofs.FittedLaws.{Makes-base, by_order, content_all, found_first, items_unique}
+use Rattle.row_chain.specs.Placed.{PlacedChain}
 use Rattle.smo.specs.Versions.{Version}
 use Rattle.smo.specs.Sizes.{HasItems}
+
+-- one chain has one list of records
+pub same_records : {one other : PlacedChain} → one ≡ other → one.records ≡ other.records
+same_records same = ap (λ (chain : PlacedChain). chain.records) same
 
 -- a fitted chain makes a page
 pub made : (chain : List Record) → IsFitted chain → (page : Page) × Makes chain page

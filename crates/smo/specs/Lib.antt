@@ -2,6 +2,7 @@ pub mod Versions
 pub mod Sizes
 pub mod Neighbours
 pub mod Readings
+pub mod Reads
 pub mod Splits
 pub mod Terms
 pub mod Roots

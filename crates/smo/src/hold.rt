@@ -3,6 +3,7 @@ ghost use Rattle.std.specs.Prelude.{◌≡◌, MatchOption, false};
 ghost use Rattle.std.specs.Bool.{Decides};
 ghost use Rattle.base_page.specs.Rules.{is_held};
 ghost use Rattle.smo.specs.Holds.{CanHold, HasFreeNeighbours, IsHoldPlan};
+ghost use Rattle.smo.specs.Reads.{IsReadPage};
 
 use crate::PageInHand;
 use crate::held::{has_term, held_count, is_held};
@@ -10,29 +11,39 @@ use crate::sizes::MANY_DELTAS;
 use base_page::{Item, MAX_HELD};
 use bw_model::Key;
 use deltas::Hold;
+use row_search::Rows;
 use std::alloc::Allocator;
 
 /// The hold of the page's term in its parent; none exactly where the parent is removed, hasn't the term unheld, or has it as its first
 /// or beside a held one, or has many held terms or many deltas.
 #[inline(never)]
-pub fn plan_hold<A: Allocator>(parent: &PageInHand<A>, page: &PageInHand<A>) -> Option<Hold>
-    ensures { MatchOption result (¬ CanHold parent.now page.now) (IsHoldPlan parent.now page.now) }
+pub fn plan_hold<R: Rows, A: Allocator>(
+    parent: &PageInHand<R, A>,
+    page: &PageInHand<R, A>,
+    rows: &R,
+    pass: &mut R::Pass,
+) -> Option<Hold>
+    requires parent { IsReadPage (R.has rows.now pass.old) parent.now }
+    requires page { IsReadPage (R.has rows.now pass.old) page.now }
+    ensures same { pass.new ≡ pass.old }
+    ensures plan { MatchOption result (¬ CanHold parent.now page.now) (IsHoldPlan parent.now page.now) }
 {
     let above = parent.chain();
-    let low = page.chain().low();
+    above.was_read(rows, pass);
+    let low = page.chain().low(rows, pass);
     if above.is_removed() {
         return None;
     }
-    if !has_term(parent, page, false) {
+    if !has_term(parent, page, rows, pass, false) {
         return None;
     }
-    if low.cmp(&above.low()).is_eq() {
+    if low.cmp(&above.low(rows, pass)).is_eq() {
         return None;
     }
     if above.deltas() >= MANY_DELTAS {
         return None;
     }
-    let made = above.page();
+    let made = above.page(rows, pass);
     if held_count(made.items().as_slice()) >= MAX_HELD {
         return None;
     }

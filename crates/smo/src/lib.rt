@@ -6,7 +6,8 @@
 //! have their home here (`MANY_ITEMS`, `FEW_ITEMS`, `MANY_DELTAS`).
 //!
 //! Called by `rounds`, which ends with a plan where one is due, and by `installs`, which carries it out. Plans are the same on each
-//! level. It knows no step: nothing here reads, takes or links.
+//! level, and look at records where they lie. It knows no step: nothing here reads, takes or links, and what each plan asks is that its
+//! pages were read, and that what was read is there (`IsReadPage`).
 #![tactic(auto)]
 
 mod held;

@@ -1,11 +1,11 @@
 //! A page as it was read, in a place that stays.
-ghost use Rattle.std.specs.Prelude.{◌≡◌, ◌∷◌, [], IfOk};
-ghost use Rattle.base_page.specs.Pages.{empty_leaf};
-ghost use Rattle.traces.specs.chain.Fitted.{IsPageChain};
+ghost use Rattle.std.specs.Prelude.{◌≡◌, [], IfOk};
 ghost use Rattle.deltas.specs.Spellable.{IsPid, IsRow};
-ghost use Rattle.deltas.specs.declared.record.Record.TheVariants.{Base};
+ghost use Rattle.traces.specs.chain.Fitted.{IsPageChain};
+ghost use Rattle.smo.specs.Reads.{chain_of};
 
 use row_chain::{Chain, ChainPart};
+use row_search::Rows;
 use std::alloc::{AllocError, Allocator, Global};
 use std::marker::Model;
 
@@ -20,33 +20,34 @@ pub struct Name {
 
 /// A page as it was read. Another page takes its place by changing hands with it.
 #[derive(Drop)]
-pub struct PageInHand<A: Allocator = Global> {
+pub struct PageInHand<R: Rows, A: Allocator = Global> {
     name: Name,
-    chain: Chain<A>,
+    chain: Chain<R, A>,
 }
 
-impl<A: Allocator> Model for PageInHand<A> {
+impl<R: Rows, A: Allocator> Model for PageInHand<R, A> {
+    ghost use Rattle.std.specs.Prelude.{◌≡◌};
     ghost use Rattle.smo.specs.Versions.{Version};
 
     ghost Value = { Version };
 
-    ghost view = { λ p. record { pid = p.name.pid; head = p.name.head; chain = p.chain; is_pid = p.name.is_pid; is_row = p.name.is_row } };
+    ghost view = { λ p. record { pid = p.name.pid; head = p.name.head; chain = p.chain.records; is_pid = p.name.is_pid; is_row = p.name.is_row } };
+
+    ghost invariant = { λ p. p.chain.head ≡ p.name.head };
 }
 
-impl<A: Allocator + Copy> PageInHand<A> {
-    /// A place for pages, before one was read: it has the page that opens a tree. Takes the memory for all rows, 53 KB, and is refused
-    /// for want of it alone. No later call takes memory.
-    pub fn new(alloc: A) -> Result<PageInHand<A>, AllocError>
-        ensures { IfOk result (λ page. page.chain ≡ Base empty_leaf ∷ []) }
+impl<R: Rows, A: Allocator> PageInHand<R, A> {
+    /// A place for pages, before one was read: it has no records. Takes the memory for all records, 208 bytes, and is refused for want
+    /// of it alone. No later call takes memory.
+    pub fn new(alloc: A) -> Result<PageInHand<R, A>, AllocError>
+        ensures { IfOk result (λ page. page.chain ≡ []) }
     {
         Ok(PageInHand {
             name: Name { pid: 1, head: 1 },
-            chain: Chain::<A>::new(alloc)?,
+            chain: Chain::<R, A>::new(alloc)?,
         })
     }
-}
 
-impl<A: Allocator> PageInHand<A> {
     /// The page's PID.
     pub fn pid(&self) -> u32
         ensures { result ≡ self.now.pid }
@@ -62,22 +63,22 @@ impl<A: Allocator> PageInHand<A> {
     }
 
     /// The whole chain from that row on.
-    pub fn chain(&self) -> &Chain<A>
-        ensures { result.now ≡ self.now.chain }
+    pub fn chain(&self) -> &Chain<R, A>
+        ensures { result.now ≡ chain_of self.now }
     {
         &self.chain
     }
 
-    /// Receives a page that was read whole, and gives the rows of the page that it was.
-    pub fn receive(&mut self, pid: u32, head: u32, part: &mut ChainPart<A>)
+    /// Receives a page that was read whole, and gives the records of the page that it was.
+    pub fn receive(&mut self, pid: u32, part: &mut ChainPart<R, A>)
         requires pid { IsPid pid }
-        requires head { IsRow head }
-        requires chain { IsPageChain part.old }
+        requires head { IsRow part.old.head }
+        requires chain { IsPageChain part.old.records }
         ensures pid { self.new.pid ≡ pid }
-        ensures head { self.new.head ≡ head }
-        ensures chain { self.new.chain ≡ part.old }
-        ensures part { part.new ≡ self.old.chain }
+        ensures chain { chain_of self.new ≡ part.old }
+        ensures part { part.new ≡ chain_of self.old }
     {
+        let head = part.head();
         self.name = Name { pid, head };
         self.chain.receive(part);
     }

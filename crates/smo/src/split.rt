@@ -1,6 +1,7 @@
 //! The upper part of a page that is split.
 ghost use Rattle.std.specs.Prelude.{◌≡◌, ◌<◌, ◌≤◌, MatchOption, length};
 ghost use Rattle.base_page.specs.Rules.{AreApart};
+ghost use Rattle.smo.specs.Reads.{IsReadPage};
 ghost use Rattle.smo.specs.Splits.{CanSplit, IsSplitPlace, IsSplitPlan, split_to};
 
 use crate::PageInHand;
@@ -8,6 +9,7 @@ use crate::held::is_held;
 use crate::sizes::{MANY_DELTAS, MANY_ITEMS};
 use base_page::{Items, Page};
 use deltas::Split;
+use row_search::Rows;
 use std::alloc::Allocator;
 
 /// A split that lacks only the PID of the new page: that page, and the row of the page that is split.
@@ -34,10 +36,17 @@ impl SplitPlan {
 /// The page that is to stand to the right of a page that is split, and the split; none exactly where the page is removed, has many
 /// deltas, or hasn't many items.
 #[inline(never)]
-pub fn plan_split<A: Allocator>(page: &PageInHand<A>) -> Option<SplitPlan>
-    ensures { MatchOption result (¬ CanSplit page.now) (IsSplitPlan page.now) }
+pub fn plan_split<R: Rows, A: Allocator>(
+    page: &PageInHand<R, A>,
+    rows: &R,
+    pass: &mut R::Pass,
+) -> Option<SplitPlan>
+    requires read { IsReadPage (R.has rows.now pass.old) page.now }
+    ensures same { pass.new ≡ pass.old }
+    ensures plan { MatchOption result (¬ CanSplit page.now) (IsSplitPlan page.now) }
 {
     let chain = page.chain();
+    chain.was_read(rows, pass);
     chain.keeps_rules();
     if chain.is_removed() {
         return None;
@@ -45,10 +54,10 @@ pub fn plan_split<A: Allocator>(page: &PageInHand<A>) -> Option<SplitPlan>
     if chain.deltas() >= MANY_DELTAS {
         return None;
     }
-    if chain.item_count() < MANY_ITEMS {
+    if chain.item_count(rows, pass) < MANY_ITEMS {
         return None;
     }
-    let whole = chain.page();
+    let whole = chain.page(rows, pass);
     let place = split_place(whole.items());
     let (_, upper) = whole.cut_at(place, 1);
     Some(SplitPlan {

@@ -1,11 +1,13 @@
 //! What is done first at a small page: its term is held, and then it is removed.
-ghost use Rattle.std.specs.Prelude.{MatchOption};
+ghost use Rattle.std.specs.Prelude.{◌≡◌, MatchOption};
+ghost use Rattle.smo.specs.Reads.{IsReadPage};
 ghost use Rattle.smo.specs.Upkeep.{IsIdle, IsUpkeep};
 
 use crate::held::is_unheld;
 use crate::sizes::FEW_ITEMS;
 use crate::{PageInHand, plan_hold, plan_remove};
 use deltas::{Hold, Remove};
+use row_search::Rows;
 use std::alloc::Allocator;
 
 /// What is done first at a small page, below its parent.
@@ -19,23 +21,32 @@ pub enum Upkeep {
 
 /// The removal of the page where its term is held, else the hold of its term; none exactly where the page is page 1, or has more
 /// than a few items or a held one, or its term is neither held nor may be. Most pages are told by their number of items alone.
-pub fn plan_upkeep<A: Allocator>(parent: &PageInHand<A>, page: &PageInHand<A>) -> Option<Upkeep>
-    ensures { MatchOption result (IsIdle parent.now page.now) (IsUpkeep parent.now page.now) }
+pub fn plan_upkeep<R: Rows, A: Allocator>(
+    parent: &PageInHand<R, A>,
+    page: &PageInHand<R, A>,
+    rows: &R,
+    pass: &mut R::Pass,
+) -> Option<Upkeep>
+    requires parent { IsReadPage (R.has rows.now pass.old) parent.now }
+    requires page { IsReadPage (R.has rows.now pass.old) page.now }
+    ensures same { pass.new ≡ pass.old }
+    ensures plan { MatchOption result (IsIdle parent.now page.now) (IsUpkeep parent.now page.now) }
 {
     let chain = page.chain();
+    chain.was_read(rows, pass);
     chain.keeps_rules();
     if page.pid() == 1 {
         return None;
     }
-    if chain.item_count() > FEW_ITEMS {
+    if chain.item_count(rows, pass) > FEW_ITEMS {
         return None;
     }
-    if !is_unheld(chain) {
+    if !is_unheld(chain, rows, pass) {
         return None;
     }
-    if let Some(remove) = plan_remove(parent, page) {
+    if let Some(remove) = plan_remove(parent, page, rows, pass) {
         return Some(Upkeep::Remove(remove));
     }
-    let hold = plan_hold(parent, page)?;
+    let hold = plan_hold(parent, page, rows, pass)?;
     Some(Upkeep::Hold(hold))
 }

@@ -17,7 +17,9 @@ use Rattle.traces.specs.declared.trace.Entry.TheVariants.{Begin, Step}
 use Rattle.traces.specs.declared.trace.Turn.TheVariants as turn
 use Rattle.deltas.specs.Memory.{opening}
 use Rattle.traces.specs.trace.Steps.{IsAnswer, memory_after}
+use Rattle.core_memory.specs.Looks.{StandsIn}
 use Rattle.core_memory.specs.Tables.{CoreTable, memory_in}
+use Rattle.descent.specs.Machines.{AreThere}
 use Rattle.traces.specs.trace.Trace.{command_of, commands_after, memory_of}
 use Rattle.traces.specs.discipline.Discipline.{IsAllowed, May}
 use Rattle.traces.specs.discipline.Disciplined.{IsDisciplinedFrom, MayStand}
@@ -33,7 +35,7 @@ use Rattle.traces.specs.discipline.Recalled.{Recalled, blank, cause_worth, recal
 use Rattle.op_machine.specs.machine.Actors.{Actor, IsActor, IsActorShown, command_left, idle_actor, knows_then, running_command, wanted_by}
 use Rattle.op_machine.specs.machine.UnderWay.{steps_due}
 use Rattle.step_core.specs.Actors.{IsReady, IsServedAt, IsWithinAt, wanted_in}
-use Rattle.step_core.proofs.Lawful.{Asks, asks, is_placed, served_at, within_at}
+use Rattle.step_core.proofs.Lawful.{Asks, asks, is_placed, read_stands, served_at, within_at}
 use Rattle.step_core.specs.Cores.{IsCore, Pays}
 use Rattle.step_core.specs.Turns.{Core, Demand, KeepsMore, LeavesAt, WantsMemory, busy_of, refused_by, refusal_of}
 use Rattle.step_core.proofs.Replaced.{get_is, set_cases, set_length, set_other}
@@ -156,7 +158,11 @@ module _ (limits : Limits) where
       let shows = core.each_shows i old found in (
         goes.0,
         rw same lt,
-        (shows, subst (λ m. IsServedAt limits (knows entries i) m (wanted_by old.running)) (sym core.has) (served_at limits entries core.state i fit (recalls entries i) old.hand old.running shows)),
+        (
+          shows,
+          subst (λ m. IsServedAt limits (knows entries i) m (wanted_by old.running)) (sym core.has) (served_at limits entries core.state i fit (recalls entries i) old.hand old.running shows),
+          subst (λ m. AreThere (StandsIn m) (knows entries i)) (sym core.has) (read_stands limits entries core.state i apart),
+        ),
         ap is_some (core.each_running i old found) ∙ goes.1,
         within_at limits entries core.state i apart table core.same_limits core.has goes.0 (recalls entries i) old.hand old.running shows,
       )

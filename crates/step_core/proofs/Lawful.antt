@@ -10,7 +10,9 @@ use Rattle.traces.specs.declared.trace.Entry.{Entry}
 use Rattle.traces.specs.discipline.Discipline.{May}
 use Rattle.traces.specs.discipline.Knowledge.{knows}
 use Rattle.traces.specs.discipline.Recalled.{Recalled}
+use Rattle.core_memory.specs.Looks.{StandsIn}
 use Rattle.core_memory.specs.Tables.{CoreTable, IsWithinTable, memory_in}
+use Rattle.descent.specs.Machines.{AreThere}
 use Rattle.traces.specs.trace.Trace.{memory_of}
 use Rattle.traces.specs.trace.Within.{IsWithin}
 use Rattle.op_machine.specs.machine.Hands.{Hand}
@@ -62,6 +64,10 @@ module _ (limits : Limits) (entries : List Entry) (state : IsState limits entrie
     pub served_at : AnswersFit → (r : Recalled) (hand : Hand) (running : Option UnderWay) → IsActorWith limits a (knows entries a) r hand running → IsServedAt limits (knows entries a) m (wanted_by running)
     served_at fit r hand None at = tt
     served_at fit r hand (Some running) at = served fit running.wanted (may_take r hand running at)
+
+    -- the records that it has read stand
+    pub read_stands : RowsAreApart → AreThere (StandsIn m) (knows entries a)
+    read_stands apart row content seen = (apart limits entries state).stands a row content seen
 
     -- the table that has the memory has what the step asks for
     module _ (apart : RowsAreApart) (table : CoreTable) (same : table.limits ≡ limits) (has : memory_in table ≡ m) (who : a < limits.actors) where

@@ -1,25 +1,31 @@
 -- One step of an actor: what is asked of it, and which step keeps pairs.
 use Rattle.std.proofs.Common.{◌≡◌, ℕ, List, Bool, Option, Some, None, cond, is_some, true, false, inl, inr, sym, ap, ◌∙◌, subst, refl}
 use Rattle.std.specs.Str.{bytes_eq}
+use Rattle.std.proofs.lemmas.Bool.{cases_eq}
 use Rattle.std.proofs.lemmas.Option.{same_Some}
+use Rattle.descent.specs.Machines.{AreThere}
 use Rattle.op_machine.specs.machine.UnderWay.{UnderWay}
-use Rattle.op_machine.specs.machine.Actors.{Actor, ActsOn, IsActor, IsActorShown, IsActorWith, IsGoing, command_at, running_command, wanted_by}
+use Rattle.op_machine.specs.machine.Actors.{Actor, ActsOn, IsActor, IsActorShown, IsActorWith, IsGoing, IsToldActor, IsToldActorThere, command_at, running_command, wanted_by}
 use Rattle.bw_model.specs.declared.command.Command.{Command}
 use Rattle.bw_model.specs.declared.command.Command.TheVariants.{Get, Insert, Upsert, Delete, Swap, Page, Tidy}
 use Rattle.bw_model.specs.declared.command.Reply.{Reply}
 use Rattle.bw_model.specs.declared.command.Reply.TheVariants as kind
 use Rattle.tree_limits.specs.declared.limits.Limits.{Limits}
 use Rattle.bw_model.specs.declared.step.Answer.{Answer}
+use Rattle.bw_model.specs.declared.step.Answer.TheVariants.{Content}
 use Rattle.bw_model.specs.declared.step.Step.{Step as StepOf}
-use Rattle.bw_model.specs.declared.step.Step.TheVariants.{Place}
+use Rattle.bw_model.specs.declared.step.Step.TheVariants as wants
+use Rattle.bw_model.specs.declared.step.Step.TheVariants.{Announce, Exchange, PidBits, Place, Retire, ReusePids, ReuseRows, Row, RowBits, Slot, TakePid, TakeRow}
 use Rattle.bw_model.specs.Replies.{command_key, reply_of}
 use Rattle.deltas.specs.declared.record.Record.{Record}
-use Rattle.deltas.specs.Memory.{Memory}
+use Rattle.deltas.specs.Memory.{Memory, replaced_at}
+use Rattle.deltas.proofs.Replaced.{replaced_same, replaced_other}
 use Rattle.traces.specs.discipline.Discipline.{MayReply, found}
 use Rattle.traces.specs.trace.Within.{IsWithin}
+use Rattle.core_memory.specs.Looks.{StandsIn}
 use Rattle.core_memory.specs.Replies.{ShowsPairs}
 use Rattle.core_memory.specs.Shared.{PlacesSpellable}
-use Rattle.traces.specs.discipline.Knowledge.{Knowledge}
+use Rattle.traces.specs.discipline.Knowledge.{Knowledge, learn}
 use Rattle.traces.specs.discipline.Recalled.{Recalled}
 use Rattle.traces.specs.trace.Steps.{IsAnswer}
 use Rattle.installs.specs.Spares.{Spares}
@@ -86,6 +92,10 @@ module _ (limits : Limits) (number : ℕ) (k : Knowledge) (r : Recalled) (memory
   pub going : (at : Actor) → is_some (running_command at) ≡ true → IsReady limits number k r memory at → wanted_by at.running ≡ Some step → IsAnswer memory step answer → (going : IsGoing limits number k r at answer) × (going.running.wanted ≡ step)
   going at some ready is answered = going_with at.hand at.running at.lacks some ready is answered
 
+  -- the actor is told that answer
+  pub told_by : (at : Actor) (told : Answer Record) → is_some (running_command at) ≡ true → IsReady limits number k r memory at → wanted_by at.running ≡ Some step → IsAnswer memory step answer → told ≡ answer → IsToldActor at told
+  told_by at told some ready is answered same = record { limits = limits; actor = number; k = k; r = r; going = subst (IsGoing limits number k r at) (sym same) (going at some ready is answered).0 }
+
   -- it goes on by that answer
   pub goes_by : (at new : Actor) (told : Answer Record) (reply : Option Reply) → is_some (running_command at) ≡ true → IsReady limits number k r memory at → wanted_by at.running ≡ Some step → IsAnswer memory step answer → told ≡ answer
       → ((going : IsGoing limits number k r at told) → ActsOn limits number k r at going.running.wanted told reply new) → ActsOn limits number k r at step answer reply new
@@ -100,6 +110,11 @@ module _ (limits : Limits) (number : ℕ) (k : Knowledge) (r : Recalled) (memory
       let page = asks_page limits number k reply goes.allowed.replied.1 pairs in
       subst (IsPageEnd (running_command at)) (sym is) (record { from = page.0; asks = sym (command_shown limits number k r at.hand at.running some shows) ∙ page.1; leaves = goes.allowed.replied.0 })
 
+-- the actor is told what the memory answers, whatever it knows
+pub told_of : (memory : Memory) (step : StepOf Record) (answer : Answer Record) (at : Actor) (told : Answer Record) → is_some (running_command at) ≡ true → (limits : Limits) × (number : ℕ) × (k : Knowledge) × (r : Recalled) × IsReady limits number k r memory at
+    → wanted_by at.running ≡ Some step → IsAnswer memory step answer → told ≡ answer → IsToldActor at told
+told_of memory step answer at told some (limits, number, k, r, ready) is answered same = told_by limits number k r memory step answer at told some ready is answered same
+
 -- a row can spell what a step within the limits places
 spellable_within : (limits : Limits) (step : StepOf Record) → IsWithin limits step → PlacesSpellable step
 spellable_within limits (Place row content) within = within.2
@@ -113,8 +128,40 @@ spellable_with limits number k r hand (Some running) at step is = subst PlacesSp
 pub spellable : (at : Actor) → IsActorShown at → (step : StepOf Record) → wanted_by at.running ≡ Some step → PlacesSpellable step
 spellable at (limits, number, k, r, shows) step is = spellable_with limits number k r at.hand at.running shows step is
 
--- what an actor makes of an answer, it makes of it by any name
-pub goes_same : (at new : Actor) (told answer : Answer Record) → told ≡ answer → ((limits : Limits) (number : ℕ) (k : Knowledge) (r : Recalled) (going : IsGoing limits number k r at told) → ActsOn limits number k r at going.running.wanted told None new)
-    → (limits : Limits) (number : ℕ) (k : Knowledge) (r : Recalled) (going : IsGoing limits number k r at answer) → ActsOn limits number k r at going.running.wanted answer None new
-goes_same at new told answer same goes =
-    subst (λ a. (limits : Limits) (number : ℕ) (k : Knowledge) (r : Recalled) (going : IsGoing limits number k r at a) → ActsOn limits number k r at going.running.wanted a None new) same goes
+-- a read alone is answered by a record
+pub reads : (memory : Memory) (step : StepOf Record) (content : Record) → IsAnswer memory step (Content content) → (row : ℕ) × (step ≡ Row row)
+reads memory (Slot pid) content answered = cc
+reads memory (Row row) content answered = (row, refl)
+reads memory wants.Epoch content answered = cc
+reads memory (Announce actor) content answered = cc
+reads memory (PidBits word) content (bits, is, answered) = cc
+reads memory (RowBits word) content (bits, is, answered) = cc
+reads memory (Place row placed) content answered = cc
+reads memory (Exchange slot old new) content answered = cc
+reads memory (TakePid pid) content answered = cc
+reads memory (TakeRow row) content answered = cc
+reads memory (wants.Enter epoch) content answered = cc
+reads memory wants.Leave content answered = cc
+reads memory (Retire epoch) content answered = cc
+reads memory (ReusePids word bits) content answered = cc
+reads memory (ReuseRows word bits) content answered = cc
+
+-- the record that is read stands in the row
+pub read_stands : (memory : Memory) (step : StepOf Record) (row : ℕ) (content : Record) → step ≡ Row row → IsAnswer memory step (Content content) → memory.rows row ≡ Some content
+read_stands memory step row content reads answered =
+    let (found, stands, same) : IsAnswer memory (Row row) (Content content) = subst (λ s. IsAnswer memory s (Content content)) reads answered in
+    stands ∙ ap Some (let back : found ≡ content = cc in back)
+
+-- once a record is read, it is among those that stand
+there_read : (memory : Memory) (k : Knowledge) (row : ℕ) (content : Record) → memory.rows row ≡ Some content → AreThere (StandsIn memory) k → AreThere (StandsIn memory) (learn k (Row row) (Content content))
+there_read memory k row content stands there other found seen = elim (cases_eq other row) [
+  | inl same ↦ ap memory.rows same ∙ stands ∙ sym (ap (replaced_at row (Some content) k.read.seen) same ∙ replaced_same row (Some content) k.read.seen) ∙ seen
+  | inr apart ↦ there other found (sym (replaced_other row (Some content) k.read.seen other apart) ∙ seen)
+]
+
+-- an actor that wants to read a row is told the record that stands there, beside those that it has read
+pub told_there : (memory : Memory) (at : Actor) (row : ℕ) (content : Record) → is_some (running_command at) ≡ true → (limits : Limits) × (number : ℕ) × (k : Knowledge) × (r : Recalled) × IsReady limits number k r memory at
+    → wanted_by at.running ≡ Some (Row row) → memory.rows row ≡ Some content → IsToldActorThere (StandsIn memory) at (Content content)
+told_there memory at row content some (limits, number, k, r, ready) is stands =
+    let on = going limits number k r memory (Row row) (Content content) at some ready is (content, stands, refl) in
+    record { limits = limits; actor = number; k = k; r = r; going = on.0; there = subst (λ s. AreThere (StandsIn memory) (learn k s (Content content))) (sym on.1) (there_read memory k row content stands ready.2) }

@@ -11,7 +11,9 @@ use Rattle.traces.specs.discipline.Fitting.{Fits}
 use Rattle.traces.specs.discipline.Knowledge.{Knowledge}
 use Rattle.traces.specs.discipline.Recalled.{Recalled}
 use Rattle.traces.specs.trace.Steps.{IsAnswer}
+use Rattle.core_memory.specs.Looks.{StandsIn}
 use Rattle.core_memory.specs.Tables.{CoreTable, IsWithinTable}
+use Rattle.descent.specs.Machines.{AreThere}
 use Rattle.step_core.specs.Turns.{EndsPage}
 
 -- Whatever the memory answers to the step fits what the actor knows.
@@ -23,9 +25,10 @@ abbrev pub IsServedAt : Limits → Knowledge → Memory → Option (StepOf Recor
 IsServedAt limits k memory None = Unit {0}
 IsServedAt limits k memory (Some wanted) = IsServed limits k memory wanted
 
--- What the actor keeps shows what it knows, and what the memory answers to the step that it wants will fit that.
+-- What the actor keeps shows what it knows, what the memory answers to the step that it wants will fit that, and the records that it has read
+-- stand in the memory.
 abbrev pub IsReady : Limits → ℕ → Knowledge → Recalled → Memory → Actor → Type 0
-IsReady limits actor k r memory at = IsActor limits actor k r at × IsServedAt limits k memory (wanted_by at.running)
+IsReady limits actor k r memory at = IsActor limits actor k r at × IsServedAt limits k memory (wanted_by at.running) × AreThere (StandsIn memory) k
 
 -- the step that each actor's operation wants, if it has one
 abbrev pub wanted_in : List Actor → List (Option (StepOf Record))

@@ -1,6 +1,6 @@
 //! One actor of a core: what its step needs of memory, and how it is taken.
 ghost use Rattle.std.specs.Prelude.{◌≡◌, ◌≢◌, ℕ, IfOk, IsSome, None, OnErr, Some, is_some, true};
-ghost use Rattle.op_machine.specs.machine.Actors.{ActsOn, IsGoing, IsActorShown, IsToldActor, running_command, wanted_by};
+ghost use Rattle.op_machine.specs.machine.Actors.{ActsOn, IsActorShown, running_command, wanted_by};
 ghost use Rattle.tree_limits.specs.declared.limits.Limits.{Limits};
 ghost use Rattle.traces.specs.discipline.Knowledge.{Knowledge};
 ghost use Rattle.traces.specs.discipline.Recalled.{Recalled};
@@ -11,9 +11,11 @@ ghost use Rattle.step_core.specs.Turns.{KeepsMore, link_told};
 
 use crate::link::exchange_link;
 use bw_model::{Answer, Command, Link, Step, Told};
-use core_memory::{BoxedPairs, BoxedReply, CoreTable, SharedRecord, shared_step, step_again};
+use core_memory::{
+    BoxedPairs, BoxedReply, CoreRows, CoreTable, SharedRecord, shared_step, step_again,
+};
 use op_machine::Actor;
-use row_chain::HeldRow;
+use row_search::RowAt;
 use std::alloc::{AllocError, Allocator};
 
 /// A step with its answer, before it is taken: `step` for its entry, and the same again for the memory.
@@ -34,7 +36,7 @@ pub(crate) struct Stepped<A: Allocator> {
 /// What the step that an actor's operation wants needs of memory, and its answer; refused only where it keeps more than an entry.
 pub(crate) fn prepare<A: Allocator + Copy>(
     alloc: A,
-    actor: &Actor<A>,
+    actor: &Actor<CoreRows<A>, A>,
     number: u8,
     memory: &CoreTable<A>,
 ) -> Result<Ready<A>, AllocError>
@@ -56,13 +58,12 @@ pub(crate) fn prepare<A: Allocator + Copy>(
     })
 }
 
-/// Takes the one step that the actor's operation wants, which isn't the leave. A record that is read comes into the room.
+/// Takes the one step that the actor's operation wants, which isn't the leave.
 pub(crate) fn go_on<A: Allocator>(
-    actor: &mut Actor<A>,
+    actor: &mut Actor<CoreRows<A>, A>,
     number: u8,
     memory: &mut CoreTable<A>,
     ready: Ready<A>,
-    room: &mut HeldRow<A>,
 ) -> Stepped<A>
     requires running { is_some (running_command actor.old) ≡ true }
     requires stays { wanted_by actor.old.running ≢ Some Step.Leave }
@@ -83,24 +84,36 @@ pub(crate) fn go_on<A: Allocator>(
         again,
         answer,
     } = ready;
+    tell(actor, &step, &answer, memory);
     memory.take(number, again);
-    tell(actor, &answer, room);
     Stepped { step, answer }
 }
 
-/// Tells the actor the answer to the step that its operation wants; a record that was read is written into the room first.
-fn tell<A: Allocator>(actor: &mut Actor<A>, answer: &Answer<SharedRecord<A>>, room: &mut HeldRow<A>)
-    requires told { IsToldActor actor.old answer.now }
+/// Tells the actor the answer to the step that its operation wants, which isn't the leave. It looks at a record that it has read where that
+/// lies in the memory.
+fn tell<A: Allocator>(
+    actor: &mut Actor<CoreRows<A>, A>,
+    step: &Step<SharedRecord<A>>,
+    answer: &Answer<SharedRecord<A>>,
+    memory: &mut CoreTable<A>,
+)
+    requires running { is_some (running_command actor.old) ≡ true }
     requires stays { wanted_by actor.old.running ≢ Some Step.Leave }
-    ensures goes { (limits : Limits) (number : ℕ) (k : Knowledge) (r : Recalled) (going : IsGoing limits number k r actor.old answer.now) → ActsOn limits number k r actor.old going.running.wanted answer.now None actor.new }
+    requires knows { (limits : Limits) × (number : ℕ) × (k : Knowledge) × (r : Recalled) × IsReady limits number k r (memory_in memory.old) actor.old }
+    requires wanted { wanted_by actor.old.running ≡ Some step.now }
+    requires answer { IsAnswer (memory_in memory.old) step.now answer.now }
+    ensures goes { (limits : Limits) (number : ℕ) (k : Knowledge) (r : Recalled) → IsReady limits number k r (memory_in memory.old) actor.old → ActsOn limits number k r actor.old step.now answer.now None actor.new }
     ensures command { running_command actor.new ≡ running_command actor.old }
+    ensures same { memory.new ≡ memory.old }
 {
     match answer {
         Answer::Start => actor.go_on(Told::Start),
         Answer::Number(number) => actor.go_on(Told::Number(*number)),
         Answer::Content(content) => {
-            content.write_to(room);
-            actor.take_row(room);
+            let Step::Row(row) = step else { unreachable!() };
+            content.keeps_spelling();
+            let record = RowAt::<CoreRows<A>>::of(*row, content.word(0), memory);
+            actor.take_record(record, &CoreRows::<A>::new(), memory);
         }
         Answer::Whether(whether) => actor.go_on(Told::Whether(*whether)),
         Answer::Done => actor.go_on(Told::Done),
@@ -124,7 +137,7 @@ impl<A: Allocator> Stepped<A> {
 /// Room for the pairs of a cursor page, where the actor's operation ends with one.
 pub(crate) fn room<A: Allocator>(
     alloc: A,
-    actor: &Actor<A>,
+    actor: &Actor<CoreRows<A>, A>,
 ) -> Result<Option<BoxedPairs<A>>, AllocError>
     requires leaves { wanted_by actor.now.running ≡ Some Step.Leave }
     ensures some { IfOk result (λ room. NeedsRoom actor.now → IsSome room) }
@@ -138,7 +151,7 @@ pub(crate) fn room<A: Allocator>(
 
 /// Takes the leave that the actor's operation wants, and answers the reply; a cursor page has room for its pairs.
 pub(crate) fn leave<A: Allocator>(
-    actor: &mut Actor<A>,
+    actor: &mut Actor<CoreRows<A>, A>,
     number: u8,
     memory: &mut CoreTable<A>,
     room: Option<BoxedPairs<A>>,

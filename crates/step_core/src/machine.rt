@@ -12,23 +12,21 @@ use crate::actor::{Stepped, go_on, leave, prepare, room};
 use crate::event::{Event, RunError, Trace};
 use crate::lawful_traces::{begins_keep_laws, states_are_lawful, steps_keep_laws};
 use bw_model::{Command, Key, Limits, Link, OpenError, Value};
-use core_memory::{CoreTable, Entries};
+use core_memory::{CoreRows, CoreTable, Entries};
 use listing::{add_pairs, pages_are_listed};
 use op_machine::{Actor, idle_actors_rest};
-use row_chain::HeldRow;
 use std::alloc::{AllocError, Allocator, Global};
 use std::marker::Model;
 use traces::Turn;
 use tree_law::{entries_grow, leaves_stand, opens, opens_directly, opens_paid};
 
-/// All actors over one memory, which an allocator gives, and room for the record that is read.
+/// All actors over one memory, which an allocator gives.
 pub struct Core<A: Allocator = Global> {
     alloc: A,
     limits: Limits,
     memory: CoreTable<A>,
-    actors: Vec<Actor<A>, A>,
+    actors: Vec<Actor<CoreRows<A>, A>, A>,
     trace: Entries<A>,
-    room: HeldRow<A>,
 }
 
 impl<A: Allocator> Drop for Core<A> {
@@ -39,7 +37,6 @@ impl<A: Allocator> Drop for Core<A> {
             memory: _,
             actors: _,
             trace: _,
-            room: _,
         } = self;
     }
 }
@@ -77,11 +74,10 @@ impl<A: Allocator + Copy> Core<A> {
         opens_directly();
         opens_paid();
         idle_actors_rest();
-        let room = HeldRow::<A>::new(alloc)?;
         let memory = CoreTable::<A>::open(alloc, &limits)?;
         let mut actors = Vec::with_capacity(alloc, limits.actors as usize)?;
         for _ in 0..limits.actors {
-            let Ok(actor) = Actor::<A>::idle(alloc, &limits) else {
+            let Ok(actor) = Actor::<CoreRows<A>, A>::idle(alloc, &limits) else {
                 return Err(AllocError);
             };
             actors.push(actor)?;
@@ -92,7 +88,6 @@ impl<A: Allocator + Copy> Core<A> {
             memory,
             actors,
             trace: Entries::<A>::new(alloc),
-            room,
         })
     }
 }
@@ -238,7 +233,7 @@ impl<A: Allocator + Copy> Core<A> {
             return Err(RunError::Memory(number));
         }
         let place = &mut self.actors[usize::from(actor)];
-        let stepped = go_on(place, actor, &mut self.memory, ready, &mut self.room);
+        let stepped = go_on(place, actor, &mut self.memory, ready);
         let link = stepped.link(&self.memory);
         let Stepped { step, answer } = stepped;
         self.trace.push_step(actor, step, answer);
@@ -375,7 +370,6 @@ impl<A: Allocator> Core<A> {
             memory: _,
             actors: _,
             trace,
-            room: _,
         } = self;
         Trace { entries: trace }
     }

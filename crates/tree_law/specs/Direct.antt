@@ -55,12 +55,21 @@ module _ (limits : Limits) (entries : List Entry) (operation : Operation) where
     pub rows : (n row : ℕ) (answer : Answer Record) → at < n → TakesOwnStep entries operation n (Row row) answer → (content : Record) × (seen row ≡ Some content) × (is_removal content ≡ true → (walk.removed ≡ true) × (walk.level ≤ removal_level content))
     pub named : (page : ℕ) → AnyNames walk.records page → (n row : ℕ) × (content : Record) × (at < n) × TakesOwnStep entries operation n (Row row) (Content content) × NamesPage content page
 
-  -- The causes so far pay for the steps that the operation has taken, and for this many more.
+  -- The causes from entry m on, and ten more, pay for the steps that the operation has taken since, and for this many more.
+  pub record AffordsFrom (left m : ℕ) : Type 0 where
+    pub causes : List ℕ
+    pub increasing : IsStrictlyIncreasing causes
+    pub each : All (λ cause. (m ≤ cause) × (cause < length entries) × IsCause limits entries operation cause) causes
+    pub paid : count_by (is_step_of operation.actor) (drop m entries) + left ≤ cause_worth limits * (length causes + 10)
+
+  -- The causes so far pay for the steps that the operation has taken, and for this many more; those from any later entry on, and ten more, for the
+  -- steps since.
   pub record Affords (left : ℕ) : Type 0 where
     pub causes : List ℕ
     pub increasing : IsStrictlyIncreasing causes
     pub each : All (λ cause. (cause < length entries) × IsCause limits entries operation cause) causes
     pub paid : count_by (is_step_of operation.actor) (drop operation.start entries) + left ≤ cause_worth limits * (length causes + 1)
+    pub since : (m : ℕ) → operation.start < m → m ≤ length entries → AffordsFrom left m
 
 -- The trace is direct. What an actor recalls, its last operation has read, and not in the slot of a page that it has made
 -- ready itself; and where that operation has linked an update, the actor knows of it.
@@ -85,18 +94,18 @@ pub record StaysDirect (limits : Limits) (entries : List Entry) (entry : Entry) 
 abbrev pub BeginsDirectly : Type 0
 BeginsDirectly = (limits : Limits) (entries : List Entry) (actor left : ℕ) (command : Command) → IsDirectState limits entries → left ≤ cause_worth limits → StaysDirect limits entries (Begin actor command) actor left
 
--- A step that is allowed, and of use, keeps one, where its operation has spent a step, or was paid.
+-- A step that is allowed, and of use, keeps one, where its operation has spent a step, or was paid, and few are left.
 abbrev pub StepsDirectly : Type 0
 StepsDirectly = (limits : Limits) (entries : List Entry) (actor left rest : ℕ) (step : StepOf Record) (answer : Answer Record) (reply : Option Reply) → IsState limits entries
     → IsAllowed limits actor (knows entries actor) step reply → IsOfUse (knows entries actor) step → IsAnswer (memory_of limits entries) step answer → IsDirectState limits entries → Accounts limits entries actor left
-    → IsStepSpent limits (recalls entries actor) step answer left rest → StaysDirect limits entries (Step actor step answer reply) actor rest
+    → IsStepSpent limits (recalls entries actor) step answer left rest → rest ≤ cause_worth limits * 10 → StaysDirect limits entries (Step actor step answer reply) actor rest
 
 -- Along these entries each operation says how many steps it has left: 2^18 at most when it begins; and with each step, which is
--- of use, it has spent one, or was paid.
+-- of use, it has spent one, or was paid, and few are left.
 abbrev pub SpendsFrom : Limits → (ℕ → ℕ) → List Entry → List Entry → Type 0
 SpendsFrom limits left before [] = ⊤
 SpendsFrom limits left before (Begin actor command ∷ entries) = (rest : ℕ) × (rest ≤ cause_worth limits) × SpendsFrom limits (replaced_at actor rest left) (before ++ Begin actor command ∷ []) entries
-SpendsFrom limits left before (Step actor step answer reply ∷ entries) = (rest : ℕ) × IsOfUse (knows before actor) step × IsStepSpent limits (recalls before actor) step answer (left actor) rest × SpendsFrom limits (replaced_at actor rest left) (before ++ Step actor step answer reply ∷ []) entries
+SpendsFrom limits left before (Step actor step answer reply ∷ entries) = (rest : ℕ) × IsOfUse (knows before actor) step × IsStepSpent limits (recalls before actor) step answer (left actor) rest × (rest ≤ cause_worth limits * 10) × SpendsFrom limits (replaced_at actor rest left) (before ++ Step actor step answer reply ∷ []) entries
 
 -- Then a trace in which each actor obeys its discipline is direct.
 abbrev pub DirectRuns : Type 0

@@ -13,7 +13,7 @@ pub fn begins_directly()
     ensures { BeginsDirectly }
 {}
 
-/// A step keeps it, and leaves its operation fewer steps, or is a cause, which is worth 2^18 more.
+/// A step keeps it, and leaves its operation fewer steps, or is a cause, which is worth 2^18 more; never more than ten causes are worth.
 pub fn steps_directly()
     ensures { StepsDirectly }
 {}

@@ -10,6 +10,7 @@ use crate::steps::{command_words, step_words};
 use crate::words::Words;
 use crate::write::{with_number, with_token};
 use bw_model::Key;
+use core_memory::CoreRows;
 use epochs::{Entry, Stage};
 use op_machine::{Actor, Hand};
 
@@ -17,7 +18,13 @@ use op_machine::{Actor, Hand};
 const FEW: usize = 8;
 
 /// An actor: three lines, of which the first begins at the height `y`.
-pub(crate) fn actor_lines(sheet: &mut Sheet, number: u8, actor: &Actor, announced: u64, y: u32)
+pub(crate) fn actor_lines(
+    sheet: &mut Sheet,
+    number: u8,
+    actor: &Actor<CoreRows>,
+    announced: u64,
+    y: u32,
+)
     requires { IsActorShown actor.now }
     ensures { sheet.new ≡ sheet.old }
 {
@@ -38,7 +45,7 @@ pub(crate) fn actor_lines(sheet: &mut Sheet, number: u8, actor: &Actor, announce
 }
 
 /// What it was asked, the step that it wants, and its errands.
-fn doing(actor: &Actor, announced: u64) -> Words
+fn doing(actor: &Actor<CoreRows>, announced: u64) -> Words
     requires { IsActorShown actor.now }
 {
     let mut words = Words::new();

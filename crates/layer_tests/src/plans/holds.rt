@@ -2,13 +2,13 @@
 ghost use Rattle.std.specs.Prelude.{◌≡◌, false};
 ghost use Rattle.traces.specs.chain.Chains.{is_removed};
 
+use crate::built::{self, Held};
 use crate::plans::grown::{at, with_each, with_hold};
 use crate::plans::{bare, leaf_of, split_at};
-use smo::{PageInHand, plan_hold};
 use std::process::Abort;
 
 /// An index page of sixteen terms, where those at these places are held.
-fn sixteen<R: Abort + AllocGlobal>(rt: &R, places: &[u8]) -> PageInHand
+fn sixteen<R: Abort + AllocGlobal>(rt: &R, places: &[u8]) -> Held
     ensures alive { is_removed result.chain ≡ false }
 {
     let mut page = bare(rt);
@@ -19,13 +19,13 @@ fn sixteen<R: Abort + AllocGlobal>(rt: &R, places: &[u8]) -> PageInHand
     page
 }
 
-/// Whether what the parent gets, over row 7, holds the term at the place; none where it gets nothing.
-fn holds_at(parent: &PageInHand, page: &PageInHand, place: u8) -> Option<bool> {
-    match plan_hold(parent, page) {
+/// Whether what the parent gets, over its head, holds the term at the place; none where it gets nothing.
+fn holds_at<R: Abort + AllocGlobal>(rt: &R, parent: &Held, page: &Held, place: u8) -> Option<bool> {
+    match built::hold(rt, parent, page) {
         None => None,
         Some(hold) => {
             let child = u32::from(place) + 10;
-            let named = (hold.level, hold.next, hold.child) == (1, 7, child);
+            let named = (hold.level, hold.next, hold.child) == (1, parent.head(), child);
             Some(named & (hold.separator == at(place)))
         }
     }
@@ -34,7 +34,7 @@ fn holds_at(parent: &PageInHand, page: &PageInHand, place: u8) -> Option<bool> {
 /// The same of such a page.
 fn holds<R: Abort + AllocGlobal>(rt: &R, places: &[u8], place: u8) -> Option<bool> {
     let page = leaf_of(rt, u32::from(place) + 10, at(place), 0);
-    holds_at(&sixteen(rt, places), &page, place)
+    holds_at(rt, &sixteen(rt, places), &page, place)
 }
 
 /// Terms that are held, a place, and whether its term may be held; none where it may not.
@@ -70,7 +70,7 @@ const SPLIT: &[(&[u8], u8, usize)] = &[
 /// Whether each of them is.
 fn are_split<R: Abort + AllocGlobal>(rt: &R) -> bool {
     for (held, place, count) in SPLIT {
-        if split_at(&sixteen(rt, held), *place) != Some((true, *count)) {
+        if split_at(rt, &sixteen(rt, held), *place) != Some((true, *count)) {
             return false;
         }
     }

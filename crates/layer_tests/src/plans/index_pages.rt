@@ -6,11 +6,11 @@ ghost use Rattle.deltas.specs.declared.record.Record.TheVariants.{Base};
 ghost use Rattle.traces.specs.chain.Chains.{is_removed};
 ghost use Rattle.traces.specs.chain.Fitted.{IsPageChain};
 
+use crate::built::Held;
 use crate::plans::grown::based;
 use crate::plans::key;
 use base_page::{Content, Items, Page};
 use bw_model::Key;
-use smo::PageInHand;
 use std::process::Abort;
 
 fn term(page: u32) -> Content
@@ -38,7 +38,7 @@ fn lower(level: u8) -> Page
 }
 
 /// That page, as it was read.
-pub(crate) fn read<R: Abort + AllocGlobal>(rt: &R, level: u8) -> PageInHand
+pub(crate) fn read<R: Abort + AllocGlobal>(rt: &R, level: u8) -> Held
     requires index { 0 < level }
     requires top { level ≤ 15 }
     ensures alive { is_removed result.chain ≡ false }
@@ -59,7 +59,7 @@ pub(crate) fn index_from(level: u8, low: Key, child: u32) -> Page
 }
 
 /// An index page of the first level from "k09" on, where page 3 begins, as page 2.
-pub(crate) fn right<R: Abort + AllocGlobal>(rt: &R) -> PageInHand
+pub(crate) fn right<R: Abort + AllocGlobal>(rt: &R) -> Held
     ensures alive { is_removed result.chain ≡ false }
 {
     based(rt, 2, index_from(1, key(b"k09"), 3))

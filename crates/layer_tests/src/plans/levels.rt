@@ -1,15 +1,15 @@
 //! Merges of a removed page into an index page.
+use crate::built::Held;
 use crate::plans::grown::{consolidate, hold, remove, root_over, with_each, with_hold, with_terms};
 use crate::plans::index_pages::{read, right};
 use crate::plans::{key, leaf_of, merges};
-use smo::PageInHand;
 use std::process::Abort;
 
 /// Whether the right page is removed under a root over both, and whether it comes into the left one then.
-fn merges<R: Abort + AllocGlobal>(rt: &R, left: &PageInHand, right: &mut PageInHand) -> [bool; 2] {
+fn merges<R: Abort + AllocGlobal>(rt: &R, left: &Held, right: &mut Held) -> [bool; 2] {
     let mut root = root_over(rt, left, right);
     hold(rt, &mut root, right);
-    [remove(rt, &root, right), merges::merges(left, right)]
+    [remove(rt, &root, right), merges::merges(rt, left, right)]
 }
 
 /// Whether an index page of one term comes into one of fifteen terms, and not into one of sixteen.
@@ -24,7 +24,7 @@ fn merges_beside_fifteen<R: Abort + AllocGlobal>(rt: &R) -> bool {
 }
 
 /// Whether an index page of two terms comes into its left one, and isn't even removed where one of them is held.
-fn merges_two<R: Abort + AllocGlobal>(rt: &R, left: &PageInHand, held: bool) -> [bool; 2] {
+fn merges_two<R: Abort + AllocGlobal>(rt: &R, left: &Held, held: bool) -> [bool; 2] {
     let mut two = right(rt);
     with_each(rt, &mut two, b'x', 1, 2);
     if held {

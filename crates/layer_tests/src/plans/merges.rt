@@ -3,32 +3,33 @@ ghost use Rattle.std.specs.Prelude.{◌≡◌, false};
 ghost use Rattle.deltas.specs.Spellable.{IsPid};
 ghost use Rattle.traces.specs.chain.Chains.{is_removed};
 
+use crate::built::{self, Held};
 use crate::plans::grown::{
     at, delete, hold, join, post, remove, root_over, split, thin, with_terms,
 };
 use crate::plans::roots::roots_first;
 use crate::plans::{leaf, leaf_of};
 use bw_model::Key;
-use smo::{PageInHand, plan_merge, plan_remove, plan_unterm};
 use std::process::Abort;
 
 /// Whether the left page gets the removed one.
-pub(crate) fn merges(left: &PageInHand, removed: &PageInHand) -> bool {
-    plan_merge(left, removed).is_some()
+pub(crate) fn merges<R: Abort + AllocGlobal>(rt: &R, left: &Held, removed: &Held) -> bool {
+    built::merge(rt, left, removed).is_some()
 }
 
-/// Whether the left page, over row 7, gets so many items from the middle of its leaf on, up to the key, where the right page begins.
-fn brings(
-    left: &PageInHand,
-    removed: &PageInHand,
+/// Whether the left page, over its head, gets so many items from the middle of its leaf on, up to the key, where the right page begins.
+fn brings<R: Abort + AllocGlobal>(
+    rt: &R,
+    left: &Held,
+    removed: &Held,
     count: u8,
     high: Option<Key>,
     right: Option<u32>,
 ) -> bool {
-    match plan_merge(left, removed) {
+    match built::merge(rt, left, removed) {
         None => false,
         Some(merge) => {
-            let place = (merge.level, merge.next, merge.right) == (0, 7, right);
+            let place = (merge.level, merge.next, merge.right) == (0, left.head(), right);
             let range = (merge.low == at(8)) & (merge.high == high);
             place & range & (&merge.items == leaf(at(8), count).items())
         }
@@ -36,36 +37,37 @@ fn brings(
 }
 
 /// Whether the parent loses the removed page's term.
-fn unterms(parent: &PageInHand, left: &PageInHand, removed: &PageInHand) -> bool {
-    plan_unterm(parent, left, removed).is_some()
+fn unterms<R: Abort + AllocGlobal>(rt: &R, parent: &Held, left: &Held, removed: &Held) -> bool {
+    built::unterm(rt, parent, left, removed).is_some()
 }
 
-/// Whether the parent, over row 7, loses the term of this child at the key of this place.
-fn loses(
-    parent: &PageInHand,
-    left: &PageInHand,
-    removed: &PageInHand,
+/// Whether the parent, over its head, loses the term of this child at the key of this place.
+fn loses<R: Abort + AllocGlobal>(
+    rt: &R,
+    parent: &Held,
+    left: &Held,
+    removed: &Held,
     place: u8,
     child: u32,
 ) -> bool {
-    match plan_unterm(parent, left, removed) {
+    match built::unterm(rt, parent, left, removed) {
         None => false,
         Some(unterm) => {
-            let named = (unterm.level, unterm.next, unterm.child) == (1, 7, child);
+            let named = (unterm.level, unterm.next, unterm.child) == (1, parent.head(), child);
             named & (unterm.separator == at(place))
         }
     }
 }
 
 /// The first of two leaves, as page 1, which ends at the eighth key.
-fn first<R: Abort + AllocGlobal>(rt: &R) -> PageInHand
+fn first<R: Abort + AllocGlobal>(rt: &R) -> Held
     ensures alive { is_removed result.chain ≡ false }
 {
     split(rt, 1, Key::default(), 16, 2)
 }
 
 /// The second one, up to the sixteenth key, with four items.
-fn second<R: Abort + AllocGlobal>(rt: &R) -> PageInHand
+fn second<R: Abort + AllocGlobal>(rt: &R) -> Held
     ensures alive { is_removed result.chain ≡ false }
 {
     let mut page = split(rt, 2, at(8), 24, 3);
@@ -75,10 +77,10 @@ fn second<R: Abort + AllocGlobal>(rt: &R) -> PageInHand
 
 /// A root that holds the term of its last leaf; the leaf to the left of that one; the last one; and that one removed.
 struct Pages {
-    root: PageInHand,
-    left: PageInHand,
-    last: PageInHand,
-    gone: PageInHand,
+    root: Held,
+    left: Held,
+    last: Held,
+    gone: Held,
 }
 
 impl Drop for Pages {
@@ -111,7 +113,7 @@ fn two<R: Abort + AllocGlobal>(rt: &R) -> Pages
 }
 
 /// The third leaf, with four items.
-fn third<R: Abort + AllocGlobal>(rt: &R) -> PageInHand
+fn third<R: Abort + AllocGlobal>(rt: &R) -> Held
     ensures alive { is_removed result.chain ≡ false }
 {
     let mut page = leaf_of(rt, 3, at(16), 24);
@@ -141,49 +143,49 @@ fn three<R: Abort + AllocGlobal>(rt: &R) -> Pages
 /// Whether a page that is a base alone comes into the left one, once it is removed.
 fn merges_a_base<R: Abort + AllocGlobal>(rt: &R, pages: &Pages) -> bool {
     let mut base = leaf_of(rt, 2, at(8), 11);
-    remove(rt, &pages.root, &mut base) & brings(&pages.left, &base, 11, None, None)
+    remove(rt, &pages.root, &mut base) & brings(rt, &pages.left, &base, 11, None, None)
 }
 
 /// Whether a page 4 that was split from so many items to this page gets the removed one.
-fn merges_into<R: Abort + AllocGlobal>(rt: &R, gone: &PageInHand, count: u8, right: u32) -> bool
+fn merges_into<R: Abort + AllocGlobal>(rt: &R, gone: &Held, count: u8, right: u32) -> bool
     requires right { IsPid right }
 {
-    merges(&split(rt, 4, Key::default(), count, right), gone)
+    merges(rt, &split(rt, 4, Key::default(), count, right), gone)
 }
 
 /// Whether the removed page comes into its left one alone.
-fn merges_there<R: Abort + AllocGlobal>(rt: &R, gone: &PageInHand) -> bool {
+fn merges_there<R: Abort + AllocGlobal>(rt: &R, gone: &Held) -> bool {
     let before = merges_into(rt, gone, 17, 2) & !merges_into(rt, gone, 16, 3);
-    let endless = merges(&leaf_of(rt, 4, Key::default(), 8), gone);
+    let endless = merges(rt, &leaf_of(rt, 4, Key::default(), 8), gone);
     before & !merges_into(rt, gone, 18, 2) & !endless
 }
 
 /// Whether the first leaf, under seven deltas, gets the removed one, and not under eight.
-fn merges_under_seven<R: Abort + AllocGlobal>(rt: &R, gone: &PageInHand) -> bool {
+fn merges_under_seven<R: Abort + AllocGlobal>(rt: &R, gone: &Held) -> bool {
     let mut left = first(rt);
     thin(rt, &mut left, 0, 6);
-    let given = merges(&left, gone);
+    let given = merges(rt, &left, gone);
     delete(rt, &mut left, at(6));
-    given & !merges(&left, gone)
+    given & !merges(rt, &left, gone)
 }
 
-pub(crate) fn removes(root: &PageInHand, page: &PageInHand) -> bool {
-    plan_remove(root, page).is_some()
+pub(crate) fn removes<R: Abort + AllocGlobal>(rt: &R, root: &Held, page: &Held) -> bool {
+    built::remove(rt, root, page).is_some()
 }
 
 /// Whether the last page may be removed, and the first one may not, however few items it has.
 fn removes_last<R: Abort + AllocGlobal>(rt: &R, pages: &Pages) -> bool {
     let mut thinned = first(rt);
     thin(rt, &mut thinned, 0, 4);
-    let last = removes(&pages.root, &pages.last) & !removes(&pages.root, &thinned);
-    last & !removes(&pages.root, &leaf_of(rt, 1, Key::default(), 0))
+    let last = removes(rt, &pages.root, &pages.last) & !removes(rt, &pages.root, &thinned);
+    last & !removes(rt, &pages.root, &leaf_of(rt, 1, Key::default(), 0))
 }
 
 /// Whether merges are given as they are to be.
 fn merges_second<R: Abort + AllocGlobal>(rt: &R, pages: &Pages) -> [bool; 6] {
     [
-        brings(&pages.left, &pages.gone, 12, Some(at(16)), Some(3)),
-        !merges(&pages.left, &pages.last) & !merges(&pages.gone, &pages.gone),
+        brings(rt, &pages.left, &pages.gone, 12, Some(at(16)), Some(3)),
+        !merges(rt, &pages.left, &pages.last) & built::merge_into_itself(rt, &pages.gone).is_none(),
         merges_a_base(rt, pages),
         merges_there(rt, &pages.gone),
         merges_under_seven(rt, &pages.gone),
@@ -196,31 +198,36 @@ fn loses_under_seven<R: Abort + AllocGlobal>(rt: &R, pages: &mut Pages) -> bool
     requires root { is_removed pages.old.root.chain ≡ false }
 {
     with_terms(rt, &mut pages.root, b'a', 0, 6);
-    let given = loses(&pages.root, &pages.left, &pages.gone, 8, 2);
+    let given = loses(rt, &pages.root, &pages.left, &pages.gone, 8, 2);
     with_terms(rt, &mut pages.root, b'a', 6, 7);
-    given & !unterms(&pages.root, &pages.left, &pages.gone)
+    given & !unterms(rt, &pages.root, &pages.left, &pages.gone)
 }
 
 /// Whether the root loses the term beside a leaf that has no end, and not beside one that begins where the last one does; and whether a
 /// root that doesn't hold the term keeps it.
 fn loses_beside<R: Abort + AllocGlobal>(rt: &R, pages: &Pages) -> bool {
-    let endless = unterms(&pages.root, &leaf_of(rt, 1, Key::default(), 3), &pages.gone);
-    let beside = unterms(&pages.root, &leaf_of(rt, 4, at(8), 12), &pages.gone);
+    let endless = unterms(
+        rt,
+        &pages.root,
+        &leaf_of(rt, 1, Key::default(), 3),
+        &pages.gone,
+    );
+    let beside = unterms(rt, &pages.root, &leaf_of(rt, 4, at(8), 12), &pages.gone);
     let unheld = root_over(rt, &first(rt), &pages.last);
-    endless & !beside & !unterms(&unheld, &pages.left, &pages.gone)
+    endless & !beside & !unterms(rt, &unheld, &pages.left, &pages.gone)
 }
 
 /// Whether the term of the last page ends once that was merged, at the key of this place.
 fn ends<R: Abort + AllocGlobal>(rt: &R, pages: &mut Pages, place: u8, child: u32) -> [bool; 3]
     ensures root { pages.new.root ≡ pages.old.root }
 {
-    let early = unterms(&pages.root, &pages.left, &pages.gone);
+    let early = unterms(rt, &pages.root, &pages.left, &pages.gone);
     join(rt, &mut pages.left, &pages.gone);
-    let whole = unterms(&pages.root, &pages.left, &pages.last);
+    let whole = unterms(rt, &pages.root, &pages.left, &pages.last);
     [
-        !early & !unterms(&pages.root, &pages.gone, &pages.gone),
+        !early & !built::unterm_beside_itself(rt, &pages.root, &pages.gone).is_some(),
         !whole,
-        loses(&pages.root, &pages.left, &pages.gone, place, child),
+        loses(rt, &pages.root, &pages.left, &pages.gone, place, child),
     ]
 }
 
@@ -236,7 +243,7 @@ fn of_two<R: Abort + AllocGlobal>(rt: &R) -> bool {
 /// What is so of three.
 fn of_three<R: Abort + AllocGlobal>(rt: &R) -> bool {
     let mut pages = three(rt);
-    let beyond = unterms(&pages.root, &first(rt), &pages.gone);
+    let beyond = unterms(rt, &pages.root, &first(rt), &pages.gone);
     !beyond & (ends(rt, &mut pages, 16, 3) == [true; 3])
 }
 

@@ -1,12 +1,12 @@
 //! Roots over a page that was split, and its right.
 ghost use Rattle.std.specs.Prelude.{◌<◌, ◌≤◌};
 
+use crate::built::{self, Held};
 use crate::plans::grown::{at, split};
 use crate::plans::index_pages::read;
 use crate::plans::{key, leaf_of};
 use base_page::{Content, Page};
 use bw_model::Key;
-use smo::{PageInHand, plan_root};
 use std::process::Abort;
 
 /// Whether the root is an index page over all keys that has page 1 at the empty key and page 2 at the eighth one.
@@ -26,39 +26,39 @@ fn has(root: &Page, at: &Key, child: u32) -> bool {
 }
 
 /// Whether the page and its right get a root over both.
-fn roots_both(left: &PageInHand, right: &PageInHand) -> bool {
-    match plan_root(left, right) {
+fn roots_both<R: Abort + AllocGlobal>(rt: &R, left: &Held, right: &Held) -> bool {
+    match built::root(rt, left, right) {
         None => false,
         Some(root) => is_over_both(&root),
     }
 }
 
-fn roots(left: &PageInHand, right: &PageInHand) -> bool {
-    plan_root(left, right).is_some()
+fn roots<R: Abort + AllocGlobal>(rt: &R, left: &Held, right: &Held) -> bool {
+    built::root(rt, left, right).is_some()
 }
 
 /// Whether the first page gets a root over it and its right, and over no other page, nor over its right once that is removed.
 pub(crate) fn roots_first<R: Abort + AllocGlobal>(
     rt: &R,
-    first: &PageInHand,
-    right: &PageInHand,
-    removed: &PageInHand,
+    first: &Held,
+    right: &Held,
+    removed: &Held,
 ) -> bool {
-    let given = roots_both(first, right) & !roots(first, removed);
-    let other = roots(first, &leaf_of(rt, 3, at(8), 16));
-    given & !other & !roots(first, &leaf_of(rt, 2, at(9), 16))
+    let given = roots_both(rt, first, right) & !roots(rt, first, removed);
+    let other = roots(rt, first, &leaf_of(rt, 3, at(8), 16));
+    given & !other & !roots(rt, first, &leaf_of(rt, 2, at(9), 16))
 }
 
 /// Whether a page that isn't the first one, or ends nowhere, gets a root.
 fn roots_another<R: Abort + AllocGlobal>(rt: &R) -> bool {
-    let second = roots(&split(rt, 2, at(8), 24, 3), &leaf_of(rt, 3, at(16), 24));
+    let second = roots(rt, &split(rt, 2, at(8), 24, 3), &leaf_of(rt, 3, at(16), 24));
     let endless = leaf_of(rt, 1, Key::default(), 3);
-    second | roots(&endless, &leaf_of(rt, 2, key(b"k09"), 3))
+    second | roots(rt, &endless, &leaf_of(rt, 2, key(b"k09"), 3))
 }
 
 /// The level of the root over both; none is 0.
-fn level_over(left: &PageInHand, right: &PageInHand) -> u8 {
-    match plan_root(left, right) {
+fn level_over<R: Abort + AllocGlobal>(rt: &R, left: &Held, right: &Held) -> u8 {
+    match built::root(rt, left, right) {
         None => 0,
         Some(root) => root.level(),
     }
@@ -69,7 +69,7 @@ fn root_level<R: Abort + AllocGlobal>(rt: &R, level: u8) -> u8
     requires index { 0 < level }
     requires top { level ≤ 15 }
 {
-    level_over(&read(rt, level), &leaf_of(rt, 2, key(b"k09"), 0))
+    level_over(rt, &read(rt, level), &leaf_of(rt, 2, key(b"k09"), 0))
 }
 
 #[test]

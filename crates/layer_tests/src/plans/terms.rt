@@ -2,22 +2,22 @@
 ghost use Rattle.std.specs.Prelude.{◌≤◌, length};
 ghost use Rattle.bw_model.specs.Bytes.{longest};
 
+use crate::built::{self, Held};
 use crate::plans::grown::{consolidate, with_each, with_terms};
 use crate::plans::index_pages::{read, right};
 use crate::plans::{bare, key, leaf_of};
-use smo::{PageInHand, plan_hold, plan_term};
 use std::process::Abort;
 
 /// Whether the parent gets the term of a leaf that begins at the key.
-fn posts<R: Abort + AllocGlobal>(rt: &R, parent: &PageInHand, low: &[u8]) -> bool
+fn posts<R: Abort + AllocGlobal>(rt: &R, parent: &Held, low: &[u8]) -> bool
     requires { length low.now ≤ longest }
 {
-    plan_term(parent, &leaf_of(rt, 2, key(low), 0)).is_some()
+    built::term(rt, parent, &leaf_of(rt, 9, key(low), 0)).is_some()
 }
 
 /// Whether the first term that the page got beside its own one may be held.
-fn holds<R: Abort + AllocGlobal>(rt: &R, parent: &PageInHand) -> bool {
-    plan_hold(parent, &leaf_of(rt, 10, key(&[b'a', 0]), 0)).is_some()
+fn holds<R: Abort + AllocGlobal>(rt: &R, parent: &Held) -> bool {
+    built::hold(rt, parent, &leaf_of(rt, 10, key(&[b'a', 0]), 0)).is_some()
 }
 
 /// Whether an index page of fifteen items gets a term, and one of sixteen.
@@ -42,12 +42,7 @@ fn under_deltas<R: Abort + AllocGlobal>(rt: &R) -> [bool; 4] {
 }
 
 /// Whether the page gets the term of a leaf that begins at the first key, and not of one that begins at the other one.
-fn posts_inside<R: Abort + AllocGlobal>(
-    rt: &R,
-    page: PageInHand,
-    inside: &[u8],
-    outside: &[u8],
-) -> bool
+fn posts_inside<R: Abort + AllocGlobal>(rt: &R, page: Held, inside: &[u8], outside: &[u8]) -> bool
     requires inside { length inside.now ≤ longest }
     requires outside { length outside.now ≤ longest }
 {

@@ -1,10 +1,11 @@
 -- An actor looks a key up in the opening tree, and finds none: a run with its point, answered, quiet and faithful.
 use Rattle.std.specs.Prelude.{codes}
 use Rattle.std.proofs.Common.{◌≡◌, ◌<◌, ◌≤◌, ℕ, suc, List, [], ◌∷◌, ◌++◌, length, Bool, true, false, Some, None, refl, sym, subst, ap, arith, inl, inr, lit<, lit≤, ◌+◌, ◌*◌, ◌∙◌}
-use Rattle.std.specs.Prelude.{slice_get, take}
+use Rattle.std.specs.Prelude.{drop, min, slice_get, slice_range, take, ◌-◌}
 use Rattle.std.specs.List.{count_by}
 use Rattle.std.proofs.lemmas.Bool.{cases_lt}
-use Rattle.std.proofs.lemmas.List.{take_all}
+use Rattle.std.proofs.lemmas.List.{length-drop, length-take, take_all}
+use Rattle.std.proofs.lemmas.List.Sums.{count_by-le-length}
 use Rattle.bw_model.specs.declared.command.Command.{Command}
 use Rattle.bw_model.specs.declared.command.Command.TheVariants.{Get}
 use Rattle.bw_model.specs.declared.command.Reply.{Reply}
@@ -33,7 +34,7 @@ use Rattle.traces.specs.chain.Chains.{IsChainOf, level_in}
 use Rattle.traces.proofs.ChainLaws.{IsChainOf-unique}
 use Rattle.traces.proofs.Pushes.{slice_get_below}
 use Rattle.op_machine.specs.theorem.Changes.{HasFewChanges}
-use Rattle.op_machine.specs.theorem.Direct.{IsDirect}
+use Rattle.op_machine.specs.theorem.Direct.{IsDirect, is_step_of}
 use Rattle.op_machine.specs.theorem.Progress.{AreAmong, ChangesTree, ReadsAtOnce, is_begin as begins_one, is_end, is_step, steps_from, takes_number}
 use Rattle.op_machine.specs.theorem.Readers.{IsReading}
 use Rattle.op_machine.specs.theorem.Faithful.{IsFaithful, KnowsRow}
@@ -228,17 +229,30 @@ few_steps : (operation : Operation) (n : ℕ) → IsOperation lookup operation �
 unfolding cause_worth
 few_steps operation n is h = rw (only operation is) (UpTo-at (λ k. steps_from lookup 0 0 k ≤ cause_worth small) 6 (lit≤ tt, (lit≤ tt, (lit≤ tt, (lit≤ tt, (lit≤ tt, (lit≤ tt, lit≤ tt)))))) n h)
 
+few_since : (operation : Operation) (m n : ℕ) → steps_from lookup operation.actor m n ≤ cause_worth small * (0 + 10)
+unfolding cause_worth
+few_since operation m n =
+    let counted : steps_from lookup operation.actor m n ≤ length (slice_range lookup m (suc n)) = count_by-le-length (is_step_of operation.actor) (slice_range lookup m (suc n)) in
+    let taken : length (slice_range lookup m (suc n)) ≡ min (suc n - m) (length (drop m lookup)) = length-take (suc n - m) (drop m lookup) in
+    let rest : length (drop m lookup) ≡ length lookup - m = length-drop m lookup in
+    let most : min (suc n - m) (length (drop m lookup)) ≤ length (drop m lookup) = min_right (suc n - m) (length (drop m lookup)) in
+    omega (arith, counted, taken, rest, most)
+  where
+    min_right : (a b : ℕ) → min a b ≤ b
+    min_right a b = omega arith
+
 is_direct : IsDirect small lookup
 unfolding only_looks
 is_direct = record {
   few = λ operation n is own. ([], λ k h. absurd (omega arith), λ k d h. absurd (omega arith), once_is (few_steps operation n is (at_most n own)));
+  since = λ operation m n is after le own. ([], λ k h. absurd (omega arith), λ k d h. absurd (omega arith), few_since operation m n);
   once = λ operation m n first second is a b. absurd (odd (looks m _ a.3.1.entry operation.actor _ _ (a.3.0, refl)));
   useful = λ operation n slot old new chain is own. absurd (odd (looks n _ own.1.entry operation.actor _ _ (own.0, refl)));
   reads = λ operation n step answer is reader own. EachAt-get (λ k. IsOfReader) lookup (tt, (tt, (tt, (tt, (tt, (tt, (tt, tt))))))) n _ own.1.entry;
   emptied = λ operation n pid is own. absurd (EachAt-get (λ k. FindsSome) lookup (tt, (tt, (tt, (some, (some, (tt, (tt, tt))))))) n _ own.1.entry refl);
   settled = λ operation n pid row is own above held.
       let one : pid ≡ 1 = EachAt-get (λ k. IsFirstPage) lookup (tt, (tt, (tt, ((λ lt. absurd (omega arith)), ((λ lt. refl), (tt, (tt, tt))))))) n _ own.1.entry above in
-      rw one (indexed, inr ((λ k from to low high moves. moves_none k 1 from to moves), refl), (λ e. cc e), (λ e. cc e));
+      rw one (indexed, inr ((λ k from to low high moves. moves_none k 1 from to moves), refl), (λ e. cc e), (λ e. cc e), lit< tt);
   links = λ operation n slot old new is own. absurd (odd (looks n _ own.1.entry operation.actor _ _ (own.0, refl)));
 }
   where
@@ -328,20 +342,28 @@ is_linearized = record {
 unhindered : IsUnhindered small lookup
 unhindered = record {
   few = λ operation n is own none. ([], record { increasing = λ k h. absurd (omega arith); each = λ k d h. absurd (omega arith) }, once_more (few_steps operation n is (at_most n own)));
+  since = λ operation m n is after le own none. ([], record { increasing = λ k h. absurd (omega arith); each = λ k d h. absurd (omega arith) }, tenfold_more (cause_worth small) (few_since operation m n));
 }
   where
     once_more : {m n : ℕ} → m ≤ n → m ≤ n * (0 + 1)
     once_more h = omega arith
+
+    tenfold_more : {m : ℕ} (worth : ℕ) → m ≤ worth * (0 + 10) → m ≤ worth * (0 + 64 + 11)
+    tenfold_more worth h = omega arith
 
 ends_alone : EndsAlone small lookup
 ends_alone = record {
   few = λ operation m n is after own alone none.
       ([], record { increasing = λ k h. absurd (omega arith); each = λ k d h. absurd (omega arith) }, enough (cause_worth small) (few_steps operation n is (at_most n own)));
   whole = λ operation n is own alone none. enough (cause_worth small) (few_steps operation n is (at_most n own));
+  since = λ operation m n is after le own alone none. more_than (cause_worth small) (few_since operation m n);
 }
   where
     enough : {m : ℕ} (worth : ℕ) → m ≤ worth → m ≤ worth * (154 * 64 + 8 * 2 + 1)
     enough worth h = omega arith
+
+    more_than : {m : ℕ} (worth : ℕ) → m ≤ worth * (0 + 10) → m ≤ worth * (155 * 64 + 8 * 2 + 11)
+    more_than worth h = omega arith
 
 lock_free : IsLockFree small lookup
 unfolding cause_worth

@@ -1,5 +1,5 @@
 -- What an actor keeps, and what an answer makes of it.
-use Rattle.std.specs.Prelude.{◌≡◌, ℕ, List, [], Option, Some, None}
+use Rattle.std.specs.Prelude.{◌≡◌, ◌≤◌, ◌*◌, ℕ, List, [], Option, Some, None}
 use Rattle.bw_model.specs.declared.command.Command.{Command}
 use Rattle.bw_model.specs.declared.command.Reply.{Reply}
 use Rattle.tree_limits.specs.declared.limits.Limits.{Limits}
@@ -9,7 +9,8 @@ use Rattle.deltas.specs.declared.record.Record.{Record}
 use Rattle.traces.specs.discipline.Discipline.{IsAllowed}
 use Rattle.traces.specs.discipline.Fitting.{Fits}
 use Rattle.traces.specs.discipline.Knowledge.{Knowledge, learn, finished}
-use Rattle.traces.specs.discipline.Recalled.{Recalled, recall}
+use Rattle.traces.specs.discipline.Recalled.{Recalled, cause_worth, recall}
+use Rattle.descent.specs.Machines.{AreThere}
 use Rattle.installs.specs.declared.taking.Kind.{Kind}
 use Rattle.op_machine.specs.theorem.Halves.{IsHalved}
 use Rattle.op_machine.specs.theorem.Readers.{IsOfUse}
@@ -17,7 +18,7 @@ use Rattle.op_machine.specs.machine.Hands.{Hand, empty_hand}
 use Rattle.op_machine.specs.machine.Lacks.{HasLack}
 use Rattle.op_machine.specs.machine.Ops.{Goes, IsAtRestWith}
 use Rattle.op_machine.specs.machine.UnderWay.{UnderWay}
-use Rattle.op_machine.specs.machine.UnderWay.{IsSpentBy}
+use Rattle.op_machine.specs.machine.UnderWay.{IsSpentBy, steps_due}
 
 -- what an actor keeps between operations, the operation that it is at, and what ran out for the last one, where its reply was Full
 pub record Actor : Type 0 where
@@ -97,12 +98,22 @@ pub record IsToldActor (at : Actor) (answer : Answer Record) : Type 0 where
   pub r : Recalled
   pub going : IsGoing limits actor k r at answer
 
+-- The same, and what was read then is there.
+pub record IsToldActorThere (is_there : ℕ → Record → Type 0) (at : Actor) (answer : Answer Record) : Type 0 where
+  pub limits : Limits
+  pub actor : ℕ
+  pub k : Knowledge
+  pub r : Recalled
+  pub going : IsGoing limits actor k r at answer
+  pub there : AreThere is_there (learn k going.running.wanted answer)
+
 -- The actor might take the step, with the reply; what it keeps then shows what it knows and recalls, and of the steps that were
--- left it has spent one, or a cause paid for more. Where the reply is Full, it tells what ran out.
+-- left it has spent one, or a cause paid for more; few are left. Where the reply is Full, it tells what ran out.
 pub record ActsOn (limits : Limits) (actor : ℕ) (k : Knowledge) (r : Recalled) (old : Actor) (step : StepOf Record) (answer : Answer Record) (reply : Option Reply) (new : Actor) : Type 0 where
   pub allowed : IsAllowed limits actor k step reply
   pub useful : IsOfUse k step
   pub halved : IsHalved k step
   pub shows : IsActor limits actor (knows_then k step answer reply) (recall r step answer) new
   pub spends : IsSpentBy limits r old.hand old.running step answer new.hand new.running
+  pub few : steps_due (recall r step answer) new.hand new.running ≤ cause_worth limits * 10
   pub lacks : HasLack limits k reply old.lacks new.lacks

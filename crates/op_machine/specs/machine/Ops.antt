@@ -9,6 +9,7 @@ use Rattle.bw_model.specs.declared.step.Answer.{Answer}
 use Rattle.deltas.specs.declared.record.Record.{Record}
 use Rattle.traces.specs.discipline.Knowledge.{Knowledge}
 use Rattle.traces.specs.discipline.Recalled.{Recalled}
+use Rattle.descent.specs.Machines.{AreThere}
 use Rattle.epochs.specs.Limbo.{Limbo}
 use Rattle.op_machine.specs.machine.Hands.{Hand}
 use Rattle.op_machine.specs.machine.Outcomes.{HasLeft}
@@ -63,6 +64,14 @@ pub record IsToldOp (op : Op) (hand : Hand) (told : Answer Record) : Type 0 wher
   pub r : Recalled
   pub shows : Shows op hand k r
   pub fits : FitsLast op.task.limits k (wanted_of op hand) told
+
+-- The same, and what was read then is there.
+pub record IsToldOpThere (is_there : ℕ → Record → Type 0) (op : Op) (hand : Hand) (told : Answer Record) : Type 0 where
+  pub k : Knowledge
+  pub r : Recalled
+  pub shows : Shows op hand k r
+  pub fits : FitsLast op.task.limits k (wanted_of op hand) told
+  pub there : AreThere is_there (learn_last k (wanted_of op hand) told)
 
 -- The step is wanted, the actor may take it, and the operation shows what is known.
 pub record Goes (k : Knowledge) (r : Recalled) (op : Op) (hand : Hand) (asked : StepOf Record) : Type 0 where

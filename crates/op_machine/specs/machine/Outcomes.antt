@@ -120,12 +120,6 @@ pub record IsToldAt (state : State) (spares : Spares) (told : Answer Record) : T
   pub stands : ShowsState task spares k r state
   pub fits : FitsLast task.limits k (wanted_at spares state) told
 
--- Something is known that the outcome faces.
-pub record IsFaced (task : Task) (spares : Spares) (outcome : Outcome) : Type 0 where
-  pub k : Knowledge
-  pub r : Recalled
-  pub faces : Faces task spares k r outcome
-
 -- whether the first step was asked for
 abbrev pub has_begun : State → Bool
 has_begun at.Begun = false

@@ -1,10 +1,11 @@
 -- An operation after its sweep, over the spares alone.
-use Rattle.std.specs.Prelude.{◌≡◌, ◌≤◌, Option, IsSome}
+use Rattle.std.specs.Prelude.{◌≡◌, ◌≤◌, ℕ, Option, IsSome}
 use Rattle.bw_model.specs.declared.step.Step.{Step as StepOf}
 use Rattle.bw_model.specs.declared.step.Answer.{Answer}
 use Rattle.deltas.specs.declared.record.Record.{Record}
 use Rattle.traces.specs.discipline.Knowledge.{Knowledge}
 use Rattle.traces.specs.discipline.Recalled.{Recalled}
+use Rattle.descent.specs.Machines.{AreThere}
 use Rattle.installs.specs.Spares.{Spares}
 use Rattle.op_machine.specs.machine.Bounded.{IsSpentLast, LeavesFor, left_at, left_for, with_errands}
 use Rattle.op_machine.specs.machine.Hands.{Hand}
@@ -30,7 +31,15 @@ pub record IsToldOn (op : Op) (spares : Spares) (told : Answer Record) : Type 0 
   pub works : Works op spares k r
   pub fits : FitsLast op.task.limits k (asked_of op spares) told
 
--- The same, and the limbo list keeps what is known.
+-- The same, and what was read then is there.
+pub record IsToldOnThere (is_there : ℕ → Record → Type 0) (op : Op) (spares : Spares) (told : Answer Record) : Type 0 where
+  pub k : Knowledge
+  pub r : Recalled
+  pub works : Works op spares k r
+  pub fits : FitsLast op.task.limits k (asked_of op spares) told
+  pub there : AreThere is_there (learn_last k (asked_of op spares) told)
+
+-- Something is known that the operation shows, the answer fits it, and the limbo list keeps what is known.
 pub record IsToldWith (op : Op) (hand : Hand) (told : Answer Record) : Type 0 where
   pub told_on : IsToldOn op hand.spares told
   pub kept : AreKept op.task.limits op.task.actor hand.limbo told_on.k.limbo

@@ -70,17 +70,20 @@ abbrev pub is_step_of : ℕ → Entry → Bool
 is_step_of actor (Begin other command) = false
 is_step_of actor (Step other step answer reply) = other == actor
 
--- The PID is that of a page that is in the tree before step n, or was.
+-- The PID is one that there is, of a page that is in the tree before step n, or was.
 abbrev pub IsOfTree : Limits → List Entry → ℕ → ℕ → Type 0
-IsOfTree limits entries n pid = (phase : Phase) × IsInPhase limits entries n pid phase × (phase ≢ free) × (phase ≢ owned)
+IsOfTree limits entries n pid = (phase : Phase) × IsInPhase limits entries n pid phase × (phase ≢ free) × (phase ≢ owned) × (pid < limits.pids)
 
--- Of each operation that has got as far as step n: the causes pay for the steps, it links one update at most, it consolidates no base alone, a
+-- Of each operation that has got as far as step n: the causes pay for the steps, and those from any later entry on, and ten more, for the steps since; it links one update at most, it consolidates no base alone, a
 -- reader only reads, and a slot that is found empty is that of a page that was cleared. A slot in which it finds a row is that of a page of the
 -- tree; each exchange that it wins has a link, and one that fills a slot, or empties it again, is of a page which nobody has put into the tree yet.
 pub record IsDirect (limits : Limits) (entries : List Entry) : Type 0 where
   pub few : (operation : Operation) (n : ℕ) → IsOperation entries operation → IsOwnStep entries operation n
       → (causes : List ℕ) × IsStrictlyIncreasing causes × All (λ cause. (cause ≤ n) × IsCause limits entries operation cause) causes
       × (count_by (is_step_of operation.actor) (slice_range entries operation.start (suc n)) ≤ cause_worth limits * (length causes + 1))
+  pub since : (operation : Operation) (m n : ℕ) → IsOperation entries operation → operation.start < m → m ≤ n → IsOwnStep entries operation n
+      → (causes : List ℕ) × IsStrictlyIncreasing causes × All (λ cause. (m ≤ cause) × (cause ≤ n) × IsCause limits entries operation cause) causes
+      × (count_by (is_step_of operation.actor) (slice_range entries m (suc n)) ≤ cause_worth limits * (length causes + 10))
   pub once : (operation : Operation) (m n : ℕ) (first second : Link) → IsOperation entries operation → Links limits entries operation m first → Links limits entries operation n second
       → (first ≡ link.Put) ⊎ (first ≡ link.Delete) → (second ≡ link.Put) ⊎ (second ≡ link.Delete) → m ≡ n
   pub useful : (operation : Operation) (n slot old new : ℕ) (chain : List Record) → IsOperation entries operation → TakesOwnStep entries operation n (Exchange slot old new) (Whether true)

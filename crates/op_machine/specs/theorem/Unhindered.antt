@@ -32,15 +32,22 @@ module _ (limits : Limits) (entries : List Entry) where
     pub few : (operation : Operation) (n : ℕ) → IsOperation entries operation → IsOwnStep entries operation n → PlacesNoRemoval (take n entries)
         → (hindrances : List ℕ) × AreAmong limits entries operation.start n (Hinders operation.actor) hindrances
         × (steps_from entries operation.actor operation.start n ≤ cause_worth limits * (length hindrances + 1))
+    -- from any later entry m on: those since then, what it had read before, a slot of each page at most and free numbers, and what it had left
+    pub since : (operation : Operation) (m n : ℕ) → IsOperation entries operation → operation.start < m → m ≤ n → IsOwnStep entries operation n → PlacesNoRemoval (take n entries)
+        → (hindrances : List ℕ) × AreAmong limits entries m n (Hinders operation.actor) hindrances
+        × (steps_from entries operation.actor m n ≤ cause_worth limits * (length hindrances + limits.pids + 11))
 
   -- An operation that runs alone from entry m on ends: what hindered it until then, and the changes that the tree has in store, pay for all its
-  -- steps. Where it runs alone from its begin on, these changes do.
+  -- steps. Where it runs alone from its begin on, these changes do. However long others were in its way, it takes no more steps from entry m on
+  -- than the limits say. (Obstruction-freedom)
   pub record EndsAlone : Type 0 where
     pub few : (operation : Operation) (m n : ℕ) → IsOperation entries operation → operation.start < m → IsOwnStep entries operation n → RunsAlone entries operation.actor m n → PlacesNoRemoval (take n entries)
         → (hindrances : List ℕ) × AreAmong limits entries operation.start m (Hinders operation.actor) hindrances
         × (steps_from entries operation.actor operation.start n ≤ cause_worth limits * (length hindrances + 154 * limits.pids + 8 * limits.actors + 1))
     pub whole : (operation : Operation) (n : ℕ) → IsOperation entries operation → IsOwnStep entries operation n → RunsAlone entries operation.actor (suc operation.start) n → PlacesNoRemoval (take n entries)
         → steps_from entries operation.actor operation.start n ≤ cause_worth limits * (154 * limits.pids + 8 * limits.actors + 1)
+    pub since : (operation : Operation) (m n : ℕ) → IsOperation entries operation → operation.start < m → m ≤ n → IsOwnStep entries operation n → RunsAlone entries operation.actor m n → PlacesNoRemoval (take n entries)
+        → steps_from entries operation.actor m n ≤ cause_worth limits * (155 * limits.pids + 8 * limits.actors + 11)
 
   -- All operations together take few steps for each that was begun, and for the numbers that there are. So they do for each that has ended, and each
   -- actor: as long as steps are taken, operations end. (Lock-freedom)

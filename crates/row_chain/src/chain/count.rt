@@ -1,5 +1,6 @@
 //! How many items a chain has.
 ghost use Rattle.std.specs.Prelude.{◌≡◌, ◌≤◌, ◌+◌, ◌∷◌, ℕ, List, length, is_some, option_copied};
+ghost use Rattle.std.specs.List.{All};
 ghost use Rattle.std.specs.Ordering.{is_eq};
 ghost use Rattle.bw_model.specs.Bytes.{is_under, key_cmp};
 ghost use Rattle.base_page.specs.declared.item.Item.{Item};
@@ -10,63 +11,80 @@ ghost use Rattle.record_slots.specs.Parts.{items_of};
 ghost use Rattle.traces.specs.chain.Chains.{content_in, IsItemsOf};
 ghost use Rattle.traces.specs.chain.Fitted.{IsFitted};
 ghost use Rattle.row_chain.specs.Walks.{bound_under, count_under};
+ghost use Rattle.row_chain.specs.Placed.{IsReadChain, contents};
 
 use super::search::newest_of;
-use crate::{Chain, HeldRow};
-use row_search::{KeyWords, Row};
+use crate::Chain;
+use row_search::{KeyWords, RowAt, Rows};
 use std::alloc::Allocator;
 
-impl<A: Allocator> Chain<A> {
+impl<R: Rows, A: Allocator> Chain<R, A> {
     /// How many items the chain has. Its page isn't built: each record, from the newest on, adds items to those under it or takes one
     /// away, and a split leaves only those below its separator.
-    pub fn item_count(&self) -> usize
-        ensures { (items : List Item) → IsItemsOf self.now items → result ≡ length items }
+    pub fn item_count(&self, rows: &R, pass: &mut R::Pass) -> usize
+        requires read { IsReadChain (R.has rows.now pass.old) self.now }
+        ensures same { pass.new ≡ pass.old }
+        ensures count { (items : List Item) → IsItemsOf self.now.records items → result ≡ length items }
     {
+        self.was_read(rows, pass);
         self.keeps_rules();
-        let rows = self.as_slice();
+        let records = self.as_read(rows, pass);
         let mut bound = None;
         let mut more = 0;
         let mut fewer = 0;
-        for place in 0..rows.len() {
-            let newest = rows[place].row();
-            let (came, went) = change(newest, &rows[place + 1..], bound.as_ref());
+        for place in 0..records.len() {
+            let newest = &records[place];
+            let (came, went) = change(newest, &records[place + 1..], rows, pass, bound.as_ref());
             more += came;
             fewer += went;
-            bound = bound_under(newest, bound);
+            bound = bound_under(newest, rows, pass, bound);
         }
         more - fewer
     }
 }
 
-/// How many items below the bound the row's record adds to those under it, and how many it takes away.
-fn change<A: Allocator>(row: &Row, older: &[HeldRow<A>], bound: Option<&KeyWords>) -> (usize, usize)
-    requires { IsFitted (row.now ∷ older.now) }
+/// How many items below the bound the record adds to those under it, and how many it takes away.
+fn change<R: Rows>(
+    row: &RowAt<R>,
+    older: &[RowAt<R>],
+    rows: &R,
+    pass: &mut R::Pass,
+    bound: Option<&KeyWords>,
+) -> (usize, usize)
+    requires here { R.has rows.now pass.old row.now.row row.now.content }
+    requires fitted { IsFitted (row.now.content ∷ contents older.now) }
+    requires read { All (λ placed. R.has rows.now pass.old placed.row placed.content) older.now }
+    ensures same { pass.new ≡ pass.old }
     ensures change { (items rest : List Item)
-        → IsItemsOf (row.now ∷ older.now) items
-        → IsItemsOf older.now rest
+        → IsItemsOf (row.now.content ∷ contents older.now) items
+        → IsItemsOf (contents older.now) rest
         → count_under (option_copied bound.entry) items + result.1
-        ≡ count_under (bound_under row.now (option_copied bound.entry)) rest + result.0 }
+        ≡ count_under (bound_under row.now.content (option_copied bound.entry)) rest + result.0 }
     ensures more { result.0 ≤ MAX_ITEMS }
     ensures fewer { result.1 ≤ 1 }
 {
-    match row.one_key() {
-        None => (items_under(row, bound), 0),
-        Some((key, is_there)) => change_at(&key, is_there, older, bound),
+    match row.one_key(rows, pass) {
+        None => (items_under(row, rows, pass, bound), 0),
+        Some((key, is_there)) => change_at(&key, is_there, older, rows, pass, bound),
     }
 }
 
 /// The same of a record that names one key, by whether it says that the key has an item.
-fn change_at<A: Allocator>(
+fn change_at<R: Rows>(
     key: &KeyWords,
     is_there: bool,
-    older: &[HeldRow<A>],
+    older: &[RowAt<R>],
+    rows: &R,
+    pass: &mut R::Pass,
     bound: Option<&KeyWords>,
 ) -> (usize, usize)
+    requires read { All (λ placed. R.has rows.now pass.old placed.row placed.content) older.now }
+    ensures same { pass.new ≡ pass.old }
     ensures change { (newest : Record) (items rest : List Item)
         → ((q : List ℕ) → names newest q ≡ is_eq (key_cmp q key.now))
         → is_some (content_said newest key.now) ≡ is_there
-        → IsItemsOf (newest ∷ older.now) items
-        → IsItemsOf older.now rest
+        → IsItemsOf (newest ∷ contents older.now) items
+        → IsItemsOf (contents older.now) rest
         → count_under (option_copied bound.entry) items + result.1
         ≡ count_under (option_copied bound.entry) rest + result.0 }
     ensures more { result.0 ≤ 1 }
@@ -75,28 +93,37 @@ fn change_at<A: Allocator>(
     if !is_under(key, bound) {
         return (0, 0);
     }
-    match (has_item(older, key), is_there) {
+    match (has_item(older, rows, pass, key), is_there) {
         (false, true) => (1, 0),
         (true, false) => (0, 1),
         _ => (0, 0),
     }
 }
 
-/// Whether the rows have an item at the key.
-fn has_item<A: Allocator>(rows: &[HeldRow<A>], key: &KeyWords) -> bool
-    ensures { result ≡ is_some (content_in rows.now key.now) }
+/// Whether the records have an item at the key.
+fn has_item<R: Rows>(older: &[RowAt<R>], rows: &R, pass: &mut R::Pass, key: &KeyWords) -> bool
+    requires read { All (λ placed. R.has rows.now pass.old placed.row placed.content) older.now }
+    ensures same { pass.new ≡ pass.old }
+    ensures has { result ≡ is_some (content_in (contents older.now) key.now) }
 {
-    match newest_of(rows, key) {
-        Some(newest) => newest.content_said(key).is_some(),
+    match newest_of(older, rows, pass, key) {
+        Some(newest) => newest.content_said(rows, pass, key).is_some(),
         None => false,
     }
 }
 
-/// The bound of what is under the row: a split's separator, where it is below the bound.
-fn bound_under(row: &Row, bound: Option<KeyWords>) -> Option<KeyWords>
-    ensures { result ≡ bound_under row.now bound }
+/// The bound of what is under the record: a split's separator, where it is below the bound.
+fn bound_under<R: Rows>(
+    row: &RowAt<R>,
+    rows: &R,
+    pass: &mut R::Pass,
+    bound: Option<KeyWords>,
+) -> Option<KeyWords>
+    requires here { R.has rows.now pass.old row.now.row row.now.content }
+    ensures same { pass.new ≡ pass.old }
+    ensures bound { result ≡ bound_under row.now.content bound }
 {
-    match row.split_at() {
+    match row.split_at(rows, pass) {
         Some(separator) if is_under(&separator, bound.as_ref()) => Some(separator),
         _ => bound,
     }
@@ -112,13 +139,20 @@ fn is_under(key: &KeyWords, bound: Option<&KeyWords>) -> bool
     }
 }
 
-/// How many of the row's items are below the bound.
-fn items_under(row: &Row, bound: Option<&KeyWords>) -> usize
-    ensures count { result ≡ count_under (option_copied bound.entry) (items_of row.now) }
+/// How many of the record's items are below the bound.
+fn items_under<R: Rows>(
+    row: &RowAt<R>,
+    rows: &R,
+    pass: &mut R::Pass,
+    bound: Option<&KeyWords>,
+) -> usize
+    requires here { R.has rows.now pass.old row.now.row row.now.content }
+    ensures same { pass.new ≡ pass.old }
+    ensures count { result ≡ count_under (option_copied bound.entry) (items_of row.now.content) }
     ensures few { result ≤ MAX_ITEMS }
 {
     match bound {
         None => row.item_count(),
-        Some(bound) => row.items_below(bound),
+        Some(bound) => row.items_below(rows, pass, bound),
     }
 }

@@ -1,23 +1,27 @@
 //! The pairs of keys and values that a chain has.
-ghost use Rattle.std.specs.Prelude.{◌≤◌, None, length};
+ghost use Rattle.std.specs.Prelude.{◌≡◌, ◌≤◌, None, length};
 ghost use Rattle.bw_model.specs.Pairs.{ArePairsOf};
 ghost use Rattle.bw_model.specs.declared.pairs.TheConstants.{MAX_PAIRS};
 ghost use Rattle.base_page.specs.Pages.{IsAscending, content_at};
 ghost use Rattle.traces.specs.chain.Chains.{high_in};
 ghost use Rattle.traces.specs.discipline.Discipline.{found, value_of};
+ghost use Rattle.row_chain.specs.Placed.{IsReadChain};
 
 use crate::Chain;
 use base_page::{Content, Item};
 use bw_model::{Key, Pairs};
+use row_search::Rows;
 use std::alloc::Allocator;
 
-impl<A: Allocator> Chain<A> {
+impl<R: Rows, A: Allocator> Chain<R, A> {
     /// The pairs of the page from the key on, up to its high key; an index page has none. Decodes each record, as the page does.
     #[inline(never)]
-    pub fn pairs_from(&self, from: &Key) -> Pairs
-        ensures { ArePairsOf (found self.now) from.now (high_in self.now) result }
+    pub fn pairs_from(&self, rows: &R, pass: &mut R::Pass, from: &Key) -> Pairs
+        requires read { IsReadChain (R.has rows.now pass.old) self.now }
+        ensures same { pass.new ≡ pass.old }
+        ensures pairs { ArePairsOf (found self.now.records) from.now (high_in self.now.records) result }
     {
-        let page = self.page();
+        let page = self.page(rows, pass);
         pairs_among(page.items().as_slice(), from)
     }
 }

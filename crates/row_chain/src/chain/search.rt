@@ -1,5 +1,6 @@
 //! What a chain decides for a key.
-ghost use Rattle.std.specs.Prelude.{◌≡◌, ◌<◌, ◌++◌, List, IsSome, IsTrue, MatchOption, not, is_some};
+ghost use Rattle.std.specs.Prelude.{◌≡◌, ◌<◌, ◌++◌, List, IsSome, IsTrue, MatchOption, not, is_some, ⊤};
+ghost use Rattle.std.specs.List.{All};
 ghost use Rattle.bw_model.specs.Bytes.{is_below};
 ghost use Rattle.base_page.specs.Pages.{child_in, value_in};
 ghost use Rattle.base_page.specs.Places.{IsGreatestChild, HasNoChild};
@@ -7,83 +8,104 @@ ghost use Rattle.deltas.specs.declared.record.Record.{Record};
 ghost use Rattle.deltas.specs.Records.{content_said};
 ghost use Rattle.traces.specs.chain.Chains.{content_in, covers, level_in, low_in};
 ghost use Rattle.row_chain.specs.Walks.{is_named};
+ghost use Rattle.row_chain.specs.Placed.{IsReadChain, contents};
 
-use crate::{Chain, HeldRow};
+use crate::Chain;
 use base_page::Content;
 use bw_model::Value;
-use row_search::{KeyWords, Row};
+use row_search::{KeyWords, RowAt, Rows};
 use std::alloc::Allocator;
 
-impl<A: Allocator> Chain<A> {
+impl<R: Rows, A: Allocator> Chain<R, A> {
     /// What the page has at the key: the newest record that names the key says it.
-    pub fn content(&self, key: &KeyWords) -> Option<Content>
-        ensures { result ≡ content_in self.now key.now }
+    pub fn content(&self, rows: &R, pass: &mut R::Pass, key: &KeyWords) -> Option<Content>
+        requires read { IsReadChain (R.has rows.now pass.old) self.now }
+        ensures same { pass.new ≡ pass.old }
+        ensures content { result ≡ content_in self.now.records key.now }
     {
-        match newest_of(self.as_slice(), key) {
-            Some(newest) => newest.content_said(key),
+        match newest_of(self.as_read(rows, pass), rows, pass, key) {
+            Some(newest) => newest.content_said(rows, pass, key),
             None => None,
         }
     }
 
     /// The value of the key, which the newest record that names it says; an index page has none.
-    pub fn find(&self, key: &KeyWords) -> Option<Value>
-        ensures { result ≡ value_in (content_in self.now key.now) }
+    pub fn find(&self, rows: &R, pass: &mut R::Pass, key: &KeyWords) -> Option<Value>
+        requires read { IsReadChain (R.has rows.now pass.old) self.now }
+        ensures same { pass.new ≡ pass.old }
+        ensures value { result ≡ value_in (content_in self.now.records key.now) }
     {
-        match newest_of(self.as_slice(), key) {
-            Some(newest) => newest.value_said(key),
+        match newest_of(self.as_read(rows, pass), rows, pass, key) {
+            Some(newest) => newest.value_said(rows, pass, key),
             None => None,
         }
     }
 
     /// The child of the greatest term at or below the key, or none.
-    pub fn child_of(&self, key: &KeyWords) -> Option<u32>
+    pub fn child_of(&self, rows: &R, pass: &mut R::Pass, key: &KeyWords) -> Option<u32>
+        requires read { IsReadChain (R.has rows.now pass.old) self.now }
+        ensures same { pass.new ≡ pass.old }
         ensures child { MatchOption result
-            (HasNoChild (content_in self.now) (λ q. not (is_below key.now q)))
-            (IsGreatestChild (content_in self.now) (λ q. not (is_below key.now q))) }
-        ensures index { 0 < level_in self.now → IsTrue (covers self.now key.now) → IsSome result }
+            (HasNoChild (content_in self.now.records) (λ q. not (is_below key.now q)))
+            (IsGreatestChild (content_in self.now.records) (λ q. not (is_below key.now q))) }
+        ensures index { 0 < level_in self.now.records → IsTrue (covers self.now.records key.now) → IsSome result }
     {
+        self.was_read(rows, pass);
         self.keeps_rules();
-        match self.child_at(key) {
+        match self.child_at(rows, pass, key) {
             Some(child) => Some(child),
-            None => self.child_below(key),
+            None => self.child_below(rows, pass, key),
         }
     }
 
     /// The child of the greatest term below the key, or none.
-    pub fn child_below(&self, key: &KeyWords) -> Option<u32>
+    pub fn child_below(&self, rows: &R, pass: &mut R::Pass, key: &KeyWords) -> Option<u32>
+        requires read { IsReadChain (R.has rows.now pass.old) self.now }
+        ensures same { pass.new ≡ pass.old }
         ensures child { MatchOption result
-            (HasNoChild (content_in self.now) (λ q. is_below q key.now))
-            (IsGreatestChild (content_in self.now) (λ q. is_below q key.now)) }
-        ensures index { 0 < level_in self.now → IsTrue (is_below (low_in self.now) key.now) → IsSome result }
+            (HasNoChild (content_in self.now.records) (λ q. is_below q key.now))
+            (IsGreatestChild (content_in self.now.records) (λ q. is_below q key.now)) }
+        ensures index { 0 < level_in self.now.records → IsTrue (is_below (low_in self.now.records) key.now) → IsSome result }
     {
+        self.was_read(rows, pass);
         self.keeps_rules();
-        match self.greatest_below(key) {
-            Some(separator) => self.child_at(&separator),
+        match self.greatest_below(rows, pass, key) {
+            Some(separator) => self.child_at(rows, pass, &separator),
             None => None,
         }
     }
 
     /// The child that the page has at the key, which the newest record that names the key says, or none.
-    fn child_at(&self, key: &KeyWords) -> Option<u32>
-        ensures { result ≡ child_in (content_in self.now key.now) }
+    fn child_at(&self, rows: &R, pass: &mut R::Pass, key: &KeyWords) -> Option<u32>
+        requires read { IsReadChain (R.has rows.now pass.old) self.now }
+        ensures same { pass.new ≡ pass.old }
+        ensures child { result ≡ child_in (content_in self.now.records key.now) }
     {
-        match newest_of(self.as_slice(), key) {
-            Some(newest) => newest.child_said(key),
+        match newest_of(self.as_read(rows, pass), rows, pass, key) {
+            Some(newest) => newest.child_said(rows, pass, key),
             None => None,
         }
     }
 }
 
-/// The newest of the rows that names the key, or none.
-pub(super) fn newest_of<'a, A: Allocator>(rows: &'a [HeldRow<A>], key: &KeyWords) -> Option<&'a Row>
+/// The newest of the records that names the key, or none.
+pub(super) fn newest_of<'a, R: Rows>(
+    records: &'a [RowAt<R>],
+    rows: &R,
+    pass: &mut R::Pass,
+    key: &KeyWords,
+) -> Option<&'a RowAt<R>>
+    requires read { All (λ placed. R.has rows.now pass.old placed.row placed.content) records.now }
+    ensures same { pass.new ≡ pass.old }
     ensures said { (under : List Record) → MatchOption result
-        (content_in (rows.now ++ under) key.now ≡ content_in under key.now)
-        (λ newest. content_in (rows.now ++ under) key.now ≡ content_said newest.now key.now) }
-    ensures named { is_some result ≡ is_named rows.now key.now }
+        (content_in (contents records.now ++ under) key.now ≡ content_in under key.now)
+        (λ newest. content_in (contents records.now ++ under) key.now ≡ content_said newest.now.content key.now) }
+    ensures named { is_some result ≡ is_named (contents records.now) key.now }
+    ensures there { MatchOption result ⊤ (λ newest. R.has rows.now pass.old newest.now.row newest.now.content) }
 {
-    for newest in rows {
-        if newest.row().names(key) {
-            return Some(newest.row());
+    for newest in records {
+        if newest.names(rows, pass, key) {
+            return Some(newest);
         }
     }
     None

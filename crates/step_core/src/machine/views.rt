@@ -8,7 +8,7 @@ ghost use Rattle.traces.specs.trace.Trace.{command_of, memory_of};
 ghost use Rattle.tree_law.specs.LevelPages.{HasAllLevels};
 
 use super::Core;
-use core_memory::CoreTable;
+use core_memory::{CoreRows, CoreTable};
 use op_machine::Actor;
 use std::alloc::Allocator;
 use tree_law::levels_stand;
@@ -26,7 +26,7 @@ impl<A: Allocator> Core<A> {
 
     /// The actor of a number, if there is one: it has the operation that the trace says, and its spares and its limbo are exactly
     /// what its own entries show as taken and not linked, and as taken out of the tree and not freed.
-    pub fn actor(&self, number: u8) -> Option<&Actor<A>>
+    pub fn actor(&self, number: u8) -> Option<&Actor<CoreRows<A>, A>>
         ensures there { is_some result ≡ nat_lt number self.now.limits.actors }
         ensures keeps { IfSome result (λ actor. IsActor self.now.limits number (knows self.now.entries number) (recalls self.now.entries number) actor.now) }
         ensures command { IfSome result (λ actor. running_command actor.now ≡ command_of self.now.entries number) }

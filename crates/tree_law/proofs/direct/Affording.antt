@@ -1,5 +1,5 @@
 -- A begin keeps a trace direct, and so does a step that its operation can afford.
-use Rattle.tree_law.proofs.Words.{false, ap, refl, Option, List, true, inl, ◌≢◌, length, ◌++◌, ◌≤◌, inr, ◌∷◌, subst, sym, ℕ, ◌≡◌, ◌∙◌, ◌<◌, arith, Some, ◌==◌, eqb_tells, same_Some}
+use Rattle.tree_law.proofs.Words.{false, ap, refl, Option, List, true, inl, ◌≢◌, length, ◌++◌, ◌≤◌, inr, ◌∷◌, subst, sym, ℕ, ◌≡◌, ◌∙◌, ◌<◌, ◌*◌, arith, Some, ◌==◌, eqb_tells, same_Some}
 use Rattle.tree_law.proofs.Words.{IsSome, Command, Reply, Limits, Answer, Whether, Content, Link, StepOf, Row, Exchange, replaced_at, Record, May, begun, knows, Knowledge, finished, Ready}
 use Rattle.tree_law.proofs.Words.{learn, recall, Recalled, blank, recalls, IsAnswer, memory_of, IsUseful, IsOfUse, IsReading, IsInPhase, cleared, Slot, Number, None, zero, suc, slice_get, Placed, Indexed, phase_of, slot_in, row_in, Entry, Begin, Step, is_step_of, Links, Operation, IsUpdateLink, Accounts}
 use Rattle.tree_law.proofs.Words.{IsLast, Affords, IsDirectState, Recollects, Walks, StaysDirect, IsState, Opens, []}
@@ -35,7 +35,7 @@ not_step_of actor other s x reply ne = elim (eqb_tells other actor) [ inl same �
 
 pub opens : Opens IsDirectState
 opens limits = record {
-  direct = record { few = λ op n begun own. absurd (cc); once = λ op m n first second begun one two is_one is_two. absurd (cc); useful = λ op n slot old new chain begun took is is_chain. absurd (cc); reads = λ op n s x begun reader took. absurd (cc); emptied = λ op n pid begun took. absurd (cc); settled = λ op n pid row begun took some held. absurd (cc); links = λ op n slot old new begun took. absurd (cc) };
+  direct = record { few = λ op n begun own. absurd (cc); since = λ op m n begun after le own. absurd (cc); once = λ op m n first second begun one two is_one is_two. absurd (cc); useful = λ op n slot old new chain begun took is is_chain. absurd (cc); reads = λ op n s x begun reader took. absurd (cc); emptied = λ op n pid begun took. absurd (cc); settled = λ op n pid row begun took some held. absurd (cc); links = λ op n slot old new begun took. absurd (cc) };
   recollects = λ op latest. absurd (cc latest.begun);
   walks = λ op latest. absurd (cc latest.begun);
   foreign = λ actor page head base e f. absurd (cc);
@@ -103,16 +103,21 @@ module _ (limits : Limits) (entries : List Entry) (a : ℕ) (c : Command) (kept 
 same_number : (j k : ℕ) → ◌≡◌ {A = Answer Record} (Whether true) (Whether (j == k)) → j ≡ k
 same_number j k e = elim (eqb_tells j k) [ inl same ↦ same.1 | inr apart ↦ absurd (cc apart.0) ]
 
+-- a PID that isn't free is one that there is
+there_is : (limits : Limits) (p : phase.Phase) (pid : ℕ) → (p ≡ phase.free) ⊎ ((0 < pid) × (pid < limits.pids)) → p ≢ phase.free → pid < limits.pids
+there_is limits p pid (inl none) other = absurd (other none)
+there_is limits p pid (inr some) other = some.1
+
 -- a page that is reached in the tree is one of the tree
-of_tree : (limits : Limits) (entries : List Entry) (n pid : ℕ) (w : PageOwner) (r l : ℕ) (s : Key) → Reached r l s w → IsInPhase limits entries n pid (phase_of w) → IsOfTree limits entries n pid
-of_tree limits entries n pid Nobody r l s reached at = absurd reached
-of_tree limits entries n pid (Keeps b) r l s reached at = absurd reached
-of_tree limits entries n pid (Placed Fresh l' s') r l s reached at = (phase.fresh, at, (λ e. cc e), (λ e. cc e))
-of_tree limits entries n pid (Placed Indexed l' s') r l s reached at = (phase.indexed, at, (λ e. cc e), (λ e. cc e))
-of_tree limits entries n pid (Placed Held l' s') r l s reached at = (phase.held, at, (λ e. cc e), (λ e. cc e))
-of_tree limits entries n pid (Placed Removed l' s') r l s reached at = (phase.removed, at, (λ e. cc e), (λ e. cc e))
-of_tree limits entries n pid (Placed Merged l' s') r l s reached at = (phase.merged, at, (λ e. cc e), (λ e. cc e))
-of_tree limits entries n pid (Cleared b l' s') r l s reached at = (phase.cleared, at, (λ e. cc e), (λ e. cc e))
+of_tree : (limits : Limits) (entries : List Entry) (n pid : ℕ) (w : PageOwner) (r l : ℕ) (s : Key) → Reached r l s w → IsInPhase limits entries n pid (phase_of w) → (phase_of w ≡ phase.free) ⊎ ((0 < pid) × (pid < limits.pids)) → IsOfTree limits entries n pid
+of_tree limits entries n pid Nobody r l s reached at below = absurd reached
+of_tree limits entries n pid (Keeps b) r l s reached at below = absurd reached
+of_tree limits entries n pid (Placed Fresh l' s') r l s reached at below = (phase.fresh, at, (λ e. cc e), (λ e. cc e), there_is limits phase.fresh pid below (λ e. cc e))
+of_tree limits entries n pid (Placed Indexed l' s') r l s reached at below = (phase.indexed, at, (λ e. cc e), (λ e. cc e), there_is limits phase.indexed pid below (λ e. cc e))
+of_tree limits entries n pid (Placed Held l' s') r l s reached at below = (phase.held, at, (λ e. cc e), (λ e. cc e), there_is limits phase.held pid below (λ e. cc e))
+of_tree limits entries n pid (Placed Removed l' s') r l s reached at below = (phase.removed, at, (λ e. cc e), (λ e. cc e), there_is limits phase.removed pid below (λ e. cc e))
+of_tree limits entries n pid (Placed Merged l' s') r l s reached at below = (phase.merged, at, (λ e. cc e), (λ e. cc e), there_is limits phase.merged pid below (λ e. cc e))
+of_tree limits entries n pid (Cleared b l' s') r l s reached at below = (phase.cleared, at, (λ e. cc e), (λ e. cc e), there_is limits phase.cleared pid below (λ e. cc e))
 
 -- who fills the slot of a page, or empties it again, keeps the page
 keeps_slot : (limits : Limits) (entries : List Entry) (state : IsState limits entries) (b slot old new : ℕ) (kind : Link) → MayExchange b (knows entries b) slot old new → (memory_of limits entries).slots slot ≡ old
@@ -193,7 +198,7 @@ module _ (limits : Limits) (entries : List Entry) (a : ℕ) (s : StepOf Record) 
       met zero i lt = absurd (omega arith)
       met (suc p) i lt =
           let there = met_placed state.is_tree a (suc p) (rw i at may).1 in
-          of_tree limits entries (length entries) (suc p) (state.owners.page (suc p)) 0 there.0 there.1 there.2 (state.in_phase (suc p))
+          of_tree limits entries (length entries) (suc p) (state.owners.page (suc p)) 0 there.0 there.1 there.2 (state.in_phase (suc p)) (state.named.pid_below (suc p))
 
   -- an exchange that wins has a link, and a slot that is filled, or emptied again, is that of an own page
   links_now : (b slot old new : ℕ) (r : Option Reply) → next ≡ Step b (Exchange slot old new) (Whether true) r
@@ -265,7 +270,7 @@ module _ (limits : Limits) (entries : List Entry) (a : ℕ) (s : StepOf Record) 
   read_again row content before i j e =
       (rw j at (rw i at (fits limits entries state a s x may is_answer))).same before e
 
-  module _ (left rest : ℕ) (accounts : Accounts limits entries a left) (spent : IsStepSpent limits (recalls entries a) s x left rest) where
+  module _ (left rest : ℕ) (accounts : Accounts limits entries a left) (spent : IsStepSpent limits (recalls entries a) s x left rest) (few : rest ≤ cause_worth limits * 10) where
     afford : (op : Operation) → IsLast entries op → op.actor ≡ a → Affords limits grown op rest
     afford op latest same = elim spent [
       | inl less ↦ affords_less limits entries next op left rest latest.begun (accounts op latest same) less
@@ -278,6 +283,7 @@ module _ (limits : Limits) (entries : List Entry) (a : ℕ) (s : StepOf Record) 
           (subst (λ b. (recalls entries b).walk.rooted ≡ true → Walks limits entries op (knows entries b).read.seen (recalls entries b).walk) same (kept.walks op latest))
           h.0)
           h.1
+          few
     ]
       where
         same' : {b : ℕ} → b ≡ a → a ≡ b

@@ -20,8 +20,8 @@ along limits before [] left state kept each h spends = rw (append-nil before) ke
 along limits before (Begin actor command ∷ entries) left state kept each h (rest, few, more) =
     let stays = begins limits before actor command kept rest few in
     rw (append_assoc before (Begin actor command ∷ []) entries) at (along limits (before ++ Begin actor command ∷ []) entries (replaced_at actor rest left) (beginning.begins limits before actor command state h.0.0 h.0.1) stays.state (afford_after limits before (Begin actor command) actor rest left each stays) h.1 more)
-along limits before (Step actor step answer reply ∷ entries) left state kept each h (rest, useful, spent, more) =
-    let stays = steps limits before actor step answer reply state h.0.1.may useful h.0.2 kept (left actor) rest (each actor) spent in
+along limits before (Step actor step answer reply ∷ entries) left state kept each h (rest, useful, spent, few, more) =
+    let stays = steps limits before actor step answer reply state h.0.1.may useful h.0.2 kept (left actor) rest (each actor) spent few in
     rw (append_assoc before (Step actor step answer reply ∷ []) entries) at (along limits (before ++ Step actor step answer reply ∷ []) entries (replaced_at actor rest left) (growth.steps limits before actor step answer reply state h.0.0 h.0.1 h.0.2) stays.state (afford_after limits before (Step actor step answer reply) actor rest left each stays) h.1 more)
 
 pub direct_runs : DirectRuns

@@ -1,12 +1,13 @@
 -- The causes of an operation pay for one step more: by those that were left, or by being one more cause.
 use Rattle.tree_law.proofs.Words.{false, [], ap, cond, suc, List, true, inl, length, ◌++◌, ◌≤◌, inr, ◌∷◌, sym, ℕ, ◌≡◌, Bool, ◌∙◌, ◌<◌, arith, take, ◌+◌, ◌^◌, drop, ◌*◌, ◌-◌, cases_lt, All-weaker}
 use Rattle.tree_law.proofs.Words.{fold-append, All, count_by, IsStrictlyIncreasing, slice_range, Limits, Entry, is_step_of, IsCause, IsOperation, Operation, Affords}
-use Rattle.std.proofs.Common.{length-drop}
+use Rattle.std.proofs.Common.{length-drop, refl}
+use Rattle.tree_law.specs.Direct.{AffordsFrom}
 use Rattle.std.proofs.Math.Nat.{mul-one, mul-suc}
 use Rattle.traces.specs.discipline.Recalled.{cause_worth}
 use Rattle.std.proofs.Math.Seq.{get_or-append_seam}
-use Rattle.std.proofs.lemmas.List.{drop-append-le, drop_at, get_or_append_left, take-append-le}
-use Rattle.std.proofs.lemmas.List.Elements.{All-push}
+use Rattle.std.proofs.lemmas.List.{drop-append-le, drop_all, drop_at, get_or_append_left, take-append-le}
+use Rattle.std.proofs.lemmas.List.Elements.{All-head, All-push}
 use Rattle.std.proofs.lemmas.Option.{slice_get_within}
 use Rattle.tree_law.proofs.trace.Owned.{pushed_length}
 use Rattle.tree_law.proofs.direct.Causes.{cause_kept}
@@ -48,6 +49,78 @@ module _ (limits : Limits) (entries : List Entry) (last : Entry) (op : Operation
       (λ cause h. let long : length longer ≡ suc (length entries) = pushed_length entries last in let below : cause < length entries = h.0 in (omega arith, cause_kept limits entries last op cause h.1))
       causes each
 
+  counted_from : (m : ℕ) → m ≤ length entries → count_by (is_step_of op.actor) (drop m longer) ≡ count_by (is_step_of op.actor) (drop m entries) + cond (is_step_of op.actor last) 1 0
+  counted_from m within = ap (count_by (is_step_of op.actor)) (drop-append-le m entries (last ∷ []) within) ∙ count_push (is_step_of op.actor) (drop m entries) last
+
+  causes_kept_from : (m : ℕ) (causes : List ℕ) → All (λ cause. (m ≤ cause) × (cause < length entries) × IsCause limits entries op cause) causes → All (λ cause. (m ≤ cause) × (cause < length longer) × IsCause limits longer op cause) causes
+  causes_kept_from m causes each = All-weaker (λ cause. (m ≤ cause) × (cause < length entries) × IsCause limits entries op cause) (λ cause. (m ≤ cause) × (cause < length longer) × IsCause limits longer op cause)
+      (λ cause h. let long : length longer ≡ suc (length entries) = pushed_length entries last in let below : cause < length entries = h.1 in (h.0, omega arith, cause_kept limits entries last op cause h.2))
+      causes each
+
+  -- from the end of the trace on nothing is taken
+  from_end : (left m : ℕ) → length longer ≤ m → left ≤ cause_worth limits * 10 → AffordsFrom limits longer op left m
+  from_end left m past few = record {
+    causes = [];
+    increasing = λ j h. absurd (omega arith);
+    each = λ j d h. absurd (omega arith);
+    paid =
+        let none : count_by (is_step_of op.actor) (drop m longer) ≡ 0 = ap (count_by (is_step_of op.actor)) (drop_all m longer past) in
+        omega arith;
+  }
+
+  -- as few are left, and the entry costs no more than was left
+  from_less : (left rest m : ℕ) → m ≤ length entries → rest + cond (is_step_of op.actor last) 1 0 ≤ left → AffordsFrom limits entries op left m → AffordsFrom limits longer op rest m
+  from_less left rest m within less h = record {
+    causes = h.causes;
+    increasing = h.increasing;
+    each = causes_kept_from m h.causes h.each;
+    paid =
+        let same : count_by (is_step_of op.actor) (drop m longer) ≡ count_by (is_step_of op.actor) (drop m entries) + cond (is_step_of op.actor last) 1 0 = counted_from m within in
+        let old : count_by (is_step_of op.actor) (drop m entries) + left ≤ cause_worth limits * (length h.causes + 10) = h.paid in
+        omega arith;
+  }
+
+  from_cause : (left rest m : ℕ) → m ≤ length entries → IsCause limits longer op (length entries) → rest < left + cause_worth limits → AffordsFrom limits entries op left m → AffordsFrom limits longer op rest m
+  from_cause left rest m within cause less h = record {
+    causes = h.causes ++ length entries ∷ [];
+    increasing = increasing_push h.causes (length entries) h.increasing (All-weaker (λ c. (m ≤ c) × (c < length entries) × IsCause limits entries op c) (λ c. c < length entries) (λ c g. g.1) h.causes h.each);
+    each =
+        let long : length longer ≡ suc (length entries) = pushed_length entries last in
+        All-push (λ c. (m ≤ c) × (c < length longer) × IsCause limits longer op c) h.causes (length entries) (causes_kept_from m h.causes h.each) (within, omega arith, cause);
+    paid =
+        let same : count_by (is_step_of op.actor) (drop m longer) ≡ count_by (is_step_of op.actor) (drop m entries) + cond (is_step_of op.actor last) 1 0 = counted_from m within in
+        let one : cond (is_step_of op.actor last) 1 0 ≤ 1 = one_at_most (is_step_of op.actor last) in
+        let old : count_by (is_step_of op.actor) (drop m entries) + left ≤ cause_worth limits * (length h.causes + 10) = h.paid in
+        let more : length (h.causes ++ length entries ∷ []) ≡ suc (length h.causes) = pushed_length h.causes (length entries) in
+        let place : length (h.causes ++ length entries ∷ []) + 10 ≡ suc (length h.causes + 10) = omega (arith, more) in
+        let grown : cause_worth limits * (length (h.causes ++ length entries ∷ []) + 10) ≡ cause_worth limits * (length h.causes + 10) + cause_worth limits
+        = ap (λ k. cause_worth limits * k) place ∙ mul-suc (cause_worth limits) (length h.causes + 10) in
+        omega arith;
+  }
+
+  -- from each entry on, where it is so from each but the end
+  from_each : (left : ℕ) → left ≤ cause_worth limits * 10 → ((m : ℕ) → op.start < m → m ≤ length entries → AffordsFrom limits longer op left m) → (m : ℕ) → op.start < m → m ≤ length longer → AffordsFrom limits longer op left m
+  from_each left few earlier m after within =
+      let long : length longer ≡ suc (length entries) = pushed_length entries last in
+      elim (cases_lt (length entries) m) [
+        | inl past ↦ from_end left m (omega arith) few
+        | inr le ↦ earlier m after le
+      ]
+
+  -- an operation that can afford more steps than there may be can afford as many as these
+  few_left : (left : ℕ) → IsOperation entries op → Affords limits entries op left → left ≤ cause_worth limits * 10
+  few_left left begun h =
+      let start : op.start < length entries = slice_get_within entries op.start _ begun in
+      last_paid (h.since (length entries) start (omega arith))
+    where
+      last_paid : AffordsFrom limits entries op left (length entries) → left ≤ cause_worth limits * 10
+      last_paid f = no_causes f.causes f.each f.paid
+        where
+          no_causes : (causes : List ℕ) → All (λ cause. (length entries ≤ cause) × (cause < length entries) × IsCause limits entries op cause) causes
+              → count_by (is_step_of op.actor) (drop (length entries) entries) + left ≤ cause_worth limits * (length causes + 10) → left ≤ cause_worth limits * 10
+          no_causes [] each paid = let e : cause_worth limits * (0 + 10) ≡ cause_worth limits * 10 = refl in omega arith
+          no_causes (c ∷ cs) each paid = let at = All-head (λ cause. (length entries ≤ cause) × (cause < length entries) × IsCause limits entries op cause) c cs each in let low : length entries ≤ c = at.0 in let high : c < length entries = at.1 in absurd (omega arith)
+
   -- an entry that is no step of its actor costs nothing
   pub affords_kept : (left : ℕ) → IsOperation entries op → is_step_of op.actor last ≡ false → Affords limits entries op left → Affords limits longer op left
   affords_kept left begun other h = record {
@@ -58,6 +131,7 @@ module _ (limits : Limits) (entries : List Entry) (last : Entry) (op : Operation
         let same : count_by (is_step_of op.actor) (drop op.start longer) ≡ count_by (is_step_of op.actor) (drop op.start entries) + 0 = counted begun ∙ ap (λ t. count_by (is_step_of op.actor) (drop op.start entries) + cond t 1 0) other in
         let old : count_by (is_step_of op.actor) (drop op.start entries) + left ≤ cause_worth limits * (length h.causes + 1) = h.paid in
         omega arith;
+    since = from_each left (few_left left begun h) (λ m after within. from_less left left m within (let none : cond {A = ℕ} (is_step_of op.actor last) 1 0 ≡ 0 = ap (λ t. cond {A = ℕ} t 1 0) other in omega arith) (h.since m after within));
   }
 
   -- what was left pays for one step more
@@ -71,11 +145,15 @@ module _ (limits : Limits) (entries : List Entry) (last : Entry) (op : Operation
         let one : cond (is_step_of op.actor last) 1 0 ≤ 1 = one_at_most (is_step_of op.actor last) in
         let old : count_by (is_step_of op.actor) (drop op.start entries) + left ≤ cause_worth limits * (length h.causes + 1) = h.paid in
         omega arith;
+    since =
+        let most : left ≤ cause_worth limits * 10 = few_left left begun h in
+        let one : cond (is_step_of op.actor last) 1 0 ≤ 1 = one_at_most (is_step_of op.actor last) in
+        from_each rest (omega arith) (λ m after within. from_less left rest m within (omega arith) (h.since m after within));
   }
 
   -- a cause more is worth 2^18 steps, itself among them
-  pub affords_cause : (left rest : ℕ) → IsOperation entries op → Affords limits entries op left → IsCause limits longer op (length entries) → rest < left + cause_worth limits → Affords limits longer op rest
-  affords_cause left rest begun h cause less = record {
+  pub affords_cause : (left rest : ℕ) → IsOperation entries op → Affords limits entries op left → IsCause limits longer op (length entries) → rest < left + cause_worth limits → rest ≤ cause_worth limits * 10 → Affords limits longer op rest
+  affords_cause left rest begun h cause less few = record {
     causes = h.causes ++ length entries ∷ [];
     increasing = increasing_push h.causes (length entries) h.increasing (All-weaker (λ c. (c < length entries) × IsCause limits entries op c) (λ c. c < length entries) (λ c g. g.0) h.causes h.each);
     each =
@@ -90,6 +168,7 @@ module _ (limits : Limits) (entries : List Entry) (last : Entry) (op : Operation
         let grown : cause_worth limits * (length (h.causes ++ length entries ∷ []) + 1) ≡ cause_worth limits * (length h.causes + 1) + cause_worth limits
         = ap (λ k. cause_worth limits * k) place ∙ mul-suc (cause_worth limits) (length h.causes + 1) in
         omega arith;
+    since = from_each rest few (λ m after within. from_cause left rest m within cause less (h.since m after within));
   }
 
   -- an operation that the last entry begins has taken no step
@@ -103,4 +182,10 @@ module _ (limits : Limits) (entries : List Entry) (last : Entry) (op : Operation
         let none : count_by (is_step_of op.actor) (drop op.start longer) ≡ 0 = ap (count_by (is_step_of op.actor)) rest ∙ ap (λ t. 0 + cond {A = ℕ} t 1 0) begins in
         let once : cause_worth limits * 1 ≡ cause_worth limits = mul-one (cause_worth limits) in
         omega arith;
+    since = λ m after within.
+        let long : length longer ≡ suc (length entries) = pushed_length entries last in
+        from_end left m (omega arith) (tenfold (cause_worth limits) left few);
   }
+    where
+      tenfold : (worth left : ℕ) → left ≤ worth → left ≤ worth * 10
+      tenfold worth left few = omega (arith, few)

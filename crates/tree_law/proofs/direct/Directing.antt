@@ -3,6 +3,7 @@ use Rattle.tree_law.proofs.Words.{[], ap, Option, suc, None, List, true, inl, le
 use Rattle.tree_law.proofs.Words.{All, count_by, IsStrictlyIncreasing, IsSome, slice_range, Reply, Limits, Answer, Whether, Link, StepOf, Exchange, Record, IsChainOf, knows, memory_at, memory_of}
 use Rattle.tree_law.proofs.Words.{IsUseful, IsReading, IsInPhase, cleared, Slot, Number, false, Entry, Step, is_step_of, Links, IsCause, IsDirect, link_of, IsOperation, Operation, IsOwnStep, TakesOwnStep, IsUpdateLink, IsLast, Affords, IsDirectState}
 use Rattle.std.proofs.lemmas.List.{take_rest}
+use Rattle.tree_law.specs.Direct.{AffordsFrom}
 use Rattle.traces.specs.discipline.Recalled.{cause_worth}
 use Rattle.bw_model.specs.Replies.{is_writer}
 use Rattle.bw_model.specs.declared.step.Link.TheVariants as link
@@ -35,6 +36,24 @@ few_last limits trace op n rest whole h = (
       ),
 )
 
+-- the causes from an entry on until a step, and ten more, pay for the steps since then
+abbrev Since : Limits → List Entry → Operation → ℕ → ℕ → Type 0
+Since limits trace op m n = (causes : List ℕ) × IsStrictlyIncreasing causes × All (λ cause. (m ≤ cause) × (cause ≤ n) × IsCause limits trace op cause) causes
+    × (count_by (is_step_of op.actor) (slice_range trace m (suc n)) ≤ cause_worth limits * (length causes + 10))
+
+since_last : (limits : Limits) (trace : List Entry) (op : Operation) (m n rest : ℕ) → suc n ≡ length trace → AffordsFrom limits trace op rest m → Since limits trace op m n
+since_last limits trace op m n rest whole h = (
+  h.causes,
+  h.increasing,
+  All-weaker (λ cause. (m ≤ cause) × (cause < length trace) × IsCause limits trace op cause) (λ cause. (m ≤ cause) × (cause ≤ n) × IsCause limits trace op cause) (λ cause g. let below : cause < length trace = g.1 in (g.0, omega arith, g.2)) h.causes h.each,
+  (
+      let same : slice_range trace m (suc n) ≡ drop m trace = ap (λ end. take (end - m) (drop m trace)) whole ∙ take_rest trace m in
+      let counted : count_by (is_step_of op.actor) (slice_range trace m (suc n)) ≡ count_by (is_step_of op.actor) (drop m trace) = ap (count_by (is_step_of op.actor)) same in
+      let paid : count_by (is_step_of op.actor) (drop m trace) + rest ≤ cause_worth limits * (length h.causes + 10) = h.paid in
+      omega arith
+      ),
+)
+
 module _ (limits : Limits) (entries : List Entry) (last : Entry) (kept : IsDirectState limits entries) where
   abbrev longer : List Entry
   longer = entries ++ last ∷ []
@@ -48,6 +67,16 @@ module _ (limits : Limits) (entries : List Entry) (last : Entry) (kept : IsDirec
         h.1,
         All-weaker (λ cause. (cause ≤ n) × IsCause limits entries op cause) (λ cause. (cause ≤ n) × IsCause limits longer op cause) (λ cause g. (g.0, cause_kept limits entries last op cause g.1)) h.0 h.2,
         rw (range_kept entries last op.start (suc n) (omega arith) (omega arith)) h.3,
+      )
+
+  since_kept : (op : Operation) (m n : ℕ) → IsOperation entries op → op.start < m → m ≤ n → IsOwnStep entries op n → Since limits longer op m n
+  since_kept op m n begun after le own =
+      let h = kept.direct.since op m n begun after le own in
+      let below : n < length entries = takes_below entries last op n own.0 own.1 own.2 in (
+        h.0,
+        h.1,
+        All-weaker (λ cause. (m ≤ cause) × (cause ≤ n) × IsCause limits entries op cause) (λ cause. (m ≤ cause) × (cause ≤ n) × IsCause limits longer op cause) (λ cause g. (g.0, g.1, cause_kept limits entries last op cause g.2)) h.0 h.2,
+        rw (range_kept entries last m (suc n) (omega arith) (omega arith)) h.3,
       )
 
   module _ (afford : (op : Operation) (s : StepOf Record) (x : Answer Record) (reply : Option Reply) → IsLast entries op → last ≡ Step op.actor s x reply → (rest : ℕ) × Affords limits longer op rest)
@@ -67,6 +96,18 @@ module _ (limits : Limits) (entries : List Entry) (last : Entry) (kept : IsDirec
               let long : length longer ≡ suc (length entries) = pushed_length entries last in
               let same : n ≡ length entries = at.0 in
               few_last limits longer op n h.0 (omega arith) h.1
+        ]
+
+    since : (op : Operation) (m n : ℕ) → IsOperation longer op → op.start < m → m ≤ n → IsOwnStep longer op n → Since limits longer op m n
+    since op m n begun after le own =
+        let before : IsOperation entries op = operation_before entries last op n own.0 own.1 begun own.2 in
+        elim (takes_cases entries last op n own.0 own.1 own.2) [
+          | inl old ↦ since_kept op m n before after le (own.0, own.1, old)
+          | inr at ↦
+              let h = afford op own.0 own.1 at.1.0 (record { begun = before; unended = at.2 }) at.1.1 in
+              let long : length longer ≡ suc (length entries) = pushed_length entries last in
+              let same : n ≡ length entries = at.0 in
+              since_last limits longer op m n h.0 (omega arith) (h.1.since m after (omega arith))
         ]
 
     -- an operation that has linked an update links no other
@@ -130,11 +171,11 @@ module _ (limits : Limits) (entries : List Entry) (last : Entry) (kept : IsDirec
         elim (takes_cases entries last op n _ _ took) [
           | inl own ↦
               let below : n < length entries = takes_below entries last op n _ _ own in
-              let (phase, at, one, two) = kept.direct.settled op n pid row before own some held in
-              (phase, IsInPhase-kept limits entries last n pid phase (omega arith) at, one, two)
+              let (phase, at, one, two, there) = kept.direct.settled op n pid row before own some held in
+              (phase, IsInPhase-kept limits entries last n pid phase (omega arith) at, one, two, there)
           | inr at ↦
-              let (phase, is, one, two) = settled_now op pid row at.1.0 at.1.1 some held in
-              (phase, rw at.0 (IsInPhase-kept limits entries last (length entries) pid phase (omega arith) is), one, two)
+              let (phase, is, one, two, there) = settled_now op pid row at.1.0 at.1.1 some held in
+              (phase, rw at.0 (IsInPhase-kept limits entries last (length entries) pid phase (omega arith) is), one, two, there)
         ]
 
     links : (op : Operation) (n slot old new : ℕ) → IsOperation longer op → TakesOwnStep longer op n (Exchange slot old new) (Whether true)
@@ -154,4 +195,4 @@ module _ (limits : Limits) (entries : List Entry) (last : Entry) (kept : IsDirec
         ]
 
     pub direct : IsDirect limits longer
-    direct = record { few = few; once = once; useful = useful; reads = reads; emptied = emptied; settled = settled; links = links }
+    direct = record { few = few; since = since; once = once; useful = useful; reads = reads; emptied = emptied; settled = settled; links = links }

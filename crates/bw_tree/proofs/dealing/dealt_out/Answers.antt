@@ -38,10 +38,10 @@ invariant_of-push g c =
     let (left, all, is, each) = c.loop-number.invariant.rest in
     let tree : c.args.tree.now.limits ≡ c.tree.inside.limits = sym (ap (λ (t : Tree). t.limits) c.tree.view_is) in
     let same : c.first.inside.limits ≡ c.tree.inside.limits = ap (λ (s : Seat). s.limits) c.first.view_is ∙ c.requires.own.limits ∙ tree in
-    let seen : seen_of c.first.inside.place.me ≡ c.args.first.seen = ap (λ (s : Seat). s.seen) c.first.view_is in
+    let seen : seen_of c.first.inside.desk.place.me ≡ c.args.first.seen = ap (λ (s : Seat). s.seen) c.first.view_is in
     let alone_is : c.cut-others.new.seat.me ≡ (alone c.tree.inside.limits c.loop-number.number c.args.first.seen Idle, []) = deals_one c.tree.inside.limits c.args.first.seen c.loop-number.number left c.loop-number.rest.me c.cut-others.new.seat.me c.loop-number-test.true all is c.cut-others.ensures.first in
     fresh_then c.own_lasts.ensures c.tree.inside.limits c.loop-number.number c.args.first.seen c.replace-place.result.me c.in-Ok.actor c.idle_actors_rest.ensures (c.empty_run_is_lawful.ensures c.tree.inside.limits)
-    (subst (IsSeenRun c.tree.inside.limits) seen (subst (λ (l : Limits). IsSeenRun l (seen_of c.first.inside.place.me)) same (record { lawful = c.first.invariant.seated.lawful; begins = c.first.invariant.begins })))
+    (subst (IsSeenRun c.tree.inside.limits) seen (subst (λ (l : Limits). IsSeenRun l (seen_of c.first.inside.desk.place.me)) same (record { lawful = c.first.invariant.seated.lawful; begins = c.first.invariant.begins })))
     (extends_one c.tree.inside.limits c.args.first.seen c.loop-number.number left c.loop-number-test.true all each) c.loop-number-test.true
     (ap (λ place. place.me) c.replace-place.ensures.value ∙ alone_is) c.in-Ok.ensures.ok
 

@@ -1,5 +1,5 @@
-use Rattle.std.proofs.Common.{◌≡◌, ◌+◌, ◌++◌, length, take}
+use Rattle.std.proofs.Common.{◌≡◌, ◌++◌, take}
 use Rattle.layer_tests.proofs.built.copy_all.Given as goal
 
-abbrev pub invariant-loop-under : goal.invariant-loop-under
-invariant-loop-under l = (l.part ≡ l.fn.part ++ take l.under-index l.rows) × (length l.part ≡ length l.fn.part + l.under-index)
+abbrev pub invariant-loop-record : goal.invariant-loop-record
+invariant-loop-record g l = l.records.items ≡ l.fn.records.items ++ take l.record-index l.more

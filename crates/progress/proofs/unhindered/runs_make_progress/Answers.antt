@@ -1,5 +1,5 @@
 use Rattle.progress.proofs.Alone.{lone_end}
-use Rattle.progress.proofs.Hindering.{unhindered}
+use Rattle.progress.proofs.Later.{unhindered}
 use Rattle.progress.proofs.Together.{lock_free}
 use Rattle.progress.proofs.unhindered.runs_make_progress.Goals as goal
 

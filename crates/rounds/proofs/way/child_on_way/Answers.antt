@@ -7,14 +7,14 @@ use Rattle.descent.specs.Ways.{passes}
 use Rattle.descent.proofs.WayLaws.{goes_down}
 use Rattle.rounds.proofs.way.child_on_way.Goals as goal
 
-pub returns-then-below : goal.returns-then-below
-returns-then-below g c = rw c.if-below.true (goes_down (passes true c.args.key.now) c.args.chain.now c.in-Some.child c.keeps_rules.ensures.fitted c.in-Some.ensures.child)
+pub returns-then-below-clause-leads : goal.returns-then-below-clause-leads
+returns-then-below-clause-leads g c = rw c.if-below.true (goes_down (passes true c.args.key.now) c.args.chain.now.records c.in-Some.child c.keeps_rules.ensures.fitted c.in-Some.ensures.child)
 
-pub returns : goal.returns
-returns g c = rw c.if-below.false (goes_down (passes false c.args.key.now) c.args.chain.now c.in-Some-child_of.child c.keeps_rules.ensures.fitted c.in-Some-child_of.ensures.child)
+pub returns-clause-leads : goal.returns-clause-leads
+returns-clause-leads g c = rw c.if-below.false (goes_down (passes false c.args.key.now) c.args.chain.now.records c.in-Some-child_of.child c.keeps_rules.ensures.fitted c.in-Some-child_of.ensures.child)
 
 pub unreachable-requires-in-None-child_of : goal.unreachable-requires-in-None-child_of
 unreachable-requires-in-None-child_of g c =
-    let reached : IsTrue (passes false c.args.key.now (low_in c.args.chain.now)) = rw c.if-below.false at c.requires.reached in
-    let some = has_child c.args.chain.now (passes false c.args.key.now) c.keeps_rules.ensures.fitted c.requires.index reached (IsGreatestChild (content_in c.args.chain.now) (passes false c.args.key.now)) None c.in-None-child_of.ensures.child in
+    let reached : IsTrue (passes false c.args.key.now (low_in c.args.chain.now.records)) = rw c.if-below.false at c.requires.reached in
+    let some = has_child c.args.chain.now.records (passes false c.args.key.now) c.keeps_rules.ensures.fitted c.requires.index reached (IsGreatestChild (content_in c.args.chain.now.records) (passes false c.args.key.now)) None c.in-None-child_of.ensures.child in
     cc

@@ -1,8 +1,8 @@
-use Rattle.std.proofs.Common.{◌≡◌, ◌+◌, ◌*◌, ◌++◌, ◌∷◌, [], suc, set, take, drop, ap, ◌∙◌, sym, arith, length-set}
+use Rattle.std.proofs.Common.{◌≡◌, ◌+◌, ◌++◌, ◌∷◌, [], suc, set, take, ap, ◌∙◌, sym, arith, length-set}
 use Rattle.std.proofs.lemmas.List.{take_all}
 use Rattle.std.proofs.Math.Seq.{take-suc-set}
 use Rattle.record_slots.specs.Layout.{text_size}
-use Rattle.record_slots.specs.Spelling.{packed, text_words}
+use Rattle.record_slots.specs.Spelling.{text_words}
 use Rattle.record_slots.proofs.TextLaws.{text_grows}
 use Rattle.row_search.proofs.key_words.words_of.Goals as goal
 
@@ -24,4 +24,6 @@ loop-place-preserved c =
     }
 
 pub returns : goal.returns
-returns c = sym (take_all text_size c.loop-place.words (omega (arith, c.loop-place.invariant.long))) ∙ ap (λ n. take n c.loop-place.words) (let e : text_size ≡ c.loop-place.place = omega arith in e) ∙ c.loop-place.invariant.written ∙ ap (λ n. text_words n c.args.bytes.now) (let e : c.loop-place.place ≡ text_size = omega arith in e)
+returns c = sym (take_all text_size c.loop-place.words (omega (arith, c.loop-place.invariant.long)))
+    ∙ ap (λ n. take n c.loop-place.words) (let e : text_size ≡ c.loop-place.place = omega arith in e) ∙ c.loop-place.invariant.written
+    ∙ ap (λ n. text_words n c.args.bytes.now) (let e : c.loop-place.place ≡ text_size = omega arith in e)

@@ -1,7 +1,7 @@
 use Rattle.std.proofs.Common.{◌∙◌, ap, arith, sym}
 use Rattle.bw_tree.specs.Seats.{Seat}
 use Rattle.seat_threads.specs.Works.{behind}
-use Rattle.seat_threads.proofs.Behind.{behind_push}
+use Rattle.seat_threads.proofs.Behind.{behind_none, behind_push}
 use Rattle.seat_threads.proofs.threads.parted.Goals as goal
 
 pub loop-seat-preserved : goal.loop-seat-preserved
@@ -21,3 +21,9 @@ loop-seat-preserved g c =
       seats_room = rw c.push_reserved.ensures.capacity before.seats_room;
       works_room = rw c.push_reserved-in-Some.ensures.capacity before.works_room;
     }
+
+pub returns-clause-seats : goal.returns-clause-seats
+returns-clause-seats g c = sym (behind_none (λ (one : Seat × _). one.0) c.loop-seat.seats.items c.loop-seat.jobs.items (sym c.loop-seat.jobs.ok.0 ∙ c.in_default.ensures.cases.0)) ∙ c.loop-seat.invariant.seats
+
+pub returns-clause-works : goal.returns-clause-works
+returns-clause-works g c = sym (behind_none (λ (one : Seat × _). one.1) c.loop-seat.works.items c.loop-seat.jobs.items (sym c.loop-seat.jobs.ok.0 ∙ c.in_default.ensures.cases.0)) ∙ c.loop-seat.invariant.works

@@ -5,7 +5,7 @@ use Rattle.record_slots.specs.Layout.{last_at, row_size}
 use Rattle.slot_rule.specs.declared.view.Reach.TheVariants.{Writing}
 use Rattle.slot_rule.specs.Steps.{tail_from, used_by_either}
 use Rattle.slot_rule.specs.Views.{seen_of, SitsAt}
-use Rattle.slot_rule.proofs.Copied.{few_of_either}
+use Rattle.slot_rule.proofs.UsedWords.{few_of_either}
 use Rattle.slot_rule.proofs.Filled.{fills_at, next_in_tail, tail_length}
 use Rattle.slot_rule.proofs.placing.fill_row.Goals as goal
 

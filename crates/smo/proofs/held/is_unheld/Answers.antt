@@ -5,17 +5,17 @@ use Rattle.smo.proofs.Places.{from_made, of_made}
 use Rattle.smo.proofs.Unheld.{leaf_unheld}
 use Rattle.smo.proofs.held.is_unheld.Goals as goal
 
-pub returns-then-level-eq0 : goal.returns-then-level-eq0
-returns-then-level-eq0 g c = (
-  (λ yes. leaf_unheld c.args.chain.now c.keeps_rules.ensures.fitted (sym c.level.ensures ∙ c.if-level-eq0.true)),
+pub returns-then-level-eq0-clause-unheld : goal.returns-then-level-eq0-clause-unheld
+returns-then-level-eq0-clause-unheld g c = (
+  (λ yes. leaf_unheld c.args.chain.now.records c.keeps_rules.ensures.fitted (sym c.level.ensures ∙ c.if-level-eq0.true)),
   λ none. refl,
 )
 
-pub returns : goal.returns
-returns g c =
+pub returns-clause-unheld : goal.returns-clause-unheld
+returns-clause-unheld g c =
     let made = c.page-made.result in
     let makes = c.page-made.ensures.makes in
     let count = c.held_count.ensures ∙ ap held_count (c.as_slice.ensures.items ∙ c.items.ensures) in (
-      (λ yes. from_made c.args.chain.now made (λ items. held_count items ≡ 0) makes (grind (arith, nat_tests, yes, count))),
-      (λ none. let free = of_made c.args.chain.now made (λ items. held_count items ≡ 0) makes none in grind (arith, nat_tests, free, count)),
+      (λ yes. from_made c.args.chain.now.records made (λ items. held_count items ≡ 0) makes (grind (arith, nat_tests, yes, count))),
+      (λ none. let free = of_made c.args.chain.now.records made (λ items. held_count items ≡ 0) makes none in grind (arith, nat_tests, free, count)),
     )

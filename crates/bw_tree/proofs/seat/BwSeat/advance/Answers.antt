@@ -1,17 +1,29 @@
-use Rattle.std.proofs.Common.{Some, None, ap, ◌∙◌, subst}
-use Rattle.std.specs.Prelude.{Option}
+use Rattle.std.proofs.Common.{◌≡◌, Some, None, ap, sym, ◌∙◌, subst}
 use Rattle.bw_model.specs.Answers.{answer_of}
 use Rattle.bw_model.specs.Lent.{lent}
-use Rattle.bw_model.specs.declared.step.Told.{Told}
-use Rattle.slot_rule.specs.Steps.{Took}
+use Rattle.bw_model.specs.declared.step.Answer.TheVariants.{Content}
+use Rattle.bw_model.specs.declared.step.Step.{Step}
+use Rattle.bw_model.specs.declared.step.Step.TheVariants.{Row}
+use Rattle.deltas.specs.declared.record.Record.{Record}
+use Rattle.row_search.specs.Placed.{PlacedRecord}
+use Rattle.slot_rule.specs.Steps.{ReadsFirst, Took}
 use Rattle.slot_rule.specs.Views.{seen_of}
+use Rattle.bw_tree.specs.Calls.{Advances}
 use Rattle.bw_tree.specs.Runs.{IsLawfulRun}
-use Rattle.bw_tree.specs.Told.{told_or_read}
-use Rattle.bw_tree.proofs.Advancing.{busy_of, advances_of, known_may, may_go, within, told_on, seated_on, advances_on, leave_told, leave_may, leave_seated, leave_advances}
+use Rattle.bw_tree.specs.Seats.{IsSame, IsSeat, Seat}
+use Rattle.bw_tree.specs.declared.desk.Desk.{Desk}
+use Rattle.bw_tree.specs.Stands.{read_by}
+use Rattle.bw_tree.specs.Told.{HasTaken}
+use Rattle.bw_tree.proofs.Advancing.{busy_of, seat_of, advances_of, known_may, may_go, within, told_on, told_there, seated_on, advances_on, leave_told, leave_may, leave_seated, leave_advances}
+use Rattle.bw_tree.proofs.Owning.{is_own}
+use Rattle.bw_tree.proofs.Standing.{all_there, first_there, spelt_there, took_there}
 use Rattle.bw_tree.proofs.seat.BwSeat.advance.Goals as goal
 
 pub leave-requires-clause-told : goal.leave-requires-clause-told
 leave-requires-clause-told g c = leave_told c.laws_of_runs.ensures _ _ _ _ c.self.invariant.seated (busy_of _ _ c.self.view_is c.requires.busy) c.if-is_leaving.ensures
+
+pub act-requires-clause-table : goal.act-requires-clause-table
+act-requires-clause-table g c = is_own _ _ _ _ _ _ _ _ _ c.tree.invariant c.tree.view_is c.self.view_is c.requires.own
 
 pub act-requires-clause-may : goal.act-requires-clause-may
 act-requires-clause-may g c =
@@ -28,61 +40,98 @@ invariant_of-self g c = record {
 pub returns-then-is_leaving-clause-advances : goal.returns-then-is_leaving-clause-advances
 returns-then-is_leaving-clause-advances g c =
     advances_of _ _ _ _ c.self.view_is
-    (leave_advances c.laws_of_runs.ensures _ _ _ _ c.self.invariant.seated (busy_of _ _ c.self.view_is c.requires.busy) c.if-is_leaving.ensures (Some c.leave.new.reply) c.leave.new.actor c.leave.ensures.goes (answer_of c.act.result) (seen_of c.act.new.seat.me) c.act.ensures.took c.self.inside.place.table_id c.act.new.seat.table_id)
+    (leave_advances c.laws_of_runs.ensures _ _ _ _ c.self.invariant.seated (busy_of _ _ c.self.view_is c.requires.busy) c.if-is_leaving.ensures (Some c.leave.new.reply) c.leave.new.actor c.leave.ensures.goes (answer_of c.act.result) (seen_of c.act.new.seat.me) c.act.ensures.took c.self.inside.desk.place.table_id c.act.new.seat.table_id)
 
-pub take-told-requires-clause-known : goal.take-told-requires-clause-known
-take-told-requires-clause-known g c = known_may c.laws_of_runs.ensures _ _ _ _ c.self.invariant.seated (busy_of _ _ c.self.view_is c.requires.busy) (lent c.wanted.result) c.wanted.ensures
+pub take-taken-requires-clause-table : goal.take-taken-requires-clause-table
+take-taken-requires-clause-table g c = is_own _ _ _ _ _ _ _ _ _ c.tree.invariant c.tree.view_is c.self.view_is c.requires.own
 
-pub take-told-requires-clause-within : goal.take-told-requires-clause-within
-take-told-requires-clause-within g c = within c.laws_of_runs.ensures _ _ _ _ c.self.invariant.seated (busy_of _ _ c.self.view_is c.requires.busy) (lent c.wanted.result) c.wanted.ensures
+pub take-taken-requires-clause-known : goal.take-taken-requires-clause-known
+take-taken-requires-clause-known g c = known_may c.laws_of_runs.ensures _ _ _ _ c.self.invariant.seated (busy_of _ _ c.self.view_is c.requires.busy) (lent c.wanted.result) c.wanted.ensures
 
-pub take-told-requires-clause-may : goal.take-told-requires-clause-may
-take-told-requires-clause-may g c = may_go c.laws_of_runs.ensures _ _ _ _ c.self.invariant.seated (busy_of _ _ c.self.view_is c.requires.busy) (lent c.wanted.result) c.wanted.ensures (λ is. c.if-is_leaving.ensures (c.wanted.ensures ∙ ap Some is))
+pub take-taken-requires-clause-within : goal.take-taken-requires-clause-within
+take-taken-requires-clause-within g c = within c.laws_of_runs.ensures _ _ _ _ c.self.invariant.seated (busy_of _ _ c.self.view_is c.requires.busy) (lent c.wanted.result) c.wanted.ensures
 
-pub take_row-requires-clause-told : goal.take_row-requires-clause-told
-take_row-requires-clause-told g c =
-    let took : Took IsLawfulRun c.self.inside.limits c.self.inside.number (seen_of c.self.inside.place.me) None (lent c.wanted.result) (told_or_read None c.take-told.new.room) None (seen_of c.take-told.new.place.me) =
-    subst (λ (t : Option Told). Took IsLawfulRun c.self.inside.limits c.self.inside.number (seen_of c.self.inside.place.me) None (lent c.wanted.result) (told_or_read t c.take-told.new.room) None (seen_of c.take-told.new.place.me)) c.in-None.is c.take-told.ensures.took in
-    told_on c.laws_of_runs.ensures _ _ _ _ c.self.invariant.seated (busy_of _ _ c.self.view_is c.requires.busy) (lent c.wanted.result) c.wanted.ensures _ _ took
+pub take-taken-requires-clause-may : goal.take-taken-requires-clause-may
+take-taken-requires-clause-may g c = may_go c.laws_of_runs.ensures _ _ _ _ c.self.invariant.seated (busy_of _ _ c.self.view_is c.requires.busy) (lent c.wanted.result) c.wanted.ensures (λ is. c.if-is_leaving.ensures (c.wanted.ensures ∙ ap Some is))
 
-pub invariant_of-self-in-None : goal.invariant_of-self-in-None
-invariant_of-self-in-None g c =
-    let took : Took IsLawfulRun c.self.inside.limits c.self.inside.number (seen_of c.self.inside.place.me) None (lent c.wanted.result) (told_or_read None c.take-told.new.room) None (seen_of c.take-told.new.place.me) =
-    subst (λ (t : Option Told). Took IsLawfulRun c.self.inside.limits c.self.inside.number (seen_of c.self.inside.place.me) None (lent c.wanted.result) (told_or_read t c.take-told.new.room) None (seen_of c.take-told.new.place.me)) c.in-None.is c.take-told.ensures.took in
+pub of-record-requires-clause-spelt : goal.of-record-requires-clause-spelt
+of-record-requires-clause-spelt g c =
+    let told : (lent c.wanted.result ≡ Row c.in-First.row) × ReadsFirst IsLawfulRun c.self.inside.limits c.self.inside.desk.number (seen_of c.self.inside.desk.place.me) c.in-First.row c.in-First.first (seen_of c.take-taken.new.place.me) =
+    subst (λ t. HasTaken c.self.inside.limits c.self.inside.desk.number (seen_of c.self.inside.desk.place.me) (lent c.wanted.result) t (seen_of c.take-taken.new.place.me)) c.in-First.is c.take-taken.ensures.took in
+    spelt_there c.laws_of_runs.ensures _ _ _ _ c.take-taken.new.place.me _ told.1
+
+pub of-record-requires-clause-first : goal.of-record-requires-clause-first
+of-record-requires-clause-first g c =
+    let told : (lent c.wanted.result ≡ Row c.in-First.row) × ReadsFirst IsLawfulRun c.self.inside.limits c.self.inside.desk.number (seen_of c.self.inside.desk.place.me) c.in-First.row c.in-First.first (seen_of c.take-taken.new.place.me) =
+    subst (λ t. HasTaken c.self.inside.limits c.self.inside.desk.number (seen_of c.self.inside.desk.place.me) (lent c.wanted.result) t (seen_of c.take-taken.new.place.me)) c.in-First.is c.take-taken.ensures.took in
+    first_there c.laws_of_runs.ensures _ _ _ _ c.take-taken.new.place.me _ told.1
+
+pub take_record-requires-clause-asked : goal.take_record-requires-clause-asked
+take_record-requires-clause-asked g c =
+    let told : (lent c.wanted.result ≡ Row c.in-First.row) × ReadsFirst IsLawfulRun c.self.inside.limits c.self.inside.desk.number (seen_of c.self.inside.desk.place.me) c.in-First.row c.in-First.first (seen_of c.take-taken.new.place.me) =
+    subst (λ t. HasTaken c.self.inside.limits c.self.inside.desk.number (seen_of c.self.inside.desk.place.me) (lent c.wanted.result) t (seen_of c.take-taken.new.place.me)) c.in-First.is c.take-taken.ensures.took in
+    c.wanted.ensures ∙ ap Some told.0 ∙ ap (λ (placed : PlacedRecord). Some (Row placed.row)) (sym {b = record { row = c.in-First.row; content = read_by c.take-taken.new.place.me c.self.inside.desk.number c.in-First.row }} c.of-record.ensures)
+
+pub take_record-requires-clause-told : goal.take_record-requires-clause-told
+take_record-requires-clause-told g c =
+    let told : (lent c.wanted.result ≡ Row c.in-First.row) × ReadsFirst IsLawfulRun c.self.inside.limits c.self.inside.desk.number (seen_of c.self.inside.desk.place.me) c.in-First.row c.in-First.first (seen_of c.take-taken.new.place.me) =
+    subst (λ t. HasTaken c.self.inside.limits c.self.inside.desk.number (seen_of c.self.inside.desk.place.me) (lent c.wanted.result) t (seen_of c.take-taken.new.place.me)) c.in-First.is c.take-taken.ensures.took in
+    let took : Took IsLawfulRun c.self.inside.limits c.self.inside.desk.number (seen_of c.self.inside.desk.place.me) None (lent c.wanted.result) (Content c.of-record.result.content) None (seen_of c.take-taken.new.place.me) =
+    subst (λ (step : Step Record). Took IsLawfulRun c.self.inside.limits c.self.inside.desk.number (seen_of c.self.inside.desk.place.me) None step (Content c.of-record.result.content) None (seen_of c.take-taken.new.place.me)) (sym told.0)
+    (subst (λ (placed : PlacedRecord). Took IsLawfulRun c.self.inside.limits c.self.inside.desk.number (seen_of c.self.inside.desk.place.me) None (Row c.in-First.row) (Content placed.content) None (seen_of c.take-taken.new.place.me)) (sym c.of-record.ensures) (took_there c.laws_of_runs.ensures _ _ _ _ c.take-taken.new.place.me _ told.1)) in
+    told_there c.laws_of_runs.ensures _ _ _ _ c.self.invariant.seated (busy_of _ _ c.self.view_is c.requires.busy) (lent c.wanted.result) c.wanted.ensures _ _ took _ (all_there c.laws_of_runs.ensures _ _ _ _ _ _ _ c.take-taken.new.place.me c.self.view_is c.requires.own c.take-taken.ensures.same took.kept c.take-taken.ensures.seat)
+
+pub invariant_of-self-in-First : goal.invariant_of-self-in-First
+invariant_of-self-in-First g c =
+    let told : (lent c.wanted.result ≡ Row c.in-First.row) × ReadsFirst IsLawfulRun c.self.inside.limits c.self.inside.desk.number (seen_of c.self.inside.desk.place.me) c.in-First.row c.in-First.first (seen_of c.take-taken.new.place.me) =
+    subst (λ t. HasTaken c.self.inside.limits c.self.inside.desk.number (seen_of c.self.inside.desk.place.me) (lent c.wanted.result) t (seen_of c.take-taken.new.place.me)) c.in-First.is c.take-taken.ensures.took in
+    let took : Took IsLawfulRun c.self.inside.limits c.self.inside.desk.number (seen_of c.self.inside.desk.place.me) None (lent c.wanted.result) (Content c.of-record.result.content) None (seen_of c.take-taken.new.place.me) =
+    subst (λ (step : Step Record). Took IsLawfulRun c.self.inside.limits c.self.inside.desk.number (seen_of c.self.inside.desk.place.me) None step (Content c.of-record.result.content) None (seen_of c.take-taken.new.place.me)) (sym told.0)
+    (subst (λ (placed : PlacedRecord). Took IsLawfulRun c.self.inside.limits c.self.inside.desk.number (seen_of c.self.inside.desk.place.me) None (Row c.in-First.row) (Content placed.content) None (seen_of c.take-taken.new.place.me)) (sym c.of-record.ensures) (took_there c.laws_of_runs.ensures _ _ _ _ c.take-taken.new.place.me _ told.1)) in
+    subst (λ (desk : Desk). IsSeat c.self.inside.limits desk.number desk.place.me c.take_record.new.self) (sym c.take_record.ensures.same)
     record {
       there = c.self.invariant.there;
-      place = c.take-told.ensures.seat;
+      place = c.take-taken.ensures.seat;
       begins = took.begins;
-      seated = seated_on c.laws_of_runs.ensures _ _ _ _ c.self.invariant.seated (busy_of _ _ c.self.view_is c.requires.busy) (lent c.wanted.result) c.wanted.ensures _ _ took None c.take_row.new.self (λ is. c.if-is_leaving.ensures (c.wanted.ensures ∙ ap Some is)) c.take_row.ensures.goes c.take_row.ensures.command;
+      seated = seated_on c.laws_of_runs.ensures _ _ _ _ c.self.invariant.seated (busy_of _ _ c.self.view_is c.requires.busy) (lent c.wanted.result) c.wanted.ensures _ _ took None c.take_record.new.self (λ is. c.if-is_leaving.ensures (c.wanted.ensures ∙ ap Some is)) c.take_record.ensures.goes c.take_record.ensures.command;
     }
 
 pub go_on-requires-clause-told : goal.go_on-requires-clause-told
 go_on-requires-clause-told g c =
-    let took : Took IsLawfulRun c.self.inside.limits c.self.inside.number (seen_of c.self.inside.place.me) None (lent c.wanted.result) (told_or_read (Some c.in-Some.told) c.take-told.new.room) None (seen_of c.take-told.new.place.me) =
-    subst (λ (t : Option Told). Took IsLawfulRun c.self.inside.limits c.self.inside.number (seen_of c.self.inside.place.me) None (lent c.wanted.result) (told_or_read t c.take-told.new.room) None (seen_of c.take-told.new.place.me)) c.in-Some.is c.take-told.ensures.took in
+    let took : Took IsLawfulRun c.self.inside.limits c.self.inside.desk.number (seen_of c.self.inside.desk.place.me) None (lent c.wanted.result) (answer_of c.in-Told.told) None (seen_of c.take-taken.new.place.me) =
+    subst (λ t. HasTaken c.self.inside.limits c.self.inside.desk.number (seen_of c.self.inside.desk.place.me) (lent c.wanted.result) t (seen_of c.take-taken.new.place.me)) c.in-Told.is c.take-taken.ensures.took in
     told_on c.laws_of_runs.ensures _ _ _ _ c.self.invariant.seated (busy_of _ _ c.self.view_is c.requires.busy) (lent c.wanted.result) c.wanted.ensures _ _ took
 
-pub invariant_of-self-in-Some : goal.invariant_of-self-in-Some
-invariant_of-self-in-Some g c =
-    let took : Took IsLawfulRun c.self.inside.limits c.self.inside.number (seen_of c.self.inside.place.me) None (lent c.wanted.result) (told_or_read (Some c.in-Some.told) c.take-told.new.room) None (seen_of c.take-told.new.place.me) =
-    subst (λ (t : Option Told). Took IsLawfulRun c.self.inside.limits c.self.inside.number (seen_of c.self.inside.place.me) None (lent c.wanted.result) (told_or_read t c.take-told.new.room) None (seen_of c.take-told.new.place.me)) c.in-Some.is c.take-told.ensures.took in
+pub invariant_of-self-in-Told : goal.invariant_of-self-in-Told
+invariant_of-self-in-Told g c =
+    let took : Took IsLawfulRun c.self.inside.limits c.self.inside.desk.number (seen_of c.self.inside.desk.place.me) None (lent c.wanted.result) (answer_of c.in-Told.told) None (seen_of c.take-taken.new.place.me) =
+    subst (λ t. HasTaken c.self.inside.limits c.self.inside.desk.number (seen_of c.self.inside.desk.place.me) (lent c.wanted.result) t (seen_of c.take-taken.new.place.me)) c.in-Told.is c.take-taken.ensures.took in
     record {
       there = c.self.invariant.there;
-      place = c.take-told.ensures.seat;
+      place = c.take-taken.ensures.seat;
       begins = took.begins;
       seated = seated_on c.laws_of_runs.ensures _ _ _ _ c.self.invariant.seated (busy_of _ _ c.self.view_is c.requires.busy) (lent c.wanted.result) c.wanted.ensures _ _ took None c.go_on.new.self (λ is. c.if-is_leaving.ensures (c.wanted.ensures ∙ ap Some is)) c.go_on.ensures.goes c.go_on.ensures.command;
     }
 
-pub returns-in-None-clause-advances : goal.returns-in-None-clause-advances
-returns-in-None-clause-advances g c =
-    let took : Took IsLawfulRun c.self.inside.limits c.self.inside.number (seen_of c.self.inside.place.me) None (lent c.wanted.result) (told_or_read None c.take-told.new.room) None (seen_of c.take-told.new.place.me) =
-    subst (λ (t : Option Told). Took IsLawfulRun c.self.inside.limits c.self.inside.number (seen_of c.self.inside.place.me) None (lent c.wanted.result) (told_or_read t c.take-told.new.room) None (seen_of c.take-told.new.place.me)) c.in-None.is c.take-told.ensures.took in
-    advances_of _ _ _ _ c.self.view_is
-    (advances_on c.laws_of_runs.ensures _ _ _ _ c.self.invariant.seated (busy_of _ _ c.self.view_is c.requires.busy) (lent c.wanted.result) c.wanted.ensures _ _ took None c.take_row.new.self (λ is. c.if-is_leaving.ensures (c.wanted.ensures ∙ ap Some is)) c.take_row.ensures.goes c.self.inside.place.table_id c.take-told.new.place.table_id)
+pub returns-in-First-clause-same : goal.returns-in-First-clause-same
+returns-in-First-clause-same g c =
+    subst (λ (desk : Desk). IsSame c.args.self.now (seat_of desk.place.table_id c.self.inside.limits desk.number (seen_of desk.place.me))) (sym c.take_record.ensures.same)
+    record { table = c.take-taken.ensures.same ∙ ap (λ (s : Seat). s.table) c.self.view_is; limits = ap (λ (s : Seat). s.limits) c.self.view_is; actor = ap (λ (s : Seat). s.actor) c.self.view_is }
 
-pub returns-in-Some-clause-advances : goal.returns-in-Some-clause-advances
-returns-in-Some-clause-advances g c =
-    let took : Took IsLawfulRun c.self.inside.limits c.self.inside.number (seen_of c.self.inside.place.me) None (lent c.wanted.result) (told_or_read (Some c.in-Some.told) c.take-told.new.room) None (seen_of c.take-told.new.place.me) =
-    subst (λ (t : Option Told). Took IsLawfulRun c.self.inside.limits c.self.inside.number (seen_of c.self.inside.place.me) None (lent c.wanted.result) (told_or_read t c.take-told.new.room) None (seen_of c.take-told.new.place.me)) c.in-Some.is c.take-told.ensures.took in
+pub returns-in-First-clause-advances : goal.returns-in-First-clause-advances
+returns-in-First-clause-advances g c =
+    let told : (lent c.wanted.result ≡ Row c.in-First.row) × ReadsFirst IsLawfulRun c.self.inside.limits c.self.inside.desk.number (seen_of c.self.inside.desk.place.me) c.in-First.row c.in-First.first (seen_of c.take-taken.new.place.me) =
+    subst (λ t. HasTaken c.self.inside.limits c.self.inside.desk.number (seen_of c.self.inside.desk.place.me) (lent c.wanted.result) t (seen_of c.take-taken.new.place.me)) c.in-First.is c.take-taken.ensures.took in
+    let took : Took IsLawfulRun c.self.inside.limits c.self.inside.desk.number (seen_of c.self.inside.desk.place.me) None (lent c.wanted.result) (Content c.of-record.result.content) None (seen_of c.take-taken.new.place.me) =
+    subst (λ (step : Step Record). Took IsLawfulRun c.self.inside.limits c.self.inside.desk.number (seen_of c.self.inside.desk.place.me) None step (Content c.of-record.result.content) None (seen_of c.take-taken.new.place.me)) (sym told.0)
+    (subst (λ (placed : PlacedRecord). Took IsLawfulRun c.self.inside.limits c.self.inside.desk.number (seen_of c.self.inside.desk.place.me) None (Row c.in-First.row) (Content placed.content) None (seen_of c.take-taken.new.place.me)) (sym c.of-record.ensures) (took_there c.laws_of_runs.ensures _ _ _ _ c.take-taken.new.place.me _ told.1)) in
+    subst (λ (desk : Desk). Advances c.args.self.now None (seat_of desk.place.table_id c.self.inside.limits desk.number (seen_of desk.place.me))) (sym c.take_record.ensures.same)
+    (advances_of _ _ _ _ c.self.view_is
+    (advances_on c.laws_of_runs.ensures _ _ _ _ c.self.invariant.seated (busy_of _ _ c.self.view_is c.requires.busy) (lent c.wanted.result) c.wanted.ensures _ _ took None c.take_record.new.self (λ is. c.if-is_leaving.ensures (c.wanted.ensures ∙ ap Some is)) c.take_record.ensures.goes c.self.inside.desk.place.table_id c.take-taken.new.place.table_id))
+
+pub returns-in-Told-clause-advances : goal.returns-in-Told-clause-advances
+returns-in-Told-clause-advances g c =
+    let took : Took IsLawfulRun c.self.inside.limits c.self.inside.desk.number (seen_of c.self.inside.desk.place.me) None (lent c.wanted.result) (answer_of c.in-Told.told) None (seen_of c.take-taken.new.place.me) =
+    subst (λ t. HasTaken c.self.inside.limits c.self.inside.desk.number (seen_of c.self.inside.desk.place.me) (lent c.wanted.result) t (seen_of c.take-taken.new.place.me)) c.in-Told.is c.take-taken.ensures.took in
     advances_of _ _ _ _ c.self.view_is
-    (advances_on c.laws_of_runs.ensures _ _ _ _ c.self.invariant.seated (busy_of _ _ c.self.view_is c.requires.busy) (lent c.wanted.result) c.wanted.ensures _ _ took None c.go_on.new.self (λ is. c.if-is_leaving.ensures (c.wanted.ensures ∙ ap Some is)) c.go_on.ensures.goes c.self.inside.place.table_id c.take-told.new.place.table_id)
+    (advances_on c.laws_of_runs.ensures _ _ _ _ c.self.invariant.seated (busy_of _ _ c.self.view_is c.requires.busy) (lent c.wanted.result) c.wanted.ensures _ _ took None c.go_on.new.self (λ is. c.if-is_leaving.ensures (c.wanted.ensures ∙ ap Some is)) c.go_on.ensures.goes c.self.inside.desk.place.table_id c.take-taken.new.place.table_id)

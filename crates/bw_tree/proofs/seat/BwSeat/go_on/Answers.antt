@@ -1,14 +1,15 @@
 use Rattle.std.proofs.Common.{None, arith, refl, subst}
 use Rattle.bw_tree.specs.Calls.{Advances}
 use Rattle.bw_tree.specs.Told.{reply_if}
-use Rattle.bw_tree.proofs.Going.{busy_still, finished, of_same, same_on, same_self, still_at, still_on, still_self}
+use Rattle.bw_tree.proofs.Owning.{one_same}
+use Rattle.bw_tree.proofs.Going.{busy_still, finished, same_on, same_self, still_at, still_on, still_self}
 use Rattle.bw_tree.proofs.seat.BwSeat.go_on.Goals as goal
 
 pub loop-init : goal.loop-init
 loop-init g c = record { same = same_self c.args.self.now; still = still_self c.args.self.now }
 
 pub advance-requires-clause-own : goal.advance-requires-clause-own
-advance-requires-clause-own g c = of_same _ _ c.args.self.now c.loop.self c.loop.invariant.same c.requires.own
+advance-requires-clause-own g c = one_same c.args.tree.now c.args.self.now c.loop.self c.loop.invariant.same c.requires.own
 
 pub advance-requires-clause-busy : goal.advance-requires-clause-busy
 advance-requires-clause-busy g c = busy_still c.args.self.now c.loop.self c.loop.counter c.loop.invariant.still c.requires.busy

@@ -8,10 +8,10 @@ use Rattle.bw_tree.proofs.tree.Tree.note.Goals as goal
 
 pub invariant_of-result : goal.invariant_of-result
 invariant_of-result g c =
-    let me : Mine = c.seat.inside.place.me in
-    let is : c.note.result.me ≡ (alone c.seat.inside.limits c.seat.inside.number (seen_of me) Noted, []) = c.note.ensures.noted ∙ ap (λ (m : Mine). (noted m.0, [])) c.seat.invariant.place in (
-      c.seat.inside.number,
-      subst (λ (run : List Entry). c.note.result.me ≡ (alone c.seat.inside.limits c.seat.inside.number run Noted, [])) (sym (ap seen_of is)) is,
+    let me : Mine = c.seat.inside.desk.place.me in
+    let is : c.note.result.me ≡ (alone c.seat.inside.limits c.seat.inside.desk.number (seen_of me) Noted, []) = c.note.ensures.noted ∙ ap (λ (m : Mine). (noted m.0, [])) c.seat.invariant.place in (
+      c.seat.inside.desk.number,
+      subst (λ (run : List Entry). c.note.result.me ≡ (alone c.seat.inside.limits c.seat.inside.desk.number run Noted, [])) (sym (ap seen_of is)) is,
     )
 
 pub note-requires : goal.note-requires
@@ -22,6 +22,6 @@ returns-clause-stays g c = rw (c.note.ensures.same, c.note.ensures.stays) c.seat
 
 pub returns-clause-noted : goal.returns-clause-noted
 returns-clause-noted g c =
-    let me : Mine = c.seat.inside.place.me in
-    let is : c.note.result.me ≡ (alone c.seat.inside.limits c.seat.inside.number (seen_of me) Noted, []) = c.note.ensures.noted ∙ ap (λ (m : Mine). (noted m.0, [])) c.seat.invariant.place in
+    let me : Mine = c.seat.inside.desk.place.me in
+    let is : c.note.result.me ≡ (alone c.seat.inside.limits c.seat.inside.desk.number (seen_of me) Noted, []) = c.note.ensures.noted ∙ ap (λ (m : Mine). (noted m.0, [])) c.seat.invariant.place in
     rw (c.note.ensures.table, ap seen_of is) (ap note_of c.seat.view_is)

@@ -1,4 +1,4 @@
 use Rattle.layer_tests.proofs.plans.grown.split.Goals as goal
 
 pub grow-requires : goal.grow-requires
-grow-requires g c = let plan = rw c.expect-plan.ensures at c.plan_split.ensures in record { over = rw c.split.ensures (plan.fits c.args.right c.requires.right) }
+grow-requires g c = let fits = rw c.expect-plan.ensures at c.split.ensures in record { over = rw c.split-2.ensures (fits c.args.right c.requires.right) }

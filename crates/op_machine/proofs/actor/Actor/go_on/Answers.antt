@@ -19,4 +19,4 @@ pub returns-clause-goes : goal.returns-clause-goes
 returns-clause-goes g c =
     let stays = rw (← c.self.view_is) at c.requires.stays in
     rw (← c.self.view_is) (λ limits number k r going.
-    goes_here limits number k r c.self.inside.is_running c.self.inside.operation c.self.inside.hand c.self.inside.lacks _ going _ _ c.go_on.ensures _ stays c.wanted.ensures)
+    goes_here limits number k r c.self.inside.is_running c.self.inside.operation c.self.inside.hand c.self.inside.lacks _ going _ _ c.go_on.ensures _ stays c.wanted.ensures c.errands.ensures.few)

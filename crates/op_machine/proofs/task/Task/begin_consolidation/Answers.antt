@@ -5,16 +5,28 @@ use Rattle.traces.specs.chain.Fitted.{Makes}
 use Rattle.traces.specs.discipline.Discipline.{base_from}
 use Rattle.rounds.specs.WriteRounds.{PlacedWrite}
 use Rattle.op_machine.proofs.Plans.{long_chain, one_chain, place_of, spells_base}
+use Rattle.op_machine.proofs.ReadPages.{read_page, some_records}
 use Rattle.op_machine.proofs.task.Task.begin_consolidation.Goals as goal
 
 pub consolidated-base-requires : goal.consolidated-base-requires
 consolidated-base-requires g c =
-    let (k, r, h) = c.requires.faced in
-    rw (c.chain.ensures, c.page-page.ensures, c.writer.ensures) h.ends.page.alive
+    let (k, r, h, there) = c.requires.faced in
+    let page = c.args.places.now.writer.page in
+    let alive = h.ends.page in
+    rw (c.chain.ensures, c.page-page.ensures, c.writer.ensures) (record {
+      read = read_page (g.R.Rows.has c.args.rows.now c.args.pass.now) k there page alive.in_hand.seen;
+      alive = alive.alive;
+    })
+
+pub chain-unlinked-requires : goal.chain-unlinked-requires
+chain-unlinked-requires g c =
+    let (k, r, h, there) = c.requires.faced in
+    let page = c.args.places.now.writer.page in
+    rw (c.page-page.ensures, c.writer.ensures) (record { some = some_records page.chain h.ends.page.in_hand.sound.is_chain })
 
 pub begin_change-requires : goal.begin_change-requires
 begin_change-requires g c =
-    let (k, r, h) = c.requires.faced in
+    let (k, r, h, there) = c.requires.faced in
     let page = c.args.places.now.writer.page in
     let is : c.page-page.result.now ≡ page = c.page-page.ensures ∙ ap (λ (w : PlacedWrite). w.page) c.writer.ensures in
     let base = c.consolidated-base in

@@ -5,8 +5,15 @@ use Rattle.traces.specs.chain.Chains.{chain_rows}
 use Rattle.rounds.specs.WriteRounds.{PlacedWrite}
 use Rattle.smo.specs.Versions.{Version}
 use Rattle.op_machine.proofs.Plans.{over_page}
+use Rattle.op_machine.proofs.ReadPages.{some_records}
 use Rattle.op_machine.proofs.Unlinking.{keeps_spare}
 use Rattle.op_machine.proofs.task.Task.begin_unlink.Goals as goal
+
+pub page-unlinked-requires : goal.page-unlinked-requires
+page-unlinked-requires g c =
+    let (k, r, h) = c.requires.faced in
+    let removed = c.args.places.now.writer.page in
+    rw (c.page-removed.ensures, c.writer-2.ensures) (record { some = some_records removed.chain h.ends.gone.in_hand.sound.is_chain })
 
 pub begin_change-requires : goal.begin_change-requires
 begin_change-requires g c =

@@ -1,5 +1,18 @@
 use Rattle.std.proofs.Common.{refl, arith}
+use Rattle.op_machine.proofs.ReadPages.{read_page}
 use Rattle.op_machine.proofs.task.Task.end_reading.Goals as goal
+
+pub reply_over-reply-requires : goal.reply_over-reply-requires
+reply_over-reply-requires g c =
+    let (spares, k, r, faced, there) = c.requires.faced in
+    let h = rw c.in-Leaf.is at faced in
+    rw (c.chain.ensures, c.page.ensures, c.reader.ensures) (record { read = read_page (g.R.Rows.has c.args.rows.now c.args.pass.now) k there c.args.places.now.reader.page h.ends.page.in_hand.seen })
+
+pub reply_over-reply-requires-in-Beside : goal.reply_over-reply-requires-in-Beside
+reply_over-reply-requires-in-Beside g c =
+    let (spares, k, r, faced, there) = c.requires.faced in
+    let h = rw c.in-Beside.is at faced in
+    rw (c.chain-in-Beside.ensures, c.aside.ensures, c.reader-in-Beside.ensures) (record { read = read_page (g.R.Rows.has c.args.rows.now c.args.pass.now) k there c.args.places.now.reader.aside h.ends.page.in_hand.seen })
 
 pub returns-in-Leaf-clause-stands : goal.returns-in-Leaf-clause-stands
 returns-in-Leaf-clause-stands g c spares k r faced =

@@ -1,5 +1,6 @@
 use Rattle.std.proofs.Common.{refl}
 use Rattle.op_machine.proofs.Plans.{at_sought_leaf, errands_same, left_is_of}
+use Rattle.op_machine.proofs.ReadPages.{read_page}
 use Rattle.op_machine.proofs.task.Task.end_writing.Goals as goal
 
 pub returns-in-Again-clause-stands : goal.returns-in-Again-clause-stands
@@ -9,12 +10,18 @@ pub returns-in-Removed-clause-stands : goal.returns-in-Removed-clause-stands
 returns-in-Removed-clause-stands g c k r faced =
     let h = rw c.in-Removed.is at faced in
     let have = c.requires.have.writer in
-    rw c.write_left.ensures (record {
+    rw c.write_left.ensures.goes (record {
       seeks = h.seeks;
       writer = h.writer;
       round_of = left_is_of c.args.self.now c.args.places.now.writer have;
       shows = (h.seeks.inside, refl, refl, record { removed = c.args.places.now.writer.page; gone = rw have (rw h.round_of.limits at h.ends); is = refl; low = refl; level = refl; unread = tt });
     })
+
+pub write_left-requires : goal.write_left-requires
+write_left-requires g c =
+    let (k, r, faced, there) = c.requires.faced in
+    let h = rw c.in-Removed.is at faced in
+    record { read = read_page (g.R.Rows.has c.args.rows.now c.args.pass.now) k there c.args.places.now.writer.page h.ends.in_hand.seen }
 
 pub begin_round-requires : goal.begin_round-requires
 begin_round-requires g c = record { have = c.requires.have }
@@ -23,28 +30,29 @@ pub begin_consolidation-requires : goal.begin_consolidation-requires
 begin_consolidation-requires g c = record { have = c.requires.have; faced = rw c.in-Consolidate.is at c.requires.faced }
 
 pub begin_split-requires : goal.begin_split-requires
-begin_split-requires g c = record { have = c.requires.have; faced = rw c.in-Split.is at c.requires.faced }
+begin_split-requires g c = record { have = c.requires.have; faced = let (k, r, faced, there) = c.requires.faced in (k, r, rw c.in-Split.is at faced) }
 
 pub begin_term-requires : goal.begin_term-requires
-begin_term-requires g c = record { have = c.requires.have; faced = rw c.in-Term.is at c.requires.faced }
+begin_term-requires g c = record { have = c.requires.have; faced = let (k, r, faced, there) = c.requires.faced in (k, r, rw c.in-Term.is at faced) }
 
 pub begin_root-requires : goal.begin_root-requires
-begin_root-requires g c = record { have = c.requires.have; faced = rw c.in-Root.is at c.requires.faced }
+begin_root-requires g c = record { have = c.requires.have; faced = let (k, r, faced, there) = c.requires.faced in (k, r, rw c.in-Root.is at faced) }
 
 pub begin_upkeep-requires : goal.begin_upkeep-requires
-begin_upkeep-requires g c = record { have = c.requires.have; faced = rw c.in-Tend.is at c.requires.faced }
+begin_upkeep-requires g c = record { have = c.requires.have; faced = let (k, r, faced, there) = c.requires.faced in (k, r, rw c.in-Tend.is at faced) }
 
 pub begin_merge-requires : goal.begin_merge-requires
-begin_merge-requires g c = record { have = c.requires.have; faced = rw c.in-Merge.is at c.requires.faced }
+begin_merge-requires g c = record { have = c.requires.have; faced = let (k, r, faced, there) = c.requires.faced in (k, r, rw c.in-Merge.is at faced) }
 
 pub begin_unlink-requires : goal.begin_unlink-requires
-begin_unlink-requires g c = record { have = c.requires.have; faced = rw c.in-Unterm.is at c.requires.faced }
+begin_unlink-requires g c = record { have = c.requires.have; faced = let (k, r, faced, there) = c.requires.faced in (k, r, rw c.in-Unterm.is at faced) }
 
 pub end_at_sought_leaf-requires : goal.end_at_sought_leaf-requires
 end_at_sought_leaf-requires g c =
-    let (k, r, h) = rw c.in-Leaf.is at c.requires.faced in
+    let (k, r, faced, there) = c.requires.faced in
+    let h = rw c.in-Leaf.is at faced in
     let writer = c.args.places.now.writer in
-    record { have = c.requires.have; faced = (k, r, at_sought_leaf c.args.self.now c.args.spares.now k r writer.round.parent writer.page h) }
+    record { have = c.requires.have; faced = (k, r, at_sought_leaf c.args.self.now c.args.spares.now k r writer.round.parent writer.page h, there) }
 
 pub returns-in-Consolidate-clause-stands : goal.returns-in-Consolidate-clause-stands
 returns-in-Consolidate-clause-stands g c = rw c.in-Consolidate.is c.begin_consolidation.ensures.stands

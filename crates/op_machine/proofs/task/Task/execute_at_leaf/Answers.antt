@@ -3,21 +3,27 @@ use Rattle.bw_model.specs.Replies.{command_key, reply_of, update_of}
 use Rattle.traces.specs.chain.Chains.{content_in}
 use Rattle.traces.specs.discipline.Discipline.{found}
 use Rattle.rounds.specs.WriteRounds.{PlacedWrite}
-use Rattle.smo.specs.Versions.{Version}
+use Rattle.smo.specs.Reads.{chain_of}
 use Rattle.smo.proofs.Places.{of_made}
 use Rattle.op_machine.specs.machine.Brings.{update_over}
 use Rattle.op_machine.proofs.Commands.{change_is, over_fits, over_kept, over_links, over_next, over_spells, over_useful, update_due, value_same}
 use Rattle.op_machine.proofs.Executing.{answers_there, within}
 use Rattle.op_machine.proofs.Plans.{over_page}
+use Rattle.op_machine.proofs.ReadPages.{read_page}
 use Rattle.op_machine.proofs.Tidying.{may_call}
 use Rattle.op_machine.proofs.task.Task.execute_at_leaf.Goals as goal
+
+pub find-old-requires : goal.find-old-requires
+find-old-requires g c =
+    let (k, r, h, there) = c.requires.faced in
+    rw (c.chain.ensures, c.page-leaf.ensures, c.writer.ensures) (record { read = read_page (g.R.Rows.has c.args.rows.now c.args.pass.now) k there c.args.places.now.writer.page h.page.in_hand.seen })
 
 pub update_over-requires : goal.update_over-requires
 update_over-requires g c = (c.find-old.result, rw (← c.as_ref-2.ensures.value, ← c.command-3.ensures, ← c.changes.ensures) c.if-not-changes.false)
 
 pub begin_change-requires : goal.begin_change-requires
 begin_change-requires g c =
-    let (k, r, h) = c.requires.faced in
+    let (k, r, h, there) = c.requires.faced in
     let task = c.args.self.now in
     let leaf = c.args.places.now.writer.page in
     let leaf_is : c.page-leaf.result.now ≡ leaf = c.page-leaf.ensures ∙ ap (λ (w : PlacedWrite). w.page) c.writer.ensures in
@@ -35,12 +41,12 @@ returns-clause-stands g c parent k r below idle =
     let key = command_key task.command in
     let old = found leaf.chain key in
     let leaf_is : c.page-leaf.result.now ≡ leaf = c.page-leaf.ensures ∙ ap (λ (w : PlacedWrite). w.page) c.writer.ensures in
-    let chain_is : c.chain-2.result.now ≡ leaf.chain = c.chain-2.ensures ∙ ap (λ (v : Version). v.chain) leaf_is in
-    let key_is : c.of.result ≡ key = c.of.ensures ∙ c.key.ensures ∙ ap command_key c.command.ensures in
-    let old_is : c.find-old.result ≡ old = (rw (chain_is, key_is) at c.find-old.ensures) ∙ value_same (content_in leaf.chain key) in
+    let chain_is : c.chain.result.now ≡ chain_of leaf = c.chain.ensures ∙ ap chain_of leaf_is in
+    let key_is : c.of-key.result ≡ key = c.of-key.ensures ∙ c.key.ensures ∙ ap command_key c.command.ensures in
+    let old_is : c.find-old.result ≡ old = (rw (chain_is, key_is) at c.find-old.ensures.value) ∙ value_same (content_in leaf.chain key) in
     let replies : reply_of task.command old ≡ Some c.in-Some.reply = rw (← old_is, ← c.as_ref.ensures.value, ← c.command-2.ensures) (sym c.reply.ensures ∙ c.in-Some.is) in
     let some : is_some (update_of 0 task.command old) ≡ true = rw (← old_is, ← c.as_ref-2.ensures.value, ← c.command-3.ensures, ← c.changes.ensures) c.if-not-changes.false in
-    let made = c.chains_make_pages.ensures leaf.chain (rw (c.chain.ensures, leaf_is) at c.keeps_rules.ensures) in
+    let made = c.chains_make_pages.ensures leaf.chain h.page.in_hand.sound.is_chain in
     let page = made.0 in
     let makes = made.1 in
     let ruled = made.2 in
@@ -87,9 +93,9 @@ returns-then-not-changes-clause-stands g c parent k r below idle =
     let key = command_key task.command in
     let old = found leaf.chain key in
     let leaf_is : c.page-leaf.result.now ≡ leaf = c.page-leaf.ensures ∙ ap (λ (w : PlacedWrite). w.page) c.writer.ensures in
-    let chain_is : c.chain-2.result.now ≡ leaf.chain = c.chain-2.ensures ∙ ap (λ (v : Version). v.chain) leaf_is in
-    let key_is : c.of.result ≡ key = c.of.ensures ∙ c.key.ensures ∙ ap command_key c.command.ensures in
-    let old_is : c.find-old.result ≡ old = (rw (chain_is, key_is) at c.find-old.ensures) ∙ value_same (content_in leaf.chain key) in
+    let chain_is : c.chain.result.now ≡ chain_of leaf = c.chain.ensures ∙ ap chain_of leaf_is in
+    let key_is : c.of-key.result ≡ key = c.of-key.ensures ∙ c.key.ensures ∙ ap command_key c.command.ensures in
+    let old_is : c.find-old.result ≡ old = (rw (chain_is, key_is) at c.find-old.ensures.value) ∙ value_same (content_in leaf.chain key) in
     let replies : reply_of task.command old ≡ Some c.in-Some.reply = rw (← old_is, ← c.as_ref.ensures.value, ← c.command-2.ensures) (sym c.reply.ensures ∙ c.in-Some.is) in
     let none : is_some (update_of 0 task.command old) ≡ false = rw (← old_is, ← c.as_ref-2.ensures.value, ← c.command-3.ensures, ← c.changes.ensures) c.if-not-changes.true in
     rw c.leave-then-not-changes.ensures (answers_there task c.args.spares.now k r leaf below.at c.requires.last c.in-Some.reply replies none)

@@ -1,21 +1,32 @@
+use Rattle.op_machine.proofs.ReadPages.{read_above, read_page}
 use Rattle.op_machine.proofs.Tending.{may_tend, plans_for}
 use Rattle.op_machine.proofs.task.Task.tend_leaf.Goals as goal
 
+pub upkeep_at-requires : goal.upkeep_at-requires
+upkeep_at-requires g c =
+    let (k, r, h, there) = c.requires.faced in
+    let has = g.R.Rows.has c.args.rows.now c.args.pass.now in
+    let writer = c.args.places.now.writer in
+    rw c.writer.ensures (record {
+      parent = read_above has k there c.args.self.now.limits r writer.page writer.round.parent h.above;
+      page = read_page has k there writer.page h.at.page.in_hand.seen;
+    })
+
 pub begin_change-requires : goal.begin_change-requires
 begin_change-requires g c =
-    let (k, r, h) = c.requires.faced in
+    let (k, r, h, there) = c.requires.faced in
     let writer = c.args.places.now.writer in
-    let there = plans_for c.args.self.now.limits k r c.args.self.now.command writer.round.parent writer.page c.in-Some.plan (rw c.writer.ensures at c.in-Some.ensures) h.at.page h.above in
+    let there = plans_for c.args.self.now.limits k r c.args.self.now.command writer.round.parent writer.page c.in-Some.plan (rw c.writer.ensures at c.in-Some.ensures.due) h.at.page h.above in
     record { target = there.0; spells = there.1; room = h.at.seeks.spare.room }
 
 pub execute_at_leaf-requires : goal.execute_at_leaf-requires
-execute_at_leaf-requires g c = let (k, r, h) = c.requires.faced in record { have = c.requires.have; faced = (k, r, h.at); last = c.requires.last }
+execute_at_leaf-requires g c = let (k, r, h, there) = c.requires.faced in record { have = c.requires.have; faced = (k, r, h.at, rw c.upkeep_at.ensures.looks there); last = c.requires.last }
 
 pub returns-in-Some-clause-stands : goal.returns-in-Some-clause-stands
 returns-in-Some-clause-stands g c k r h =
     let may = c.plans_may_be_linked.ensures in
     let writer = c.args.places.now.writer in
-    c.begin_change.ensures.stands k r (may_tend c.args.self.now c.args.spares.now k r may.hold may.remove writer.round.parent writer.page c.in-Some.plan (rw c.writer.ensures at c.in-Some.ensures) h)
+    c.begin_change.ensures.stands k r (may_tend c.args.self.now c.args.spares.now k r may.hold may.remove writer.round.parent writer.page c.in-Some.plan (rw c.writer.ensures at c.in-Some.ensures.due) h)
 
 pub returns-in-Some-clause-few : goal.returns-in-Some-clause-few
 returns-in-Some-clause-few g c = c.begin_change.ensures.few
@@ -27,7 +38,7 @@ pub returns-in-Some-clause-have : goal.returns-in-Some-clause-have
 returns-in-Some-clause-have g c = record { reader = rw c.begin_change.ensures.reader c.requires.have.reader; writer = rw c.begin_change.ensures.writer c.requires.have.writer }
 
 pub returns-in-None-clause-stands : goal.returns-in-None-clause-stands
-returns-in-None-clause-stands g c k r h = c.execute_at_leaf.ensures.stands c.args.places.now.writer.round.parent k r h (rw c.writer.ensures at c.in-None.ensures)
+returns-in-None-clause-stands g c k r h = c.execute_at_leaf.ensures.stands c.args.places.now.writer.round.parent k r h (rw c.writer.ensures at c.in-None.ensures.due)
 
 pub returns-in-None-clause-few : goal.returns-in-None-clause-few
 returns-in-None-clause-few g c = c.execute_at_leaf.ensures.few

@@ -1,8 +1,8 @@
 use Rattle.std.proofs.Common.{inl, refl}
 use Rattle.rounds.proofs.write_round.WriteRound.decide.Goals as goal
 
-pub settle-requires : goal.settle-requires
-settle-requires g c = record { can = c.requires.can; here = record { seeks = c.requires.seeks; alive = c.requires.alive; finished = c.requires.finished; stays = c.in-None.ensures } }
+pub settle-requires-clause-here : goal.settle-requires-clause-here
+settle-requires-clause-here g c = record { seeks = c.requires.seeks; alive = c.requires.alive; finished = c.requires.finished; stays = c.in-None.ensures.aside }
 
 pub returns-in-None-clause-treats : goal.returns-in-None-clause-treats
 returns-in-None-clause-treats g c = c.settle.ensures.treats
@@ -17,6 +17,6 @@ returns-in-Some-clause-treats g c =
       alive = c.requires.alive;
       finished = c.requires.finished;
       right = c.in-Some.right;
-      leads = c.in-Some.ensures;
+      leads = c.in-Some.ensures.aside;
       goes = rw (← c.self.view_is, c.go_to.ensures, c.keep_left.ensures.kept, c.keep_left.ensures.way) refl;
     })

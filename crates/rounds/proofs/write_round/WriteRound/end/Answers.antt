@@ -7,7 +7,7 @@ pub end_left-requires : goal.end_left-requires
 end_left-requires g c =
     let left : c.args.self.now.round.goal ≡ Left c.in-Some.pid = rw (← c.self.view_is) (left_by c.self.inside.course.course.goal c.in-Some.pid (sym c.in-Some.ensures)) in
     let meets = rw left at c.requires.can.meets in
-    record { some = meets.0; below = meets.1; left = record { goal = left; here = c.requires.here; fine = c.requires.fine; level = rw left at c.requires.level } }
+    record { read = c.requires.read; some = meets.0; below = meets.1; left = record { goal = left; here = c.requires.here; fine = c.requires.fine; level = rw left at c.requires.level } }
 
 pub returns-in-Some-clause-treats : goal.returns-in-Some-clause-treats
 returns-in-Some-clause-treats g c = c.end_left.ensures.treats

@@ -8,7 +8,7 @@ returns-in-Some-clause-treats g c =
     let old = c.args.self.now in
     let kept : kept_if c.has_parent.result old.parent ≡ old.round.parent = rw (← c.self.view_is) c.has_parent.ensures in
     let above : old.round.parent ≡ Some old.parent = sym kept ∙ ap (λ (b : Bool). kept_if b old.parent) c.if-has_parent.true in
-    record { seeks = c.requires.seeks; above = above; left = old.left; aside = c.requires.left; plan = c.in-Some.ensures }
+    record { seeks = c.requires.seeks; above = above; left = old.left; aside = c.requires.left; plan = c.in-Some.ensures.plan }
 
 pub returns-in-None-clause-treats : goal.returns-in-None-clause-treats
 returns-in-None-clause-treats g c = c.decide.ensures.treats

@@ -1,13 +1,20 @@
 use Rattle.std.proofs.Common.{refl}
 use Rattle.bw_model.specs.declared.step.Answer.TheVariants.{Content}
+use Rattle.descent.specs.Rounds.{machine}
+use Rattle.descent.specs.WriteResponses.{writing}
 use Rattle.rounds.specs.WriteRounds.{PlacedWrite}
+use Rattle.rounds.proofs.WriteReading.{is_told, read_now}
 use Rattle.rounds.proofs.WriteSeeing.{placed, way_told}
 use Rattle.rounds.proofs.write_round.WriteRound.read_on.Goals as goal
 
-pub take_row-requires : goal.take_row-requires
-take_row-requires g c =
+pub take_record-requires-clause-told : goal.take_record-requires-clause-told
+take_record-requires-clause-told g c =
     let was : PlacedWrite = placed c.self.inside.key c.self.inside.due c.self.inside.tends c.self.inside.floor c.self.inside.course c.self.inside.descent in
-    record { told = way_told was.round (Content c.args.row.now) (rw (← c.self.view_is) at c.requires.told) }
+    let told = Content c.args.found.content in
+    way_told was.round told (rw (← c.self.view_is) at (is_told (g.R.Rows.has c.args.rows.now c.args.pass.now) (machine writing) c.args.self.now.round told c.requires.told))
+
+pub take_record-requires-clause-read : goal.take_record-requires-clause-read
+take_record-requires-clause-read g c = read_now (g.R.Rows.has c.args.rows.now c.args.pass.now) (machine writing) c.args.self.now.round c.args.found.row c.args.found.content c.requires.asked c.requires.told
 
 pub returns-clause-same : goal.returns-clause-same
-returns-clause-same g c = rw (← c.self.view_is) (record { limits = c.take_row.ensures.limits; key = refl; due = refl; tends = refl; floor = refl; seeks = λ is. is })
+returns-clause-same g c = rw (← c.self.view_is) (record { limits = c.take_record.ensures.limits; key = refl; due = refl; tends = refl; floor = refl; seeks = λ is. is })

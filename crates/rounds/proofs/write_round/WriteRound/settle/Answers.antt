@@ -7,26 +7,22 @@ use Rattle.rounds.proofs.write_round.WriteRound.settle.Goals as goal
 pub returns-then-is_long-clause-treats : goal.returns-then-is_long-clause-treats
 returns-then-is_long-clause-treats g c = record { is = refl; here = c.requires.here; long = c.is_long.ensures.0 c.if-is_long.true }
 
-pub due_split-requires : goal.due_split-requires
-due_split-requires g c =
+pub due_split-requires-clause-can : goal.due_split-requires-clause-can
+due_split-requires-clause-can g c =
     let old = c.args.self.now in
-    record { alive = c.requires.here.alive; short = few_deltas old.round.limits old.round.due old.page.chain (denied c.is_long.result (IsLong old.round.limits old.round.due old.page.chain) c.is_long.ensures.1 c.if-is_long.false); wide = c.is_wide.ensures.0 c.if-is_wide.true }
+    record { alive = c.requires.here.alive; short = few_deltas old.round.limits old.round.due old.page.chain (denied c.is_long.result (IsLong old.round.limits old.round.due old.page.chain) c.is_long.ensures.1 c.if-is_long.false); wide = c.is_wide.ensures.wide.0 c.if-is_wide.true }
 
 pub returns-then-is_wide-clause-treats : goal.returns-then-is_wide-clause-treats
 returns-then-is_wide-clause-treats g c =
     let old = c.args.self.now in
-    record { is = refl; here = c.requires.here; short = denied c.is_long.result (IsLong old.round.limits old.round.due old.page.chain) c.is_long.ensures.1 c.if-is_long.false; plan_due = c.due_split.ensures }
+    record { is = refl; here = c.requires.here; short = denied c.is_long.result (IsLong old.round.limits old.round.due old.page.chain) c.is_long.ensures.1 c.if-is_long.false; plan_due = c.due_split.ensures.plan }
 
-pub go_on-requires : goal.go_on-requires
-go_on-requires g c =
+pub go_on-requires-clause-fine : goal.go_on-requires-clause-fine
+go_on-requires-clause-fine g c =
     let old = c.args.self.now in
     record {
-      can = c.requires.can;
-      here = c.requires.here;
-      fine = record {
-        short = denied c.is_long.result (IsLong old.round.limits old.round.due old.page.chain) c.is_long.ensures.1 c.if-is_long.false;
-        narrow = λ can. denied c.is_wide.result (HasManyItems old.page.chain) c.is_wide.ensures.1 c.if-is_wide.false can.wide;
-      };
+      short = denied c.is_long.result (IsLong old.round.limits old.round.due old.page.chain) c.is_long.ensures.1 c.if-is_long.false;
+      narrow = λ can. denied c.is_wide.result (HasManyItems old.page.chain) c.is_wide.ensures.wide.1 c.if-is_wide.false can.wide;
     }
 
 pub returns-clause-treats : goal.returns-clause-treats

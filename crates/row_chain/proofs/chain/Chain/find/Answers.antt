@@ -1,10 +1,12 @@
 use Rattle.std.proofs.Common.{[], ap, ◌∙◌}
 use Rattle.base_page.specs.Pages.{value_in}
 use Rattle.row_chain.proofs.Newest.{alone}
+use Rattle.row_chain.specs.Placed.{contents}
 use Rattle.row_chain.proofs.chain.Chain.find.Goals as goal
 
-pub returns-in-Some : goal.returns-in-Some
-returns-in-Some g c = c.value_said.ensures ∙ ap value_in (alone c.as_slice.result.now c.args.self.now c.args.key.now _ c.as_slice.ensures (c.in-Some.ensures.said []))
+pub returns-in-Some-clause-value : goal.returns-in-Some-clause-value
+returns-in-Some-clause-value g c = c.value_said.ensures.said
+    ∙ ap value_in (alone (contents c.as_read.result.now) c.args.self.now.records c.args.key.now _ c.as_read.ensures.records (c.in-Some.ensures.said []))
 
-pub returns-in-None : goal.returns-in-None
-returns-in-None g c = ap value_in (alone c.as_slice.result.now c.args.self.now c.args.key.now _ c.as_slice.ensures (c.in-None.ensures.said []))
+pub returns-in-None-clause-value : goal.returns-in-None-clause-value
+returns-in-None-clause-value g c = ap value_in (alone (contents c.as_read.result.now) c.args.self.now.records c.args.key.now _ c.as_read.ensures.records (c.in-None.ensures.said []))

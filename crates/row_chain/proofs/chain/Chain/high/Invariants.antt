@@ -1,6 +1,12 @@
 use Rattle.std.proofs.Common.{◌≡◌, drop}
+use Rattle.std.specs.List.{All}
 use Rattle.traces.specs.chain.Chains.{high_in}
+use Rattle.row_chain.specs.Placed.{contents}
 use Rattle.row_chain.proofs.chain.Chain.high.Given as goal
 
 abbrev pub invariant-loop-newest : goal.invariant-loop-newest
-invariant-loop-newest g l = high_in (drop l.newest-index l.newest-items) ≡ high_in l.self
+invariant-loop-newest g l = record {
+  same : l.pass ≡ l.initial.pass;
+  there : All (λ placed. g.R.Rows.has l.rows l.initial.pass placed.row placed.content) (drop l.newest-index l.newest-items);
+  high : high_in (contents (drop l.newest-index l.newest-items)) ≡ high_in l.self.records;
+}

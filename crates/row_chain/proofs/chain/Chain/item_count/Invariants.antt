@@ -2,12 +2,14 @@ use Rattle.std.proofs.Common.{◌≡◌, ◌≤◌, ◌+◌, ◌*◌, List, leng
 use Rattle.base_page.specs.declared.item.Item.{Item}
 use Rattle.traces.specs.chain.Chains.{IsItemsOf}
 use Rattle.row_chain.specs.Walks.{count_under}
+use Rattle.row_chain.specs.Placed.{contents}
 use Rattle.row_chain.proofs.chain.Chain.item_count.Given as goal
 
 abbrev pub invariant-loop-place : goal.invariant-loop-place
 invariant-loop-place g l = record {
-  short : length l.rows ≤ 13;
+  same : l.pass ≡ l.initial.pass;
+  short : length l.records ≤ 13;
   more : l.more ≤ 24 * l.place;
   fewer : l.fewer ≤ l.place;
-  count : (items rest : List Item) → IsItemsOf l.self items → IsItemsOf (drop l.place l.rows) rest → length items + l.fewer ≡ count_under l.bound rest + l.more;
+  count : (items rest : List Item) → IsItemsOf l.self.records items → IsItemsOf (contents (drop l.place l.records)) rest → length items + l.fewer ≡ count_under l.bound rest + l.more;
 }

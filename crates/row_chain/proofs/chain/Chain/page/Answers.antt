@@ -1,33 +1,56 @@
-use Rattle.std.proofs.Common.{◌≡◌, ◌<◌, List, length, drop, sym, ap, subst, ◌∙◌, arith}
+use Rattle.std.proofs.Common.{◌≡◌, ◌<◌, ◌-◌, suc, List, ◌∷◌, length, drop, drop-cons, get_or, refl, sym, subst, ◌∙◌, arith}
+use Rattle.deltas.specs.Applies.{Applies}
 use Rattle.deltas.specs.declared.record.Record.{Record}
 use Rattle.deltas.specs.declared.record.Record.TheVariants.{Base}
 use Rattle.deltas.specs.Fits.{FitsOnPage}
-use Rattle.traces.specs.chain.Fitted.{IsFitted, Makes}
-use Rattle.traces.proofs.FittedLaws.{ruled}
+use Rattle.traces.specs.chain.Fitted.{Makes}
+use Rattle.traces.proofs.FittedLaws.{Makes-next, ruled}
 use Rattle.row_chain.proofs.Making.{base_makes, fits_above}
+use Rattle.row_chain.proofs.Standing.{content_there}
 use Rattle.row_chain.proofs.chain.Chain.page.Goals as goal
 
 pub loop-place-init : goal.loop-place-init
 loop-place-init g c =
-    let chain = c.args.self.now in
     let base = c.base_page-page.result in
     let place = c.deltas-place.result in
-    subst (λ (rows : List Record). Makes (drop place rows) base) (sym c.as_slice-rows.ensures)
-    (base_makes chain place base c.keeps_rules.ensures.fitted (omega (arith, c.deltas-place.ensures)) (c.base_page-page.ensures (Base base) place c.deltas-place.ensures))
+    record {
+      same = refl;
+      makes = base_makes c.args.self.now.records place base c.keeps_rules.ensures.fitted (omega (arith, c.deltas-place.ensures)) (c.base_page-page.ensures.base
+          (Base base) place c.deltas-place.ensures);
+    }
 
 pub apply-page-requires : goal.apply-page-requires
 apply-page-requires g c =
-    let rows = c.as_slice-rows.result.now in
-    let row = c.index-rows-place.result in
+    let records = c.args.self.now.records in
+    let row = c.index-records-place.result in
     let place = c.loop-place.place in
-    let fitted : IsFitted rows = subst IsFitted (sym c.as_slice-rows.ensures) c.keeps_rules.ensures.fitted in
-    let within : place < length rows = (let n = c.deltas-place.ensures in let p = c.loop-place.auto.place in let all : length rows ≡ length c.args.self.now = ap length c.as_slice-rows.ensures in omega (arith, n, p, all)) in
-    subst (FitsOnPage c.loop-place.page) (sym (c.record.ensures ∙ c.row.ensures))
-    (fits_above rows place c.loop-place.page row fitted c.loop-place-test.true within c.loop-place.invariant c.index-rows-place.is)
+    let within : place < length records = (let n = c.deltas-place.ensures in let p = c.loop-place.auto.place in omega (arith, n, p)) in
+    let low : place - 1 < length records = omega (arith, within) in
+    subst (FitsOnPage c.loop-place.page) (sym c.record.ensures.record)
+    (fits_above records place c.loop-place.page row.content c.keeps_rules.ensures.fitted c.loop-place-test.true within c.loop-place.invariant.makes
+    (content_there c.as_read-records.result.now records (place - 1) row c.as_read-records.ensures.records c.index-records-place.is low))
+
+pub loop-place-preserved : goal.loop-place-preserved
+loop-place-preserved g c =
+    let v = c.loop-place.invariant in
+    let records = c.args.self.now.records in
+    let row = c.index-records-place.result in
+    let place = c.loop-place.place in
+    let within : place < length records = (let n = c.deltas-place.ensures in let p = c.loop-place.auto.place in omega (arith, n, p)) in
+    let low : place - 1 < length records = omega (arith, within) in
+    let next : suc (place - 1) ≡ place = let some = c.loop-place-test.true in omega (arith, some) in
+    let here : row.content ≡ get_or records (place - 1) row.content = content_there c.as_read-records.result.now records
+    (place - 1) row c.as_read-records.ensures.records c.index-records-place.is low in
+    let over : drop (place - 1) records ≡ row.content ∷ drop place records = drop-cons records (place - 1) row.content low ∙ (λ i. sym here i ∷ drop (next i) records) in
+    let applies : Applies c.loop-place.page row.content c.apply-page.result = subst
+    (λ (newest : Record). Applies c.loop-place.page newest c.apply-page.result) c.record.ensures.record c.apply-page.ensures.applies in
+    record {
+      same = c.record.ensures.same ∙ v.same;
+      makes = subst (λ (rows : List Record). Makes rows c.apply-page.result) (sym over) (Makes-next (drop place records) row.content c.loop-place.page c.apply-page.result v.makes applies);
+    }
 
 pub returns-clause-ruled : goal.returns-clause-ruled
 returns-clause-ruled g c =
-    let rows = c.as_slice-rows.result.now in
+    let records = c.args.self.now.records in
     let none : c.loop-place.place ≡ 0 = let end = c.loop-place-test.false in omega (arith, end) in
-    let fitted : IsFitted rows = subst IsFitted (sym c.as_slice-rows.ensures) c.keeps_rules.ensures.fitted in
-    ruled rows c.loop-place.page fitted (subst (λ n. Makes (drop n rows) c.loop-place.page) none c.loop-place.invariant)
+    ruled records c.loop-place.page c.keeps_rules.ensures.fitted (subst (λ n. Makes (drop n records) c.loop-place.page) none c.loop-place.invariant.makes)

@@ -1,6 +1,9 @@
-use Rattle.std.proofs.Common.{drop}
+use Rattle.std.proofs.Common.{◌≡◌, drop}
 use Rattle.traces.specs.chain.Fitted.{Makes}
 use Rattle.row_chain.proofs.chain.Chain.page.Given as goal
 
 abbrev pub invariant-loop-place : goal.invariant-loop-place
-invariant-loop-place g l = Makes (drop l.place l.rows) l.page
+invariant-loop-place g l = record {
+  same : l.pass ≡ l.initial.pass;
+  makes : Makes (drop l.place l.self.records) l.page;
+}

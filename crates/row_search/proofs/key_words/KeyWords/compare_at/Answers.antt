@@ -1,18 +1,24 @@
-use Rattle.std.proofs.Common.{◌≡◌, ◌+◌, ◌-◌, List, ℕ, take, drop, ap, ◌∙◌, arith}
-use Rattle.std.specs.Ordering.{ordering_then}
+use Rattle.std.proofs.Common.{ℕ, List, get_or, ap, sym, ◌∙◌, take, arith}
+use Rattle.std.specs.Ordering.{nat_cmp}
 use Rattle.bw_model.specs.Bytes.{key_cmp}
-use Rattle.record_slots.specs.Layout.{text_size}
 use Rattle.record_slots.specs.Texts.{bytes_of}
-use Rattle.row_search.proofs.KeyOrder.{words_cmp}
-use Rattle.row_search.proofs.WordsCmp.{by_words}
+use Rattle.row_search.specs.Placed.{row_words_of}
+use Rattle.row_search.proofs.WordByWord.{by_first_other, by_lengths}
 use Rattle.row_search.proofs.key_words.KeyWords.compare_at.Goals as goal
 
-pub returns : goal.returns
-returns c text is =
-    let four : c.args.at + text_size - c.args.at ≡ text_size = omega arith in
+pub returns-then-not-is_eq-clause-compared : goal.returns-then-not-is_eq-clause-compared
+returns-then-not-is_eq-clause-compared g c text is =
+    let v = c.loop-place.invariant in
     let key : List ℕ = take c.self.inside.count (bytes_of c.self.inside.words) in
-    c.then.ensures
-    ∙ (λ i. ordering_then (c.cmp.ensures i) (c.cmp-2.ensures i))
-    ∙ ap (λ n. words_cmp (take n (drop c.args.at c.args.row.now)) c.args.count c.self.inside.words c.self.inside.count) four
-    ∙ by_words c.args.count c.self.inside.count (take text_size (drop c.args.at c.args.row.now)) c.self.inside.words text key is c.self.invariant
+    let o = c.cmp-order.ensures ∙ ap (λ (w : ℕ). nat_cmp w (get_or c.self.inside.words c.loop-place.place 0)) c.word-word.ensures.word in
+    by_first_other (row_words_of c.args.row.now) c.args.at c.args.count c.self.inside.count c.self.inside.words text key is c.self.invariant c.loop-place.place c.cmp-order.result
+    c.loop-place-test.true v.alike o (sym c.is_eq.ensures ∙ c.if-not-is_eq.true)
+    ∙ ap (key_cmp text) c.self.view_is
+
+pub returns-clause-compared : goal.returns-clause-compared
+returns-clause-compared g c text is =
+    let v = c.loop-place.invariant in
+    let key : List ℕ = take c.self.inside.count (bytes_of c.self.inside.words) in
+    by_lengths (row_words_of c.args.row.now) c.args.at c.args.count c.self.inside.count c.self.inside.words text key is c.self.invariant c.cmp.result (λ j below. v.alike j
+    (let w = v.within in omega (arith, c.loop-place-test.false))) c.cmp.ensures
     ∙ ap (key_cmp text) c.self.view_is

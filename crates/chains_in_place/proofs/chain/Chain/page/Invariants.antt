@@ -1,9 +1,0 @@
-use Rattle.std.proofs.Common.{◌≡◌, drop}
-use Rattle.traces.specs.chain.Fitted.{Makes}
-use Rattle.chains_in_place.proofs.chain.Chain.page.Given as goal
-
-abbrev pub invariant-loop-place : goal.invariant-loop-place
-invariant-loop-place g l = record {
-  same : l.pass ≡ l.initial.pass;
-  makes : Makes (drop l.place l.self.records) l.page;
-}

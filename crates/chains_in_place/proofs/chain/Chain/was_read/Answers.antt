@@ -1,5 +1,0 @@
-use Rattle.chains_in_place.proofs.Standing.{some_read}
-use Rattle.chains_in_place.proofs.chain.Chain.was_read.Goals as goal
-
-pub returns : goal.returns
-returns g c = some_read (g.R.Rows.has c.args.rows.now c.args.pass.now) c.args.self.now c.requires

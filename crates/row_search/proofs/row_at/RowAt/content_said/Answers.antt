@@ -1,0 +1,12 @@
+use Rattle.std.proofs.Common.{[], Some, sym, ap, ◌∙◌}
+use Rattle.std.specs.Prelude.{false}
+use Rattle.base_page.specs.declared.item.Content.TheVariants.{Child}
+use Rattle.base_page.specs.declared.item.Item.{Item}
+use Rattle.row_search.proofs.SaidLaws.{said_put}
+use Rattle.row_search.proofs.row_at.RowAt.content_said.Goals as goal
+
+none : Item
+none = record { key = []; content = Child 0 false }
+
+pub returns-then-kind-eq2-clause-said : goal.returns-then-kind-eq2-clause-said
+returns-then-kind-eq2-clause-said g c = ap Some (c.content.ensures.content none) ∙ said_put c.args.key.now c.args.self.now.content none (sym c.kind-kind.ensures ∙ c.if-kind-eq2.true)

@@ -1,0 +1,22 @@
+use Rattle.std.proofs.Common.{List, ℕ}
+use Rattle.record_slots.specs.Parts.{row_of}
+use Rattle.record_slots.specs.Spelling.{words_of}
+use Rattle.record_slots.specs.Texts.{IsText}
+use Rattle.row_search.proofs.Found.{found_one, unwrapped}
+use Rattle.row_search.proofs.ItemReads.{text_same}
+use Rattle.row_search.proofs.RowTexts.{first_text}
+use Rattle.row_search.proofs.WordByWord.{at_words}
+use Rattle.row_search.proofs.row_at.RowAt.first.Goals as goal
+
+pub unwrap-requires : goal.unwrap-requires
+unwrap-requires g c =
+    let content = c.args.self.now.content in
+    found_one (λ (text : List ℕ). IsText c.word-count.result c.text-words.result text) c.key_in.result (row_of content).first
+    (at_words (row_of content).first c.word-count.ensures.word c.text-words.ensures.text (first_text (words_of content) content c.keeps_spelling.ensures)) c.key_in.ensures
+
+pub returns-clause-first : goal.returns-clause-first
+returns-clause-first g c =
+    let content = c.args.self.now.content in
+    text_same c.word-count.result c.text-words.result c.unwrap.result (row_of content).first
+    (unwrapped (λ (text : List ℕ). IsText c.word-count.result c.text-words.result text) c.key_in.result c.unwrap.result c.unwrap.ensures c.key_in.ensures)
+    (at_words (row_of content).first c.word-count.ensures.word c.text-words.ensures.text (first_text (words_of content) content c.keeps_spelling.ensures))

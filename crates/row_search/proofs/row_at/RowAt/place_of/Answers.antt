@@ -1,0 +1,89 @@
+use Rattle.std.proofs.Common.{◌≡◌, ◌<◌, ◌+◌, ◌*◌, ◌/◌, ◌%◌, ℕ, List, length, get_or, take, drop, sym, subst, ◌∙◌, arith}
+use Rattle.std.specs.List.{AllWithin}
+use Rattle.std.specs.declared.cmp.Ordering.{Ordering}
+use Rattle.std.specs.declared.cmp.Ordering.TheVariants.{Less, Equal, Greater}
+use Rattle.bw_model.specs.Bytes.{key_cmp}
+use Rattle.base_page.specs.declared.item.Item.{Item}
+use Rattle.record_slots.specs.Layout.{held_mark, item_size, items_at, text_size}
+use Rattle.record_slots.specs.Parts.{items_of}
+use Rattle.record_slots.specs.Spelling.{words_of}
+use Rattle.record_slots.specs.Spells.{IsSpelling}
+use Rattle.record_slots.specs.Texts.{IsText}
+use Rattle.deltas.specs.declared.record.Record.{Record}
+use Rattle.row_search.proofs.Bisect.{lower, upper, found_at, gap_at}
+use Rattle.row_search.proofs.ItemTexts.{decided}
+use Rattle.row_search.proofs.RowTexts.{stands}
+use Rattle.row_search.proofs.row_at.RowAt.place_of.Goals as goal
+
+-- what is said of the text at an item's place, by the count that was looked at
+at_item : (content : Record) (spelled : IsSpelling content (words_of content)) (key : List ℕ) (o : Ordering) (place word : ℕ) → place < length (items_of content)
+    → word ≡ get_or (words_of content) (items_at + item_size * place) 0
+    → ((text : List ℕ) → IsText (word % held_mark) (take text_size (drop (items_at + item_size * place + 1) (words_of content))) text → o ≡ key_cmp text key)
+    → (d : Item) → key_cmp (get_or (items_of content) place d).key key ≡ o
+at_item content spelled key o place word within is said = decided (words_of content) (items_of content) (stands (words_of content) content spelled) key o place within
+    (λ text text_is. said text (subst (λ (n : ℕ). IsText (n % held_mark) (take text_size (drop (items_at + item_size * place + 1) (words_of content))) text) (sym is) text_is))
+
+pub loop-low-preserved-in-Less : goal.loop-low-preserved-in-Less
+loop-low-preserved-in-Less g c =
+    let v = c.loop-low.invariant in
+    let content = c.args.self.now.content in
+    let stand = stands (words_of content) content c.keeps_spelling.ensures in
+    let middle : ℕ = (c.loop-low.low + c.loop-low.high) / 2 in
+    let lt : middle < c.loop-low.high = omega (arith, c.loop-low-test.true) in
+    let top = v.top in
+    let within : middle < length (items_of content) = omega arith in
+    record {
+      same = c.in-Less.ensures.same ∙ c.word-count.ensures.same ∙ v.same;
+      ordered = omega arith;
+      few = v.few;
+      top = v.top;
+      below = lower (items_of content) stand.ascending c.args.key.now middle within
+          (at_item content c.keeps_spelling.ensures c.args.key.now Less middle _ within c.word-count.ensures.word c.in-Less.ensures.compared);
+      above = v.above;
+    }
+
+pub returns-in-Equal-clause-found : goal.returns-in-Equal-clause-found
+returns-in-Equal-clause-found g c =
+    let v = c.loop-low.invariant in
+    let content = c.args.self.now.content in
+    let stand = stands (words_of content) content c.keeps_spelling.ensures in
+    let middle : ℕ = (c.loop-low.low + c.loop-low.high) / 2 in
+    let lt : middle < c.loop-low.high = omega (arith, c.loop-low-test.true) in
+    let top = v.top in
+    let within : middle < length (items_of content) = omega arith in
+    found_at (items_of content) stand.ascending c.args.key.now middle within
+    (at_item content c.keeps_spelling.ensures c.args.key.now Equal middle _ within c.word-count.ensures.word c.in-Equal.ensures.compared)
+
+pub loop-low-preserved : goal.loop-low-preserved
+loop-low-preserved g c =
+    let v = c.loop-low.invariant in
+    let content = c.args.self.now.content in
+    let stand = stands (words_of content) content c.keeps_spelling.ensures in
+    let middle : ℕ = (c.loop-low.low + c.loop-low.high) / 2 in
+    let lt : middle < c.loop-low.high = omega (arith, c.loop-low-test.true) in
+    let top = v.top in
+    let within : middle < length (items_of content) = omega arith in
+    record {
+      same = c.in-Greater.ensures.same ∙ c.word-count.ensures.same ∙ v.same;
+      ordered = omega (arith, c.loop-low-test.true);
+      few = let f = v.few in omega arith;
+      top = omega arith;
+      below = v.below;
+      above = upper (items_of content) stand.ascending c.args.key.now middle within
+          (at_item content c.keeps_spelling.ensures c.args.key.now Greater middle _ within c.word-count.ensures.word c.in-Greater.ensures.compared);
+    }
+
+pub returns-clause-absent : goal.returns-clause-absent
+returns-clause-absent g c =
+    let v = c.loop-low.invariant in
+    let content = c.args.self.now.content in
+    let done : c.loop-low.high ≡ c.loop-low.low = let o = v.ordered in omega (arith, c.loop-low-test.false) in
+    let top = v.top in
+    gap_at (items_of content) c.args.key.now c.loop-low.low (omega arith) v.below (subst (λ (high : ℕ). AllWithin (λ (item : Item). key_cmp item.key c.args.key.now ≡ Greater)
+    (items_of content) high (length (items_of content))) done v.above)
+
+pub returns-in-Equal-clause-items : goal.returns-in-Equal-clause-items
+returns-in-Equal-clause-items g c = let stand = stands (words_of c.args.self.now.content) c.args.self.now.content c.keeps_spelling.ensures in record { few = stand.few; ascending = stand.ascending }
+
+pub returns-clause-items : goal.returns-clause-items
+returns-clause-items g c = let stand = stands (words_of c.args.self.now.content) c.args.self.now.content c.keeps_spelling.ensures in record { few = stand.few; ascending = stand.ascending }

@@ -1,0 +1,13 @@
+use Rattle.std.proofs.Common.{List, ℕ, sym, subst}
+use Rattle.deltas.specs.declared.record.Record.{Record}
+use Rattle.record_slots.specs.Spells.{IsSpelling}
+use Rattle.record_slots.proofs.SpellingLaws.{spelling_one}
+use Rattle.row_search.proofs.Found.{unwrapped}
+use Rattle.row_search.proofs.row_at.RowAt.record.Goals as goal
+
+pub returns-clause-record : goal.returns-clause-record
+returns-clause-record g c =
+    let words = c.words.result in
+    spelling_one c.unwrap.result c.args.self.now.content words
+    (unwrapped (λ (content : Record). IsSpelling content words) c.read_words.result c.unwrap.result c.unwrap.ensures c.read_words.ensures)
+    (subst (λ (ws : List ℕ). IsSpelling c.args.self.now.content ws) (sym c.words.ensures.words) c.keeps_spelling.ensures)

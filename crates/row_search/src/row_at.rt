@@ -1,0 +1,177 @@
+//! A record that was read in a row, and is looked at there.
+ghost use Rattle.std.specs.Prelude.{◌≡◌, ◌<◌, ◌≤◌, ◌+◌, Some, false, length, slice_index, take, drop};
+ghost use Rattle.base_page.specs.declared.items.TheConstants.{MAX_ITEMS};
+ghost use Rattle.deltas.specs.Records.{next_row, removed_after};
+ghost use Rattle.record_slots.specs.Parts.{items_of, row_of};
+ghost use Rattle.record_slots.specs.Spelling.{words_of};
+ghost use Rattle.record_slots.specs.declared.layout.TheConstants.{ROW_WORDS, TEXT_WORDS};
+ghost use Rattle.row_search.specs.Placed.{HasSpelling};
+
+mod bounds;
+mod keys;
+mod names;
+mod says;
+
+use crate::{Rows, Told};
+use deltas::Record;
+use record_slots::{
+    ITEM_UNIT, LEVEL_UNIT, PART_LIMIT, ROW_WORDS, TEXT_WORDS, read_words, rows_have_words,
+};
+use std::marker::Model;
+
+/// A record that was read in a row: the row's number, and its first word, which was loaded when it was read. Its other words are looked at
+/// where they lie.
+#[derive(Drop)]
+pub struct RowAt<R: Rows> {
+    number: u32,
+    first: u64,
+    told: Told<R::Pass>,
+}
+
+impl<R: Rows> Model for RowAt<R> {
+    ghost use Rattle.std.specs.Prelude.{◌≡◌, slice_index};
+    ghost use Rattle.record_slots.specs.Spelling.{words_of};
+    ghost use Rattle.row_search.specs.Placed.{HasSpelling, PlacedRecord};
+
+    ghost Value = { PlacedRecord };
+
+    ghost view = { λ r. record { row = r.number; content = R.content r.told.value r.number } };
+
+    ghost invariant = { λ r. HasSpelling (R.content r.told.value r.number) × (r.first ≡ slice_index (words_of (R.content r.told.value r.number)) 0) };
+}
+
+impl<R: Rows> RowAt<R> {
+    /// The record that was read in the row, by its first word.
+    pub fn of(number: u32, first: u64, pass: &R::Pass) -> RowAt<R>
+        requires spelt { HasSpelling (R.content pass.now number) }
+        requires first { first ≡ slice_index (words_of (R.content pass.now number)) 0 }
+        ensures { result ≡ record { row = number; content = R.content pass.now number } }
+    {
+        RowAt {
+            number,
+            first,
+            told: Told::of(pass),
+        }
+    }
+
+    /// The row.
+    pub fn number(&self) -> u32
+        ensures { result ≡ self.now.row }
+    {
+        self.number
+    }
+
+    /// Shows that a row of words can spell its record, at no cost.
+    pub fn keeps_spelling(&self)
+        ensures { HasSpelling self.now.content }
+    {
+        let _ = &self.told;
+    }
+
+    /// A word of it.
+    pub(crate) fn word(&self, rows: &R, pass: &mut R::Pass, at: usize) -> u64
+        requires read { R.has rows.now pass.old self.now.row self.now.content }
+        requires within { at < ROW_WORDS }
+        ensures same { pass.new ≡ pass.old }
+        ensures word { result ≡ slice_index (words_of self.now.content) at }
+    {
+        rows.look(pass, self.number, at)
+    }
+
+    /// The words of a text from a place on.
+    pub(crate) fn text(&self, rows: &R, pass: &mut R::Pass, at: usize) -> [u64; TEXT_WORDS]
+        requires read { R.has rows.now pass.old self.now.row self.now.content }
+        requires within { at + TEXT_WORDS ≤ ROW_WORDS }
+        ensures same { pass.new ≡ pass.old }
+        ensures text { result ≡ take TEXT_WORDS (drop at (words_of self.now.content)) }
+    {
+        rows_have_words();
+        self.keeps_spelling();
+        let mut words = [0; TEXT_WORDS];
+        let mut place = 0;
+        while place < TEXT_WORDS {
+            words[place] = self.word(rows, pass, at + place);
+            place += 1;
+        }
+        words
+    }
+
+    /// All its words.
+    fn words(&self, rows: &R, pass: &mut R::Pass) -> [u64; ROW_WORDS]
+        requires read { R.has rows.now pass.old self.now.row self.now.content }
+        ensures same { pass.new ≡ pass.old }
+        ensures words { result ≡ words_of self.now.content }
+    {
+        rows_have_words();
+        self.keeps_spelling();
+        let mut words = [0; ROW_WORDS];
+        let mut place = 0;
+        while place < ROW_WORDS {
+            words[place] = self.word(rows, pass, place);
+            place += 1;
+        }
+        words
+    }
+
+    /// The record, decoded: about 6 KB. Searches look at its words.
+    pub fn record(&self, rows: &R, pass: &mut R::Pass) -> Record
+        requires read { R.has rows.now pass.old self.now.row self.now.content }
+        ensures same { pass.new ≡ pass.old }
+        ensures record { result ≡ self.now.content }
+    {
+        self.keeps_spelling();
+        read_words(&self.words(rows, pass)).unwrap()
+    }
+
+    /// Which kind of record it is, by its number.
+    fn kind(&self) -> u64
+        ensures { result ≡ (row_of self.now.content).kind }
+    {
+        self.first % PART_LIMIT
+    }
+
+    /// The level; puts and deletes stand on leaves.
+    pub fn level(&self) -> u8
+        ensures { result ≡ (row_of self.now.content).level }
+    {
+        (self.first / LEVEL_UNIT % PART_LIMIT) as u8
+    }
+
+    /// How many items it has.
+    pub fn item_count(&self) -> usize
+        ensures count { result ≡ length (items_of self.now.content) }
+        ensures few { result ≤ MAX_ITEMS }
+    {
+        (self.first / ITEM_UNIT % PART_LIMIT) as usize
+    }
+
+    /// Whether it is a removal.
+    pub fn removes(&self) -> bool
+        ensures { result ≡ removed_after self.now.content false }
+    {
+        self.kind() == 7
+    }
+
+    /// The row of the record under it.
+    pub fn next(&self, rows: &R, pass: &mut R::Pass) -> Option<u32>
+        requires read { R.has rows.now pass.old self.now.row self.now.content }
+        ensures same { pass.new ≡ pass.old }
+        ensures next { result ≡ next_row self.now.content }
+    {
+        self.keeps_spelling();
+        if self.kind() == 1 {
+            return None;
+        }
+        Some(self.word(rows, pass, 1) as u32)
+    }
+
+    /// The PID that stands in the row, or 0.
+    fn page(&self, rows: &R, pass: &mut R::Pass) -> u32
+        requires read { R.has rows.now pass.old self.now.row self.now.content }
+        ensures same { pass.new ≡ pass.old }
+        ensures page { result ≡ (row_of self.now.content).page }
+    {
+        self.keeps_spelling();
+        self.word(rows, pass, 2) as u32
+    }
+}
