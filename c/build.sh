@@ -4,22 +4,28 @@
 #   c/build.sh install DIR  copies them into DIR/lib, DIR/include, DIR/lib/pkgconfig, too
 # Where BWTREE_ARCHIVE names another archive with the same functions, that one is packed.
 set -eu
+case "$#,${1-}" in
+0, | 2,install) ;;
+*) echo "c/build.sh, or c/build.sh install DIR" >&2; exit 2 ;;
+esac
 top=$(CDPATH='' cd -- "$(dirname -- "$0")/.." && pwd)
 archive=${BWTREE_ARCHIVE:-$top/crates/bw_tree_c/out/libbw_tree_c.a}
 kit=$(dirname -- "$(dirname -- "$(readlink -f "$(command -v rt)")")")
 out=$top/c/out
 version=0.1.0
+compiler=${CC:-$(command -v cc || command -v clang || echo cc)}
 [ -n "${BWTREE_ARCHIVE:-}" ] || "$top/c/archive"
 mkdir -p "$out"
 folder=$(mktemp -d)
 trap 'rm -rf "$folder"' EXIT
 
 # What calls malloc and free for the tree is an object of the toolchain's, which the archive takes along.
+archive=$(readlink -f -- "$archive")
 (cd "$folder" && ar x "$kit/c/liblibc_c.a" && ar x "$archive")
 rm -f "$out/libbwtree.a"
 ar rcs "$out/libbwtree.a" "$folder"/*.o
 printf '{ global: bwtree_*; local: *; };\n' >"$folder/names"
-${CC:-cc} -shared -o "$out/libbwtree.so.$version" -Wl,-soname,libbwtree.so.0 -Wl,--version-script="$folder/names" -Wl,-z,defs \
+$compiler -shared -o "$out/libbwtree.so.$version" -Wl,-soname,libbwtree.so.0 -Wl,--version-script="$folder/names" -Wl,-z,defs \
     -Wl,--whole-archive "$out/libbwtree.a" -Wl,--no-whole-archive
 
 # The file for pkg-config: describe PREFIX LIBRARIES HEADERS
@@ -43,8 +49,7 @@ cp "$out/libbwtree.so.$version" "$out/libbwtree.so.0"
 cp "$out/libbwtree.so.$version" "$out/libbwtree.so"
 cp "$top/c/bwtree.h" "$top/c/bwtree.hpp" "$out/"
 describe "$out" "\${prefix}" "\${prefix}" >"$out/bwtree.pc"
-[ "${1-}" = install ] || exit 0
-[ -n "${2-}" ] || { echo "c/build.sh install DIR" >&2; exit 2; }
+[ "$#" -eq 2 ] || exit 0
 mkdir -p "$2/lib/pkgconfig" "$2/include"
 to=$(CDPATH='' cd -- "$2" && pwd)
 cp "$out/libbwtree.a" "$out/libbwtree.so.$version" "$to/lib/"

@@ -12,13 +12,13 @@
  *     bwtree_close(&tree);
  *
  * Every misuse of a tree that was opened is answered with a status, also where threads race: a tree that is closed, or closes while calls run, a
- * seat that it doesn't have, a seat that another call is inside, a seat whose last operation isn't done, 65 bytes, null with a length.
+ * seat that it doesn't have, a seat that another call is inside, a seat whose last operation isn't done, 65 bytes, too little room, null with a length.
  *
  * What the library relies on, and can't test:
  *   - A handle's bytes are all zero before it is opened, and from then on only the library writes them. It is not copied: pass its address.
  *   - While bwtree_open or bwtree_open_from runs on a handle, no other call has that handle. Other threads get to know of an opened handle by a lock, a thread's
  *     start, or a sequentially consistent atomic. All other calls may share a handle, at any time.
- *   - Pointers point to what their types say. What a call writes (value, old, page, room, limits) no other call has meanwhile.
+ *   - Pointers point to what their types say. What a call writes (value, old, page, room, limits, pairs, count) no other call has meanwhile.
  *   - A thread that calls has 512 KB of stack.
  *   - The library calls malloc and free, when a tree is opened and closed, and never in another call. No call is made from a signal handler, nor,
  *     in a process with threads, from a child that was forked.
@@ -49,15 +49,16 @@ enum {
     BWTREE_DIFFERS = 4,     /* the key has the value `old`, which isn't the expected one, and keeps it (swap) */
     BWTREE_FULL = 5,        /* nothing was free for a change, and no key was changed */
     BWTREE_SPENT = 6,       /* after 65,536 steps, or as many as resume was given, the operation isn't done: it stays in the seat. Resume it */
+    BWTREE_NO_ROOM = 7,     /* the tree is closed, and its pairs, which are more than there is room for, wait (close_pairs) */
     BWTREE_CLOSED = 16,     /* the tree is closed, or was never opened */
     BWTREE_NO_SEAT = 17,    /* the tree has no seat of this number */
     BWTREE_BUSY = 18,       /* another call is inside the seat; of close: inside some seat */
-    BWTREE_UNFINISHED = 19, /* the seat's last operation isn't done: resume it first */
+    BWTREE_UNFINISHED = 19, /* the seat's last operation isn't done: resume it first; of close_pairs: some seat's */
     BWTREE_IDLE = 20,       /* the seat has no operation to resume */
     BWTREE_TOO_LONG = 21,   /* a key or a value has more than 64 bytes */
     BWTREE_BAD_LIMITS = 22, /* a limit is outside its range */
     BWTREE_NO_MEMORY = 23,  /* malloc refused */
-    BWTREE_OPEN = 24,       /* a handle that is to be opened has a tree that isn't closed */
+    BWTREE_OPEN = 24,       /* a handle that is to be opened has a tree that isn't closed, or pairs that wait */
     BWTREE_NULL = 25,       /* a pointer is null (answered by this header, which calls nothing then) */
     BWTREE_BAD_ORDER = 26   /* the keys of the pairs that a tree is to be opened with don't ascend */
 };
@@ -110,6 +111,7 @@ uint32_t bwtree_raw_limits_for_many_keys(uint64_t actors, uint64_t keys, bwtree_
 uint32_t bwtree_raw_open(const bwtree_limits *limits, bwtree *tree);
 uint32_t bwtree_raw_open_from(const bwtree_limits *limits, const bwtree_pair *pairs, size_t count, bwtree *tree);
 uint32_t bwtree_raw_close(const bwtree *tree);
+uint32_t bwtree_raw_close_pairs(const bwtree *tree, bwtree_pair *pairs, size_t room, uint64_t *count);
 uint32_t bwtree_raw_get(const bwtree *tree, uint32_t seat, const uint8_t *key, size_t key_length, bwtree_bytes *value);
 uint32_t bwtree_raw_insert(const bwtree *tree, uint32_t seat, const uint8_t *key, size_t key_length, const uint8_t *value, size_t value_length,
                            bwtree_bytes *old);
@@ -155,10 +157,19 @@ static inline uint32_t bwtree_open_from(const bwtree_limits *limits, const bwtre
     return bwtree_raw_open_from(limits, pairs ? pairs : &none, count, tree);
 }
 
-/* Closes a tree, and frees it. OK; CLOSED, BUSY: the tree stays open. 24 bytes of an opened tree, and 24 for each seat, are never freed, so that a call
- * that comes too late is answered CLOSED, whenever it comes. */
+/* Closes a tree, and frees it; or frees the pairs that wait. OK; CLOSED, BUSY: the tree stays open. 104 bytes of an opened tree, and 24 for each seat, are
+ * never freed, so that a call that comes too late is answered CLOSED, whenever it comes. */
 static inline uint32_t bwtree_close(const bwtree *tree) {
     return tree ? bwtree_raw_close(tree) : (uint32_t)BWTREE_NULL;
+}
+
+/* Closes a tree on which nothing is under way, frees it, and hands all its pairs over, keys ascending, `count` of them: bwtree_open_from takes them. OK.
+ * NO_ROOM: there is room for fewer than `count`, and none is written. The tree is closed to all other calls, and its pairs wait: for this call with more
+ * room, or for bwtree_close. UNFINISHED, CLOSED, BUSY; NO_MEMORY, for a list of 24 pairs a page: nothing is done, and the tree stays open. */
+static inline uint32_t bwtree_close_pairs(const bwtree *tree, bwtree_pair *pairs, size_t room, uint64_t *count) {
+    bwtree_pair none;
+    if (!tree || !count || (!pairs && room)) return BWTREE_NULL;
+    return bwtree_raw_close_pairs(tree, pairs ? pairs : &none, room, count);
 }
 
 /* The value of a key. OK with `value`, ABSENT; SPENT, CLOSED, NO_SEAT, BUSY, UNFINISHED, TOO_LONG. */
@@ -233,6 +244,7 @@ static inline const char *bwtree_text(uint32_t status) {
     case BWTREE_DIFFERS: return "the key has another value";
     case BWTREE_FULL: return "the tree is full";
     case BWTREE_SPENT: return "the steps are spent";
+    case BWTREE_NO_ROOM: return "there is too little room for the pairs";
     case BWTREE_CLOSED: return "the tree is closed";
     case BWTREE_NO_SEAT: return "the tree has no such seat";
     case BWTREE_BUSY: return "another call is inside the seat";

@@ -54,6 +54,9 @@ inline bwtree_bytes bytes_of(std::string_view text) {
     return bytes;
 }
 
+// The bytes that C wrote.
+inline std::string_view text(const bwtree_bytes &bytes) { return {reinterpret_cast<const char *>(bytes.bytes), size_t(bytes.length)}; }
+
 inline void must(uint32_t status) {
     if (status != BWTREE_OK) throw error(status);
 }
@@ -102,7 +105,7 @@ public:
         uint32_t status =
             bwtree_swap(handle(), number_, key.data(), key.size(), expected.data(), expected.size(), value.data(), value.size(), &old);
         status = done(status, old);
-        if (status == BWTREE_DIFFERS) return {false, std::string(text(old))};
+        if (status == BWTREE_DIFFERS) return {false, std::string(detail::text(old))};
         return {status == BWTREE_OK, std::nullopt};
     }
     // Does what upkeep is due at the leaf of a key.
@@ -120,8 +123,8 @@ public:
         do {
             done(bwtree_page(handle(), number_, next.data(), next.size(), page.get()), old, page.get());
             for (uint64_t i = 0; i < page->count; i++)
-                if (!each(text(page->pairs[i].key), text(page->pairs[i].value))) return;
-            if (page->more) next = text(page->next);
+                if (!each(detail::text(page->pairs[i].key), detail::text(page->pairs[i].value))) return;
+            if (page->more) next = detail::text(page->next);
         } while (page->more);
     }
 
@@ -141,7 +144,6 @@ private:
         if (shared_) shared_->free.fetch_or(uint32_t(1) << number_);
         shared_.reset();
     }
-    static std::string_view text(const bwtree_bytes &bytes) { return {reinterpret_cast<const char *>(bytes.bytes), size_t(bytes.length)}; }
 
     // Resumes an operation until it is done, and throws what is no ordinary answer.
     uint32_t done(uint32_t status, bwtree_bytes &old, bwtree_page_pairs *page = nullptr) {
@@ -154,7 +156,7 @@ private:
     // The value that goes with one of the statuses.
     std::optional<std::string> shown(uint32_t status, bwtree_bytes &old, uint32_t with_value) {
         if (done(status, old) != with_value) return std::nullopt;
-        return std::string(text(old));
+        return std::string(detail::text(old));
     }
 
     std::shared_ptr<detail::shared> shared_;
@@ -206,13 +208,21 @@ public:
     }
     // Closes the tree; throws error(BWTREE_BUSY) where a seat is lent, and error(BWTREE_CLOSED) where it is closed.
     void close() {
-        auto lent = shared_;
-        if (!lent) throw error(BWTREE_CLOSED);
-        uint32_t all = lent->all;
-        if (!lent->free.compare_exchange_strong(all, 0)) throw error(BWTREE_BUSY);
-        uint32_t status = bwtree_close(&lent->handle);
-        lent->free.store(lent->all);
+        all_seats all(shared_);
+        detail::must(bwtree_close(&all.shared->handle));
+    }
+    // Closes the tree, and hands its pairs over, keys ascending. Throws as close() does; and error(BWTREE_NO_MEMORY), which leaves it open.
+    std::vector<std::pair<std::string, std::string>> close_with_pairs() {
+        all_seats all(shared_);
+        std::vector<bwtree_pair> raw;
+        uint64_t count = 0;
+        uint32_t status;
+        while ((status = bwtree_close_pairs(&all.shared->handle, raw.data(), raw.size(), &count)) == BWTREE_NO_ROOM) raw.resize(size_t(count));
         detail::must(status);
+        std::vector<std::pair<std::string, std::string>> pairs;
+        pairs.reserve(raw.size());
+        for (const auto &[key, value] : raw) pairs.emplace_back(detail::text(key), detail::text(value));
+        return pairs;
     }
 
 private:
@@ -220,6 +230,18 @@ private:
         detail::must(bwtree_open_from(&limits, pairs.data(), pairs.size(), &shared_->handle));
         lend_all(limits);
     }
+    // All seats of a tree, for who closes it.
+    struct all_seats {
+        std::shared_ptr<detail::shared> shared;
+        explicit all_seats(std::shared_ptr<detail::shared> of) : shared(std::move(of)) {
+            if (!shared) throw error(BWTREE_CLOSED);
+            uint32_t all = shared->all;
+            if (!shared->free.compare_exchange_strong(all, 0)) throw error(BWTREE_BUSY);
+        }
+        all_seats(const all_seats &) = delete;
+        all_seats &operator=(const all_seats &) = delete;
+        ~all_seats() { shared->free.store(shared->all); }
+    };
     void lend_all(const bwtree_limits &limits) {
         shared_->all = uint32_t((uint64_t(1) << limits.actors) - 1);
         shared_->free = shared_->all;

@@ -156,8 +156,8 @@ func OpenFrom(limits Limits, pairs []Pair) (*Tree, error) {
 	return tree, nil
 }
 
-// Close closes the tree and frees it. It answers Busy where a seat is lent, and Closed where the tree is closed.
-func (tree *Tree) Close() error {
+// withAllSeats runs close while all seats are taken. It answers Busy where one is lent.
+func (tree *Tree) withAllSeats(close func() error) error {
 	var taken []uint32
 	defer func() {
 		for _, number := range taken {
@@ -172,9 +172,36 @@ func (tree *Tree) Close() error {
 			return Busy
 		}
 	}
-	err := settled(C.bwtree_close(tree.handle))
+	err := close()
 	runtime.KeepAlive(tree)
 	return err
+}
+
+// Close closes the tree and frees it. It answers Busy where a seat is lent, and Closed where the tree is closed.
+func (tree *Tree) Close() error {
+	return tree.withAllSeats(func() error {
+		return settled(C.bwtree_close(tree.handle))
+	})
+}
+
+// CloseWithPairs closes the tree, frees it, and hands its pairs over, keys ascending. It answers what Close does; and NoMemory: the tree stays open.
+func (tree *Tree) CloseWithPairs() (pairs []Pair, err error) {
+	err = tree.withAllSeats(func() error {
+		var count C.uint64_t
+		status := C.bwtree_close_pairs(tree.handle, nil, 0, &count)
+		if status != C.BWTREE_NO_ROOM {
+			return settled(status)
+		}
+		raw := make([]C.bwtree_pair, count)
+		if err := settled(C.bwtree_close_pairs(tree.handle, &raw[0], C.size_t(count), &count)); err != nil {
+			return err
+		}
+		for i := range raw {
+			pairs = append(pairs, Pair{taken(&raw[i].key), taken(&raw[i].value)})
+		}
+		return nil
+	})
+	return pairs, err
 }
 
 // Seat leases a seat, and waits for one where none is free. Release gives it back.

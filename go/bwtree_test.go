@@ -180,3 +180,50 @@ func TestPairs(t *testing.T) {
 		t.Fatal(err)
 	}
 }
+
+func TestCloseWithPairs(t *testing.T) {
+	tree := opened(t, 2, 500)
+	seat := tree.Seat()
+	for i := 399; i >= 0; i-- {
+		if _, _, err := seat.Insert([]byte(fmt.Sprintf("%03d", i)), []byte{byte(i)}); err != nil {
+			t.Fatal(err)
+		}
+	}
+	if _, found, err := seat.Delete([]byte("007")); !found || err != nil {
+		t.Fatal(found, err)
+	}
+	if _, err := tree.CloseWithPairs(); !errors.Is(err, Busy) {
+		t.Fatal(err)
+	}
+	seat.Release()
+	pairs, err := tree.CloseWithPairs()
+	if err != nil || len(pairs) != 399 {
+		t.Fatal(len(pairs), err)
+	}
+	for n, pair := range pairs {
+		i := n
+		if n >= 7 {
+			i++
+		}
+		if string(pair.Key) != fmt.Sprintf("%03d", i) || !bytes.Equal(pair.Value, []byte{byte(i)}) {
+			t.Fatal(n, pair)
+		}
+	}
+	if _, err := tree.CloseWithPairs(); !errors.Is(err, Closed) {
+		t.Fatal(err)
+	}
+	limits, err := LimitsForKeys(1, 500)
+	if err != nil {
+		t.Fatal(err)
+	}
+	later, err := OpenFrom(limits, pairs)
+	if err != nil {
+		t.Fatal(err)
+	}
+	if again, err := later.CloseWithPairs(); err != nil || len(again) != 399 {
+		t.Fatal(len(again), err)
+	}
+	if none, err := opened(t, 1, 1).CloseWithPairs(); err != nil || len(none) != 0 {
+		t.Fatal(len(none), err)
+	}
+}

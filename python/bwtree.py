@@ -8,6 +8,7 @@ Threads share a tree, and each leases a seat of it: a mapping for one thread at 
 The library is looked for where BWTREE_LIB says, a file or a folder, then where `./bwtree build` puts it, then where the system's loader looks.
 """
 
+import contextlib
 import ctypes
 import os
 import queue
@@ -18,7 +19,7 @@ __all__ = ["Error", "Full", "Room", "Seat", "Swapped", "Tree", "MAX_LENGTH"]
 
 MAX_LENGTH = 64
 
-_OK, _ABSENT, _EXISTS, _REPLACED, _DIFFERS, _FULL, _SPENT = range(7)
+_OK, _ABSENT, _EXISTS, _REPLACED, _DIFFERS, _FULL, _SPENT, _NO_ROOM = range(8)
 _CLOSED, _NO_SEAT, _BUSY, _UNFINISHED, _IDLE, _TOO_LONG, _BAD_LIMITS, _NO_MEMORY, _OPEN = range(16, 25)
 _BAD_ORDER = 26
 _TEXTS = {
@@ -87,6 +88,7 @@ def _load() -> ctypes.CDLL:
         "open": [ctypes.POINTER(_Limits), tree],
         "open_from": [ctypes.POINTER(_Limits), ctypes.POINTER(_Pair), size, tree],
         "close": [tree],
+        "close_pairs": [tree, ctypes.POINTER(_Pair), size, ctypes.POINTER(count)],
         "get": [tree, seat, text, size, old],
         "insert": [tree, seat, text, size, text, size, old],
         "upsert": [tree, seat, text, size, text, size, old],
@@ -168,19 +170,37 @@ class Tree:
         """Leases a seat; waits for one where none is free, at most so many seconds, and then raises queue.Empty."""
         return Seat(self, self._free.get(timeout=timeout))
 
-    def close(self) -> None:
-        """Closes the tree and frees it. Raises Error where a seat is lent or the tree is closed."""
+    @contextlib.contextmanager
+    def _all_seats(self) -> Iterator["ctypes._Pointer[_Tree]"]:
+        """The handle, while all seats are taken. Raises Error where one is lent."""
         taken: list[int] = []
         try:
             while len(taken) < self._seats:
                 taken.append(self._free.get_nowait())
-            status = _library.bwtree_raw_close(ctypes.byref(self._handle))
+            yield ctypes.pointer(self._handle)
         except queue.Empty:
-            status = _BUSY
+            raise Error(_BUSY) from None
         finally:
             for number in taken:
                 self._free.put(number)
-        _must(status)
+
+    def close(self) -> None:
+        """Closes the tree and frees it. Raises Error where a seat is lent or the tree is closed."""
+        with self._all_seats() as handle:
+            _must(_library.bwtree_raw_close(handle))
+
+    def close_with_pairs(self) -> list[tuple[bytes, bytes]]:
+        """Closes the tree and frees it: its pairs, keys ascending. Raises Error where a seat is lent, the tree is closed, or memory is refused."""
+        with self._all_seats() as handle:
+            count, room = ctypes.c_uint64(), 0
+            while True:
+                pairs = (_Pair * max(room, 1))()
+                status = _library.bwtree_raw_close_pairs(handle, pairs, room, ctypes.byref(count))
+                if status != _NO_ROOM:
+                    break
+                room = count.value
+            _must(status)
+            return [(pair.key.taken(), pair.value.taken()) for pair in pairs[: count.value]]
 
     def __enter__(self) -> "Tree":
         return self

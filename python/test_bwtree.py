@@ -65,6 +65,24 @@ class Calls(unittest.TestCase):
         with self.assertRaises(bwtree.Full):
             bwtree.Tree(seats=1, pids=64, rows=64, pairs=[(i.to_bytes(2, "big"), b"") for i in range(4000)])
 
+    def test_close_with_pairs(self):
+        tree = bwtree.Tree(seats=2, keys=500)
+        with tree.seat() as seat:
+            for i in reversed(range(400)):
+                seat[i.to_bytes(4, "big")] = bytes([i % 256])
+            del seat[(7).to_bytes(4, "big")]
+            with self.assertRaises(bwtree.Error) as raised:
+                tree.close_with_pairs()
+            self.assertEqual(raised.exception.status, 18)
+        pairs = tree.close_with_pairs()
+        self.assertEqual(pairs, [(i.to_bytes(4, "big"), bytes([i % 256])) for i in range(400) if i != 7])
+        for close in (tree.close_with_pairs, tree.close):
+            with self.assertRaises(bwtree.Error) as raised:
+                close()
+            self.assertEqual(raised.exception.status, 16)
+        self.assertEqual(bwtree.Tree(seats=1, keys=500, pairs=pairs).close_with_pairs(), pairs)
+        self.assertEqual(bwtree.Tree(seats=1, keys=1).close_with_pairs(), [])
+
     def test_full(self):
         with bwtree.Tree(seats=1, pids=64, rows=64) as tree, tree.seat() as seat, self.assertRaises(bwtree.Full):
             for i in range(100000):

@@ -173,7 +173,7 @@ static void answers(void) {
     CHECK(bwtree_open(&limits, &tree) == BWTREE_OK && bwtree_get(&tree, 2, "a", 1, &old) == BWTREE_ABSENT && bwtree_close(&tree) == BWTREE_OK);
     CHECK(earlier.held_ == was.held_);
     for (uint32_t status = 0; status <= BWTREE_BAD_ORDER; status++)
-        CHECK(!strcmp(bwtree_text(status), "no status") == (status > BWTREE_SPENT && status < BWTREE_CLOSED));
+        CHECK(!strcmp(bwtree_text(status), "no status") == (status > BWTREE_NO_ROOM && status < BWTREE_CLOSED));
 }
 
 /* A pair with a key and a value of these texts. */
@@ -230,6 +230,44 @@ static void loads(void) {
     }
     limits.pids = limits.rows = 64;
     CHECK(bwtree_open_from(&limits, all, 400, &small) == BWTREE_FULL && !memcmp(&was, &small, sizeof was));
+}
+
+/* Trees that are closed with their pairs: refused, and with too little room at first; what one hands over, the next one is opened with. */
+static void closed_with_pairs(void) {
+    static bwtree tree, later, none, never;
+    static bwtree_pair all[400], was[400];
+    bwtree_limits limits = {2, 128, 1152, 1, 0};
+    bwtree_bytes old;
+    uint64_t count = 77;
+    char key[16];
+    CHECK(bwtree_close_pairs(NULL, all, 400, &count) == BWTREE_NULL && bwtree_close_pairs(&tree, all, 400, NULL) == BWTREE_NULL);
+    CHECK(bwtree_close_pairs(&tree, NULL, 1, &count) == BWTREE_NULL && bwtree_close_pairs(&never, all, 400, &count) == BWTREE_CLOSED && count == 77);
+    CHECK(bwtree_open(&limits, &tree) == BWTREE_OK);
+    for (int i = 0; i < 400; i++) {
+        snprintf(key, sizeof key, "%03d", i * 7 % 400);
+        CHECK(bwtree_insert(&tree, i % 2, key, strlen(key), key + 1, 2, &old) == BWTREE_OK);
+    }
+    memset(all, 0x55, sizeof all);
+    memcpy(was, all, sizeof was);
+    CHECK(bwtree_close_pairs(&tree, all, 399, &count) == BWTREE_NO_ROOM && count == 400 && !memcmp(all, was, sizeof all));
+    /* it is closed to all other calls, and its pairs wait */
+    all_answer(&tree, 0, BWTREE_CLOSED);
+    CHECK(bwtree_open(&limits, &tree) == BWTREE_OPEN && bwtree_open_from(&limits, all, 0, &tree) == BWTREE_OPEN);
+    count = 77;
+    CHECK(bwtree_close_pairs(&tree, NULL, 0, &count) == BWTREE_NO_ROOM && count == 400);
+    CHECK(bwtree_close_pairs(&tree, all, 400, &count) == BWTREE_OK && count == 400);
+    for (int i = 0; i < 400; i++) {
+        snprintf(key, sizeof key, "%03d", i);
+        CHECK(is(&all[i].key, key) && is(&all[i].value, key + 1));
+    }
+    count = 77;
+    CHECK(bwtree_close_pairs(&tree, all, 400, &count) == BWTREE_CLOSED && count == 77 && bwtree_close(&tree) == BWTREE_CLOSED);
+    CHECK(bwtree_open_from(&limits, all, 400, &later) == BWTREE_OK && walked(&later, was) == 400 && is(&was[399].key, "399"));
+    /* pairs that wait may be dropped */
+    CHECK(bwtree_close_pairs(&later, all, 1, &count) == BWTREE_NO_ROOM && count == 400);
+    CHECK(bwtree_close(&later) == BWTREE_OK && bwtree_close(&later) == BWTREE_CLOSED);
+    /* no pair wants no room */
+    CHECK(bwtree_open(&limits, &none) == BWTREE_OK && bwtree_close_pairs(&none, NULL, 0, &count) == BWTREE_OK && count == 0);
 }
 
 static void full(void) {
@@ -307,22 +345,26 @@ static void *calls(void *argument) {
     return NULL;
 }
 
-static void close_beside_calls(bwtree *tree) {
+static void close_beside_calls(bwtree *tree, int with_pairs) {
     static struct job job;
     bwtree_limits limits = {2, 64, 64, 1, 0};
     uint32_t status;
+    uint64_t count = 0;
+    bwtree_pair pair;
     CHECK(bwtree_open(&limits, tree) == BWTREE_OK);
     job = (struct job){tree, 1, 0};
     pthread_t thread = begun(calls, &job);
     while (__atomic_load_n(&job.count, __ATOMIC_SEQ_CST) < 3) sched_yield();
-    while ((status = bwtree_close(tree)) == BWTREE_BUSY) CHECK(bwtree_is_idle(tree, 0) == BWTREE_OK);
+    while ((status = with_pairs ? bwtree_close_pairs(tree, &pair, 1, &count) : bwtree_close(tree)) == BWTREE_BUSY)
+        CHECK(bwtree_is_idle(tree, 0) == BWTREE_OK);
     CHECK(status == BWTREE_OK && pthread_join(thread, NULL) == 0 && bwtree_close(tree) == BWTREE_CLOSED);
+    CHECK(!with_pairs || (count == 1 && is(&pair.key, "key") && pair.value.length == 4));
 }
 
 /* Some closings, so that one meets a call. */
 static void closing(void) {
     static bwtree trees[16];
-    for (size_t i = 0; i < sizeof trees / sizeof *trees; i++) close_beside_calls(&trees[i]);
+    for (size_t i = 0; i < sizeof trees / sizeof *trees; i++) close_beside_calls(&trees[i], i % 2);
 }
 
 /* While another thread stands still inside an operation, what others take out of the tree can't be used again, and a write may be told FULL: it is made
@@ -449,6 +491,7 @@ static void *all(void *unused) {
     limits();
     answers();
     loads();
+    closed_with_pairs();
     full();
     busy();
     closing();

@@ -42,6 +42,15 @@ static void loads() {
     CHECK(found == pairs && !bw::tree::from(limits, decltype(pairs)()).lease().get("a"));
     std::swap(pairs[0], pairs[1]);
     CHECK(thrown([&] { bw::tree::from(limits, pairs); }) == BWTREE_BAD_ORDER);
+    std::swap(pairs[0], pairs[1]);
+    auto tree = bw::tree::from(limits, pairs);
+    {
+        auto seat = tree.lease();
+        CHECK(thrown([&] { tree.close_with_pairs(); }) == BWTREE_BUSY && *seat.erase("b") == "");
+    }
+    pairs.erase(pairs.begin() + 1);
+    CHECK(tree.close_with_pairs() == pairs && thrown([&] { tree.close_with_pairs(); }) == BWTREE_CLOSED);
+    CHECK(thrown([&] { tree.lease().get("a"); }) == BWTREE_CLOSED && bw::tree::for_keys(1, 100).close_with_pairs().empty());
     pairs[0].second = std::string(65, 'v');
     CHECK(thrown([&] { bw::tree::from(limits, pairs); }) == BWTREE_TOO_LONG);
 }

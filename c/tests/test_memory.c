@@ -1,5 +1,5 @@
-/* Tests of what the library takes of memory: each growth that an opening asks for is refused in turn, which is answered, and leaves nothing; no other
- * call takes any; and what a closed tree leaves is a few bytes. Link it with -Wl,--wrap=malloc,--wrap=realloc,--wrap=free. */
+/* Tests of what the library takes of memory: each growth that an opening or a closing with pairs asks for is refused in turn, which is answered, and leaves
+ * nothing; no other call takes any; and what a closed tree leaves is a few bytes. Link it with -Wl,--wrap=malloc,--wrap=realloc,--wrap=free. */
 #include "bwtree.h"
 #include <stdio.h>
 #include <stdlib.h>
@@ -82,7 +82,7 @@ int main(void) {
     call(&tree);
     CHECK(growths == refused - 1);
     CHECK(bwtree_close(&tree) == BWTREE_OK);
-    size_t left = 24 + 24 * limits.actors;
+    size_t left = 104 + 24 * limits.actors;
     CHECK(held == left && bwtree_is_idle(&tree, 0) == BWTREE_CLOSED);
     /* each opening leaves as much */
     refused = 0;
@@ -98,7 +98,25 @@ int main(void) {
         if (status == BWTREE_OK) break;
         CHECK(status == BWTREE_NO_MEMORY && held == 6 * left && bwtree_is_idle(&tree, 0) == BWTREE_CLOSED);
     }
-    CHECK(growths == of_one + 1 && bwtree_close(&tree) == BWTREE_OK && held == 7 * left);
+    CHECK(growths == of_one + 1);
+    /* a closing with pairs wants a list of the seats and one of the pairs, and leaves no more; where one is refused, the tree stays open */
+    bwtree_pair all[1];
+    memset(all, 0, sizeof all);
+    uint64_t count = 0;
+    size_t open = held;
+    for (refused = 1;; refused++) {
+        growths = 0;
+        status = bwtree_close_pairs(&tree, all, 1, &count);
+        if (status == BWTREE_OK) break;
+        CHECK(status == BWTREE_NO_MEMORY && held == open && count == 0 && bwtree_is_idle(&tree, 0) == BWTREE_OK);
+    }
+    CHECK(growths == 2 && count == 1 && held == 7 * left && all[0].key.length == 1 && all[0].key.bytes[0] == 'a' && all[0].value.bytes[0] == 'x');
+    refused = 0;
+    /* pairs that wait are held until they are handed over */
+    CHECK(bwtree_open_from(&limits, &pair, 1, &tree) == BWTREE_OK && bwtree_close_pairs(&tree, all, 0, &count) == BWTREE_NO_ROOM);
+    CHECK(held > 8 * left && bwtree_close_pairs(&tree, all, 1, &count) == BWTREE_OK && held == 8 * left);
+    CHECK(bwtree_open_from(&limits, &pair, 1, &tree) == BWTREE_OK && bwtree_close_pairs(&tree, all, 0, &count) == BWTREE_NO_ROOM);
+    CHECK(held > 9 * left && bwtree_close(&tree) == BWTREE_OK && held == 9 * left);
     printf("%ld growths of one opening refused, a closed tree leaves %lu bytes\n", of_one, (unsigned long)left);
     return 0;
 }

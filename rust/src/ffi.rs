@@ -7,6 +7,7 @@ pub(crate) const REPLACED: u32 = 3;
 pub(crate) const DIFFERS: u32 = 4;
 pub(crate) const FULL: u32 = 5;
 pub(crate) const SPENT: u32 = 6;
+pub(crate) const NO_ROOM: u32 = 7;
 pub(crate) const TOO_LONG: u32 = 21;
 pub(crate) const BAD_LIMITS: u32 = 22;
 pub(crate) const NO_MEMORY: u32 = 23;
@@ -73,9 +74,12 @@ impl RawBytes {
     }
 }
 
+impl RawPair {
+    pub const EMPTY: RawPair = RawPair { key: RawBytes::EMPTY, value: RawBytes::EMPTY };
+}
+
 impl RawPage {
-    pub const EMPTY: RawPage =
-        RawPage { count: 0, more: 0, next: RawBytes::EMPTY, pairs: [RawPair { key: RawBytes::EMPTY, value: RawBytes::EMPTY }; 24] };
+    pub const EMPTY: RawPage = RawPage { count: 0, more: 0, next: RawBytes::EMPTY, pairs: [RawPair::EMPTY; 24] };
 }
 
 extern "C" {
@@ -84,6 +88,7 @@ extern "C" {
     pub(crate) fn bwtree_raw_open(limits: *const RawLimits, tree: *mut RawTree) -> u32;
     pub(crate) fn bwtree_raw_open_from(limits: *const RawLimits, pairs: *const RawPair, count: usize, tree: *mut RawTree) -> u32;
     pub(crate) fn bwtree_raw_close(tree: *const RawTree) -> u32;
+    pub(crate) fn bwtree_raw_close_pairs(tree: *const RawTree, pairs: *mut RawPair, room: usize, count: *mut u64) -> u32;
     pub(crate) fn bwtree_raw_get(tree: *const RawTree, seat: u32, key: *const u8, key_length: usize, value: *mut RawBytes) -> u32;
     pub(crate) fn bwtree_raw_insert(
         tree: *const RawTree,

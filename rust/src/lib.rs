@@ -172,6 +172,25 @@ impl Tree {
     }
 }
 
+impl Tree {
+    /// Closes the tree, and hands its pairs over, keys ascending. Where memory is refused, the tree comes back as it was.
+    pub fn into_pairs(self) -> std::result::Result<Vec<(Vec<u8>, Vec<u8>)>, (Tree, Error)> {
+        let mut raw: Vec<RawPair> = Vec::new();
+        let mut count = 0;
+        // (all its seats were dropped, so no call is inside one, and none has left an operation)
+        let status = loop {
+            match unsafe { bwtree_raw_close_pairs(&*self.handle, raw.as_mut_ptr(), raw.len(), &mut count) } {
+                NO_ROOM => raw.resize(count as usize, RawPair::EMPTY),
+                status => break status,
+            }
+        };
+        match settled(status) {
+            Ok(_) => Ok(raw.iter().map(|pair| (pair.key.as_slice().to_vec(), pair.value.as_slice().to_vec())).collect()),
+            Err(error) => Err((self, error)),
+        }
+    }
+}
+
 impl Drop for Tree {
     fn drop(&mut self) {
         // (all its seats were dropped, so no call is inside one)

@@ -64,6 +64,23 @@ fn trees_are_opened_with_pairs() {
 }
 
 #[test]
+fn trees_are_closed_with_their_pairs() {
+    let tree = Tree::for_keys(2, 500).unwrap();
+    let mut seat = tree.seat().unwrap();
+    for i in (0..400u32).rev() {
+        assert_eq!(seat.insert(&i.to_be_bytes(), &[i as u8]), Ok(None));
+    }
+    assert_eq!(seat.delete(&7u32.to_be_bytes()), Ok(Some(vec![7])));
+    drop(seat);
+    let pairs = tree.into_pairs().unwrap();
+    let wanted: Vec<_> = (0..400u32).filter(|&i| i != 7).map(|i| (i.to_be_bytes().to_vec(), vec![i as u8])).collect();
+    assert_eq!(pairs, wanted);
+    let tree = Tree::open_from(Limits::for_keys(1, 500).unwrap(), pairs).unwrap();
+    assert_eq!(tree.into_pairs().unwrap(), wanted);
+    assert_eq!(Tree::for_keys(1, 1).unwrap().into_pairs().unwrap(), []);
+}
+
+#[test]
 fn seats_are_lent() {
     let tree = Tree::for_keys(2, 100).unwrap();
     let (one, other) = (tree.seat(), tree.seat());

@@ -1,5 +1,5 @@
 //! The ordered items of one page.
-ghost use Rattle.std.specs.Prelude.{◌≡◌, ◌+◌, ◌++◌, ◌<◌, ◌≤◌, ◌==◌, [], ℕ, List, Some, None, if◌then◌else◌, length, take, drop, is_some, option_copied, IfOk, IfErr, MatchOption};
+ghost use Rattle.std.specs.Prelude.{◌≡◌, ◌+◌, ◌++◌, ◌∷◌, ◌<◌, ◌≤◌, ◌==◌, [], ℕ, List, Some, None, if◌then◌else◌, length, take, drop, is_some, option_copied, IfOk, IfErr, MatchOption};
 ghost use Rattle.std.specs.Ordering.{is_eq};
 ghost use Rattle.bw_model.specs.Bytes.{key_cmp};
 ghost use Rattle.base_page.specs.Pages.{child_in, content_at, AreItems};
@@ -161,6 +161,14 @@ impl Items {
         ensures items { AreItems self.new }
     {
         self.items.truncate(place);
+    }
+
+    /// Adds an item, which is above those that stand.
+    pub fn push(&mut self, item: Item)
+        requires { AreItems (self.old ++ item ∷ []) }
+        ensures items { self.new ≡ self.old ++ item ∷ [] }
+    {
+        self.items.push(item);
     }
 
     /// Adds the items, which are above those that stand.

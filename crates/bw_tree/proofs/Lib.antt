@@ -4,7 +4,7 @@ pub mod Begun
 pub mod Going
 mod Resuming
 mod Joining
-mod Resting
+pub mod Resting
 mod Owning
 mod Meeting
 mod Gathering
@@ -16,7 +16,7 @@ mod Filled
 mod Upserting
 mod Kept
 mod Listing
-mod Leaving
+pub mod Leaving
 mod Counting
 mod Holding
 mod LackLaws

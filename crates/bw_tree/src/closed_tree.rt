@@ -96,8 +96,8 @@ impl<A: Allocator> ClosedTree<A> {
         ClosedPage { pairs, next }
     }
 
-    /// Its pairs in the order of their keys, for which there is room.
-    pub(crate) fn listed<B: Allocator>(&self, pairs: Vec<(Key, Value), B>) -> Vec<(Key, Value), B>
+    /// Its pairs in the order of their keys, in a list that has room for them: nothing is asked for, so nothing is refused.
+    pub fn listed<B: Allocator>(&self, pairs: Vec<(Key, Value), B>) -> Vec<(Key, Value), B>
         requires empty { pairs.items ≡ [] }
         requires room { 24 * self.now.limits.pids ≤ vec_capacity pairs }
         ensures { ListsAll self.now result.items }

@@ -16,7 +16,7 @@ ghost use Rattle.slot_rule.specs.declared.view.Reach.TheVariants.{Idle};
 use crate::called::Called;
 use crate::desk::Desk;
 use crate::lawful_runs::{laws_of_runs, runs_are_one_history};
-use crate::taking::{Taken, take};
+use crate::taking::{Taken, take, take_leave};
 use crate::tree::Tree;
 use bw_model::{Command, Limits, Reply, Step};
 use op_machine::Actor;
@@ -129,20 +129,6 @@ impl<A: Allocator> BwSeat<A> {
         ensures advances { Advances self.old (reply_if result reply.new) self.new }
     {
         laws_of_runs();
-        if self.actor.is_leaving() {
-            // A leave answers nothing, so the reply is asked for before the store that ends the operation.
-            leave(&mut self.actor, reply);
-            act(
-                &tree.table.shared,
-                &mut self.desk.place,
-                &self.limits,
-                self.desk.number,
-                &Step::Leave,
-                None,
-                Some(&*reply),
-            );
-            return true;
-        }
         let taken = take(
             &tree.table.shared,
             &mut self.desk.place,
@@ -151,6 +137,18 @@ impl<A: Allocator> BwSeat<A> {
             &self.actor.wanted(),
         );
         match taken {
+            Taken::Leaving => {
+                // A leave answers nothing, so the reply is asked for before the store that ends the operation.
+                leave(&mut self.actor, reply);
+                take_leave(
+                    &tree.table.shared,
+                    &mut self.desk.place,
+                    &self.limits,
+                    self.desk.number,
+                    reply,
+                );
+                return true;
+            }
             Taken::First(row, first) => {
                 let record = RowAt::<Tree<A>>::of(row, first, &self.desk);
                 self.actor.take_record(record, tree, &mut self.desk);

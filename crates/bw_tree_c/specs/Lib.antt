@@ -1,6 +1,8 @@
 pub mod Calls
+pub mod Closing
 pub mod Handles
 pub mod Kept
+pub mod Left
 pub mod Loaded
 pub mod Opened
 pub mod Refused

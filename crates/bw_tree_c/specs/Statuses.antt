@@ -4,9 +4,9 @@ use Rattle.bw_model.specs.declared.command.Reply.{Reply}
 use Rattle.bw_model.specs.declared.command.Reply.TheVariants as reply
 use Rattle.bw_tree.specs.declared.called.Called.{Called}
 use Rattle.bw_tree.specs.declared.called.Called.TheVariants.{Done, Spent}
-use Rattle.bw_tree_c.specs.declared.answers.TheConstants.{OK, ABSENT, EXISTS, REPLACED, DIFFERS, FULL, SPENT, CLOSED, NO_SEAT, BUSY}
+use Rattle.bw_tree_c.specs.declared.answers.TheConstants.{OK, ABSENT, EXISTS, REPLACED, DIFFERS, FULL, SPENT, CLOSED, NO_MEMORY, NO_SEAT, BUSY, UNFINISHED}
 use Rattle.bw_tree_c.specs.declared.refusal.Refusal.{Refusal}
-use Rattle.bw_tree_c.specs.declared.refusal.Refusal.TheVariants.{Busy, Closed, NoSeat}
+use Rattle.bw_tree_c.specs.declared.refusal.Refusal.TheVariants.{Busy, Closed, NoMemory, NoSeat, Unfinished}
 
 -- that of a reply
 abbrev pub status_of : Reply → ℕ
@@ -34,3 +34,5 @@ abbrev pub status_of_refusal : Refusal → ℕ
 status_of_refusal Closed = CLOSED
 status_of_refusal NoSeat = NO_SEAT
 status_of_refusal Busy = BUSY
+status_of_refusal Unfinished = UNFINISHED
+status_of_refusal NoMemory = NO_MEMORY

@@ -28,6 +28,9 @@ pub(crate) const FULL: u32 = 5;
 /// The steps are spent, and the operation stays in the seat: resume it.
 pub(crate) const SPENT: u32 = 6;
 
+/// The tree is closed, and its pairs, which are more than there is room for, wait.
+pub(crate) const NO_ROOM: u32 = 7;
+
 /// The tree is closed, or was never opened.
 pub(crate) const CLOSED: u32 = 16;
 

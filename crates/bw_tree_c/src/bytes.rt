@@ -1,6 +1,6 @@
 //! What C reads: short lists of bytes, pages of pairs, limits and counts.
 ghost use Rattle.std.specs.Prelude.{◌≡◌, ◌≤◌, MatchOption, length};
-ghost use Rattle.bw_tree_c.specs.Shown.{AreOpenable, ShowsLimits, ShowsNext, ShowsWholePage, ShowsPair, ShowsAllPairs, ShowsRoom, shown};
+ghost use Rattle.bw_tree_c.specs.Shown.{AreOpenable, ShowsLimits, ShowsNext, ShowsWholePage, ShowFirst, ShowsPair, ShowsRoom, shown};
 
 use bw_model::{Key, Limits, Pairs, Value};
 use bw_tree::Room;
@@ -77,20 +77,10 @@ impl Page {
     pub(crate) fn set(&mut self, items: &Pairs, next: &Option<Key>)
         ensures { ShowsWholePage items.now next.now self.new }
     {
-        self.set_pairs(items.as_slice());
-        self.set_next(next);
-    }
-
-    /// These pairs from now on.
-    fn set_pairs(&mut self, items: &[(Key, Value)])
-        requires few { length items.now ≤ 24 }
-        ensures { ShowsAllPairs items.now self.new }
-    {
-        for place in 0..items.len() {
-            let (key, value) = &items[place];
-            self.pairs[place].set(key, value);
-        }
+        let items = items.as_slice();
+        set_pairs(&mut self.pairs, items);
         self.count = items.len() as u64;
+        self.set_next(next);
     }
 
     /// The key from which the next page goes on, if there is one.
@@ -106,6 +96,18 @@ impl Page {
             }
             None => self.more = 0,
         }
+    }
+}
+
+/// The first ones are these pairs from now on.
+pub(crate) fn set_pairs(pairs: &mut [Pair], items: &[(Key, Value)])
+    requires few { length items.now ≤ length pairs.old }
+    ensures count { length pairs.new ≡ length pairs.old }
+    ensures shows { ShowFirst (length items.now) items.now pairs.new }
+{
+    for place in 0..items.len() {
+        let (key, value) = &items[place];
+        pairs[place].set(key, value);
     }
 }
 

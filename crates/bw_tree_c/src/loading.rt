@@ -9,13 +9,12 @@ use crate::answers::{BAD_LIMITS, BAD_ORDER, FULL, NO_MEMORY, OK, OPEN, SPENT, TO
 use crate::bytes::{Pair, TreeLimits};
 use crate::given::pairs_of;
 use crate::handle::TreeHandle;
-use crate::opening::slots_of;
+use crate::opening::shared_with_seats;
 use crate::shared::Shared;
 use bw_model::Limits;
 use bw_tree::{Called, LoadError};
 use seats::opened_from;
 use std::alloc::Global;
-use std::sync::Arc;
 
 /// Opens a tree with these pairs, whose keys ascend.
 #[unsafe(no_mangle)]
@@ -65,14 +64,8 @@ fn shared_with(alloc: Global, limits: Limits, given: &[Pair]) -> Result<Box<Shar
         Err(LoadError::Full) => return Err(FULL),
         Err(LoadError::Spent) => return Err(SPENT),
     };
-    let Ok(tree) = Arc::new(alloc, tree) else {
-        return Err(NO_MEMORY);
-    };
-    let Some(slots) = slots_of(alloc, &tree, seats) else {
-        return Err(NO_MEMORY);
-    };
-    match Box::new(alloc, Shared { slots }) {
-        Ok(shared) => Ok(shared),
-        Err(_) => Err(NO_MEMORY),
+    match shared_with_seats(alloc, limits, tree, seats) {
+        Some(shared) => Ok(shared),
+        None => Err(NO_MEMORY),
     }
 }

@@ -3,12 +3,14 @@ ghost use Rattle.std.specs.Prelude.{◌≡◌, ◌↔◌, IfSome, IsSome, IsTrue
 ghost use Rattle.std.specs.Arc.{arc_value};
 ghost use Rattle.tree_limits.specs.Room.{AreProposed, AreProposedLarge};
 ghost use Rattle.bw_tree.specs.Trees.{AreSeatsOf};
+ghost use Rattle.bw_tree_c.specs.Left.{HaveOneTree};
 ghost use Rattle.bw_tree_c.specs.Opened.{HasOpened, IsOpenedAt, ProposesLargeLimits, ProposesLimits};
 ghost use Rattle.bw_tree_c.specs.Shown.{AreOpenable};
 
 use crate::answers::{BAD_LIMITS, NO_MEMORY, OK, OPEN};
 use crate::bytes::TreeLimits;
 use crate::handle::TreeHandle;
+use crate::left::{is_nothing, nothing_left};
 use crate::shared::Shared;
 use crate::slot::{Slot, are_closed, slot_of};
 use bw_model::Limits;
@@ -80,7 +82,7 @@ impl TreeHandle {
         ensures { IsTrue result → IsSome self.now.kept.value }
     {
         match self.shared() {
-            Some(shared) => !are_closed(shared.slots.as_slice()),
+            Some(shared) => !are_closed(shared.slots.as_slice()) || !is_nothing(&shared.left),
             None => false,
         }
     }
@@ -93,18 +95,34 @@ fn shared_of(alloc: Global, limits: Limits) -> Option<Box<Shared>>
     let Ok((tree, seats)) = opened(alloc, limits) else {
         return None;
     };
+    let shared = shared_with_seats(alloc, limits, tree, seats)?;
+    Some(shared)
+}
+
+/// What is shared of a tree with these seats, if there is memory for it.
+pub(crate) fn shared_with_seats(
+    alloc: Global,
+    limits: Limits,
+    tree: Tree,
+    seats: Vec<BwSeat>,
+) -> Option<Box<Shared>>
+    requires own { AreSeatsOf tree seats.items }
+    requires one { HaveOneTree limits seats.items }
+    ensures { IfSome result (λ shared. shared.value.slots.items ≡ seats.items) }
+{
     let Ok(tree) = Arc::new(alloc, tree) else {
         return None;
     };
+    let left = nothing_left(&seats);
     let slots = slots_of(alloc, &tree, seats)?;
-    match Box::new(alloc, Shared { slots }) {
+    match Box::new(alloc, Shared::of(limits, slots, left)) {
         Ok(shared) => Some(shared),
         Err(_) => None,
     }
 }
 
 /// A slot for each seat, in order.
-pub(crate) fn slots_of(alloc: Global, tree: &Arc<Tree>, seats: Vec<BwSeat>) -> Option<Vec<Slot>>
+fn slots_of(alloc: Global, tree: &Arc<Tree>, seats: Vec<BwSeat>) -> Option<Vec<Slot>>
     requires own { AreSeatsOf (arc_value tree.now) seats.items }
     ensures { IfSome result (λ slots. slots.items ≡ seats.items) }
 {

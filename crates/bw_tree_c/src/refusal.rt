@@ -2,7 +2,7 @@
 ghost use Rattle.std.specs.Prelude.{◌≡◌};
 ghost use Rattle.bw_tree_c.specs.Statuses.{status_of_refusal};
 
-use crate::answers::{BUSY, CLOSED, NO_SEAT};
+use crate::answers::{BUSY, CLOSED, NO_MEMORY, NO_SEAT, UNFINISHED};
 
 /// Why a call doesn't run.
 #[derive(Clone, Copy)]
@@ -13,6 +13,10 @@ pub enum Refusal {
     NoSeat,
     /// Another call is inside the seat.
     Busy,
+    /// The seat has an unfinished operation.
+    Unfinished,
+    /// A growth of memory was refused.
+    NoMemory,
 }
 
 impl Refusal {
@@ -24,6 +28,8 @@ impl Refusal {
             Refusal::Closed => CLOSED,
             Refusal::NoSeat => NO_SEAT,
             Refusal::Busy => BUSY,
+            Refusal::Unfinished => UNFINISHED,
+            Refusal::NoMemory => NO_MEMORY,
         }
     }
 }

@@ -132,7 +132,7 @@ pub(crate) fn close_all(slots: &[Slot]) -> Result<(), Refusal>
 }
 
 /// Closes a slot whose seat is away.
-fn close(slot: &Slot) {
+pub(crate) fn close(slot: &Slot) {
     let (found, claim) = slot.turn(AWAY, TAKEN);
     if found == AWAY {
         let _ = claim.put(None, CLOSED);

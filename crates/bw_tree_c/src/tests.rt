@@ -1,7 +1,7 @@
 //! The exports, called from Rattle: what each answers, in turn.
 
 use crate::answers::{
-    ABSENT, BAD_LIMITS, BAD_ORDER, BUSY, CLOSED, DIFFERS, EXISTS, IDLE, NO_SEAT, OK, OPEN,
+    ABSENT, BAD_LIMITS, BAD_ORDER, BUSY, CLOSED, DIFFERS, EXISTS, IDLE, NO_ROOM, NO_SEAT, OK, OPEN,
     REPLACED, SPENT, TOO_LONG, UNFINISHED,
 };
 use crate::asking::{bwtree_raw_is_idle, bwtree_raw_room};
@@ -11,6 +11,7 @@ use crate::calls::{
     bwtree_raw_upsert,
 };
 use crate::closing::bwtree_raw_close;
+use crate::handing::bwtree_raw_close_pairs;
 use crate::handle::TreeHandle;
 use crate::loading::bwtree_raw_open_from;
 use crate::opening::{
@@ -235,26 +236,81 @@ fn trees_are_opened_with_pairs(rt: HostRuntime) {
     assert!(rt; told_of_loads(rt.alloc()) == wanted);
 }
 
+/// What a closing with pairs answers for which there is no room, what comes then, and how many pairs there are.
+fn told_of_pairs(alloc: Global, tree: &mut TreeHandle, pairs: &mut [Pair]) -> ([u32; 9], u64) {
+    let mut limits = no_limits();
+    let mut old = no_bytes();
+    let mut count = 0;
+    let told = [
+        bwtree_raw_close_pairs(alloc, &TreeHandle::unopened(), pairs, &mut count),
+        bwtree_raw_insert(tree, 0, b"b", b"x", &mut old),
+        bwtree_raw_insert(tree, 1, b"a", b"y", &mut old),
+        bwtree_raw_close_pairs(alloc, tree, &mut [], &mut count),
+        bwtree_raw_get(tree, 0, b"a", &mut old),
+        bwtree_raw_limits_for_keys(2, 100, &mut limits),
+        bwtree_raw_open(alloc, &limits, tree),
+        bwtree_raw_close_pairs(alloc, tree, pairs, &mut count),
+        bwtree_raw_close_pairs(alloc, tree, pairs, &mut count),
+    ];
+    (told, count)
+}
+
+#[test]
+fn trees_are_closed_with_their_pairs(rt: HostRuntime) {
+    let mut tree = two_seats(rt.alloc());
+    let mut pairs = [no_pair(), no_pair(), short_pair(b'c', b'z')];
+    let (told, count) = told_of_pairs(rt.alloc(), &mut tree, &mut pairs);
+    assert!(rt; told == [CLOSED, OK, OK, NO_ROOM, CLOSED, OK, OPEN, OK, CLOSED] && count == 2);
+    assert!(rt; pairs[0].key.bytes[0] == b'a' && pairs[0].value.bytes[0] == b'y');
+    assert!(rt; pairs[1].key.bytes[0] == b'b' && pairs[1].value.length == 1);
+    assert!(rt; pairs[2].key.bytes[0] == b'c');
+}
+
+/// What closings of pairs that wait answer.
+fn told_of_dropped_pairs(alloc: Global, tree: &mut TreeHandle) -> [u32; 6] {
+    let mut limits = no_limits();
+    let mut old = no_bytes();
+    let mut count = 0;
+    [
+        bwtree_raw_insert(tree, 0, b"a", b"x", &mut old),
+        bwtree_raw_close_pairs(alloc, tree, &mut [], &mut count),
+        bwtree_raw_close(tree),
+        bwtree_raw_close(tree),
+        bwtree_raw_limits_for_keys(2, 100, &mut limits),
+        bwtree_raw_open(alloc, &limits, tree),
+    ]
+}
+
+#[test]
+fn pairs_that_wait_are_dropped(rt: HostRuntime) {
+    let told = told_of_dropped_pairs(rt.alloc(), &mut two_seats(rt.alloc()));
+    assert!(rt; told == [OK, NO_ROOM, OK, CLOSED, OK, OK]);
+}
+
 /// What calls answer while another call is inside seat 0, and after that.
-fn told_of_seats(tree: &TreeHandle) -> Option<[u32; 11]> {
+fn told_of_seats(alloc: Global, tree: &TreeHandle) -> Option<[u32; 13]> {
     let mut old = no_bytes();
     let mut page = no_page();
+    let mut count = 0;
     let (slot, mut place) = tree.take(0).ok()?;
     let inside = [
         bwtree_raw_get(tree, 0, b"a", &mut old),
         bwtree_raw_is_idle(tree, 0),
         bwtree_raw_close(tree),
+        bwtree_raw_close_pairs(alloc, tree, &mut [], &mut count),
         bwtree_raw_is_idle(tree, 1),
     ];
     let Place { tree: of, seat } = &mut *place;
     called(of, seat, Command::Get(Key::default()), 1)?;
     give(slot, place);
-    let [first, second, third, fourth] = inside;
+    let [first, second, third, fourth, fifth] = inside;
     Some([
         first,
         second,
         third,
         fourth,
+        fifth,
+        bwtree_raw_close_pairs(alloc, tree, &mut [], &mut count),
         bwtree_raw_get(tree, 0, b"a", &mut old),
         bwtree_raw_is_idle(tree, 0),
         bwtree_raw_resume(tree, 0, 0, &mut old, &mut page),
@@ -268,8 +324,9 @@ fn told_of_seats(tree: &TreeHandle) -> Option<[u32; 11]> {
 #[test]
 fn seats_are_busy_and_unfinished(rt: HostRuntime) -> Result<(), Fail> {
     let wanted = [
-        BUSY, BUSY, BUSY, OK, UNFINISHED, UNFINISHED, SPENT, ABSENT, IDLE, OK, OK,
+        BUSY, BUSY, BUSY, BUSY, OK, UNFINISHED, UNFINISHED, UNFINISHED, SPENT, ABSENT, IDLE, OK, OK,
     ];
-    assert!(rt; told_of_seats(&two_seats(rt.alloc())).ok_or("no seat")? == wanted);
+    let tree = two_seats(rt.alloc());
+    assert!(rt; told_of_seats(rt.alloc(), &tree).ok_or("no seat")? == wanted);
     Ok(())
 }

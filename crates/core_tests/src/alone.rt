@@ -2,9 +2,10 @@
 //! steps, and no operation takes many rounds but for changes of the tree.
 
 use crate::accounts::settled;
+use crate::asked::{Asked, Mix, draw};
 use crate::by_hand::MOST_STEPS;
 use crate::numbered::key;
-use crate::schedules::{Asked, Mix, Twin, asks, draw, steps};
+use crate::schedules::{Twin, asks, steps};
 use crate::scripts::Size;
 use bw_model::{Answer, Step};
 use core_memory::Entries;

@@ -2,10 +2,11 @@
 //! of their steps while one of another actor comes to its end.
 
 use crate::accounts::settled;
+use crate::asked::{Asked, KINDS, Kind, Mix};
 use crate::by_hand::{let_go, replies};
 use crate::numbered::{key, value};
 use crate::plain_map::{ABSENT, VALUES};
-use crate::schedules::{Asked, KINDS, Kind, Mix, Schedule, Twin, agrees, asks, steps};
+use crate::schedules::{Schedule, Twin, agrees, asks, steps};
 use crate::scripts::Size;
 use crate::tally::Tally;
 use bw_model::{Command, Reply};

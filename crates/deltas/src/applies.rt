@@ -8,17 +8,14 @@ ghost use Rattle.deltas.specs.declared.record.Record.TheVariants as kind;
 use crate::{Delete, Hold, Merge, Put, Record, Remove, Split, Term, Unterm};
 use base_page::{Content, Page};
 
-/// The page that the record makes of the page under it; a base makes its own.
-pub fn apply(page: Page, change: &Record) -> Page
-    requires { FitsOnPage page change.now }
-    ensures applies { Applies page change.now result }
-    ensures page { IsPage result }
+/// Makes of the page what the record makes of it; a base makes its own.
+pub fn apply(page: &mut Page, change: &Record)
+    requires { FitsOnPage page.old change.now }
+    ensures applies { Applies page.old change.now page.new }
+    ensures page { IsPage page.new }
 {
     match change {
-        Record::Base(base) => {
-            base.keeps_rules();
-            base.copied()
-        }
+        Record::Base(base) => stand(base, page),
         Record::Put(put) => put.apply(page),
         Record::Delete(delete) => delete.apply(page),
         Record::Split(split) => split.apply(page),
@@ -30,77 +27,91 @@ pub fn apply(page: Page, change: &Record) -> Page
     }
 }
 
+/// Puts a base in the page's place.
+#[inline(never)]
+fn stand(base: &Page, page: &mut Page)
+    requires { base.now.removed ≡ false }
+    ensures applies { Applies page.old (kind.Base base.now) page.new }
+    ensures page { IsPage page.new }
+{
+    base.keeps_rules();
+    *page = base.copied();
+}
+
 impl Put {
-    fn apply(&self, page: Page) -> Page
-        requires { FitsPut page self.now }
-        ensures applies { Applies page (kind.Put self.now) result }
-        ensures page { IsPage result }
+    /// Gives the key its value.
+    pub fn apply(&self, page: &mut Page)
+        requires { FitsPut page.old self.now }
+        ensures applies { Applies page.old (kind.Put self.now) page.new }
+        ensures page { IsPage page.new }
     {
-        page.with_put(self.key.copied(), Content::Value(self.value.copied()))
+        page.put(self.key.copied(), Content::Value(self.value.copied()));
     }
 }
 
 impl Delete {
-    fn apply(&self, page: Page) -> Page
-        requires { FitsDelete page self.now }
-        ensures applies { Applies page (kind.Delete self.now) result }
-        ensures page { IsPage result }
+    /// Takes the key's value away.
+    pub fn apply(&self, page: &mut Page)
+        requires { FitsDelete page.old self.now }
+        ensures applies { Applies page.old (kind.Delete self.now) page.new }
+        ensures page { IsPage page.new }
     {
-        page.without(&self.key)
+        page.delete(&self.key);
     }
 }
 
 impl Split {
-    fn apply(&self, page: Page) -> Page
-        requires { FitsSplit page self.now }
-        ensures applies { Applies page (kind.Split self.now) result }
-        ensures page { IsPage result }
+    fn apply(&self, page: &mut Page)
+        requires { FitsSplit page.old self.now }
+        ensures applies { Applies page.old (kind.Split self.now) page.new }
+        ensures page { IsPage page.new }
     {
-        page.lower_part(self.separator.copied(), self.page)
+        page.end_at(self.separator.copied(), self.page);
     }
 }
 
 impl Term {
-    fn apply(&self, page: Page) -> Page
-        requires { FitsTerm page self.now }
-        ensures applies { Applies page (kind.Term self.now) result }
-        ensures page { IsPage result }
+    fn apply(&self, page: &mut Page)
+        requires { FitsTerm page.old self.now }
+        ensures applies { Applies page.old (kind.Term self.now) page.new }
+        ensures page { IsPage page.new }
     {
         let content = Content::Child {
             page: self.child,
             held: false,
         };
-        page.with_put(self.separator.copied(), content)
+        page.put(self.separator.copied(), content);
     }
 }
 
 impl Hold {
-    fn apply(&self, page: Page) -> Page
-        requires { FitsHold page self.now }
-        ensures applies { Applies page (kind.Hold self.now) result }
-        ensures page { IsPage result }
+    fn apply(&self, page: &mut Page)
+        requires { FitsHold page.old self.now }
+        ensures applies { Applies page.old (kind.Hold self.now) page.new }
+        ensures page { IsPage page.new }
     {
-        page.with_held(&self.separator)
+        page.hold(&self.separator);
     }
 }
 
 impl Remove {
-    fn apply(&self, page: Page) -> Page
-        requires { FitsRemove page self.now }
-        ensures applies { Applies page (kind.Remove self.now) result }
-        ensures page { IsPage result }
+    fn apply(&self, page: &mut Page)
+        requires { FitsRemove page.old self.now }
+        ensures applies { Applies page.old (kind.Remove self.now) page.new }
+        ensures page { IsPage page.new }
     {
-        page.with_removed()
+        page.remove();
     }
 }
 
 impl Merge {
-    fn apply(&self, page: Page) -> Page
-        requires { FitsMerge page self.now }
-        ensures applies { Applies page (kind.Merge self.now) result }
-        ensures page { IsPage result }
+    #[inline(never)]
+    fn apply(&self, page: &mut Page)
+        requires { FitsMerge page.old self.now }
+        ensures applies { Applies page.old (kind.Merge self.now) page.new }
+        ensures page { IsPage page.new }
     {
-        page.joined(&self.merged())
+        page.join(&self.merged());
     }
 
     /// The page that is merged, as its left page copied it.
@@ -123,11 +134,11 @@ impl Merge {
 }
 
 impl Unterm {
-    fn apply(&self, page: Page) -> Page
-        requires { FitsUnterm page self.now }
-        ensures applies { Applies page (kind.Unterm self.now) result }
-        ensures page { IsPage result }
+    fn apply(&self, page: &mut Page)
+        requires { FitsUnterm page.old self.now }
+        ensures applies { Applies page.old (kind.Unterm self.now) page.new }
+        ensures page { IsPage page.new }
     {
-        page.without(&self.separator)
+        page.delete(&self.separator);
     }
 }

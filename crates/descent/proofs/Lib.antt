@@ -12,6 +12,7 @@ pub mod Beside
 pub mod Passing
 pub mod Rounding
 pub mod Responding
+pub mod Lost
 pub mod Reading
 pub mod Keeping
 pub mod Leading

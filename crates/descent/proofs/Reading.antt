@@ -16,13 +16,15 @@ use Rattle.descent.specs.Descents.{WayState, Root, Page, Finds, Shows as WayShow
 use Rattle.descent.specs.Visits.{Sight, Slot, Row, Empty, Whole}
 use Rattle.descent.specs.ReadRounds.{BeginsToRead, CanMeetLeg, CanPass, EndsRead, HasChildren, IsAtLevel, IsAtMergedPage, IsLeftLeaf, VisitsToRead, MissesRead, ReadRound, SeeksKey, Shows, ShowsVisit, Spends, TreatsRead, at, goes_beyond, read_round_kept, wanted, read_way, way_on, reading}
 use Rattle.descent.specs.Machines.{IsTold}
+use Rattle.descent.specs.Versions.{IsInHand}
 use Rattle.descent.specs.Rounds.{CanSee, Follows, Responds, Sees, machine}
 use Rattle.descent.specs.Visits as page
 use Rattle.descent.specs.Walks.{IsReached, IsRoundLast, IsSeeking, IsUnderLast, left_at, left_in, with_walk}
 use Rattle.descent.specs.Ways.{EndsHere, StaysLeft, precedes, reaches}
+use Rattle.descent.proofs.Lost.{found_nothing}
 use Rattle.descent.proofs.Passing.{HasReached, IsOver, at_or_below, begins, goes_down, goes_right, keeps_next, passed_next, reached_next, visits_next}
 use Rattle.descent.proofs.Rounding.{HasNeared, goes_down_merged, goes_nearer, goes_right_merged, goes_round, goes_through, is_beside, is_merged, past_leaf, past_merged, unpassed, within_beside}
-use Rattle.descent.proofs.Seeking.{is_gone, living, reached}
+use Rattle.descent.proofs.Seeking.{hand, is_gone, living, reached}
 use Rattle.descent.proofs.Responding.{by_step}
 use Rattle.descent.proofs.Spending.{base_passed, left_empty, left_gone, left_kept, left_on, left_removed, left_round, left_some, spent_empty, spent_on, still}
 use Rattle.descent.proofs.WayLaws.{covers_here}
@@ -77,6 +79,12 @@ module _ (old : ReadRound) (k now : Knowledge) (r : Recalled) (version : Version
   shows : (goal : ReadGoal) (leg : Leg) (next : ℕ) → IsPlain leg → VisitsToRead old.limits old.key goal leg now r (page.to_page old.limits next) → ShowsVisit old.limits old.key goal leg now r (page.to_page old.limits next)
   shows goal leg next plain is = shows_plain old.limits old.key goal now r (page.to_page old.limits next) leg plain is
 
+  -- the page is in hand
+  in_hand : (leg : Leg) → HasRead old.limits old.key old.goal leg k now r version → IsInHand old.limits now version
+  in_hand (Down above) d = hand old.limits k now r version d.level d.low d.earlier d.arrives
+  in_hand (Round removed) d = let n = d.nears in hand old.limits k now r version n.level n.low n.earlier n.arrives
+  in_hand (Past above) d = hand old.limits k now r version d.level d.low d.earlier d.arrives
+
   neared : (removed : Version) → IsAtLevel old version removed → HasNeared old.limits old.key old.goal removed k now r version
   neared removed left = at_leg (Round removed) left.leg
 
@@ -92,7 +100,7 @@ module _ (old : ReadRound) (k now : Knowledge) (r : Recalled) (version : Version
     | inr (inr (inr (inr (inr (inr (inr (inl right))))))) ↦ rw right.goes (goes_right_merged old.limits old.key old.goal right.removed k now r version (neared right.removed right.there.left) right.there.left.alive right.there.left.same right.next right.leads)
     | inr (inr (inr (inr (inr (inr (inr (inr down))))))) ↦ rw down.goes (goes_down_merged old.limits old.key old.goal down.removed k now r version (neared down.removed down.there.left) down.there.left.alive down.there.left.same down.next down.index down.leads)
   ]
-  treated new (Some Again) t = tt
+  treated new (Some Again) t = inr (record { version = version; page = in_hand old.leg h; lost = t })
   treated new (Some (Removed removed)) t =
       let d = at_goal old.goal refl t.plain in
       rw t.is (record { page = is_gone old.limits k now r version d.level d.low d.earlier d.arrives t.gone; reached = at_or_below old.limits old.key old.goal old.leg k now r version d })
@@ -173,7 +181,7 @@ module _ (old new : ReadRound) (told : Answer Record) (visit : page.Visit) where
   here = at old (Page visit)
 
   seen : (next : page.Visit) (sight : Sight) (result : Option ReadEnd) → page.Responds visit told next (Some sight) → Sees reading here sight new result → Then new result here told
-  seen next Empty result b sees = rw sees (λ k r h f. tt)
+  seen next Empty result b sees = rw sees (λ k r h f. inl (found_nothing r visit told b))
   seen next (Whole version) result b sees = λ k r h f.
       by_result k r result (treated here k (learn k (page.wanted visit) told) (recall r (page.wanted visit) told) version (whole old.limits old.key old.goal k r visit told f old.leg h version b) new result sees)
     where

@@ -16,18 +16,18 @@ use Rattle.traces.specs.discipline.Knowledge.{Knowledge}
 use Rattle.traces.specs.discipline.Recalled.{Recalled, WasHead}
 use Rattle.smo.specs.Sizes.{HasFewItems, many_of}
 use Rattle.smo.specs.Splits.{CanSplit}
-use Rattle.smo.specs.declared.upkeep.Upkeep.{Upkeep}
+use Rattle.smo.specs.declared.plan.Plan.{Plan}
 use Rattle.smo.specs.Versions.{Version}
 use Rattle.smo.proofs.Few.{few_many}
 use Rattle.smo.proofs.Places.{made}
 use Rattle.descent.specs.Courses.{WriteGoal, Seek, Left, Merge, Unterm}
-use Rattle.descent.specs.WriteEnds.{WriteEnd}
+use Rattle.descent.specs.WriteEnds.{DueChange, WriteEnd}
 use Rattle.descent.specs.WriteEnds as end
-use Rattle.descent.specs.Versions.{IsAlive}
+use Rattle.descent.specs.Versions.{IsAlive, IsInHand}
 use Rattle.descent.specs.Visits as page
 use Rattle.descent.specs.Ways.{LeadsDown, LeadsRight, NamesAt, StaysLeft, reaches}
-use Rattle.descent.specs.WriteRounds.{IsLosingTerm, IsMergeEnd, IsMissing, IsUntermEnd, KeepsToWrite, SeeksLeaf, is_cutting, write_way, EndsWrite, IsBased, IsLeftOf, IsKept, IsLeafEnd, IsLong, IsRootEnd, IsTermEnd, VisitsToWrite, Shows, WriteRound, goes_left, IsTendEnd}
-use Rattle.descent.specs.WriteResponses.{EndsCut, EndsFine, EndsMerged, EndsSmall, EndsUnposted, EndsUnrooted, IsFine, IsHere, IsSplitFinished, TreatsWrite}
+use Rattle.descent.specs.WriteRounds.{IsCleanEnd, IsUncutEnd, IsUnmergedEnd, IsLosingTerm, IsMergeEnd, IsMissing, IsUntermEnd, KeepsToWrite, SeeksLeaf, is_cutting, write_way, EndsWrite, IsBased, IsLeftOf, IsKept, IsLeafEnd, IsLong, IsRootEnd, IsTermEnd, VisitsToWrite, Shows, WriteRound, goes_left, IsTendEnd, IsDue}
+use Rattle.descent.specs.WriteResponses.{EndsClean, EndsUncut, EndsUnmerged, EndsCut, EndsFine, EndsMerged, EndsSmall, EndsUnposted, EndsUnrooted, IsFine, IsHere, IsSplitFinished, TreatsWrite, EndsBy}
 use Rattle.descent.proofs.Keeping.{HasReached, LiesAbove, Passed, differs}
 use Rattle.descent.proofs.Leading.{led_aside, termed}
 use Rattle.descent.proofs.PageLaws.{covered, spans}
@@ -239,7 +239,7 @@ module _ (old : WriteRound) (k now : Knowledge) (r : Recalled) (version : Versio
       subst (λ (o : Option Version). IsBased r None o version.pid h.low) t.aside (subst (λ (o : Option Version). IsBased r o old.left version.pid h.low) t.above h.based) in
       record { page = alive_of left beside.kept; right = version; aside = alive_here t.plan.can.alive; rooted = root_of left based t.plan.can.lowest; plan = t.plan }
 
-  tend_end : (parent page : Version) (upkeep : Upkeep) → EndsSmall old version parent page upkeep → IsTendEnd old now r parent page upkeep
+  tend_end : (parent page : Version) (upkeep : Plan) → EndsSmall old version parent page upkeep → IsTendEnd old now r parent page upkeep
   tend_end parent page upkeep t =
       let over : LiesAbove old.limits now version h.earlier parent = subst (λ (o : Option Version). IfSome o (LiesAbove old.limits now version h.earlier)) t.tended.above h.above in
       rw t.is (record {
@@ -285,6 +285,41 @@ module _ (old : WriteRound) (k now : Knowledge) (r : Recalled) (version : Versio
         plan = t.plan;
       })
 
+  hand_here : IsInHand old.limits now version
+  hand_here = hand old.limits k now r version h.level h.low h.earlier h.arrives
+
+  clean_end : EndsClean old version → IsCleanEnd old now r
+  clean_end t = record {
+    pid = t.pid;
+    goal = t.left.goal;
+    version = version;
+    page = alive_here t.left.here.alive;
+    level = t.left.level;
+    stays = t.left.here.stays;
+    apart = t.apart;
+    above = IfSome_then old.parent h.above (λ other i. record { page = alive_of other i.kept; up = i.up; after = i.after });
+    lacks = t.lacks;
+  }
+
+  unmerged_end : EndsUnmerged old version → IsUnmergedEnd old now r
+  unmerged_end t =
+      let kept : IsKept old.limits now t.left h.earlier = subst (λ (g : WriteGoal). Passed old.limits old.key old.floor k now version.pid h.earlier g) t.goal h.passed in
+      record { left = t.left; goal = t.goal; aside = alive_of t.left kept; version = version; page = hand_here; none = t.none }
+
+  uncut_end : EndsUncut old version → IsUncutEnd old now r
+  uncut_end t =
+      let cut : IsLosingTerm old.limits now h.earlier t.parent t.left = subst (λ (g : WriteGoal). Passed old.limits old.key old.floor k now version.pid h.earlier g) t.goal h.passed in
+      record { parent = t.parent; left = t.left; goal = t.goal; above = alive_of t.parent cut.above; aside = alive_of t.left cut.aside; version = version; page = hand_here; none = t.none }
+
+  due_end : (change : DueChange) → EndsBy old version change → IsDue old now r change
+  due_end (end.Consolidate page base) t = rw t.is (record { page = alive_here t.here.alive; long = t.long; plan = t.plan })
+  due_end (end.Split page plan) t = rw t.is (record { page = alive_here t.here.alive; plan_due = t.plan_due })
+  due_end (end.Term parent term) t = term_end parent term t
+  due_end (end.Root left root) t = root_end left root t
+  due_end (end.Tend parent page upkeep) t = tend_end parent page upkeep t
+  due_end (end.Merge left removed merge) t = merge_end left removed merge t
+  due_end (end.Unterm parent left removed unterm) t = unterm_end parent left removed unterm t
+
   pub treated : (new : WriteRound) (result : Option WriteEnd) → TreatsWrite old version new result → After old now r new result
   treated new None t = elim t [
     | inl right ↦ subst (λ (x : WriteRound). Shows x now r) (sym right.goes) (aside right.right right.alive right.seeks right.finished right.leads)
@@ -294,14 +329,8 @@ module _ (old : WriteRound) (k now : Knowledge) (r : Recalled) (version : Versio
         let over : LiesAbove old.limits now version h.earlier cut.parent = subst (λ (o : Option Version). IfSome o (LiesAbove old.limits now version h.earlier)) cut.above h.above in
         subst (λ (x : WriteRound). Shows x now r) (sym cut.goes) (back_to_unterm cut.pid cut.left.goal cut.left.here.alive cut.parent over cut.term)
   ]
-  treated new (Some end.Again) t = tt
-  treated new (Some end.Done) t = tt
+  treated new (Some end.Again) t = inr (record { pid = t.pid; goal = t.goal; version = version; page = alive_here t.here.alive; below = t.below })
+  treated new (Some end.Done) t = elim t [ inl clean ↦ inl (clean_end clean) | inr (inl unmerged) ↦ inr (inl (unmerged_end unmerged)) | inr (inr uncut) ↦ inr (inr (uncut_end uncut)) ]
   treated new (Some (end.Removed removed)) t = rw t.is (is_gone old.limits k now r version h.level h.low h.earlier h.arrives t.gone)
-  treated new (Some (end.Consolidate page)) t = rw t.is (record { page = alive_here t.here.alive; long = t.long })
-  treated new (Some (end.Split page plan)) t = rw t.is (record { page = alive_here t.here.alive; plan_due = t.plan_due })
-  treated new (Some (end.Term parent term)) t = term_end parent term t
-  treated new (Some (end.Root left root)) t = root_end left root t
-  treated new (Some (end.Tend parent page upkeep)) t = tend_end parent page upkeep t
+  treated new (Some (end.Due plan after)) t = record { change = t.change; planned = t.planned; due = due_end t.change t.due }
   treated new (Some (end.Leaf parent leaf)) t = leaf_end parent leaf t
-  treated new (Some (end.Merge left removed merge)) t = merge_end left removed merge t
-  treated new (Some (end.Unterm parent left removed unterm)) t = unterm_end parent left removed unterm t

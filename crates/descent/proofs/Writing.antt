@@ -14,7 +14,7 @@ use Rattle.traces.specs.discipline.Knowledge.{Knowledge, learn}
 use Rattle.traces.specs.discipline.Recalled.{Recalled, recall}
 use Rattle.smo.specs.Versions.{Version}
 use Rattle.descent.specs.Courses.{WriteGoal, Seek, Left, Merge, Unterm}
-use Rattle.descent.specs.WriteEnds.{WriteEnd}
+use Rattle.descent.specs.WriteEnds.{DueChange, WriteEnd}
 use Rattle.descent.specs.WriteEnds as end
 use Rattle.descent.specs.Descents.{WayState, Root, Page, Finds, Shows as WayShows}
 use Rattle.descent.specs.Visits.{Sight, Slot, Empty, Whole}
@@ -24,7 +24,8 @@ use Rattle.descent.specs.Ways.{precedes, reaches}
 use Rattle.descent.specs.WriteRounds.{BeginsToWrite, IsMissing, KeepsToWrite, MissesWrite, is_cutting, write_round_kept, write_way, VisitsToWrite, Shows, Spends, WriteRound, at, wanted}
 use Rattle.descent.specs.Machines.{IsTold}
 use Rattle.descent.specs.Rounds.{CanSee, Follows, Responds, Sees, machine}
-use Rattle.descent.specs.WriteResponses.{CanMeetGoal, IsHere, IsAtLeft, IsTended, TreatsWrite, writing}
+use Rattle.descent.specs.WriteResponses.{CanMeetGoal, IsHere, IsAtLeft, IsTended, TreatsWrite, writing, EndsBy}
+use Rattle.descent.proofs.Lost.{found_nothing}
 use Rattle.descent.proofs.Keeping.{Passed, reached_next, visits_next}
 use Rattle.descent.proofs.PageLaws.{above_empty}
 use Rattle.descent.proofs.Seeking.{reached, seeks_root}
@@ -45,7 +46,7 @@ module _ (old new : WriteRound) (told : Answer Record) (visit : page.Visit) wher
   here = at old (Page visit)
 
   seen : (next : page.Visit) (sight : Sight) (result : Option WriteEnd) → page.Responds visit told next (Some sight) → Sees writing here sight new result → Then new result here told
-  seen next Empty result b sees = rw sees (λ k r h f. tt)
+  seen next Empty result b sees = rw sees (λ k r h f. inl (found_nothing r visit told b))
   seen next (Whole version) result b sees = λ k r h f.
       by_result k r result (treated here k (learn k (page.wanted visit) told) (recall r (page.wanted visit) told) version (reached_next old.limits old.key old.floor old.goal old.parent old.left k r visit told h f version b) new result sees)
     where
@@ -98,14 +99,8 @@ module _ (old new : WriteRound) (told : Answer Record) (visit : page.Visit) wher
         | inr (inr uncut) ↦ keeps (Unterm uncut.parent uncut.left) uncut.goal refl
       ]
       by_result (Some (end.Removed removed)) t = let some = left_removed reserve old.limits way_here (is_cutting old.goal) k r visit h.level h.low h.earlier told h.seeks f version b t.gone in omega (arith, some)
-      by_result (Some (end.Consolidate page)) t = some_left
-      by_result (Some (end.Split page plan)) t = some_left
-      by_result (Some (end.Term parent term)) t = some_left
-      by_result (Some (end.Root left root)) t = some_left
-      by_result (Some (end.Tend parent page upkeep)) t = some_left
+      by_result (Some (end.Due plan after)) t = some_left
       by_result (Some (end.Leaf parent leaf)) t = some_left
-      by_result (Some (end.Merge left removed merge)) t = keeps (Merge left) t.goal refl
-      by_result (Some (end.Unterm parent left removed unterm)) t = keeps (Unterm parent left) t.goal refl
 
   paid : (next : page.Visit) (sight : Sight) (result : Option WriteEnd) → page.Responds visit told next (Some sight) → Sees writing here sight new result → Pays new result here told
   paid next Empty result b sees = rw sees (λ reserve kept k r h f. missed reserve kept k r h f b old.goal h.seeks)
@@ -204,6 +199,15 @@ module _ (old : WriteRound) (state other : WayState) (version : Version) where
   tended_as : (parent : Version) → IsTended (at old other) parent version → IsTended (at old state) parent version
   tended_as parent h = record { tends = h.tends; seeks = h.seeks; above = h.above; index = h.index }
 
+  ends_as : (change : DueChange) → EndsBy (at old other) version change → EndsBy (at old state) version change
+  ends_as (end.Consolidate page base) t = record { is = t.is; here = here_as t.here; long = t.long; plan = t.plan }
+  ends_as (end.Split page plan) t = record { is = t.is; here = here_as t.here; short = t.short; plan_due = t.plan_due }
+  ends_as (end.Term parent term) t = record { seeks = t.seeks; above = t.above; left = t.left; aside = t.aside; plan = t.plan }
+  ends_as (end.Root left root) t = record { seeks = t.seeks; above = t.above; aside = t.aside; plan = t.plan }
+  ends_as (end.Tend parent page upkeep) t = record { is = t.is; here = here_as t.here; fine = t.fine; tended = tended_as parent t.tended; due = t.due }
+  ends_as (end.Merge left removed merge) t = record { is = t.is; goal = t.goal; plan = t.plan }
+  ends_as (end.Unterm parent left removed unterm) t = record { is = t.is; goal = t.goal; plan = t.plan }
+
 pub treats_as : (old new : WriteRound) (state other : WayState) (version : Version) (result : Option WriteEnd) → TreatsWrite (at old other) version new result → TreatsWrite (at old state) version new result
 treats_as old new state other version None t = elim t [
   | inl right ↦ inl (record { seeks = right.seeks; alive = right.alive; finished = right.finished; right = right.right; leads = right.leads; goes = right.goes })
@@ -218,11 +222,5 @@ treats_as old new state other version (Some end.Done) t = elim t [
   | inr (inr uncut) ↦ inr (inr (record { parent = uncut.parent; left = uncut.left; goal = uncut.goal; none = uncut.none }))
 ]
 treats_as old new state other version (Some (end.Removed removed)) t = record { is = t.is; seeks = t.seeks; gone = t.gone }
-treats_as old new state other version (Some (end.Consolidate page)) t = record { is = t.is; here = here_as old state other version t.here; long = t.long }
-treats_as old new state other version (Some (end.Split page plan)) t = record { is = t.is; here = here_as old state other version t.here; short = t.short; plan_due = t.plan_due }
-treats_as old new state other version (Some (end.Term parent term)) t = record { seeks = t.seeks; above = t.above; left = t.left; aside = t.aside; plan = t.plan }
-treats_as old new state other version (Some (end.Root left root)) t = record { seeks = t.seeks; above = t.above; aside = t.aside; plan = t.plan }
-treats_as old new state other version (Some (end.Tend parent page upkeep)) t = record { is = t.is; here = here_as old state other version t.here; fine = t.fine; tended = tended_as old state other version parent t.tended; due = t.due }
+treats_as old new state other version (Some (end.Due plan after)) t = record { change = t.change; planned = t.planned; due = ends_as old state other version t.change t.due }
 treats_as old new state other version (Some (end.Leaf parent leaf)) t = record { is = t.is; seeks = t.seeks; above = t.above; here = here_as old state other version t.here; fine = t.fine; level = t.level }
-treats_as old new state other version (Some (end.Merge left removed merge)) t = record { is = t.is; goal = t.goal; plan = t.plan }
-treats_as old new state other version (Some (end.Unterm parent left removed unterm)) t = record { is = t.is; goal = t.goal; plan = t.plan }

@@ -83,3 +83,10 @@ Responds old told new (Some sight) = Finds old told sight
 abbrev pub left_from : Limits → ℕ → Recalled → WayState → ℕ
 left_from limits reserve r Root = few_reads limits
 left_from limits reserve r (Page visit) = left_in limits reserve r visit
+
+-- The slot of the page to which a descent had gone was read last as 0.
+pub record FoundNothing (state : WayState) (r : Recalled) : Type 0 where
+  pub visit : page.Visit
+  pub asked : state ≡ Page visit
+  pub at_slot : visit.state ≡ page.Slot
+  pub empty : r.heads visit.pid ≡ Some 0

@@ -13,7 +13,7 @@ use Rattle.traces.specs.discipline.Recalled.{IsPaid, IsSpentWith, Recalled, reca
 use Rattle.smo.specs.Readings.{IsAfter}
 use Rattle.smo.specs.Versions.{Version}
 use Rattle.descent.specs.Versions.{IsAlive, IsGone, IsInHand, NamesPages}
-use Rattle.descent.specs.Descents.{left_from, wanted_at, WayState, Root, Page}
+use Rattle.descent.specs.Descents.{FoundNothing, left_from, wanted_at, WayState, Root, Page}
 use Rattle.descent.specs.Rounds.{Rounds}
 use Rattle.descent.specs.Visits as page
 use Rattle.descent.specs.Walks.{HasMetNone, IsAhead, IsAmong, IsReached, IsRoundLast, IsSeeking, IsUnderLast, with_walk}
@@ -158,13 +158,6 @@ pub record IsBesideLeaf (limits : Limits) (k : Knowledge) (r : Recalled) (key : 
   pub page : IsGone limits k removed
   pub level : level_in removed.chain ≡ 0
   pub covered : IsTrue (covers removed.chain key)
-
--- what an end says
-abbrev pub EndsRead : ReadRound → Knowledge → Recalled → ReadEnd → Type 0
-EndsRead round k r Again = ⊤
-EndsRead round k r (Removed removed) = IsGoneAt round.limits k round.key removed
-EndsRead round k r (Leaf leaf) = IsAliveLeaf round.limits k r round.key leaf
-EndsRead round k r (Beside left removed) = IsBesideLeaf round.limits k r round.key left removed
 
 -- The page isn't removed, and the round goes on to its right, where the page ends on the way.
 pub record GoesRight (old : ReadRound) (version : Version) (new : ReadRound) : Type 0 where
@@ -324,6 +317,20 @@ pub record IsOffLevel (old : ReadRound) (version : Version) : Type 0 where
   pub removed : Version
   pub leg : old.leg ≡ Round removed
   pub off : (is_removed version.chain ≡ true) ⊎ (level_in version.chain ≢ level_in removed.chain)
+
+-- A page was read at which the round is lost: a removed index page to the left of which it can't go, or, on its way to the left of one,
+-- a removed page, or one of another level.
+pub record IsLostEnd (round : ReadRound) (k : Knowledge) : Type 0 where
+  pub version : Version
+  pub page : IsInHand round.limits k version
+  pub lost : IsLost round version ⊎ IsOffLevel round version
+
+-- what an end says
+abbrev pub EndsRead : ReadRound → Knowledge → Recalled → ReadEnd → Type 0
+EndsRead round k r Again = FoundNothing round.state r ⊎ IsLostEnd round k
+EndsRead round k r (Removed removed) = IsGoneAt round.limits k round.key removed
+EndsRead round k r (Leaf leaf) = IsAliveLeaf round.limits k r round.key leaf
+EndsRead round k r (Beside left removed) = IsBesideLeaf round.limits k r round.key left removed
 
 -- what a round does with a page that was read whole
 abbrev pub TreatsRead : ReadRound → Version → ReadRound → Option ReadEnd → Type 0

@@ -7,6 +7,7 @@ use Rattle.deltas.specs.declared.record.Merge.{Merge as MergeRecord}
 use Rattle.deltas.specs.declared.record.Term.{Term}
 use Rattle.deltas.specs.declared.record.Unterm.{Unterm as UntermRecord}
 use Rattle.traces.specs.chain.Chains.{content_in, is_removed, level_in, right_in}
+use Rattle.smo.specs.Bases.{IsBasePlan}
 use Rattle.smo.specs.Merges.{CanMerge, IsMergePlan}
 use Rattle.smo.specs.Roots.{CanRoot, IsRootPlan}
 use Rattle.smo.specs.Splits.{CanSplit, IsSplitPlan}
@@ -14,13 +15,14 @@ use Rattle.smo.specs.Terms.{CanPost, IsTermPlan}
 use Rattle.smo.specs.Unterms.{CanUnterm, IsUntermPlan}
 use Rattle.smo.specs.declared.split.SplitPlan.{SplitPlan}
 use Rattle.smo.specs.Upkeep.{IsIdle, IsUpkeep}
-use Rattle.smo.specs.declared.upkeep.Upkeep.{Upkeep}
+use Rattle.smo.specs.declared.after.After.{After}
+use Rattle.smo.specs.declared.plan.Plan.{Plan}
 use Rattle.smo.specs.Versions.{Version}
 use Rattle.descent.specs.Courses.{WriteGoal, Seek, Left, Merge, Unterm}
 use Rattle.descent.specs.Walks.{IsReached}
 use Rattle.descent.specs.Ways.{LeadsDown, LeadsRight, StaysLeft}
 use Rattle.descent.specs.Rounds.{Rounds}
-use Rattle.descent.specs.WriteEnds.{WriteEnd}
+use Rattle.descent.specs.WriteEnds.{DueChange, IsPlanned, WriteEnd}
 use Rattle.descent.specs.WriteEnds as end
 use Rattle.descent.specs.WriteRounds.{EndsWrite, IsLong, SeeksLeaf, Shows, WriteRound, at, beside, ends_at, going_to, write_way}
 
@@ -74,10 +76,11 @@ pub record GoesBelow (old : WriteRound) (version : Version) (new : WriteRound) :
   pub goes : new ≡ going_to child (record old { parent = Some version; left = None })
 
 -- The page has too many deltas.
-pub record EndsLong (old : WriteRound) (version page : Version) : Type 0 where
+pub record EndsLong (old : WriteRound) (version page : Version) (base : PageOf) : Type 0 where
   pub is : page ≡ version
   pub here : IsHere old version
   pub long : IsLong old.limits old.due version.chain
+  pub plan : IsBasePlan version base
 
 -- The page has few deltas and too many items.
 pub record EndsWide (old : WriteRound) (version page : Version) (plan : SplitPlan) : Type 0 where
@@ -102,7 +105,7 @@ pub record EndsUnrooted (old : WriteRound) (version left : Version) (root : Page
   pub plan : IsRootPlan left version root
 
 -- The page is neither to be consolidated nor to be split, and it is small.
-pub record EndsSmall (old : WriteRound) (version parent page : Version) (upkeep : Upkeep) : Type 0 where
+pub record EndsSmall (old : WriteRound) (version parent page : Version) (upkeep : Plan) : Type 0 where
   pub is : page ≡ version
   pub here : IsHere old version
   pub fine : IsFine old.limits old.due version
@@ -192,20 +195,30 @@ pub record EndsCut (old : WriteRound) (version parent left removed : Version) (u
   pub goal : old.goal ≡ Unterm parent left
   pub plan : IsUntermPlan parent left version unterm
 
+-- what is due by a change at a page that was read whole
+abbrev pub EndsBy : WriteRound → Version → DueChange → Type 0
+EndsBy old version (end.Consolidate page base) = EndsLong old version page base
+EndsBy old version (end.Split page plan) = EndsWide old version page plan
+EndsBy old version (end.Term parent term) = EndsUnposted old version parent term
+EndsBy old version (end.Root left root) = EndsUnrooted old version left root
+EndsBy old version (end.Tend parent page upkeep) = EndsSmall old version parent page upkeep
+EndsBy old version (end.Merge left removed merge) = EndsMerged old version left removed merge
+EndsBy old version (end.Unterm parent left removed unterm) = EndsCut old version parent left removed unterm
+
+-- The plan makes a change that is due at the page, and this comes once it has won.
+pub record EndsDue (old : WriteRound) (version : Version) (plan : Plan) (after : After) : Type 0 where
+  pub change : DueChange
+  pub planned : IsPlanned change plan after
+  pub due : EndsBy old version change
+
 -- what a round does with a page that was read whole
 abbrev pub TreatsWrite : WriteRound → Version → WriteRound → Option WriteEnd → Type 0
 TreatsWrite old version new None = GoesAside old version new ⊎ GoesBelow old version new ⊎ GoesToMerge old version new ⊎ GoesToUnterm old version new
 TreatsWrite old version new (Some end.Again) = EndsBelow old version
 TreatsWrite old version new (Some end.Done) = EndsClean old version ⊎ EndsUnmerged old version ⊎ EndsUncut old version
 TreatsWrite old version new (Some (end.Removed removed)) = EndsRemoved old version removed
-TreatsWrite old version new (Some (end.Consolidate page)) = EndsLong old version page
-TreatsWrite old version new (Some (end.Split page plan)) = EndsWide old version page plan
-TreatsWrite old version new (Some (end.Term parent term)) = EndsUnposted old version parent term
-TreatsWrite old version new (Some (end.Root left root)) = EndsUnrooted old version left root
-TreatsWrite old version new (Some (end.Tend parent page upkeep)) = EndsSmall old version parent page upkeep
+TreatsWrite old version new (Some (end.Due plan after)) = EndsDue old version plan after
 TreatsWrite old version new (Some (end.Leaf parent leaf)) = EndsFine old version parent leaf
-TreatsWrite old version new (Some (end.Merge left removed merge)) = EndsMerged old version left removed merge
-TreatsWrite old version new (Some (end.Unterm parent left removed unterm)) = EndsCut old version parent left removed unterm
 
 -- by the goal: the removed page is one that there may be; the parent isn't removed
 abbrev pub CanMeetGoal : Limits → WriteGoal → Type 0

@@ -15,24 +15,26 @@ use Rattle.deltas.specs.declared.record.Unterm.{Unterm as UntermRecord}
 use Rattle.traces.specs.chain.Chains.{content_in, covers, high_in, is_removed, level_in, low_in, right_in}
 use Rattle.traces.specs.discipline.Knowledge.{Knowledge}
 use Rattle.traces.specs.discipline.Recalled.{IsPaid, IsSpentWith, IsUnread, Recalled, WasHead, recall}
-use Rattle.smo.specs.Merges.{IsMergePlan}
+use Rattle.smo.specs.Merges.{CanMerge, IsMergePlan}
+use Rattle.smo.specs.Bases.{IsBasePlan}
 use Rattle.smo.specs.Readings.{IsAfter}
 use Rattle.smo.specs.Roots.{IsRootPlan}
 use Rattle.smo.specs.Sizes.{HasFewDeltas, HasFewItems, many_of}
 use Rattle.smo.specs.Splits.{IsSplitPlan}
 use Rattle.smo.specs.Terms.{IsTermPlan}
-use Rattle.smo.specs.Unterms.{IsUntermPlan}
+use Rattle.smo.specs.Unterms.{CanUnterm, IsUntermPlan}
 use Rattle.smo.specs.declared.split.SplitPlan.{SplitPlan}
 use Rattle.smo.specs.Upkeep.{IsUpkeep}
-use Rattle.smo.specs.declared.upkeep.Upkeep.{Upkeep}
+use Rattle.smo.specs.declared.after.After.{After}
+use Rattle.smo.specs.declared.plan.Plan.{Plan}
 use Rattle.smo.specs.Versions.{Version}
 use Rattle.descent.specs.Versions.{IsAlive, IsGone, IsInHand}
 use Rattle.descent.specs.Courses.{WriteGoal, Seek, Left, Merge, Unterm, removed_of}
-use Rattle.descent.specs.Descents.{left_from, wanted_at, WayState, Root, Page}
+use Rattle.descent.specs.Descents.{FoundNothing, left_from, wanted_at, WayState, Root, Page}
 use Rattle.descent.specs.Visits as page
 use Rattle.descent.specs.Walks.{IsAhead, IsAmong, IsSeeking, with_walk}
 use Rattle.descent.specs.Ways.{StaysLeft, passes}
-use Rattle.descent.specs.WriteEnds.{WriteEnd}
+use Rattle.descent.specs.WriteEnds.{DueChange, IsPlanned, WriteEnd}
 use Rattle.descent.specs.WriteEnds as end
 
 -- The key whose leaf is sought, or to whose left the round goes; at how many deltas a leaf is consolidated; whether small index pages
@@ -207,9 +209,10 @@ abbrev pub IsLong : Limits → ℕ → List Record → Type 0
 IsLong limits due chain = (many_of limits < length chain) ⊎ ((level_in chain ≡ 0) × (due < length chain))
 
 -- The page is to be consolidated.
-pub record IsLongEnd (round : WriteRound) (k : Knowledge) (r : Recalled) (version : Version) : Type 0 where
+pub record IsLongEnd (round : WriteRound) (k : Knowledge) (r : Recalled) (version : Version) (base : PageOf) : Type 0 where
   pub page : IsAlive round.limits k r version
   pub long : IsLong round.limits round.due version.chain
+  pub plan : IsBasePlan version base
 
 -- The page is to be split.
 pub record IsSplitEnd (round : WriteRound) (k : Knowledge) (r : Recalled) (version : Version) (plan : SplitPlan) : Type 0 where
@@ -271,7 +274,7 @@ pub record IsUntermEnd (round : WriteRound) (k : Knowledge) (r : Recalled) (pare
   pub plan : IsUntermPlan parent left removed unterm
 
 -- What is due at a small index page on the way to the leaf of a key, below the page that was read before it.
-pub record IsTendEnd (round : WriteRound) (k : Knowledge) (r : Recalled) (parent version : Version) (upkeep : Upkeep) : Type 0 where
+pub record IsTendEnd (round : WriteRound) (k : Knowledge) (r : Recalled) (parent version : Version) (upkeep : Plan) : Type 0 where
   pub tends : round.tends ≡ true
   pub seeks : round.goal ≡ Seek
   pub page : IsAlive round.limits k r version
@@ -279,19 +282,70 @@ pub record IsTendEnd (round : WriteRound) (k : Knowledge) (r : Recalled) (parent
   pub index : 0 < level_in version.chain
   pub due : IsUpkeep parent version upkeep
 
+-- On the way to the left of a removed page, a page was read that isn't removed and is below the removed one's level.
+pub record IsBelowEnd (round : WriteRound) (k : Knowledge) (r : Recalled) : Type 0 where
+  pub pid : ℕ
+  pub goal : round.goal ≡ Left pid
+  pub version : Version
+  pub page : IsAlive round.limits k r version
+  pub below : level_in version.chain < round.floor
+
+-- The way to the left of a removed page ends at a page of its level that hasn't the removed one as its right, and no page above, which
+-- was read before, has the removed one's term held.
+pub record IsCleanEnd (round : WriteRound) (k : Knowledge) (r : Recalled) : Type 0 where
+  pub pid : ℕ
+  pub goal : round.goal ≡ Left pid
+  pub version : Version
+  pub page : IsAlive round.limits k r version
+  pub level : level_in version.chain ≡ round.floor
+  pub stays : StaysLeft (write_way round.goal round.key) version.chain
+  pub apart : right_in version.chain ≢ Some pid
+  pub above : IfSome round.parent (IsUpper round.limits k r version)
+  pub lacks : IfSome round.parent (λ parent. content_in parent.chain round.key ≢ Some (Child pid true))
+
+-- The page to the right of the left one was read after it, and may not come into it.
+pub record IsUnmergedEnd (round : WriteRound) (k : Knowledge) (r : Recalled) : Type 0 where
+  pub left : Version
+  pub goal : round.goal ≡ Merge left
+  pub aside : IsAlive round.limits k r left
+  pub version : Version
+  pub page : IsInHand round.limits k version
+  pub none : ¬ CanMerge left version
+
+-- The page whose term the parent has was read after it and the left one, and the parent may not lose its term.
+pub record IsUncutEnd (round : WriteRound) (k : Knowledge) (r : Recalled) : Type 0 where
+  pub parent : Version
+  pub left : Version
+  pub goal : round.goal ≡ Unterm parent left
+  pub above : IsAlive round.limits k r parent
+  pub aside : IsAlive round.limits k r left
+  pub version : Version
+  pub page : IsInHand round.limits k version
+  pub none : ¬ CanUnterm parent left version
+
+-- what is due by a change
+abbrev pub IsDue : WriteRound → Knowledge → Recalled → DueChange → Type 0
+IsDue round k r (end.Consolidate version base) = IsLongEnd round k r version base
+IsDue round k r (end.Split version plan) = IsSplitEnd round k r version plan
+IsDue round k r (end.Term parent term) = IsTermEnd round k r parent term
+IsDue round k r (end.Root left root) = IsRootEnd round k r left root
+IsDue round k r (end.Tend parent page upkeep) = IsTendEnd round k r parent page upkeep
+IsDue round k r (end.Merge left removed merge) = IsMergeEnd round k r left removed merge
+IsDue round k r (end.Unterm parent left removed unterm) = IsUntermEnd round k r parent left removed unterm
+
+-- The plan makes a change that is due, and this comes once it has won.
+pub record IsDueEnd (round : WriteRound) (k : Knowledge) (r : Recalled) (plan : Plan) (after : After) : Type 0 where
+  pub change : DueChange
+  pub planned : IsPlanned change plan after
+  pub due : IsDue round k r change
+
 -- what an end says
 abbrev pub EndsWrite : WriteRound → Knowledge → Recalled → WriteEnd → Type 0
-EndsWrite round k r end.Again = ⊤
-EndsWrite round k r end.Done = ⊤
+EndsWrite round k r end.Again = FoundNothing round.state r ⊎ IsBelowEnd round k r
+EndsWrite round k r end.Done = IsCleanEnd round k r ⊎ IsUnmergedEnd round k r ⊎ IsUncutEnd round k r
 EndsWrite round k r (end.Removed removed) = IsGone round.limits k removed
-EndsWrite round k r (end.Consolidate version) = IsLongEnd round k r version
-EndsWrite round k r (end.Split version plan) = IsSplitEnd round k r version plan
-EndsWrite round k r (end.Term parent term) = IsTermEnd round k r parent term
-EndsWrite round k r (end.Root left root) = IsRootEnd round k r left root
-EndsWrite round k r (end.Tend parent page upkeep) = IsTendEnd round k r parent page upkeep
+EndsWrite round k r (end.Due plan after) = IsDueEnd round k r plan after
 EndsWrite round k r (end.Leaf parent leaf) = IsLeafEnd round k r parent leaf
-EndsWrite round k r (end.Merge left removed merge) = IsMergeEnd round k r left removed merge
-EndsWrite round k r (end.Unterm parent left removed unterm) = IsUntermEnd round k r parent left removed unterm
 
 -- how many reads are kept for a round after this one: those of one that was begun for a removed page
 abbrev pub write_round_kept : ℕ → WriteGoal → ℕ
@@ -318,8 +372,6 @@ Spends reserve kept r old told new None = IsSpentWith (1 + with_walk old.limits 
 Spends reserve kept r old told new (Some end.Again) = MissesWrite reserve kept r old told old.goal
 Spends reserve kept r old told new (Some (end.Removed removed)) = reserve + write_round_kept kept old.goal < write_round_left reserve kept r old
 Spends reserve kept r old told new (Some end.Done) = kept < write_round_left reserve kept r old
-Spends reserve kept r old told new (Some (end.Merge left removed merge)) = kept < write_round_left reserve kept r old
-Spends reserve kept r old told new (Some (end.Unterm parent left removed unterm)) = kept < write_round_left reserve kept r old
 Spends reserve kept r old told new (Some other) = write_round_kept kept old.goal < write_round_left reserve kept r old
 
 -- So does the goal where it is the leaf of the key.

@@ -4,7 +4,7 @@ use Rattle.std.specs.Prelude.{slice_get}
 use Rattle.std.proofs.lemmas.Option.{same_Some}
 use Rattle.bw_tree.specs.Seats.{Seat}
 use Rattle.seats.specs.Gathered.{SeesOn}
-use Rattle.seat_threads.specs.Works.{AreDone, AreEachDone, behind}
+use Rattle.seat_threads.specs.Works.{AreDone, AreEachDone, with_each_behind}
 
 -- An element stands at the same place before others, and the last one stands behind all.
 before_others : {X : Type 0} (xs ys : List X) (n : ℕ) (x : X) → slice_get xs n ≡ Some x → slice_get (xs ++ ys) n ≡ Some x
@@ -37,14 +37,14 @@ abbrev Follows : {W : Type 0} → (W → Seat → W → Seat → Type 0) → (W 
 Follows {W} comes_to P = (given : W) (before : Seat) (done : W) (left after : Seat) → comes_to given before done left → SeesOn left after → P done after
 
 each_has : {W : Type 0} (comes_to : W → Seat → W → Seat → Type 0) (P : W → Seat → Type 0) → Follows comes_to P → (others : List Seat) (before after : List (Seat × W))
-    → AreEachDone comes_to before after → (n : ℕ) (work : W) → slice_get (behind (λ one. one.1) [] after) n ≡ Some work → HasSeat P (behind (λ one. one.0) others after) work
+    → AreEachDone comes_to before after → (n : ℕ) (work : W) → slice_get (with_each_behind (λ one. one.1) [] after) n ≡ Some work → HasSeat P (with_each_behind (λ one. one.0) others after) work
 each_has comes_to P follows others before [] each n work e = cc
 each_has comes_to P follows others [] (new ∷ after) each n work e = let count = each.count in absurd (omega (arith, count))
 each_has {W} comes_to P follows others (old ∷ before) (new ∷ after) each n work e =
     let count = each.count in
     let is = each.each 0 old new refl refl in
-    let seats : List Seat = behind (λ one. one.0) others after in
-    let works : List W = behind (λ one. one.1) [] after in
+    let seats : List Seat = with_each_behind (λ one. one.0) others after in
+    let works : List W = with_each_behind (λ one. one.1) [] after in
     let rest : AreEachDone comes_to before after = record { count = omega (arith, count); each = λ k. each.each (suc k) } in
     all_pushed (HasSeat P (seats ++ new.0 ∷ [])) works new.1
     (λ k one at. has_still P seats new.0 one (each_has comes_to P follows others before after rest k one at))

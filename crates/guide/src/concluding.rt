@@ -36,7 +36,12 @@ fn read_back(tree: &Tree, seat: &mut BwSeat, key: &Key, value: &Value) -> Option
 
 /// What the only seat of a new tree reads back.
 fn read_alone(alloc: Global, value: &Value) -> Option<Value> {
-    let (tree, mut seats) = opened(alloc, Limits::for_keys(1, 100).ok()?).ok()?;
+    let Ok(limits) = Limits::for_keys(1, 100) else {
+        return None;
+    };
+    let Ok((tree, mut seats)) = opened(alloc, limits) else {
+        return None;
+    };
     let mut seat = take_seat(&tree, &mut seats)?;
     read_back(&tree, &mut seat, &Key::default(), value)
 }

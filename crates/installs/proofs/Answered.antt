@@ -6,13 +6,14 @@ use Rattle.bw_model.specs.declared.step.Answer.TheVariants as answer
 use Rattle.deltas.specs.declared.record.Record.{Record}
 use Rattle.traces.specs.discipline.Fitting.{Fits}
 use Rattle.traces.specs.discipline.Knowledge.{Knowledge, learn}
-use Rattle.installs.specs.Changes.{Change, Follows, IsSame, IsSoundChange, IsTarget, Shows, head_of, linked_number, needs_pid, slot_of, wanted, wanted_at}
+use Rattle.installs.specs.Changes.{Change, Follows, IsSame, IsSoundChange, IsTarget, Shows, linked_number, wanted, wanted_at}
+use Rattle.smo.specs.Plans.{head_of, needs_pid, slot_of}
 use Rattle.installs.specs.Moves.{Moved, decided_by, moved, whether_in}
 use Rattle.installs.specs.Spares.{Spares}
 use Rattle.installs.specs.declared.change.End.{End}
 use Rattle.installs.specs.declared.change.State.{State}
 use Rattle.installs.specs.declared.change.State.TheVariants as state
-use Rattle.installs.specs.declared.plan.Plan.{Plan}
+use Rattle.smo.specs.declared.plan.Plan.{Plan}
 use Rattle.installs.proofs.Clearing.{cleared_so}
 use Rattle.installs.proofs.Following.{base_placed, lost_bare, lost_ready, may_link, record_placed, slot_set, undone}
 use Rattle.installs.proofs.Learning.{went}

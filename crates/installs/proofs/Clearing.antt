@@ -6,12 +6,13 @@ use Rattle.deltas.specs.declared.record.Record.{Record}
 use Rattle.traces.specs.discipline.Discipline.{MayExchange}
 use Rattle.traces.specs.discipline.Fitting.{Fits}
 use Rattle.traces.specs.discipline.Knowledge.{Knowledge, Other, Gone, learn}
-use Rattle.installs.specs.Changes.{Change, ChangeIsOver, IsSoundChange, IsTarget, Shows, cleared_page, cleared_row, clears, wanted_at}
+use Rattle.installs.specs.Changes.{Change, ChangeIsOver, IsSoundChange, IsTarget, Shows, wanted_at}
+use Rattle.smo.specs.Plans.{cleared_page, cleared_row, clears}
 use Rattle.installs.specs.Spares.{AreUnset, Spares}
 use Rattle.installs.specs.declared.change.End.TheVariants as end
 use Rattle.installs.specs.declared.change.State.TheVariants as state
-use Rattle.installs.specs.declared.plan.Plan.{Plan}
-use Rattle.installs.specs.declared.plan.Plan.TheVariants.{Install, Split, Root, Unlink}
+use Rattle.smo.specs.declared.plan.Plan.{Plan}
+use Rattle.smo.specs.declared.plan.Plan.TheVariants.{Install, Split, Root, Unlink}
 use Rattle.installs.proofs.Learning.{clear_went, cleared_learnt}
 use Rattle.installs.proofs.SpareLaws.{page_gone}
 use Rattle.installs.proofs.Winning.{kept_apart, unset_gone}

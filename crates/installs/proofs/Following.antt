@@ -13,15 +13,16 @@ use Rattle.traces.specs.discipline.Discipline.{IsOwn, IsUnset, MayExchange}
 use Rattle.traces.specs.discipline.Fitting.{Fits, ReadsRemoved}
 use Rattle.traces.specs.discipline.Knowledge.{Belongings, Knowledge, OwnPage, OwnRow, Written, Empty, Ready, learn, set_page}
 use Rattle.smo.specs.Splits.{split_to}
-use Rattle.installs.specs.Changes.{AreEnough, Change, ChangesOn, IsLike, ChangeIsOver, IsPlaced, StandsReady, IsSoundChange, IsTarget, KeepsSpare, MayChange, MayInstall, MayLinkAs, Shows, ShowsState, base_row, head_of, linked_after, linked_number, needs_pid, new_base, new_record, rows_needed, slot_of, wanted_at}
+use Rattle.installs.specs.Changes.{AreEnough, Change, ChangesOn, IsLike, ChangeIsOver, IsPlaced, StandsReady, IsSoundChange, IsTarget, KeepsSpare, MayChange, MayInstall, MayLinkAs, Shows, ShowsState, base_row, linked_after, linked_number, wanted_at}
+use Rattle.smo.specs.Plans.{head_of, needs_pid, new_base, new_record, rows_needed, slot_of}
 use Rattle.installs.specs.Moves.{after_ready}
 use Rattle.installs.specs.Spares.{AreSpare, AreTheSpares, AreUnset, HaveRoom, IsUnlinked, Spares, first_row, last_row, pid_of}
 use Rattle.installs.specs.declared.change.End.TheVariants as end
 use Rattle.installs.specs.declared.change.State.{State}
 use Rattle.installs.specs.declared.change.State.TheVariants as state
-use Rattle.installs.specs.declared.plan.Plan.{Plan}
+use Rattle.smo.specs.declared.plan.Plan.{Plan}
 use Rattle.installs.specs.declared.taking.Kind.{Kind}
-use Rattle.installs.specs.declared.plan.Plan.TheVariants.{Install, Split, Root, Unlink}
+use Rattle.smo.specs.declared.plan.Plan.TheVariants.{Install, Split, Root, Unlink}
 use Rattle.installs.proofs.Learning.{empty_page, ready_learnt, ready_went, undo_went, undone_learnt}
 use Rattle.installs.proofs.SpareLaws.{apart, page_moved, row_placed}
 use Rattle.installs.proofs.Making.{bare_at}

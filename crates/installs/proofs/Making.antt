@@ -12,7 +12,7 @@ use Rattle.installs.specs.Spares.{Spares}
 use Rattle.installs.specs.declared.change.End.{End}
 use Rattle.installs.specs.declared.change.End.TheVariants.{Won, Lost, Full}
 use Rattle.installs.specs.declared.change.State.{State}
-use Rattle.installs.specs.declared.plan.Plan.{Plan}
+use Rattle.smo.specs.declared.plan.Plan.{Plan}
 
 -- a change that has made nothing
 abbrev pub bare_at : Limits → Plan → State → Change

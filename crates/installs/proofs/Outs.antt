@@ -9,7 +9,8 @@ use Rattle.deltas.specs.declared.record.Record.TheVariants as kind
 use Rattle.traces.specs.discipline.Fitting.{Fits}
 use Rattle.traces.specs.discipline.Knowledge.{Knowledge, OwnPage, Other, Empty, Ready, Gone, Written, exchanged, learn, linked_over, split_off}
 use Rattle.smo.specs.Splits.{split_to}
-use Rattle.installs.specs.Changes.{Change, IsPlaced, IsSoundChange, IsTarget, Shows, StandsReady, clears, head_of, linked_number, slot_of, wanted, wanted_at}
+use Rattle.installs.specs.Changes.{Change, IsPlaced, IsSoundChange, IsTarget, Shows, StandsReady, linked_number, wanted, wanted_at}
+use Rattle.smo.specs.Plans.{clears, head_of, slot_of}
 use Rattle.installs.specs.Moves.{Moved, moved, moved_by, whether_in}
 use Rattle.installs.specs.Outs.{IsFreshOver, TakesFresh, limbo_after, limbo_over}
 use Rattle.installs.specs.Spares.{Spares, last_row, pid_of}
@@ -17,8 +18,8 @@ use Rattle.installs.specs.Taking.{found_after, wanted_number}
 use Rattle.installs.specs.declared.change.End.{End}
 use Rattle.installs.specs.declared.change.State.{State}
 use Rattle.installs.specs.declared.change.State.TheVariants as state
-use Rattle.installs.specs.declared.plan.Plan.{Plan}
-use Rattle.installs.specs.declared.plan.Plan.TheVariants.{Install, Split, Root, Unlink}
+use Rattle.smo.specs.declared.plan.Plan.{Plan}
+use Rattle.smo.specs.declared.plan.Plan.TheVariants.{Install, Split, Root, Unlink}
 use Rattle.installs.specs.declared.taking.Found.{Found}
 use Rattle.installs.specs.declared.taking.Found.TheVariants.{Not, Taken, Full}
 use Rattle.installs.specs.declared.taking.Kind.TheVariants.{Pid, Row}

@@ -13,15 +13,16 @@ use Rattle.bw_model.specs.declared.step.Answer.{Answer}
 use Rattle.deltas.specs.declared.record.Record.{Record}
 use Rattle.traces.specs.discipline.Fitting.{Fits, FitsWord}
 use Rattle.traces.specs.discipline.Knowledge.{Knowledge}
-use Rattle.installs.specs.Changes.{AreEnough, Change, IsNeededNext, IsSame, IsSoundChange, IsSoundState, IsTarget, clears, head_of, needs_pid, rows_needed, wanted, wanted_at}
+use Rattle.installs.specs.Changes.{AreEnough, Change, IsNeededNext, IsSame, IsSoundChange, IsSoundState, IsTarget, wanted, wanted_at}
+use Rattle.smo.specs.Plans.{clears, head_of, needs_pid, rows_needed}
 use Rattle.installs.specs.Moves.{Moved, after_ready, after_taking, decided_by, first_state, moved, moved_by, unused, whether_in, with_number}
 use Rattle.installs.specs.Spares.{HaveRoom, Spares}
 use Rattle.installs.specs.Taking.{IsSoundFound, IsSoundTaking, begun_at, count_of, first_word, found_after, kind_of, wanted_number}
 use Rattle.installs.specs.declared.change.End.{End}
 use Rattle.installs.specs.declared.change.State.{State}
 use Rattle.installs.specs.declared.change.State.TheVariants as state
-use Rattle.installs.specs.declared.plan.Plan.{Plan}
-use Rattle.installs.specs.declared.plan.Plan.TheVariants.{Install, Split, Root, Unlink}
+use Rattle.smo.specs.declared.plan.Plan.{Plan}
+use Rattle.smo.specs.declared.plan.Plan.TheVariants.{Install, Split, Root, Unlink}
 use Rattle.installs.specs.declared.taking.Found.{Found}
 use Rattle.installs.specs.declared.taking.Found.TheVariants.{Not, Taken, Full}
 use Rattle.installs.specs.declared.taking.Kind.{Kind}

@@ -12,8 +12,8 @@ use Rattle.installs.specs.Spares.{Spares}
 use Rattle.installs.specs.Taking.{count_of, found_after, wanted_number}
 use Rattle.installs.specs.declared.change.State.{State}
 use Rattle.installs.specs.declared.change.State.TheVariants as state
-use Rattle.installs.specs.declared.plan.Plan.{Plan}
-use Rattle.installs.specs.declared.plan.Plan.TheVariants.{Install, Split, Root, Unlink}
+use Rattle.smo.specs.declared.plan.Plan.{Plan}
+use Rattle.smo.specs.declared.plan.Plan.TheVariants.{Install, Split, Root, Unlink}
 use Rattle.installs.specs.declared.taking.Found.{Found}
 use Rattle.installs.specs.declared.taking.Found.TheVariants.{Not, Taken, Full}
 use Rattle.installs.specs.declared.taking.Kind.TheVariants.{Pid, Row}

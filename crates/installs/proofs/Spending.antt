@@ -12,15 +12,16 @@ use Rattle.traces.specs.discipline.Fitting.{Fits, FitsWord}
 use Rattle.traces.specs.discipline.Knowledge.{Knowledge}
 use Rattle.traces.specs.discipline.Recalled.{Recalled, WasFree, WasHead, recall}
 use Rattle.installs.specs.Bounded.{IsApart, RecallsAt, Spends, SpendsTo, few_steps, left_at, numbers_missing, pid_taken, pids_missing}
-use Rattle.installs.specs.Changes.{AreEnough, Change, IsNeededNext, IsSame, IsSoundChange, clears, head_of, linked_number, needs_pid, rows_needed, slot_of, wanted, wanted_at}
+use Rattle.installs.specs.Changes.{AreEnough, Change, IsNeededNext, IsSame, IsSoundChange, linked_number, wanted, wanted_at}
+use Rattle.smo.specs.Plans.{clears, head_of, needs_pid, rows_needed, slot_of}
 use Rattle.installs.specs.Moves.{Moved, after_ready, after_taking, decided_by, first_state, moved, moved_by, unused, whether_in, with_number}
 use Rattle.installs.specs.Spares.{HaveRoom, Spares, pid_of}
 use Rattle.installs.specs.Taking.{IsSoundTaking, begun_at, count_of, first_word, found_after, kind_of, most_reads, most_words, recalled_words, wanted_number}
 use Rattle.installs.specs.declared.change.End.{End}
 use Rattle.installs.specs.declared.change.State.{State}
 use Rattle.installs.specs.declared.change.State.TheVariants as state
-use Rattle.installs.specs.declared.plan.Plan.{Plan}
-use Rattle.installs.specs.declared.plan.Plan.TheVariants.{Install, Split, Root, Unlink}
+use Rattle.smo.specs.declared.plan.Plan.{Plan}
+use Rattle.smo.specs.declared.plan.Plan.TheVariants.{Install, Split, Root, Unlink}
 use Rattle.installs.specs.declared.taking.Found.TheVariants.{Not, Full}
 use Rattle.installs.specs.declared.taking.Kind.{Kind}
 use Rattle.installs.specs.declared.taking.Kind.TheVariants.{Pid, Row}

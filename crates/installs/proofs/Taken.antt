@@ -11,14 +11,15 @@ use Rattle.deltas.specs.Memory.{replaced_at}
 use Rattle.deltas.specs.declared.record.Record.{Record}
 use Rattle.traces.specs.discipline.Fitting.{Fits, FitsTaken, FitsTakenPid, FitsWord}
 use Rattle.traces.specs.discipline.Knowledge.{Knowledge, Empty, Ready, learn}
-use Rattle.installs.specs.Changes.{Change, Follows, head_of, IsLike, IsNeededNext, KeepsSpare, MayChange, Shows, ShowsState, needs_pid, rows_needed}
+use Rattle.installs.specs.Changes.{Change, Follows, IsLike, IsNeededNext, KeepsSpare, MayChange, Shows, ShowsState}
+use Rattle.smo.specs.Plans.{head_of, needs_pid, rows_needed}
 use Rattle.installs.specs.Moves.{Moved, after_taking, first_state, moved_by, with_number}
 use Rattle.installs.specs.Spares.{AreTheSpares, AreUnset, Spares}
 use Rattle.installs.specs.Taking.{AreFull, begun_at, count_of, first_word, found_after, kind_of, wanted_number, word_read}
 use Rattle.installs.specs.declared.change.State.{State}
 use Rattle.installs.specs.declared.change.State.TheVariants as state
-use Rattle.installs.specs.declared.plan.Plan.{Plan}
-use Rattle.installs.specs.declared.plan.Plan.TheVariants.{Install, Split, Root, Unlink}
+use Rattle.smo.specs.declared.plan.Plan.{Plan}
+use Rattle.smo.specs.declared.plan.Plan.TheVariants.{Install, Split, Root, Unlink}
 use Rattle.installs.specs.declared.taking.Found.TheVariants.{Not, Full}
 use Rattle.installs.specs.declared.taking.Kind.{Kind}
 use Rattle.installs.specs.declared.taking.Kind.TheVariants.{Pid, Row}

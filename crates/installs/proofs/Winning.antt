@@ -11,13 +11,14 @@ use Rattle.traces.specs.discipline.Discipline.{MayExchange}
 use Rattle.traces.specs.discipline.Fitting.{Fits}
 use Rattle.traces.specs.discipline.Knowledge.{Belongings, Knowledge, OwnPage, Foreign, Written, Other, Ready, Gone, handed_page, learn, linked_over}
 use Rattle.smo.specs.Splits.{split_to}
-use Rattle.installs.specs.Changes.{AreEnough, Follows, ChangesOn, KeepsSparePage, ChangeIsOver, IsPlaced, StandsReady, IsTarget, KeepsSpare, MayChange, head_of, linked_number, slot_of, wanted_at}
+use Rattle.installs.specs.Changes.{AreEnough, Follows, ChangesOn, KeepsSparePage, ChangeIsOver, IsPlaced, StandsReady, IsTarget, KeepsSpare, MayChange, linked_number, wanted_at}
+use Rattle.smo.specs.Plans.{head_of, slot_of}
 use Rattle.installs.specs.Moves.{Moved, decided_by, unused}
 use Rattle.installs.specs.Spares.{AreTheSpares, AreUnset, HaveRoom, Spares, first_row, last_row, pid_of}
 use Rattle.installs.specs.declared.change.End.TheVariants as end
 use Rattle.installs.specs.declared.change.State.TheVariants as state
-use Rattle.installs.specs.declared.plan.Plan.{Plan}
-use Rattle.installs.specs.declared.plan.Plan.TheVariants.{Install, Split, Root, Unlink}
+use Rattle.smo.specs.declared.plan.Plan.{Plan}
+use Rattle.smo.specs.declared.plan.Plan.TheVariants.{Install, Split, Root, Unlink}
 use Rattle.installs.proofs.Following.{own_last, some_pid, still_may, unset_then}
 use Rattle.installs.proofs.Learning.{no_split, over_learnt, over_other, rooted_learnt}
 use Rattle.installs.proofs.SpareLaws.{first_linked, last_linked, page_gone, page_linked}

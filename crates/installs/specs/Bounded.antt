@@ -11,10 +11,11 @@ use Rattle.installs.specs.declared.change.End.{End}
 use Rattle.installs.specs.declared.change.End.TheVariants.{Won, Lost, Full}
 use Rattle.installs.specs.declared.change.State.{State}
 use Rattle.installs.specs.declared.change.State.TheVariants.{Taking, Base, Ready, Place, Link, Undo, Clear}
-use Rattle.installs.specs.declared.plan.Plan.{Plan}
-use Rattle.installs.specs.declared.plan.Plan.TheVariants.{Split}
+use Rattle.smo.specs.declared.plan.Plan.{Plan}
+use Rattle.smo.specs.declared.plan.Plan.TheVariants.{Split}
 use Rattle.installs.specs.declared.taking.Taking.TheVariants.{Take}
-use Rattle.installs.specs.Changes.{Change, clears, head_of, needs_pid, rows_needed, slot_of, wanted}
+use Rattle.installs.specs.Changes.{Change, wanted}
+use Rattle.smo.specs.Plans.{clears, head_of, needs_pid, rows_needed, slot_of}
 use Rattle.installs.specs.Spares.{Spares}
 use Rattle.installs.specs.Taking.{most_reads, number_left, recalled_words}
 

@@ -14,13 +14,14 @@ use Rattle.traces.specs.discipline.Discipline.{IsUnset, MayExchange}
 use Rattle.traces.specs.discipline.Fitting.{Fits, ReadsRemoved}
 use Rattle.traces.specs.discipline.Knowledge.{Belongings, Knowledge, Gone, Ready, Written}
 use Rattle.smo.specs.declared.split.SplitPlan.{SplitPlan}
+use Rattle.smo.specs.Plans.{cleared_page, cleared_row, clears, head_of, needs_pid, new_base, new_record, rows_needed, slot_of}
 use Rattle.smo.specs.Splits.{split_to}
 use Rattle.installs.specs.declared.change.End.{End}
 use Rattle.installs.specs.declared.change.End.TheVariants.{Won, Lost, Full}
 use Rattle.installs.specs.declared.change.State.{State}
 use Rattle.installs.specs.declared.change.State.TheVariants.{Taking, Base, Ready as ToReady, Place, Link, Undo, Clear}
-use Rattle.installs.specs.declared.plan.Plan.{Plan}
-use Rattle.installs.specs.declared.plan.Plan.TheVariants.{Install, Split, Root, Unlink}
+use Rattle.smo.specs.declared.plan.Plan.{Plan}
+use Rattle.smo.specs.declared.plan.Plan.TheVariants.{Install, Split, Root, Unlink}
 use Rattle.installs.specs.declared.taking.Kind.{Kind}
 use Rattle.installs.specs.declared.taking.Kind.TheVariants.{Pid, Row}
 use Rattle.installs.specs.Spares.{AreTheSpares, AreUnset, HaveRoom, Rest, Spares, first_row, last_row, pid_of}
@@ -33,19 +34,6 @@ pub record Change : Type 0 where
   pub state : State
   pub made : Record
 
--- whether a plan brings a new page, and how many rows it needs
-abbrev pub needs_pid : Plan → Bool
-needs_pid (Install pid head content) = false
-needs_pid (Split pid plan) = true
-needs_pid (Root left root) = true
-needs_pid (Unlink pid head unterm removal) = false
-
-abbrev pub rows_needed : Plan → ℕ
-rows_needed (Install pid head content) = 1
-rows_needed (Split pid plan) = 2
-rows_needed (Root left root) = 1
-rows_needed (Unlink pid head unterm removal) = 1
-
 -- A number of the kind is needed next: first a PID, then rows.
 abbrev pub IsNeededNext : Plan → Spares → Kind → Type 0
 IsNeededNext plan spares Pid = (needs_pid plan ≡ true) × (spares.pid ≡ None)
@@ -56,25 +44,12 @@ pub record AreEnough (plan : Plan) (spares : Spares) : Type 0 where
   pub pid : needs_pid plan ≡ true → is_some spares.pid ≡ true
   pub rows : rows_needed plan ≤ length spares.rows
 
--- the base of the new page, and its row
-abbrev pub new_base : Plan → Record
-new_base (Install pid head content) = content
-new_base (Split pid plan) = kind.Base plan.upper
-new_base (Root left root) = kind.Base root
-new_base (Unlink pid head unterm removal) = kind.Unterm unterm
-
+-- the row of the new page's base
 abbrev pub base_row : Plan → Spares → ℕ
 base_row (Install pid head content) spares = last_row spares
 base_row (Split pid plan) spares = first_row spares
 base_row (Root left root) spares = last_row spares
 base_row (Unlink pid head unterm removal) spares = last_row spares
-
--- the record that is linked over a page's newest row
-abbrev pub new_record : Plan → ℕ → Record
-new_record (Install pid head content) right = content
-new_record (Split pid plan) right = kind.Split (split_to plan right)
-new_record (Root left root) right = kind.Base root
-new_record (Unlink pid head unterm removal) right = kind.Unterm unterm
 
 -- the record that is to be placed, where a plan has it as such, or where one was made
 abbrev pub placed_in : Plan → Record → Record
@@ -83,43 +58,12 @@ placed_in (Split pid plan) made = made
 placed_in (Root left root) made = made
 placed_in (Unlink pid head unterm removal) made = made
 
--- the exchange that decides: its slot, the number that was read there, and the number to come
-abbrev pub slot_of : Plan → ℕ
-slot_of (Install pid head content) = pid
-slot_of (Split pid plan) = pid
-slot_of (Root left root) = 0
-slot_of (Unlink pid head unterm removal) = pid
-
-abbrev pub head_of : Plan → ℕ
-head_of (Install pid head content) = head
-head_of (Split pid plan) = plan.next
-head_of (Root left root) = left
-head_of (Unlink pid head unterm removal) = head
-
+-- the number that comes into the slot whose exchange decides
 abbrev pub linked_number : Plan → Spares → ℕ
 linked_number (Install pid head content) spares = last_row spares
 linked_number (Split pid plan) spares = last_row spares
 linked_number (Root left root) spares = pid_of spares
 linked_number (Unlink pid head unterm removal) spares = last_row spares
-
--- whether a page is to be cleared once its term is out; which one, and the row of its removal, or 0
-abbrev pub clears : Plan → Bool
-clears (Install pid head content) = false
-clears (Split pid plan) = false
-clears (Root left root) = false
-clears (Unlink pid head unterm removal) = true
-
-abbrev pub cleared_page : Plan → ℕ
-cleared_page (Install pid head content) = 0
-cleared_page (Split pid plan) = 0
-cleared_page (Root left root) = 0
-cleared_page (Unlink pid head unterm removal) = unterm.child
-
-abbrev pub cleared_row : Plan → ℕ
-cleared_row (Install pid head content) = 0
-cleared_row (Split pid plan) = 0
-cleared_row (Root left root) = 0
-cleared_row (Unlink pid head unterm removal) = removal
 
 -- the step that a state has asked for
 abbrev pub wanted_at : Plan → Spares → State → StepOf Record

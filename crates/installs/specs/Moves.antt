@@ -8,13 +8,13 @@ use Rattle.installs.specs.declared.change.End.{End}
 use Rattle.installs.specs.declared.change.End.TheVariants as end
 use Rattle.installs.specs.declared.change.State.{State}
 use Rattle.installs.specs.declared.change.State.TheVariants.{Taking, Base, Ready, Place, Link, Undo, Clear}
-use Rattle.installs.specs.declared.plan.Plan.{Plan}
-use Rattle.installs.specs.declared.plan.Plan.TheVariants.{Install, Split, Root, Unlink}
+use Rattle.smo.specs.declared.plan.Plan.{Plan}
+use Rattle.smo.specs.declared.plan.Plan.TheVariants.{Install, Split, Root, Unlink}
 use Rattle.installs.specs.declared.taking.Found.{Found}
 use Rattle.installs.specs.declared.taking.Found.TheVariants.{Not, Taken, Full}
 use Rattle.installs.specs.declared.taking.Kind.{Kind}
 use Rattle.installs.specs.declared.taking.Kind.TheVariants.{Pid, Row}
-use Rattle.installs.specs.Changes.{clears, head_of, needs_pid, rows_needed}
+use Rattle.smo.specs.Plans.{clears, head_of, needs_pid, rows_needed}
 use Rattle.installs.specs.Spares.{Spares}
 use Rattle.installs.specs.Taking.{begun_at, found_after}
 

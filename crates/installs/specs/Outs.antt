@@ -8,8 +8,8 @@ use Rattle.traces.specs.discipline.Fitting.{AreOutOfLimbo}
 use Rattle.traces.specs.discipline.Knowledge.{Absent, Knowledge, Limbos, Unstamped, taken_out}
 use Rattle.installs.specs.declared.change.End.{End}
 use Rattle.installs.specs.declared.change.End.TheVariants.{Won}
-use Rattle.installs.specs.declared.plan.Plan.{Plan}
-use Rattle.installs.specs.declared.plan.Plan.TheVariants.{Install, Unlink}
+use Rattle.smo.specs.declared.plan.Plan.{Plan}
+use Rattle.smo.specs.declared.plan.Plan.TheVariants.{Install, Unlink}
 
 -- after a record was linked over a row: a base takes the chain out in whose place it comes
 abbrev pub limbo_over : Record → ℕ → Knowledge → Limbos

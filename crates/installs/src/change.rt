@@ -9,17 +9,19 @@ ghost use Rattle.traces.specs.discipline.Fitting.{Fits};
 ghost use Rattle.traces.specs.discipline.Knowledge.{Knowledge, learn};
 ghost use Rattle.traces.specs.discipline.Recalled.{Recalled, WasHead};
 ghost use Rattle.installs.specs.Bounded.{IsApart, IsPidFrom, Recalls, Spends, few_steps, pid_taken, steps_left};
-ghost use Rattle.installs.specs.Changes.{Follows, IsMade, IsMadeAt, IsOfChange, IsSame, IsSoundChange, IsSpellablePlan, IsTarget, FitsChange, KeepsSpare, MayChange, Shows, at, base_row, head_of, linked_number, placed_in, slot_of, wanted};
+ghost use Rattle.installs.specs.Changes.{Follows, IsMade, IsMadeAt, IsOfChange, IsSame, IsSoundChange, IsSpellablePlan, IsTarget, FitsChange, KeepsSpare, MayChange, Shows, at, base_row, linked_number, placed_in, wanted};
+ghost use Rattle.smo.specs.Plans.{head_of, slot_of};
 ghost use Rattle.installs.specs.Moves.{after_ready, decided_by, first_state, moved, moved_by};
 ghost use Rattle.installs.specs.Outs.{TakesFresh, limbo_after};
 ghost use Rattle.installs.specs.Spares.{HaveRoom, Rest};
 ghost use Rattle.installs.specs.Taking.{found_after};
 ghost use Rattle.traces.specs.trace.Within.{IsWithin};
 
+use crate::Spares;
 use crate::taking::{Found, Kind, Taking, went};
-use crate::{Plan, Spares};
 use bw_model::{Limits, Step, Told};
 use deltas::{Record, Remove};
+use smo::Plan;
 use std::marker::Model;
 
 /// How a change ended.

@@ -23,7 +23,7 @@ ghost use Rattle.smo.specs.Merges.{IsMergePlan};
 ghost use Rattle.smo.specs.Unterms.{IsUntermPlan};
 ghost use Rattle.smo.specs.Readings.{HasSeen, IsAfter};
 ghost use Rattle.installs.specs.Changes.{MayDivide, MayInstall, MayLinkAs, MayRaise};
-ghost use Rattle.installs.specs.declared.plan.Plan.TheVariants.{Unlink};
+ghost use Rattle.smo.specs.declared.plan.Plan.TheVariants.{Unlink};
 
 use smo::plans_are_due;
 

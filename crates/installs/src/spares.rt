@@ -4,9 +4,9 @@ ghost use Rattle.installs.specs.declared.spares.TheConstants.{MAX_SPARES};
 ghost use Rattle.installs.specs.Moves.{unused, with_number};
 ghost use Rattle.installs.specs.Spares.{first_row, last_row, pid_of};
 
-use crate::Plan;
 use crate::taking::Kind;
 use arrayvec::ArrayVec;
+use smo::Plan;
 use std::marker::Model;
 
 /// How many spare rows an actor has at most: as many as a split needs.

@@ -12,8 +12,8 @@ use arrayvec::ArrayString;
 use base_page::{Items, Page};
 use bw_model::{Key, Limits, Step, Told};
 use deltas::{Record, Remove, Unterm};
-use installs::{Change, End, Kind, Plan, Spares};
-use smo::SplitPlan;
+use installs::{Change, End, Kind, Spares};
+use smo::{Plan, SplitPlan};
 use std::fmt::Write;
 
 /// What is planned.

@@ -71,7 +71,7 @@ pub(crate) fn leaf(low: Key, count: u8) -> Page
     for i in 0..count {
         let at = key(&[b'x', i]);
         if page.covers(&at) && page.has_room(1) {
-            page = page.with_put(at, Content::Value(Value::default()));
+            page.put(at, Content::Value(Value::default()));
         }
     }
     page.keeps_rules();

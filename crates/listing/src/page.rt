@@ -26,7 +26,7 @@ pub fn page_of<M: Rows>(rows: &M, pid: u32) -> Page
     let base = chain.len() - 1;
     let mut page = base_at(rows, chain[base]);
     for place in (0..base).rev() {
-        page = apply(page, &rows.record(chain[place]));
+        apply(&mut page, &rows.record(chain[place]));
     }
     page
 }

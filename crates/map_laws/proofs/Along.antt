@@ -14,7 +14,7 @@ use Rattle.traces.specs.declared.trace.Entry.TheVariants.{Begin, Step}
 use Rattle.traces.specs.discipline.Disciplined.{is_entry_of, own_entries}
 use Rattle.traces.specs.trace.Run.{IsNext, IsRun}
 use Rattle.traces.specs.trace.Trace.{command_of, commands_after}
-use Rattle.traces.proofs.Pushes.{slice_get_below, slice_get_kept, slice_get-append_left, slice_get-push, slice_get-push_cases, take-push_whole}
+use Rattle.traces.proofs.Pushes.{pushed_length, slice_get_below, slice_get_kept, slice_get-append_left, slice_get-push, slice_get-push_cases, take-push_whole}
 use Rattle.traces.proofs.TraceLaws.{command_of-push}
 use Rattle.op_machine.specs.theorem.Operations.{IsOperation, IsOwnEntry}
 use Rattle.bw_tree.specs.Calls.{answered_last, call_after, calls_along, calls_of}
@@ -26,10 +26,6 @@ use Rattle.map_laws.proofs.Spans.{IsOpenAt}
 get_middle : {X : Type 0} (xs : List X) (x : X) (ys : List X) → slice_get (xs ++ x ∷ ys) (length xs) ≡ Some x
 get_middle [] x ys = refl
 get_middle (y ∷ xs) x ys = get_middle xs x ys
-
-one_more : {X : Type 0} (xs : List X) (x : X) → length (xs ++ x ∷ []) ≡ suc (length xs)
-one_more [] x = refl
-one_more (y ∷ xs) x = ap suc (one_more xs x)
 
 push_if : (b : Bool) (all : Calls) (entry : Entry) (entries : List Entry) → calls_along (if b then call_after all entry else all) entries ≡ calls_along all (if b then entry ∷ entries else entries)
 push_if true all entry entries = refl
@@ -49,7 +45,7 @@ open_on front entry actor start asked never h = record {
 open_at_end : (front : List Entry) (actor : ℕ) (asked : Command) → IsOpenAt (front ++ Begin actor asked ∷ []) actor asked (length front)
 open_at_end front actor asked = record {
   begins = slice_get-push front (Begin actor asked);
-  last = λ later other after is. let below : later < length (front ++ Begin actor asked ∷ []) = slice_get_below (front ++ Begin actor asked ∷ []) later (Begin actor other) is in let long = one_more front (Begin actor asked) in omega arith;
+  last = λ later other after is. let below : later < length (front ++ Begin actor asked ∷ []) = slice_get_below (front ++ Begin actor asked ∷ []) later (Begin actor other) is in let long = pushed_length front (Begin actor asked) in omega arith;
 }
 
 no_command : (o : Option Command) → IsSome o → o ≡ None → ⊥
@@ -104,7 +100,7 @@ module _ (run : List Entry) (actor since : ℕ) (D : Calls → ℕ → Type 0) (
 
     by_other : (front back : List Entry) (entry : Entry) (all : Calls) → run ≡ front ++ entry ∷ back → since ≤ length front → is_entry_of actor entry ≡ false → Now front all → Now (front ++ entry ∷ []) all
     by_other front back entry all is late apart (inl (none, holds)) =
-        inl (command_then front entry ∙ others_leave (command_of front) actor entry apart ∙ none, subst (D all) (sym (one_more front entry)) (keeps.waits all (length front) entry late (at_end front back entry is) apart holds))
+        inl (command_then front entry ∙ others_leave (command_of front) actor entry apart ∙ none, subst (D all) (sym (pushed_length front entry)) (keeps.waits all (length front) entry late (at_end front back entry is) apart holds))
     by_other front back entry all is late apart (inr busy) = inr record {
       asked = busy.asked;
       has = command_then front entry ∙ others_leave (command_of front) actor entry apart ∙ busy.has;
@@ -112,7 +108,7 @@ module _ (run : List Entry) (actor since : ℕ) (D : Calls → ℕ → Type 0) (
       is = busy.is;
       start = busy.start;
       opened = open_on front entry actor busy.start busy.asked (λ other begins. let own' : is_entry_of actor entry ≡ true = ap (is_entry_of actor) begins ∙ eq-eqb actor actor refl in cc) busy.opened;
-      holds = subst (U busy.calls busy.asked busy.start) (sym (one_more front entry)) (keeps.lasts busy.calls busy.asked busy.start (length front) entry late (at_end front back entry is) apart busy.holds);
+      holds = subst (U busy.calls busy.asked busy.start) (sym (pushed_length front entry)) (keeps.lasts busy.calls busy.asked busy.start (length front) entry late (at_end front back entry is) apart busy.holds);
     }
 
     by_begin : (front back : List Entry) (asked : Command) (all : Calls) → run ≡ front ++ Begin actor asked ∷ back → Now front all → Now (front ++ Begin actor asked ∷ []) (all ++ (asked, None) ∷ [])
@@ -123,7 +119,7 @@ module _ (run : List Entry) (actor since : ℕ) (D : Calls → ℕ → Type 0) (
       is = refl;
       start = length front;
       opened = open_at_end front actor asked;
-      holds = subst (U all asked (length front)) (sym (one_more front (Begin actor asked))) (keeps.begins all asked (length front) (at_end front back (Begin actor asked) is) holds);
+      holds = subst (U all asked (length front)) (sym (pushed_length front (Begin actor asked))) (keeps.begins all asked (length front) (at_end front back (Begin actor asked) is) holds);
     }
     by_begin front back asked all is (inr busy) = let none = (next front back (Begin actor asked) is).1 in let some = busy.has in absurd (cc)
 
@@ -136,7 +132,7 @@ module _ (run : List Entry) (actor since : ℕ) (D : Calls → ℕ → Type 0) (
       is = busy.is;
       start = busy.start;
       opened = open_on front (Step actor step told None) actor busy.start busy.asked (λ other begins. cc) busy.opened;
-      holds = subst (U busy.calls busy.asked busy.start) (sym (one_more front (Step actor step told None)))
+      holds = subst (U busy.calls busy.asked busy.start) (sym (pushed_length front (Step actor step told None)))
           (keeps.steps busy.calls busy.asked busy.start (length front) step told (opens front (Step actor step told None ∷ back) is busy.start busy.asked busy.opened) (own front back step told None is busy.start busy.asked busy.opened) (still front back (Step actor step told None) is busy.asked busy.has) busy.holds);
     }
 
@@ -145,7 +141,7 @@ module _ (run : List Entry) (actor since : ℕ) (D : Calls → ℕ → Type 0) (
     by_end front back step told given all is (inr busy) = inl (
       command_then front (Step actor step told (Some given)) ∙ ap (λ (b : Bool). if b then None else command_of front actor) (eq-eqb actor actor refl),
       subst (λ (calls : Calls). D calls (length (front ++ Step actor step told (Some given) ∷ []))) (sym (ap (λ (calls : Calls). answered_last calls given) busy.is ∙ answered_snoc busy.calls busy.asked None given))
-          (subst (D (busy.calls ++ (busy.asked, Some given) ∷ [])) (sym (one_more front (Step actor step told (Some given))))
+          (subst (D (busy.calls ++ (busy.asked, Some given) ∷ [])) (sym (pushed_length front (Step actor step told (Some given))))
           (keeps.ends busy.calls busy.asked busy.start (length front) step told given (opens front (Step actor step told (Some given) ∷ back) is busy.start busy.asked busy.opened) (own front back step told (Some given) is busy.start busy.asked busy.opened) (still front back (Step actor step told (Some given)) is busy.asked busy.has) busy.holds)),
     )
 
@@ -163,7 +159,7 @@ module _ (run : List Entry) (actor since : ℕ) (D : Calls → ℕ → Type 0) (
     along : (front back : List Entry) (all : Calls) → run ≡ front ++ back → since ≤ length front → Now front all → Now run (calls_along all (own_entries actor back))
     along front [] all is late now = subst (λ es. Now es all) (sym (is ∙ append-nil front)) now
     along front (entry ∷ back) all is late now =
-        let long = one_more front entry in
+        let long = pushed_length front entry in
         subst (Now run) (push_if (is_entry_of actor entry) all entry (own_entries actor back))
         (along (front ++ entry ∷ []) back (if is_entry_of actor entry then call_after all entry else all) (is ∙ sym (append_assoc front (entry ∷ []) back)) (omega arith) (by_entry front back entry all is late now))
 

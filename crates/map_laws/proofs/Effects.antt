@@ -69,13 +69,9 @@ module _ (key : List ℕ) (actor : ℕ) (before : Value) where
   any_actor (Tidy k) old = refl
 
 about : (key : List ℕ) (asked : Command) (before : Value) → (if is_eq (key_cmp key (command_key asked)) then value_made asked before else before) ≡ (if is_about key asked then value_made asked before else before)
-about key (Get k) before = refl
-about key (Insert k value) before = refl
-about key (Upsert k value) before = refl
-about key (Delete k) before = refl
-about key (Swap k expected value) before = refl
 about key (Page k) before = if_same (is_eq (key_cmp key k)) before
 about key (Tidy k) before = if_same (is_eq (key_cmp key k)) before
+about key other before = refl
 
 -- what a command's update makes of a key's value
 module _ (key : List ℕ) (log : List Update) (actor : ℕ) (asked : Command) where
@@ -98,12 +94,8 @@ module _ (key : List ℕ) (log : List Update) (actor : ℕ) (asked : Command) wh
 -- a command whose actor links nothing changes nothing
 pub reader_keeps : (asked : Command) (before : Value) → is_writer asked ≡ false → value_made asked before ≡ before
 reader_keeps (Get k) before is = refl
-reader_keeps (Insert k value) before is = absurd (cc)
-reader_keeps (Upsert k value) before is = absurd (cc)
-reader_keeps (Delete k) before is = absurd (cc)
-reader_keeps (Swap k expected value) before is = absurd (cc)
 reader_keeps (Page k) before is = refl
-reader_keeps (Tidy k) before is = absurd (cc)
+reader_keeps other before is = absurd (cc)
 
 pub about_key : (key : List ℕ) (asked : Command) → is_about key asked ≡ true → key ≡ command_key asked
 about_key key (Get k) is = same key k is

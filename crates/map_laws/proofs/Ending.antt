@@ -12,6 +12,7 @@ use Rattle.traces.specs.declared.trace.Entry.TheVariants.{Begin, Step}
 use Rattle.traces.specs.trace.Run.{IsRun}
 use Rattle.traces.specs.trace.Trace.{command_of, commands_after}
 use Rattle.traces.proofs.Pushes.{slice_get_below}
+use lib.Seq.{take-take}
 use Rattle.traces.proofs.TraceLaws.{command_of-push}
 use Rattle.op_machine.specs.theorem.Operations.{Finishes, IsOwnStep, Operation}
 use Rattle.op_machine.proofs.LogLaws.{take-one}
@@ -23,13 +24,7 @@ idle_then run done actor entry answer there ends = ap (λ es. command_of es acto
 
 -- a front of a longer front
 front_of : {X : Type 0} (n m : ℕ) (xs : List X) → n ≤ m → take m xs ≡ take n xs ++ drop n (take m xs)
-front_of n m xs le = sym (take-append-drop n (take m xs)) ∙ ap (λ front. front ++ drop n (take m xs)) (upto n m xs le)
-  where
-    upto : {X : Type 0} (n m : ℕ) (xs : List X) → n ≤ m → take n (take m xs) ≡ take n xs
-    upto zero m xs le = refl
-    upto (suc n) zero xs le = absurd (omega arith)
-    upto (suc n) (suc m) [] le = refl
-    upto (suc n) (suc m) (x ∷ xs) le = ap (λ rest. x ∷ rest) (upto n m xs (omega arith))
+front_of n m xs le = sym (take-append-drop n (take m xs)) ∙ ap (λ front. front ++ drop n (take m xs)) (take-take n m xs le)
 
 pub get-from_take : {X : Type 0} (k : ℕ) (xs : List X) (n : ℕ) (x : X) → slice_get (take k xs) n ≡ Some x → slice_get xs n ≡ Some x
 get-from_take zero xs n x e = cc

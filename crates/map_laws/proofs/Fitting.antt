@@ -49,12 +49,8 @@ by_value (Tidy key) old given e = absurd (cc)
 
 full : (asked : Command) → IsTrue (is_writer asked) → IsTrue (fits asked reply.Full)
 full (Get key) is = absurd (cc)
-full (Insert key value) is = refl
-full (Upsert key value) is = refl
-full (Delete key) is = refl
-full (Swap key expected value) is = refl
 full (Page from) is = absurd (cc)
-full (Tidy key) is = refl
+full other is = refl
 
 module _ (limits : Limits) (run : List Entry) (points : List Bool) (operation : Operation) where
   abbrev FitsIts : Reply → Type 0
@@ -68,17 +64,7 @@ module _ (limits : Limits) (run : List Entry) (points : List Bool) (operation : 
   pub true_fits : (given : Reply) → IsTrueReply limits run points operation given → FitsIts given
   true_fits reply.Full is = full operation.command is.0
   true_fits reply.Tidied is = subst (λ c. IsTrue (fits c reply.Tidied)) (sym is.asks) refl
-  true_fits (reply.Value value) is = at_point (reply.Value value) is
-  true_fits reply.None is = at_point reply.None is
-  true_fits reply.Inserted is = at_point reply.Inserted is
-  true_fits (reply.Exists value) is = at_point (reply.Exists value) is
-  true_fits reply.Set is = at_point reply.Set is
-  true_fits (reply.Replaced value) is = at_point (reply.Replaced value) is
-  true_fits (reply.Deleted value) is = at_point (reply.Deleted value) is
-  true_fits reply.Absent is = at_point reply.Absent is
-  true_fits reply.Swapped is = at_point reply.Swapped is
-  true_fits (reply.Differs value) is = at_point (reply.Differs value) is
-  true_fits (reply.Page items next) is = at_point (reply.Page items next) is
+  true_fits other is = at_point other is
 
 pub reply_fits : (limits : Limits) (turns : List Turn) (run : List Entry) → IsLinearized limits turns run → (operation : Operation) (done : ℕ) (given : Reply) → IsOperation run operation → Finishes run operation done given
     → IsTrue (fits operation.command given)

@@ -23,6 +23,7 @@ use Rattle.traces.specs.discipline.Disciplined.{is_entry_of}
 use Rattle.traces.specs.trace.Run.{IsRun}
 use Rattle.traces.specs.trace.Trace.{command_of, memory_at}
 use Rattle.traces.proofs.Pushes.{slice_get_below}
+use Rattle.traces.proofs.Cuts.{get_take}
 use Rattle.op_machine.specs.theorem.Answered.{IsAnswered, IsTrueReply, RepliesAt, RepliesAtPoint}
 use Rattle.op_machine.specs.theorem.Linearized.{IsLinearized}
 use Rattle.op_machine.specs.theorem.Operations.{Finishes, IsOperation, IsOwnEntry, IsOwnStep, Operation}
@@ -69,27 +70,11 @@ and_false false b is = refl
 replied : (limits : Limits) (run : List Entry) (points : List Bool) (operation : Operation) (given : Reply) → has_point given ≡ true → IsTrueReply limits run points operation given → RepliesAtPoint limits run points operation given
 replied limits run points operation reply.Full has says = absurd (cc)
 replied limits run points operation reply.Tidied has says = absurd (cc)
-replied limits run points operation (reply.Value v) has says = says
-replied limits run points operation reply.None has says = says
-replied limits run points operation reply.Inserted has says = says
-replied limits run points operation (reply.Exists v) has says = says
-replied limits run points operation reply.Set has says = says
-replied limits run points operation (reply.Replaced v) has says = says
-replied limits run points operation (reply.Deleted v) has says = says
-replied limits run points operation reply.Absent has says = says
-replied limits run points operation reply.Swapped has says = says
-replied limits run points operation (reply.Differs v) has says = says
-replied limits run points operation (reply.Page items next) has says = says
+replied limits run points operation other has says = says
 
 at_key : (key : List ℕ) (log : List Update) (memory : Memory) (asked : Command) (given : Reply) → RepliesAt memory log asked given → is_about key asked ≡ true → reply_of asked (logged_value log key) ≡ Some given
 at_key key log memory asked given (inl by_value) is = subst (λ (k : List ℕ). reply_of asked (logged_value log k) ≡ Some given) (sym (about_key key asked is)) by_value
 at_key key log memory asked given (inr page) is = let never : false ≡ true = sym (ap (is_about key) page.asks) ∙ is in absurd (cc)
-
-get-to_take : {X : Type 0} (k : ℕ) (xs : List X) (n : ℕ) (x : X) → n < k → slice_get xs n ≡ Some x → slice_get (take k xs) n ≡ Some x
-get-to_take zero xs n x below e = absurd (omega arith)
-get-to_take (suc k) [] n x below e = cc
-get-to_take (suc k) (y ∷ xs) zero x below e = e
-get-to_take (suc k) (y ∷ xs) (suc n) x below e = get-to_take k xs n x (omega arith) e
 
 stands_at : {X : Type 0} (xs : List X) (n : ℕ) → n < length xs → (x : X) × (slice_get xs n ≡ Some x)
 stands_at [] n below = absurd (omega arith)
@@ -132,7 +117,7 @@ module _ (limits : Limits) (run : List Entry) (points : List Bool) (pointed : Ha
         start,
         has,
         get-from_take n run start (Begin actor asked) opened.begins,
-        (step, told, (said, record { begun = omega arith; entry = at; not_ended = λ later other after before there. opened.last later other after (get-to_take n run later (Begin actor other) before there) })),
+        (step, told, (said, record { begun = omega arith; entry = at; not_ended = λ later other after before there. opened.last later other after (get_take run later n before ∙ there) })),
       )
 
   module _ (actor since : ℕ) (alone : ChangesAloneSince run actor key since) (first : Value) where

@@ -6,7 +6,7 @@ use Rattle.base_page.proofs.KeyLaws.{and_both, itself}
 use Rattle.bw_model.specs.Bytes.{key_cmp}
 use Rattle.bw_model.specs.Replies.{reply_of}
 use Rattle.bw_model.specs.declared.command.Command.{Command}
-use Rattle.bw_model.specs.declared.command.Command.TheVariants.{Get, Insert, Upsert, Delete, Swap, Page, Tidy}
+use Rattle.bw_model.specs.declared.command.Command.TheVariants.{Get, Upsert}
 use Rattle.bw_model.specs.declared.command.Reply.{Reply}
 use Rattle.bw_model.specs.declared.command.Reply.TheVariants as reply
 use Rattle.op_machine.specs.theorem.Points.{has_point}
@@ -23,28 +23,13 @@ use Rattle.map_laws.proofs.OwnKeys.{Value, through_one}
 
 not_tidied : (key : List ℕ) (asked : Command) → is_about key asked ≡ true → IsTrue (fits asked reply.Tidied) → ⊥
 not_tidied key (Get k) is fit = cc
-not_tidied key (Insert k value) is fit = cc
-not_tidied key (Upsert k value) is fit = cc
-not_tidied key (Delete k) is fit = cc
-not_tidied key (Swap k expected value) is fit = cc
-not_tidied key (Page k) is fit = cc
-not_tidied key (Tidy k) is fit = cc
+not_tidied key other is fit = cc
 
 -- a command about a key takes effect unless it replies Full
 took_effect : (key : List ℕ) (asked : Command) (given : Reply) → is_about key asked ≡ true → IsTrue (fits asked given) → given ≢ reply.Full → has_point given ≡ true
 took_effect key asked reply.Full is fit full = absurd (full refl)
 took_effect key asked reply.Tidied is fit full = absurd (not_tidied key asked is fit)
-took_effect key asked (reply.Value v) is fit full = refl
-took_effect key asked reply.None is fit full = refl
-took_effect key asked reply.Inserted is fit full = refl
-took_effect key asked (reply.Exists v) is fit full = refl
-took_effect key asked reply.Set is fit full = refl
-took_effect key asked (reply.Replaced v) is fit full = refl
-took_effect key asked (reply.Deleted v) is fit full = refl
-took_effect key asked reply.Absent is fit full = refl
-took_effect key asked reply.Swapped is fit full = refl
-took_effect key asked (reply.Differs v) is fit full = refl
-took_effect key asked (reply.Page items next) is fit full = refl
+took_effect key asked other is fit full = refl
 
 module _ (key : List ℕ) where
   told_last : (before : Value) (calls : Calls) (asked : Command) (given : Reply) → AreOwnReplies key before (calls ++ (asked, Some given) ∷ []) → IsTrue (tells key asked given) → reply_of asked (value_through key before calls) ≡ Some given

@@ -11,14 +11,14 @@ abbrev pub operation_at : ℕ → ℕ → Command → Operation
 operation_at actor start command = record { start = start; actor = actor; command = command }
 
 -- The actor has begun an operation with the command, no earlier than at this place.
-pub record IsBegun (run : List Entry) (actor early : ℕ) (command : Command) : Type 0 where
+pub record HasBegunFrom (run : List Entry) (actor early : ℕ) (command : Command) : Type 0 where
   pub start : ℕ
   pub late : early ≤ start
   pub is : IsOperation run (operation_at actor start command)
 
 -- And step `done` of the run has ended it, with the reply.
 pub record IsEnded (run : List Entry) (actor early : ℕ) (command : Command) (given : Reply) (done : ℕ) : Type 0 where
-  pub begun : IsBegun run actor early command
+  pub begun : HasBegunFrom run actor early command
   pub ends : Finishes run (operation_at actor begun.start command) done given
 
 -- The calls are operations of the actor in this order. Each begins after the one before it has ended with its reply, the first one no earlier
@@ -26,7 +26,7 @@ pub record IsEnded (run : List Entry) (actor early : ℕ) (command : Command) (g
 abbrev pub AreInOrder : List Entry → ℕ → ℕ → List (Command × Option Reply) → Type 0
 AreInOrder run actor early [] = ⊤
 AreInOrder run actor early ((command, Some given) ∷ calls) = (done : ℕ) × IsEnded run actor early command given done × AreInOrder run actor (suc done) calls
-AreInOrder run actor early ((command, None) ∷ calls) = IsBegun run actor early command × (calls ≡ [])
+AreInOrder run actor early ((command, None) ∷ calls) = HasBegunFrom run actor early command × (calls ≡ [])
 
 -- One of the actor's calls has the command.
 abbrev pub IsCall : List Entry → ℕ → Command → Type 0

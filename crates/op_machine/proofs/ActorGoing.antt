@@ -13,6 +13,8 @@ use Rattle.traces.specs.discipline.Fitting.{Fits}
 use Rattle.traces.specs.discipline.Knowledge.{Knowledge, learn}
 use Rattle.traces.specs.discipline.Recalled.{Recalled, blank, cause_worth, recall}
 use Rattle.descent.specs.Machines.{AreThere}
+use Rattle.op_machine.specs.machine.GoesLeft.{GoesLeft}
+use Rattle.op_machine.specs.machine.RoundSteps.{StepsInRound}
 use Rattle.op_machine.specs.machine.Hands.{Hand}
 use Rattle.op_machine.specs.machine.Bounded.{IsSpentLast}
 use Rattle.op_machine.specs.machine.Spending.{Spends, steps_left}
@@ -99,9 +101,9 @@ module _ (limits : Limits) (actor : ℕ) (k : Knowledge) (r : Recalled) (had has
   pub stays_at : old.wanted ≢ step.Leave → is_leaving old.op.state ≡ false
   stays_at stays = stays_in old.op.task had.spares had.limbo k old.op.sweep old.op.state running.goes.shows.limbo (λ e. stays (same_Some old.wanted step.Leave (sym running.goes.wanted ∙ e)))
 
-  pub goes_on : (lacks : Option Kind) (asked : StepOf Record) → old.wanted ≢ step.Leave → Obeys old.op had a new has (Step asked) → Spends old.op had a new has (Step asked) → IsSameTask old.op.task new.task → length new.task.errands ≤ 16
+  pub goes_on : (lacks : Option Kind) (asked : StepOf Record) → old.wanted ≢ step.Leave → Obeys old.op had a new has (Step asked) → Spends old.op had a new has (Step asked) → IsSameTask old.op.task new.task → length new.task.errands ≤ 16 → StepsInRound old.op.task old.op.state a new.state → GoesLeft old.op.task old.op.state a new.state
       → ActsOn limits actor k r (at_work had old lacks) old.wanted a None (at_work has (record { op = new; wanted = asked }) lacks)
-  goes_on lacks asked other o spends same short = record {
+  goes_on lacks asked other o spends same short steps left = record {
     allowed = record { may = rw (← running.own_actor) running.goes.may.may; frees = rw (← running.own_limits, ← running.own_actor) running.goes.may.frees; replied = tt; ends = λ e. absurd (other e) };
     useful = of_use k r old.op had old.wanted running.goes;
     halved = running.goes.may.halved;
@@ -113,6 +115,8 @@ module _ (limits : Limits) (actor : ℕ) (k : Knowledge) (r : Recalled) (had has
     few = subst (λ l. steps_left (recall r old.wanted a) new has ≤ cause_worth l * 10) (same.limits ∙ running.own_limits) (due_few (learn k old.wanted a) (recall r old.wanted a) new has goes.shows short);
     spends = rw (← running.own_limits) (spent_last old.op.task.limits r (wanted_of old.op had) old.wanted a (steps_left r old.op had) (λ q. steps_left q new has) running.goes.wanted (spends k r running.goes.shows fits_last));
     lacks = refl;
+    steps = steps;
+    left = left;
   }
     where
       goes : Goes (learn k old.wanted a) (recall r old.wanted a) new has asked
@@ -134,6 +138,8 @@ module _ (limits : Limits) (actor : ℕ) (k : Knowledge) (r : Recalled) (had has
     spends = rw (← running.own_limits) (spends_last r had has old a ends.is_last);
     few = omega arith;
     lacks = tells_lack reply lacks is;
+    steps = tt;
+    left = tt;
   }
     where
       over : IsOver old.op.task k (wanted_of old.op had) a has reply
@@ -166,6 +172,10 @@ asking_some op (Some asked) some = refl
 -- whether there is an operation, and its command
 pub command_is : (op : Op) (hand : Hand) → AsksIf true op hand → command_at (running_at true op hand) ≡ Some op.task.command
 command_is op hand asks = asking_some op (wanted_of op hand) asks
+
+pub command_same : (on : Bool) (op new : Op) (hand has : Hand) → AsksIf on op hand → IsSome (wanted_of new has) → IsSameTask op.task new.task → command_at (running_at on new has) ≡ command_at (running_at on op hand)
+command_same false op new hand has asked asks same = refl
+command_same true op new hand has asked asks same = command_is new has asks ∙ ap Some same.command ∙ sym (command_is op hand asked)
 
 pub is_busy : (on : Bool) (op : Op) (hand : Hand) → AsksIf on op hand → on ≡ is_some (command_at (running_at on op hand))
 is_busy false op hand asks = refl
@@ -219,7 +229,7 @@ module _ (limits : Limits) (actor : ℕ) (k : Knowledge) (r : Recalled) (on : Bo
     goes_here asked stays wants short =
         let from : Takes going.running.op had a new has = subst (λ o. Takes o had a new has) (sym found.1) takes in
         let went : ActsOn limits actor k r (at_work had going.running before) going.running.wanted a None (at_work has (record { op = new; wanted = asked }) before) =
-        goes_on limits actor k r had has going.running new a going.shows going.fits before asked (λ e. stays (ap wanted_by going.is ∙ ap Some e)) (from.obeys asked wants) (from.spends asked) from.same short in
+        goes_on limits actor k r had has going.running new a going.shows going.fits before asked (λ e. stays (ap wanted_by going.is ∙ ap Some e)) (from.obeys asked wants) (from.spends asked) from.same short from.steps from.left in
         let is : running_at on new has ≡ Some (record { op = new; wanted = asked }) = rw found.0 (is_asking new has asked (wants shown_then.0 shown_then.1 shown_then.2).wanted) in
         subst (λ (o : Option UnderWay). ActsOn limits actor k r (record { hand = had; running = o; lacks = before }) going.running.wanted a None (record { hand = has; running = running_at on new has; lacks = before })) (sym going.is)
         (subst (λ (o : Option UnderWay). ActsOn limits actor k r (at_work had going.running before) going.running.wanted a None (record { hand = has; running = o; lacks = before })) (sym is) went)

@@ -16,12 +16,13 @@ use Rattle.traces.specs.discipline.Knowledge.{Knowledge, learn}
 use Rattle.traces.specs.discipline.Recalled.{IsStepSpent, Recalled, cause_worth, recall}
 use Rattle.installs.specs.Bounded as bound
 use Rattle.installs.specs.Changes as change
+use Rattle.smo.specs.Plans.{clears}
 use Rattle.installs.specs.Spares.{HaveRoom, Spares}
 use Rattle.installs.specs.declared.change.End.{End}
 use Rattle.installs.specs.declared.taking.Kind.{Kind}
 use Rattle.installs.specs.declared.change.End.TheVariants.{Won, Lost, Full}
-use Rattle.installs.specs.declared.plan.Plan.{Plan}
-use Rattle.installs.specs.declared.plan.Plan.TheVariants.{Install, Split, Root, Unlink}
+use Rattle.smo.specs.declared.plan.Plan.{Plan}
+use Rattle.smo.specs.declared.plan.Plan.TheVariants.{Install, Split, Root, Unlink}
 use Rattle.op_machine.specs.machine.Bounded.{left_for, one_round}
 use Rattle.op_machine.proofs.Replying.{not_full}
 use Rattle.op_machine.proofs.Worth.{enough}
@@ -32,8 +33,9 @@ use Rattle.op_machine.specs.machine.Outcomes.{FacesChanged}
 use Rattle.op_machine.specs.machine.Shows.{IsInChange}
 use Rattle.op_machine.specs.machine.Tasks.{IsBetweenChanges, IsUnreadPid, Seeks, Task}
 use Rattle.op_machine.specs.declared.then.Then.{Then}
-use Rattle.op_machine.specs.declared.then.Then.TheVariants.{Round, Limbo, Errand, Reply}
-use Rattle.op_machine.specs.declared.unlinked.Unlinked.{Unlinked}
+use Rattle.op_machine.specs.declared.then.Then.TheVariants.{After, Reply}
+use Rattle.smo.specs.declared.after.After.TheVariants.{Round, Limbo, Errand}
+use Rattle.smo.specs.declared.unlinked.Unlinked.{Unlinked}
 
 -- a PID that is taken is of no page that was read
 taken_unread : (limits : Limits) (k : Knowledge) (asked : Step Record) (told : Answer Record) → Fits limits k asked told → (p : ℕ) → bound.pid_taken asked told ≡ Some p → k.read.heads p ≡ None
@@ -75,9 +77,9 @@ taken_still k now (Root left root) unlinked same h = absurd h
 
 brings_still : (k now : Knowledge) (command : Command) (plan : Plan) (then : Then) → now.read ≡ k.read → Brings k command plan then → Brings now command plan then
 brings_still k now command plan (Reply answered) same b = record { pid = b.pid; head = b.head; content = b.content; is = b.is; updates = b.updates; chain = b.chain; read = rw same b.read; leaf = b.leaf; short = b.short; few = b.few; alive = b.alive; covers = b.covers; replies = b.replies }
-brings_still k now command plan Round same b = b
-brings_still k now command plan (Limbo unlinked) same b = taken_still k now plan unlinked same b
-brings_still k now command plan (Errand key) same b = b
+brings_still k now command plan (After Round) same b = b
+brings_still k now command plan (After (Limbo unlinked)) same b = taken_still k now plan unlinked same b
+brings_still k now command plan (After (Errand key)) same b = b
 
 useful_over : (k now : Knowledge) (head : ℕ) (content : Record) → now.read ≡ k.read → IsUsefulOver k head content → IsUsefulOver now head content
 useful_over k now head (kind.Base page) same h = λ chain read. h chain (rw same at read)
@@ -192,9 +194,9 @@ module _ (task : Task) (had has : Spares) (k : Knowledge) (r : Recalled) (old ne
       by (Reply answered) is =
           let b : IsUpdateOf k task.command old.plan answered = subst (λ t. Brings k task.command old.plan t) is h.brings in
           (done Won room over, answers room over answered is, not_full task.command _ answered b.replies)
-      by Round is = (seeks Won room over (ap (change.linked_after old.plan Won) h.asked.unlinked ∙ (subst (λ t. Brings k task.command old.plan t) is h.brings).2), h.writer)
-      by (Limbo unlinked) is = (seeks Won room over (taken_links k unlinked old.plan k.asked.linked (subst (λ t. Brings k task.command old.plan t) is h.brings) ∙ h.asked.unlinked), h.writer)
-      by (Errand key) is =
+      by (After Round) is = (seeks Won room over (ap (change.linked_after old.plan Won) h.asked.unlinked ∙ (subst (λ t. Brings k task.command old.plan t) is h.brings).2), h.writer)
+      by (After (Limbo unlinked)) is = (seeks Won room over (taken_links k unlinked old.plan k.asked.linked (subst (λ t. Brings k task.command old.plan t) is h.brings) ∙ h.asked.unlinked), h.writer)
+      by (After (Errand key)) is =
           let b = subst (λ t. Brings k task.command old.plan t) is h.brings in
           (seeks Won room over (ap (λ plan. change.linked_after plan Won k.asked.linked) b.2 ∙ h.asked.unlinked), h.writer)
   change_ended Lost room over = (seeks Lost room over (lost_links old.plan k.asked.linked ∙ h.asked.unlinked), h.writer)
@@ -206,16 +208,16 @@ module _ (task : Task) (had has : Spares) (k : Knowledge) (r : Recalled) (old ne
 
   won_left : (t : Then) (left : ℕ) → left_for task.limits (outcome.Changed Won t) < left + cause_worth task.limits
   won_left (Reply answered) left = let w = enough task.limits in omega (arith, w)
-  won_left Round left = let w = enough task.limits in omega (arith, w)
-  won_left (Limbo unlinked) left = let w = enough task.limits in omega (arith, w)
-  won_left (Errand key) left = let w = enough task.limits in omega (arith, w)
+  won_left (After Round) left = let w = enough task.limits in omega (arith, w)
+  won_left (After (Limbo unlinked)) left = let w = enough task.limits in omega (arith, w)
+  won_left (After (Errand key)) left = let w = enough task.limits in omega (arith, w)
 
   -- after a page is cleared a new round begins
-  cleared_left : (t : Then) → then ≡ t → change.clears old.plan ≡ true → left_for task.limits (outcome.Changed Won t) ≤ one_round task.limits
-  cleared_left (Reply answered) is clears = let b : IsUpdateOf k task.command old.plan answered = subst (λ t. Brings k task.command old.plan t) is h.brings in let e = sym clears ∙ ap change.clears b.is in cc
-  cleared_left Round is clears = omega arith
-  cleared_left (Limbo unlinked) is clears = omega arith
-  cleared_left (Errand key) is clears = let b = subst (λ t. Brings k task.command old.plan t) is h.brings in let e = sym clears ∙ ap change.clears b.2 in cc
+  cleared_left : (t : Then) → then ≡ t → clears old.plan ≡ true → left_for task.limits (outcome.Changed Won t) ≤ one_round task.limits
+  cleared_left (Reply answered) is goes = let b : IsUpdateOf k task.command old.plan answered = subst (λ t. Brings k task.command old.plan t) is h.brings in let e = sym goes ∙ ap clears b.is in cc
+  cleared_left (After Round) is goes = omega arith
+  cleared_left (After (Limbo unlinked)) is goes = omega arith
+  cleared_left (After (Errand key)) is goes = let b = subst (λ t. Brings k task.command old.plan t) is h.brings in let e = sym goes ∙ ap clears b.2 in cc
 
   pub ended_left : (end : End) → bound.SpendsTo (one_round task.limits) r old had told new has (Some end) → IsStepSpent task.limits r (change.wanted old had) told (bound.steps_left (one_round task.limits) old had + 1) (left_for task.limits (outcome.Changed end then))
   ended_left Won spends = elim spends [

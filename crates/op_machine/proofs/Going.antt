@@ -12,6 +12,7 @@ use Rattle.op_machine.specs.machine.Bounded.{IsSpentLast, LeavesFor, left_at, wi
 use Rattle.op_machine.specs.machine.Hands.{Hand}
 use Rattle.op_machine.specs.machine.Ops.{Op}
 use Rattle.op_machine.specs.machine.Outcomes.{Comes, Entered, Faces, IsToldAt, Outcome}
+use Rattle.op_machine.specs.machine.RoundSteps.{StepsInRound}
 use Rattle.op_machine.specs.machine.Shows.{FitsLast, learn_last, recall_last}
 use Rattle.op_machine.specs.machine.Works.{AsksOn, FollowsOutcome, IsToldChange, IsToldOn, IsToldOnThere, IsToldWith, TurnsInto, Works, asked_of}
 use Rattle.op_machine.specs.machine.States.{State}
@@ -60,13 +61,14 @@ module _ (old : Op) (had has : Spares) (told : Answer Record) (is : IsToldOn old
   errands = old.task.errands
 
   -- it goes on,
-  pub goes_on : outcome ≡ None → AsksOn old had told went has
-  goes_on on = record {
+  pub goes_on : outcome ≡ None → StepsInRound old.task old.state told state → AsksOn old had told went has
+  goes_on on steps = record {
     works = λ k r works fits. (here k r works fits).0;
     spends = λ k r works fits. spent_with old.task.limits r last told _ _ errands errands _ (subst (λ o. LeavesFor old.task.limits r last told (left_at old.task.limits r had old.state) state has o) on (makes.leaves old.task k r works fits)) (omega arith);
     asks = (here is.k is.r is.works is.fits).1;
     same = record { limits = refl; actor = refl; command = refl };
     sweep = refl;
+    steps = steps;
   }
     where
       here : (k : Knowledge) (r : Recalled) → Works old had k r → FitsLast old.task.limits k last told → Comes old.task k r last told state has None
@@ -77,13 +79,14 @@ module _ (old : Op) (had has : Spares) (told : Answer Record) (is : IsToldOn old
     faces : (k : Knowledge) (r : Recalled) → Works old had k r → FitsLast old.task.limits k last told → Faces old.task has (learn_last k last told) (recall_last r last told) to
     faces k r works fits = subst (λ o. Comes old.task k r last told state has o) come (makes.comes old.task k r works fits)
 
-    pub follows : (new : Op) → FollowsOutcome went has to new → AsksOn old had told new has
-    follows new after = record {
+    pub follows : (new : Op) → FollowsOutcome went has to new → StepsInRound old.task old.state told new.state → AsksOn old had told new has
+    follows new after steps = record {
       works = λ k r works fits. after.stands _ _ (faces k r works fits);
       spends = λ k r works fits. spent_with old.task.limits r last told _ _ errands new.task.errands _ (subst (λ o. LeavesFor old.task.limits r last told (left_at old.task.limits r had old.state) state has o) come (makes.leaves old.task k r works fits)) (after.few _ _ (faces k r works fits));
       asks = after.asks;
       same = after.same;
       sweep = after.sweep;
+      steps = steps;
     }
 
 -- Something is known that it faces then, and what was read is there.

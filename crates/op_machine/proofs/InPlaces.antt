@@ -1,9 +1,9 @@
 -- What an answer makes of an operation's places.
-use Rattle.std.proofs.Common.{◌≡◌, ◌≤◌, inl, inr, ℕ, zero, suc, Option, Some, true, refl, ap, ◌∙◌, arith}
+use Rattle.std.proofs.Common.{◌≡◌, ◌≤◌, inl, inr, ℕ, zero, suc, Option, Some, false, true, refl, ap, ◌∙◌, arith}
 use Rattle.std.specs.Prelude.{IsSome}
 use Rattle.std.proofs.lemmas.Option.{same_Some}
 use Rattle.bw_model.specs.Answers.{TellsNumber, answer_of}
-use Rattle.bw_model.specs.Replies.{command_key}
+use Rattle.bw_model.specs.Replies.{command_key, is_writer}
 use Rattle.bw_model.specs.declared.command.Reply.{Reply}
 use Rattle.tree_limits.specs.declared.limits.Limits.{Limits}
 use Rattle.bw_model.specs.declared.step.Answer.{Answer}
@@ -28,6 +28,7 @@ use Rattle.installs.specs.declared.taking.Kind.{Kind}
 use Rattle.op_machine.specs.machine.Bounded.{left_at, left_for, left_round, one_round}
 use Rattle.op_machine.specs.machine.Outcomes.{Faces, Outcome, is_changing, is_leaving, is_reading, is_writing, read_out, written_out}
 use Rattle.op_machine.specs.machine.Places.{HaveLimits, OpPlaces, ReadsOn, WritesOn, state_at, state_of}
+use Rattle.op_machine.specs.machine.RoundSteps.{AfterReading, AfterWriting, StepsInRound}
 use Rattle.op_machine.specs.machine.Shows.{FitsLast, ShowsState, learn_last, wanted_at}
 use Rattle.op_machine.specs.machine.Tasks.{Task}
 use Rattle.op_machine.specs.machine.Works.{FollowsOutcome, TurnsInto}
@@ -36,6 +37,7 @@ use Rattle.op_machine.specs.declared.places.Stand.TheVariants.{Begun, Epoch, Ent
 use Rattle.bw_model.specs.declared.step.Told.{Told}
 use Rattle.bw_model.specs.declared.step.Told.TheVariants.{Start, Number, Whether, Done}
 use Rattle.op_machine.specs.machine.States.{State}
+use Rattle.op_machine.specs.machine.States as at
 use Rattle.op_machine.specs.declared.then.Then.{Then}
 use Rattle.op_machine.proofs.Reading.{IsReading, reader_reads, writer_reads}
 use Rattle.op_machine.proofs.Rounds.{read_comes, read_leaves, write_comes, write_leaves}
@@ -138,6 +140,12 @@ module _ (task : Task) (spares : Spares) (k : Knowledge) (r : Recalled) (places 
   pub reader_key : places.stand ≡ Read → Stands → places.reader.round.key ≡ command_key task.command
   reader_key is h = let shows = rw is at h in shows.key
 
+  pub reader_is : places.stand ≡ Read → Stands → is_writer task.command ≡ false
+  reader_is is h = let shows = rw is at h in shows.reader
+
+  pub writer_is : places.stand ≡ Write → Stands → is_writer task.command ≡ true
+  writer_is is h = let shows = rw is at h in shows.writer
+
   -- and so is a writer's
   pub writer_number : (told : Told) → places.stand ≡ Write → Stands → FitsThere (answer_of told) → TellsNumber told
   writer_number told is h f =
@@ -176,6 +184,19 @@ module _ (old new : OpPlaces) (spares : Spares) (told : Answer Record) where
         comes = λ task k r h fits. write_comes task spares k r old.writer.round new.writer.round told h fits writes.same result writes.responds (writing.follows_from old.writer.round new.writer.round told result writes.responds k r h.shows (rw h.round_of.limits fits));
         leaves = λ task k r h fits. write_leaves task spares k r old.writer.round new.writer.round told h fits result (writing.spends_from old.writer.round new.writer.round told result writes.responds (left_round task.limits) (one_round task.limits) k r h.shows (rw h.round_of.limits fits));
       })
+
+  -- the operation makes it of the answer, with what follows
+  pub reads_step : (task : Task) (result : Option ReadEnd) → old.stand ≡ Read → ReadsOn old told new result → (to : State) → AfterReading task new.reader.round result to → StepsInRound task (state_of old) told to
+  reads_step task result is reads to goes = rw is (record { next = new.reader.round; end = result; responds = reads.responds; same = reads.same; goes = goes })
+
+  pub reads_state : (result : Option ReadEnd) → old.stand ≡ Read → ReadsOn old told new result → state_of new ≡ at.Read new.reader.round
+  reads_state result is reads = let there : new.stand ≡ Read = ap (λ (p : OpPlaces). p.stand) reads.only ∙ is in rw there refl
+
+  pub writes_step : (task : Task) (result : Option WriteEnd) → old.stand ≡ Write → WritesOn old told new result → (to : State) → AfterWriting task new.writer.round result to → StepsInRound task (state_of old) told to
+  writes_step task result is writes to goes = rw is (record { next = new.writer.round; end = result; responds = writes.responds; goes = goes })
+
+  pub writes_state : (result : Option WriteEnd) → old.stand ≡ Write → WritesOn old told new result → state_of new ≡ at.Write new.writer.round
+  writes_state result is writes = let there : new.stand ≡ Write = ap (λ (p : OpPlaces). p.stand) writes.only ∙ is in rw there refl
 
   -- with the limits that they had
   pub reads_have : (limits : Limits) (result : Option ReadEnd) → HaveLimits limits old → ReadsOn old told new result → HaveLimits limits new

@@ -12,11 +12,13 @@ pub mod Plans
 pub mod ReadPages
 pub mod Unlinking
 pub mod Tending
+pub mod Dues
 pub mod Commands
 mod Halves
 pub mod HoldingBack
 pub mod Tidying
 pub mod Going
+pub mod GoingLeft
 pub mod Keeping
 pub mod TakingOut
 pub mod SweepMoves

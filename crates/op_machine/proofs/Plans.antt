@@ -6,17 +6,16 @@ use Rattle.std.specs.Option.{ForSome}
 use Rattle.std.specs.Prelude.{nat_lt, slice_get, if◌then◌else◌}
 use Rattle.tree_limits.specs.declared.limits.Limits.{Limits}
 use Rattle.base_page.specs.Pages.{Page}
-use Rattle.deltas.specs.Memory.{Memory}
 use Rattle.deltas.specs.Records.{next_row}
 use Rattle.deltas.specs.Spellable.{IsSpellablePage}
 use Rattle.deltas.specs.declared.record.Record.{Record}
 use Rattle.deltas.specs.declared.record.Record.TheVariants as kind
-use Rattle.traces.specs.chain.Chains.{IsChainFrom, IsChainOf}
 use Rattle.traces.specs.chain.Fitted.{IsFitted}
 use Rattle.traces.specs.discipline.Knowledge.{Knowledge}
 use Rattle.traces.specs.discipline.Recalled.{Recalled}
 use Rattle.descent.specs.Versions.{IsAlive}
 use Rattle.descent.specs.WriteEnds as end
+use Rattle.descent.specs.WriteRounds.{IsLongEnd, WriteRound}
 use Rattle.installs.specs.Changes as change
 use Rattle.installs.specs.Spares.{Spares}
 use Rattle.rounds.specs.WriteRounds.{PlacedWrite}
@@ -49,14 +48,14 @@ some_many limits = by_test limits.is_large
 pub spells_base : (page : Page) → IsFitted (kind.Base page ∷ []) → IsSpellablePage page
 spells_base page h = let is = h.1 in let same : page ≡ h.0 = cc in rw same h.2
 
-module _ (task : Task) (spares : Spares) (k : Knowledge) (r : Recalled) where
-  -- a page that is consolidated has deltas
-  pub long_chain : (page : Version) → FacesWritten task spares k r (end.Consolidate page) → 1 < length page.chain
-  long_chain page h = let some = h.round_of.some in elim h.ends.long [
-    | inl many ↦ let more = some_many h.round.limits in omega (arith, many, more)
-    | inr leaf ↦ let longer = leaf.1 in omega (arith, longer, some)
-  ]
+-- a page that is consolidated has deltas
+pub long_chain : (round : WriteRound) (k : Knowledge) (r : Recalled) (page : Version) (base : Page) → 0 < round.due → IsLongEnd round k r page base → 1 < length page.chain
+long_chain round k r page base some ends = elim ends.long [
+  | inl many ↦ let more = some_many round.limits in omega (arith, many, more)
+  | inr leaf ↦ let longer = leaf.1 in omega (arith, longer, some)
+]
 
+module _ (task : Task) (spares : Spares) (k : Knowledge) (r : Recalled) where
   -- a round that ends at the leaf that it looked for is at that leaf
   pub at_sought_leaf : (parent : Option Version) (leaf : Version) → FacesWritten task spares k r (end.Leaf parent leaf) → IsAtLeafBelow task spares k r parent leaf
   at_sought_leaf parent leaf h =
@@ -126,11 +125,3 @@ one_more left most few = omega arith
 -- a round to the left of a removed page is one of the operation
 pub left_is_of : (task : Task) (writer : PlacedWrite) → writer.round.limits ≡ task.limits → IsRoundOf task (left_round_of writer)
 left_is_of task writer have = record { limits = have; some = omega arith; key = λ is. cc; due = λ is. cc; tends = λ is. cc }
-
--- the rows that an actor has read, with one slot
-abbrev pub as_memory : ℕ → (ℕ → Option Record) → Memory
-as_memory head seen = record { slots = λ pid. head; rows = seen; free_pids = λ pid. false; free_rows = λ row. false; epoch = 0; announced = λ actor. 0 }
-
--- there is one chain from a row
-pub one_chain : ((memory : Memory) (pid : ℕ) (one two : List Record) → IsChainOf memory pid one → IsChainOf memory pid two → one ≡ two) → (seen : ℕ → Option Record) (head : ℕ) → 0 < head → (c d : List Record) → IsChainFrom seen head c → IsChainFrom seen head d → c ≡ d
-one_chain law seen head some c d h i = law (as_memory head seen) 1 c d (record { page = omega arith; linked = some; records = h }) (record { page = omega arith; linked = some; records = i })

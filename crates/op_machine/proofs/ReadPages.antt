@@ -1,9 +1,8 @@
 -- The pages that an operation has read may be looked at, where what was read is there.
-use Rattle.std.proofs.Common.{◌<◌, ℕ, List, [], ◌∷◌, Option, Some, None, length, arith}
+use Rattle.std.proofs.Common.{ℕ, Option, Some, None}
 use Rattle.std.specs.Prelude.{IfSome}
 use Rattle.tree_limits.specs.declared.limits.Limits.{Limits}
 use Rattle.deltas.specs.declared.record.Record.{Record}
-use Rattle.traces.specs.chain.Fitted.{IsPageChain}
 use Rattle.traces.specs.discipline.Knowledge.{Knowledge}
 use Rattle.traces.specs.discipline.Recalled.{Recalled}
 use Rattle.descent.specs.Machines.{AreThere}
@@ -20,8 +19,3 @@ module _ (is_there : ℕ → Record → Type 0) (k : Knowledge) (there : AreTher
   pub read_above : (limits : Limits) (r : Recalled) (leaf : Version) (parent : Option Version) → IfSome parent (IsUpper limits k r leaf) → IfSome parent (IsReadPage is_there)
   read_above limits r leaf None above = tt
   read_above limits r leaf (Some parent) above = read_page parent above.page.in_hand.seen
-
--- a page's chain has a record
-pub some_records : (chain : List Record) → IsPageChain chain → 0 < length chain
-some_records [] is = absurd is.fitted
-some_records (newest ∷ under) is = omega arith

@@ -115,13 +115,7 @@ has_sought old new told (write_end.Leaf parent leaf) responds = elim responds [
 has_sought old new told write_end.Again responds = tt
 has_sought old new told write_end.Done responds = tt
 has_sought old new told (write_end.Removed page) responds = tt
-has_sought old new told (write_end.Consolidate page) responds = tt
-has_sought old new told (write_end.Split page plan) responds = tt
-has_sought old new told (write_end.Term parent term) responds = tt
-has_sought old new told (write_end.Root left root) responds = tt
-has_sought old new told (write_end.Tend parent page upkeep) responds = tt
-has_sought old new told (write_end.Merge left removed merge) responds = tt
-has_sought old new told (write_end.Unterm parent left removed unterm) responds = tt
+has_sought old new told (write_end.Due plan after) responds = tt
 
 module _ (task : Task) (spares : Spares) (k : Knowledge) (r : Recalled) (round new : write.WriteRound) (told : Answer Record) (h : IsInWriteRound task spares k r round) (fits : Fits task.limits k (write.wanted round) told) where
   pub write_on : Responds response.writing round told new None → write.IsSame round new → Follows response.writing k r round told new None → IsInWriteRound task spares (learn k (write.wanted round) told) (recall r (write.wanted round) told) new
@@ -168,14 +162,8 @@ module _ (task : Task) (spares : Spares) (k : Knowledge) (r : Recalled) (round n
   write_left write_end.Again misses = write_missed round.goal misses
   write_left write_end.Done kept = inl (omega (arith, kept))
   write_left (write_end.Removed page) reserved = inl (omega (arith, reserved))
-  write_left (write_end.Consolidate page) some = inl (omega (arith, some))
-  write_left (write_end.Split page plan) some = inl (omega (arith, some))
-  write_left (write_end.Term parent term) some = inl (omega (arith, some))
-  write_left (write_end.Root left root) some = inl (omega (arith, some))
-  write_left (write_end.Tend parent page upkeep) some = inl (omega (arith, some))
+  write_left (write_end.Due plan after) some = inl (omega (arith, some))
   write_left (write_end.Leaf parent leaf) some = inl (omega (arith, some))
-  write_left (write_end.Merge left removed merge) kept = inl (omega (arith, kept))
-  write_left (write_end.Unterm parent left removed unterm) kept = inl (omega (arith, kept))
 
   -- whatever the round makes of the answer
   pub write_comes : write.IsSame round new → (result : Option WriteEnd) → Responds response.writing round told new result → Follows response.writing k r round told new result → Comes task k r (Some (write.wanted round)) told (at.Write new) spares (written_out result)

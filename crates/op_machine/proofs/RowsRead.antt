@@ -12,7 +12,7 @@ use Rattle.installs.specs.Spares.{Spares}
 use Rattle.installs.specs.Taking.{wanted_number}
 use Rattle.installs.specs.declared.change.State.{State as ChangeState}
 use Rattle.installs.specs.declared.change.State.TheVariants as change_state
-use Rattle.installs.specs.declared.plan.Plan.{Plan}
+use Rattle.smo.specs.declared.plan.Plan.{Plan}
 use Rattle.installs.specs.declared.taking.Kind.TheVariants as kind
 use Rattle.installs.specs.declared.taking.Taking.{Taking}
 use Rattle.installs.specs.declared.taking.Taking.TheVariants as taking

@@ -14,12 +14,13 @@ use Rattle.smo.specs.Splits.{split_to}
 use Rattle.traces.specs.discipline.Useful.{IsUseful}
 use Rattle.descent.specs.Visits.{ReadsWithin}
 use Rattle.installs.specs.Changes as change
+use Rattle.smo.specs.Plans.{cleared_page, cleared_row}
 use Rattle.installs.specs.Spares.{Spares, last_row, pid_of}
 use Rattle.installs.specs.Taking.{wanted_number}
 use Rattle.installs.specs.declared.change.State.{State}
 use Rattle.installs.specs.declared.change.State.TheVariants.{Taking, Base, Ready, Place, Link, Undo, Clear}
-use Rattle.installs.specs.declared.plan.Plan.{Plan}
-use Rattle.installs.specs.declared.plan.Plan.TheVariants.{Install, Split, Root, Unlink}
+use Rattle.smo.specs.declared.plan.Plan.{Plan}
+use Rattle.smo.specs.declared.plan.Plan.TheVariants.{Install, Split, Root, Unlink}
 use Rattle.installs.specs.declared.taking.Kind.TheVariants.{Pid, Row}
 use Rattle.installs.specs.declared.taking.Taking as taken
 use Rattle.installs.specs.declared.taking.Taking.TheVariants.{Bits, Take}
@@ -84,7 +85,7 @@ usefully k (Split pid plan) spares Link useful shows = exchanges k pid plan.next
 usefully k (Root left root) spares Link useful shows = tt
 usefully k (Unlink pid head unterm removal) spares Link useful shows = exchanges k pid head (last_row spares) (λ basis page is. let e = sym shows.1 ∙ is in cc)
 usefully k plan spares Undo useful shows = empties k (pid_of spares) (change.base_row plan spares)
-usefully k plan spares Clear useful shows = empties k (change.cleared_page plan) (change.cleared_row plan)
+usefully k plan spares Clear useful shows = empties k (cleared_page plan) (cleared_row plan)
 
 -- a split is linked where it leaves items enough on both sides
 no_split : (k : Knowledge) (slot old new : ℕ) → ((split : SplitOf) → k.own.rows new ≡ Written (kind.Split split) → ⊥) → IsHalved k (Exchange slot old new)
@@ -136,7 +137,7 @@ halved k (Split pid plan) spares Link useful shows = halves k pid plan.next (pid
 halved k (Root left root) spares Link useful shows = tt
 halved k (Unlink pid head unterm removal) spares Link useful shows = no_split k pid head (last_row spares) (λ split is. let e = sym shows.1 ∙ is in cc)
 halved k plan spares Undo useful shows = halved_empty k (pid_of spares) (change.base_row plan spares)
-halved k plan spares Clear useful shows = halved_empty k (change.cleared_page plan) (change.cleared_row plan)
+halved k plan spares Clear useful shows = halved_empty k (cleared_page plan) (cleared_row plan)
 
 -- a read frees nothing
 pub steps_reading : (task : Task) (k : Knowledge) (asked : Asked) → ReadsWithin task.limits (asked_step asked) → May task.actor k (asked_step asked) → MayStep task k (asked_step asked)

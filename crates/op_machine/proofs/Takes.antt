@@ -18,6 +18,7 @@ use Rattle.op_machine.specs.machine.Sweeping.{HasFewer, IsSameWork, MovesSweep, 
 use Rattle.op_machine.specs.machine.Works.{AsksOn, IsToldWith, KeepsLimbo, asked_of}
 use Rattle.op_machine.specs.machine.Wants.{Step}
 use Rattle.op_machine.specs.machine.States.{State, Begun, Epoch, Enter, Read, Write, Change, Leave}
+use Rattle.op_machine.proofs.GoingLeft.{goes_left}
 use Rattle.op_machine.proofs.Nexts.{asks, asks_none, fewer, fits_on, fits_swept, kept_after, kept_begun, left_first, left_is, nothing_left, rests, starts, sweep_asks, told_after, unswept}
 use Rattle.sweep.specs.Bounded as sweep
 use Rattle.sweep.specs.Sweeps.{Sweep}
@@ -70,6 +71,8 @@ module _ (old : Op) (had : Hand) (told : Answer Record) (begun : has_begun old.s
     obeys = obeys_by old had told new has shows;
     spends = spends;
     same = after.same;
+    steps = after.steps;
+    left = goes_left old.task old.state told new.state after.steps;
   }
 
 -- before the first step of the work the sweep alone asks
@@ -104,6 +107,8 @@ module _ (old mid : Op) (spares : Spares) (limbo now : Limbo) (told : Answer Rec
       obeys = obeys_by old had told mid between shows_mid;
       spends = spends_mid;
       same = rw same.task (record { limits = refl; actor = refl; command = refl });
+      steps = rw first tt;
+      left = rw first tt;
     }
 
   -- and is over, so that the work begins
@@ -144,4 +149,6 @@ module _ (old mid : Op) (spares : Spares) (limbo now : Limbo) (told : Answer Rec
         obeys = obeys_by old had told new has shows_after;
         spends = spends_after;
         same = record { limits = after.same.limits ∙ ap (λ t. t.limits) same.task; actor = after.same.actor ∙ ap (λ t. t.actor) same.task; command = after.same.command ∙ ap (λ t. t.command) same.task };
+        steps = rw first tt;
+        left = rw first tt;
       }

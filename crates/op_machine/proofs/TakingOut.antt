@@ -14,13 +14,14 @@ use Rattle.installs.specs.Changes.{linked_by}
 use Rattle.installs.specs.Outs.{TakesFresh, limbo_after, limbo_over}
 use Rattle.installs.specs.declared.change.End.{End}
 use Rattle.installs.specs.declared.change.End.TheVariants.{Won, Lost, Full}
-use Rattle.installs.specs.declared.plan.Plan.{Plan}
-use Rattle.installs.specs.declared.plan.Plan.TheVariants.{Install, Split, Root, Unlink}
+use Rattle.smo.specs.declared.plan.Plan.{Plan}
+use Rattle.smo.specs.declared.plan.Plan.TheVariants.{Install, Split, Root, Unlink}
 use Rattle.op_machine.specs.machine.Brings.{Brings}
 use Rattle.op_machine.specs.machine.Hands.{IsPageOut, IsTakenBy, GoesToLimbo, TakesNothing, Unlinks}
 use Rattle.op_machine.specs.declared.then.Then.{Then}
-use Rattle.op_machine.specs.declared.then.Then.TheVariants.{Round, Limbo, Errand, Reply}
-use Rattle.op_machine.specs.declared.unlinked.Unlinked.{Unlinked}
+use Rattle.op_machine.specs.declared.then.Then.TheVariants.{After, Reply}
+use Rattle.smo.specs.declared.after.After.TheVariants.{Round, Limbo, Errand}
+use Rattle.smo.specs.declared.unlinked.Unlinked.{Unlinked}
 use Rattle.sweep.specs.Kept.{AreKept}
 use Rattle.sweep.specs.Taken.{IsTakenOut}
 
@@ -79,9 +80,9 @@ module _ (limits : Limits) (k : Knowledge) (unlinked : Unlinked) where
 
 module _ (limits : Limits) (k : Knowledge) (command : Command) (plan : Plan) where
   won : (then : Then) → Brings k command plan then → TakesFresh limits k plan (Some Won) → Unlinks limits k Won then (limbo_after plan (Some Won) k)
-  won Round brings fresh = takes_nothing plan k brings.1
-  won (Limbo unlinked) brings fresh = takes limits k unlinked plan brings fresh
-  won (Errand key) brings fresh = takes_nothing plan k (rw brings.2 tt)
+  won (After Round) brings fresh = takes_nothing plan k brings.1
+  won (After (Limbo unlinked)) brings fresh = takes limits k unlinked plan brings fresh
+  won (After (Errand key)) brings fresh = takes_nothing plan k (rw brings.2 tt)
   won (Reply answered) brings fresh = takes_nothing plan k (rw brings.is (update_takes_nothing brings.content brings.pid brings.head (brings.updates None)))
 
   -- what is known to be in limbo once the change has ended
@@ -91,7 +92,7 @@ module _ (limits : Limits) (k : Knowledge) (command : Command) (plan : Plan) whe
   unlinks (Full kind) then after brings is fresh = is
 
 -- what has gone out where a change has won
-pub gone : (limits : Limits) (k : Knowledge) (end : End) (then : Then) (unlinked : Unlinked) (after : Limbos) → end ≡ Won → then ≡ Limbo unlinked → Unlinks limits k end then after → GoesToLimbo limits k unlinked after
+pub gone : (limits : Limits) (k : Knowledge) (end : End) (then : Then) (unlinked : Unlinked) (after : Limbos) → end ≡ Won → then ≡ After (Limbo unlinked) → Unlinks limits k end then after → GoesToLimbo limits k unlinked after
 gone limits k end then unlinked after won is h = rw (won, is) at h
 
 -- What a change has taken out of the tree may come into limbo, by the laws of chains that go there.

@@ -1,5 +1,5 @@
 -- What is due at a small page may be linked.
-use Rattle.std.proofs.Common.{◌≡◌, ℕ, suc, List, [], ◌∷◌, Option, Some, None, true, false, refl, ap, sym, ◌∙◌}
+use Rattle.std.proofs.Common.{◌≡◌, ℕ, suc, List, [], ◌∷◌, Option, Some, None, true, false, inl, inr, refl, ap, sym, ◌∙◌}
 use Rattle.std.specs.Prelude.{IfSome}
 use Rattle.bw_model.specs.declared.command.Command.{Command}
 use Rattle.tree_limits.specs.declared.limits.Limits.{Limits}
@@ -12,24 +12,22 @@ use Rattle.traces.specs.chain.Fitted.{IsPageChain}
 use Rattle.traces.specs.discipline.Knowledge.{Knowledge}
 use Rattle.traces.specs.discipline.Recalled.{Recalled}
 use Rattle.descent.specs.Versions.{IsAlive}
-use Rattle.descent.specs.WriteEnds as end
-use Rattle.descent.specs.WriteRounds.{IsUpper}
+use Rattle.descent.specs.WriteRounds.{IsTendEnd, IsUpper, WriteRound}
 use Rattle.installs.specs.Changes.{IsSpellablePlan, IsTarget, MayInstall}
 use Rattle.installs.specs.Spares.{Spares}
-use Rattle.installs.specs.declared.plan.Plan.{Plan}
+use Rattle.smo.specs.declared.plan.Plan.{Plan}
 use Rattle.smo.specs.Holds.{IsHoldPlan}
 use Rattle.smo.specs.Readings.{HasSeen}
 use Rattle.smo.specs.Removals.{IsRemovePlan}
-use Rattle.smo.specs.Upkeep.{IsUpkeepDue}
-use Rattle.smo.specs.declared.upkeep.Upkeep.{Upkeep}
-use Rattle.smo.specs.declared.upkeep.Upkeep.TheVariants.{Hold as HoldTerm, Remove as RemovePage}
+use Rattle.smo.specs.Upkeep.{IsUpkeep}
 use Rattle.smo.specs.Versions.{Version}
 use Rattle.op_machine.specs.machine.Errands.{tends_of}
-use Rattle.op_machine.specs.machine.Outcomes.{FacesWritten, IsAtLeafBelow}
-use Rattle.op_machine.specs.machine.Shows.{MayBegin}
+use Rattle.op_machine.specs.machine.Outcomes.{IsAtLeafBelow}
+use Rattle.op_machine.specs.machine.Shows.{IsRoundOf, MayBegin}
 use Rattle.op_machine.specs.machine.Tasks.{Seeks, Task}
-use Rattle.op_machine.specs.machine.Upkeep.{IsUpkeepFor, plan_of, tidies}
-use Rattle.op_machine.specs.declared.then.Then.TheVariants.{Round}
+use Rattle.op_machine.specs.machine.Upkeep.{IsUpkeepFor, tidies}
+use Rattle.op_machine.specs.declared.then.Then.TheVariants.{After}
+use Rattle.smo.specs.declared.after.After.TheVariants.{Round}
 use Rattle.op_machine.proofs.Plans.{over_page}
 
 -- a round that tends small pages is one of a deletion or a tidying
@@ -40,44 +38,47 @@ tends_only (key ∷ errands) command e = cc
 module _ (task : Task) (spares : Spares) (k : Knowledge) (r : Recalled)
     (holds : (actor : ℕ) (k : Knowledge) (parent page : Version) (hold : Hold) → HasSeen k parent → is_removed parent.chain ≡ false → IsPageChain parent.chain → IsHoldPlan parent page hold → MayInstall actor k parent.pid parent.head (kind.Hold hold))
     (removes : (actor : ℕ) (k : Knowledge) (parent page : Version) (remove : Remove) → HasSeen k parent → is_removed parent.chain ≡ false → IsPageChain parent.chain → level_in parent.chain ≡ suc (level_in page.chain) → HasSeen k page → IsRemovePlan parent page remove → MayInstall actor k page.pid page.head (kind.Remove remove)) where
-  begins : (parent page : Version) (upkeep : Upkeep) → Seeks task spares k → is_writer task.command ≡ true → tidies task.command ≡ true → IsAlive task.limits k r page → IsUpper task.limits k r page parent → IsUpkeepDue parent page upkeep → MayBegin task spares k r (plan_of parent page upkeep) Round
-  begins parent page (RemovePage remove) seeks writer tidy alive u due = record {
-    seeks = seeks;
-    writer = writer;
-    may = record { inside = seeks.inside; links = removes task.actor k parent page remove u.page.in_hand.seen u.page.alive u.page.in_hand.sound.is_chain u.up alive.in_hand.seen due };
-    keeps = tt;
-    brings = (tt, tt, refl, tidy);
-    useful = tt;
-    split = tt;
-    recalled = alive.recalled;
-  }
-  begins parent page (HoldTerm hold) seeks writer tidy alive u due = record {
-    seeks = seeks;
-    writer = writer;
-    may = record { inside = seeks.inside; links = holds task.actor k parent page hold u.page.in_hand.seen u.page.alive u.page.in_hand.sound.is_chain due.1 };
-    keeps = tt;
-    brings = (tt, tt, refl, tidy);
-    useful = tt;
-    split = tt;
-    recalled = u.page.recalled;
-  }
+  begins : (parent page : Version) (plan : Plan) → Seeks task spares k → is_writer task.command ≡ true → tidies task.command ≡ true → IsAlive task.limits k r page → IsUpper task.limits k r page parent → IsUpkeep parent page plan → MayBegin task spares k r plan (After Round)
+  begins parent page plan seeks writer tidy alive u h = elim h.due [
+    | inl gone ↦ rw gone.is (record {
+      seeks = seeks;
+      writer = writer;
+      may = record { inside = seeks.inside; links = removes task.actor k parent page gone.remove u.page.in_hand.seen u.page.alive u.page.in_hand.sound.is_chain u.up alive.in_hand.seen gone.due };
+      keeps = tt;
+      brings = (tt, tt, refl, tidy);
+      useful = tt;
+      split = tt;
+      recalled = alive.recalled;
+    })
+    | inr held ↦ rw held.is (record {
+      seeks = seeks;
+      writer = writer;
+      may = record { inside = seeks.inside; links = holds task.actor k parent page held.hold u.page.in_hand.seen u.page.alive u.page.in_hand.sound.is_chain held.due };
+      keeps = tt;
+      brings = (tt, tt, refl, tidy);
+      useful = tt;
+      split = tt;
+      recalled = u.page.recalled;
+    })
+  ]
 
   -- at a small leaf, and at a small page on the way
-  pub may_tend : (parent : Option Version) (leaf : Version) (plan : Plan) → IsUpkeepFor task.command parent leaf plan → IsAtLeafBelow task spares k r parent leaf → MayBegin task spares k r plan Round
+  pub may_tend : (parent : Option Version) (leaf : Version) (plan : Plan) → IsUpkeepFor task.command parent leaf plan → IsAtLeafBelow task spares k r parent leaf → MayBegin task spares k r plan (After Round)
   may_tend None leaf plan h below = absurd h
-  may_tend (Some parent) leaf plan h below = rw h.1.is (begins parent leaf h.1.upkeep below.at.seeks below.at.writer h.0 below.at.page below.above h.1.due.due)
+  may_tend (Some parent) leaf plan h below = begins parent leaf plan below.at.seeks below.at.writer h.0 below.at.page below.above h.1
 
-  pub may_tend_on_way : (parent page : Version) (upkeep : Upkeep) → FacesWritten task spares k r (end.Tend parent page upkeep) → MayBegin task spares k r (plan_of parent page upkeep) Round
-  may_tend_on_way parent page upkeep h =
-      let ends = h.ends in
-      let tidy : tidies task.command ≡ true = tends_only task.errands task.command (sym (h.round_of.tends ends.seeks) ∙ ends.tends) in
-      begins parent page upkeep h.seeks h.writer tidy (rw h.round_of.limits at ends.page) (rw h.round_of.limits at ends.above) ends.due.due
+  pub may_tend_on_way : (round : WriteRound) (parent page : Version) (plan : Plan) → Seeks task spares k → is_writer task.command ≡ true → IsRoundOf task round → IsTendEnd round k r parent page plan → MayBegin task spares k r plan (After Round)
+  may_tend_on_way round parent page plan seeks writer is ends =
+      let tidy : tidies task.command ≡ true = tends_only task.errands task.command (sym (is.tends ends.seeks) ∙ ends.tends) in
+      begins parent page plan seeks writer tidy (rw is.limits at ends.page) (rw is.limits at ends.above) ends.due
 
 -- it names no number that has no place, and a row can spell it
-pub plans_there : (limits : Limits) (k : Knowledge) (r : Recalled) (parent page : Version) (upkeep : Upkeep) → IsAlive limits k r page → IsAlive limits k r parent → IsUpkeepDue parent page upkeep → IsTarget limits (plan_of parent page upkeep) × IsSpellablePlan (plan_of parent page upkeep)
-plans_there limits k r parent page (RemovePage remove) alive above due = (over_page limits k r page (kind.Remove remove) alive (ap (λ (x : Remove). Some x.next) due.is), due.fits.0.spellable)
-plans_there limits k r parent page (HoldTerm hold) alive above due = (over_page limits k r parent (kind.Hold hold) above (ap (λ (x : Hold). Some x.next) due.1.is), due.1.fits.0.spellable)
+pub plans_there : (limits : Limits) (k : Knowledge) (r : Recalled) (parent page : Version) (plan : Plan) → IsAlive limits k r page → IsAlive limits k r parent → IsUpkeep parent page plan → IsTarget limits plan × IsSpellablePlan plan
+plans_there limits k r parent page plan alive above h = elim h.due [
+  | inl gone ↦ rw gone.is (over_page limits k r page (kind.Remove gone.remove) alive (ap (λ (x : Remove). Some x.next) gone.due.is), gone.due.fits.0.spellable)
+  | inr held ↦ rw held.is (over_page limits k r parent (kind.Hold held.hold) above (ap (λ (x : Hold). Some x.next) held.due.is), held.due.fits.0.spellable)
+]
 
 pub plans_for : (limits : Limits) (k : Knowledge) (r : Recalled) (command : Command) (parent : Option Version) (leaf : Version) (plan : Plan) → IsUpkeepFor command parent leaf plan → IsAlive limits k r leaf → IfSome parent (IsUpper limits k r leaf) → IsTarget limits plan × IsSpellablePlan plan
 plans_for limits k r command None leaf plan h alive above = absurd h
-plans_for limits k r command (Some parent) leaf plan h alive above = rw h.1.is (plans_there limits k r parent leaf h.1.upkeep alive above.page h.1.due.due)
+plans_for limits k r command (Some parent) leaf plan h alive above = plans_there limits k r parent leaf plan alive above.page h.1

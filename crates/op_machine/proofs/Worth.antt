@@ -20,13 +20,13 @@ use Rattle.epochs.specs.declared.item.Reuse.{Reuse}
 use Rattle.epochs.specs.declared.item.Reuse.TheVariants.{Rows, Pids}
 use Rattle.installs.specs.Bounded as change
 use Rattle.installs.specs.Bounded.{few_steps, numbers_missing, pids_missing}
-use Rattle.installs.specs.Changes.{needs_pid, rows_needed}
+use Rattle.smo.specs.Plans.{needs_pid, rows_needed}
 use Rattle.installs.specs.Spares.{Spares}
 use Rattle.installs.specs.Taking.{most_reads, number_left}
 use Rattle.installs.specs.declared.change.State.{State as ChangeState}
 use Rattle.installs.specs.declared.change.State.TheVariants as changing
-use Rattle.installs.specs.declared.plan.Plan.{Plan}
-use Rattle.installs.specs.declared.plan.Plan.TheVariants.{Install, Split, Root as NewRoot, Unlink}
+use Rattle.smo.specs.declared.plan.Plan.{Plan}
+use Rattle.smo.specs.declared.plan.Plan.TheVariants.{Install, Split, Root as NewRoot, Unlink}
 use Rattle.installs.specs.declared.taking.Taking.{Taking}
 use Rattle.installs.specs.declared.taking.Taking.TheVariants.{Bits, Take}
 use Rattle.sweep.specs.Bounded.{most_steps, reuses_left}

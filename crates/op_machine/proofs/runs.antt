@@ -7,3 +7,4 @@ pub mod Refused
 pub mod ClaimedInsert
 pub mod TooMany
 pub mod Foreign
+pub mod TurningLeft

@@ -6,6 +6,8 @@ pub mod Wants
 pub mod Lacks
 pub mod Shows
 pub mod Outcomes
+pub mod GoesLeft
+pub mod RoundSteps
 pub mod Ops
 pub mod Bounded
 pub mod Upkeep
@@ -17,3 +19,4 @@ pub mod Places
 pub mod InPlace
 pub mod UnderWay
 pub mod Actors
+pub mod Meeting

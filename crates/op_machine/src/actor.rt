@@ -179,7 +179,7 @@ impl<R: Rows, A: Allocator> Actor<R, A> {
     }
 
     /// Takes the leave that its operation wants, and answers the reply: the operation is done.
-    #[inline(never)]
+    #[inline]
     pub fn leave(&mut self) -> Reply
         requires told { IsToldActor self.old Done }
         requires leaves { wanted_by self.old.running ≡ Some Step.Leave }

@@ -1,10 +1,15 @@
 //! Worked runs: each function does nothing, and its contract says what the definitions make of one run.
 ghost use Rattle.std.specs.Prelude.{codes, ◌≡◌, ◌∷◌, [], map, replicate, true, false, Some};
+ghost use Rattle.bw_model.specs.declared.step.Answer.TheVariants.{Content, Number};
 ghost use Rattle.bw_model.specs.declared.step.Link.TheVariants as link;
 ghost use Rattle.traces.specs.trace.Run.{IsRun};
 ghost use Rattle.traces.specs.chain.SideChain.{IsWhole};
 ghost use Rattle.traces.specs.trace.Trace.{memory_at, turn_of};
-ghost use Rattle.op_machine.specs.theorem.Examples.{small, lookup, insert_and_lookup, page_life, index_above, row_reuse, hurried_reuse, unnamed_read, two_puts, needless_base, nine_bases, taking_reader, claimed_insert, foreign_fill, many_takes, unmet_read};
+ghost use Rattle.op_machine.specs.machine.GoesLeft.{GoesLeft, first_read, first_write};
+ghost use Rattle.op_machine.specs.machine.Meeting.{before_base, before_slot, inserting, looking, reading_down, reading_left, writing_down, writing_left};
+ghost use Rattle.op_machine.specs.machine.RoundSteps.{StepsInRound};
+ghost use Rattle.op_machine.specs.machine.States.{State, Read, Write};
+ghost use Rattle.op_machine.specs.theorem.Examples.{small, lookup, insert_and_lookup, new_leaf, page_life, index_above, row_reuse, hurried_reuse, unnamed_read, two_puts, needless_base, nine_bases, taking_reader, claimed_insert, foreign_fill, many_takes, unmet_read};
 ghost use Rattle.op_machine.specs.theorem.Changes.{HasFewChanges};
 ghost use Rattle.op_machine.specs.theorem.Direct.{IsDirect};
 ghost use Rattle.op_machine.specs.theorem.Faithful.{IsFaithful};
@@ -51,6 +56,19 @@ pub fn page_lives()
     ensures level { IsLevel small page_life 19 1 (index_above ∷ []) }
     ensures whole { IsWhole (index_above ∷ []) }
     ensures term { HasTerm small page_life (index_above ∷ []) (codes "m") 2 true }
+{}
+
+/// An insert that meets the removed leaf goes to the left of it, and so does a lookup; neither begins at the root for its key once more.
+pub fn removed_leaf_turns_left()
+    ensures insert { (new : State) → GoesLeft inserting (Write (writing_down before_base)) (Content new_leaf) new → new ≡ Write writing_left }
+    ensures lookup { (new : State) → GoesLeft looking (Read (reading_down before_base)) (Content new_leaf) new → new ≡ Read reading_left }
+    ensures anew { ¬ GoesLeft inserting (Write (writing_down before_base)) (Content new_leaf) (Write (first_write inserting)) }
+    ensures looked_anew { ¬ GoesLeft looking (Read (reading_down before_base)) (Content new_leaf) (Read (first_read looking)) }
+{}
+
+/// Where the leaf's slot is read as 0, the insert begins at the root for its key once more.
+pub fn empty_slot_begins_anew()
+    ensures { (new : State) → StepsInRound inserting (Write (writing_down before_slot)) (Number 0) new → new ≡ Write (first_write inserting) }
 {}
 
 /// A row is used again by the rule.

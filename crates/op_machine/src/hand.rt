@@ -9,6 +9,7 @@ use crate::then::Then;
 use bw_model::{Limits, OpenError};
 use epochs::Limbo;
 use installs::{End, Spares};
+use smo::After;
 use std::alloc::{Allocator, Global};
 use std::marker::Model;
 use sweep::{chains_go_to_limbo, take_out};
@@ -73,7 +74,7 @@ impl<A: Allocator> Hand<A> {
         ensures spares { self.new.spares ≡ self.old.spares }
     {
         chains_go_to_limbo();
-        if let (End::Won, Then::Limbo(unlinked)) = (end, then) {
+        if let (End::Won, Then::After(After::Limbo(unlinked))) = (end, then) {
             take_out(&mut self.limbo, unlinked.rows.as_slice(), unlinked.pid);
         }
     }

@@ -19,16 +19,15 @@ mod places;
 mod read_ends;
 mod task;
 mod then;
-mod unlinked;
 mod write_ends;
 
 pub use actor::{Actor, idle_actors_rest};
 pub use errands::MAX_ERRANDS;
 pub use examples::{
-    claimed_insert_is_refused, foreign_slots_are_refused, hurried_reuse_is_refused,
-    insert_and_lookup_is_linearized, lookup_is_linearized, many_takes_are_refused,
-    nine_changes_are_refused, page_lives, row_is_freed, unnamed_read_is_refused,
-    useless_links_are_refused,
+    claimed_insert_is_refused, empty_slot_begins_anew, foreign_slots_are_refused,
+    hurried_reuse_is_refused, insert_and_lookup_is_linearized, lookup_is_linearized,
+    many_takes_are_refused, nine_changes_are_refused, page_lives, removed_leaf_turns_left,
+    row_is_freed, unnamed_read_is_refused, useless_links_are_refused,
 };
 pub use hand::Hand;
 pub use log_laws::{

@@ -117,6 +117,7 @@ impl<R: Rows, A: Allocator> Operation<R, A> {
     }
 
     /// The step that the operation wants, with the record that is to be placed lent from where it lies.
+    #[inline]
     pub fn wanted(&self, hand: &Hand<A>) -> Step<&Record>
         requires shown { IsOpShown self.now hand.now }
         requires asks { IsSome (wanted_of self.now hand.now) }
@@ -129,7 +130,7 @@ impl<R: Rows, A: Allocator> Operation<R, A> {
     }
 
     /// The reply of an operation that has left.
-    #[inline(never)]
+    #[inline]
     pub fn leave(&self) -> Reply
         requires leaving { is_leaving self.now.state ≡ true }
         ensures reply { self.now.state ≡ State.Leave result (lacks_at self.now.state) }

@@ -36,9 +36,10 @@ use crate::task::Task;
 use crate::then::Then;
 use bw_model::{Key, Limits, Reply, Step, Told};
 use deltas::{Record, Remove};
-use installs::{Change, End, Kind, Plan, Spares};
+use installs::{Change, End, Kind, Spares};
 use rounds::{Asked, ReadEnded, ReadRound, WriteEnded, WriteRound};
 use row_search::{RowAt, Rows};
+use smo::{After, Plan};
 use std::alloc::{AllocError, Allocator, Global};
 use std::marker::Model;
 
@@ -100,7 +101,7 @@ impl<R: Rows, A: Allocator + Copy> Places<R, A> {
             reader: ReadRound::<R, A>::new(alloc, limits)?,
             writer: WriteRound::<R, A>::new(alloc, limits)?,
             change: no_change(limits),
-            then: Then::Round,
+            then: Then::After(After::Round),
             reply: Reply::None,
             lacks: None,
         })
@@ -242,6 +243,7 @@ impl<R: Rows, A: Allocator> Places<R, A> {
     }
 
     /// The step that is wanted, with the record that is to be placed lent from where it lies.
+    #[inline]
     pub(crate) fn wanted(&self, spares: &Spares) -> Step<&Record>
         requires stands { (task : TaskSeen) × (k : Knowledge) × (r : Recalled) × ShowsState task spares.now k r (state_of self.now) }
         requires asks { IsSome (wanted_at spares.now (state_of self.now)) }

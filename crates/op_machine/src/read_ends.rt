@@ -1,6 +1,6 @@
 //! What an operation makes of the end of a reader's round, where its pages stand.
-ghost use Rattle.std.specs.Prelude.{◌≡◌, ◌≢◌, ◌≤◌, ℕ, IsSome};
-ghost use Rattle.bw_model.specs.Replies.{command_key};
+ghost use Rattle.std.specs.Prelude.{◌≡◌, ◌≢◌, ◌≤◌, ℕ, IsSome, Some, false, true};
+ghost use Rattle.bw_model.specs.Replies.{command_key, is_writer};
 ghost use Rattle.bw_model.specs.declared.command.Reply.TheVariants as reply;
 ghost use Rattle.row_chain.specs.Placed.{IsReadChain};
 ghost use Rattle.traces.specs.discipline.Discipline.{MayReply};
@@ -9,10 +9,13 @@ ghost use Rattle.traces.specs.discipline.Recalled.{Recalled};
 ghost use Rattle.descent.specs.Machines.{AreThere};
 ghost use Rattle.installs.specs.Spares.{Spares};
 ghost use Rattle.op_machine.specs.machine.Bounded.{left_at, left_for, one_round};
+ghost use Rattle.op_machine.specs.machine.GoesLeft.{first_read, first_write};
 ghost use Rattle.op_machine.specs.machine.Outcomes as Outcome;
 ghost use Rattle.op_machine.specs.machine.Outcomes.{FacesRead, StandsForReader};
 ghost use Rattle.op_machine.specs.machine.Places.{HaveLimits, state_of};
+ghost use Rattle.op_machine.specs.machine.RoundSteps.{AfterReading};
 ghost use Rattle.op_machine.specs.machine.Shows.{ShowsState, wanted_at};
+ghost use Rattle.op_machine.specs.machine.States as State;
 ghost use Rattle.op_machine.specs.machine.Tasks.{IsBetweenChanges, Seeks};
 ghost use Rattle.rounds.specs.ReadRounds.{ended_read};
 
@@ -33,6 +36,8 @@ impl Task {
         ensures few { (spares : Spares) (r : Recalled) → left_at self.now.limits r spares (state_of places.new) ≤ one_round self.now.limits }
         ensures asks { (spares : Spares) → IsSome (wanted_at spares (state_of places.new)) }
         ensures have { HaveLimits self.now.limits places.new }
+        ensures reads { is_writer self.now.command ≡ false → state_of places.new ≡ State.Read (first_read self.now) }
+        ensures writes { is_writer self.now.command ≡ true → state_of places.new ≡ State.Write (first_write self.now) }
     {
         if self.command().is_writer() {
             places.write(self.way_key(), self.due(), self.tends());
@@ -59,6 +64,7 @@ impl Task {
         ensures few { (spares : Spares) (r : Recalled) → left_at self.now.limits r spares (state_of places.new) ≤ left_for self.now.limits (Outcome.Read (ended_read places.old.reader ended)) }
         ensures asks { (spares : Spares) → IsSome (wanted_at spares (state_of places.new)) }
         ensures have { HaveLimits self.now.limits places.new }
+        ensures goes { AfterReading self.now places.old.reader.round (Some (ended_read places.old.reader ended)) (state_of places.new) }
     {
         read_leaves_stood();
         match ended {

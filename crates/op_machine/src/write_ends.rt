@@ -1,5 +1,5 @@
 //! What an operation makes of the end of a writer's round, where its pages stand, and of the end of a change.
-ghost use Rattle.std.specs.Prelude.{◌≡◌, ◌≤◌, ◌+◌, ◌-◌, [], IfSome, Option, IsSome, MatchOption, length, take};
+ghost use Rattle.std.specs.Prelude.{◌≡◌, ◌≤◌, ◌+◌, ◌-◌, [], IfSome, Option, Some, IsSome, MatchOption, length, take};
 ghost use Rattle.traces.specs.discipline.Knowledge.{Knowledge};
 ghost use Rattle.traces.specs.discipline.Recalled.{Recalled};
 ghost use Rattle.descent.specs.Machines.{AreThere};
@@ -10,27 +10,24 @@ ghost use Rattle.op_machine.specs.machine.Brings.{errands_after};
 ghost use Rattle.op_machine.specs.machine.Outcomes as Outcome;
 ghost use Rattle.op_machine.specs.machine.Outcomes.{FacesChanged, FacesWritten, IsAtLeaf, IsAtLeafBelow};
 ghost use Rattle.op_machine.specs.machine.Places.{HaveLimits, state_of};
+ghost use Rattle.op_machine.specs.machine.RoundSteps.{AfterWriting};
 ghost use Rattle.op_machine.specs.machine.Shows.{ShowsState, wanted_at};
 ghost use Rattle.op_machine.specs.machine.Tasks.{IsSameTask};
-ghost use Rattle.op_machine.specs.machine.Upkeep.{IsIdleFor, IsUpkeepFor, IsUpkeepPlan, plan_of};
+ghost use Rattle.op_machine.specs.machine.Upkeep.{IsIdleFor, IsUpkeepFor};
 ghost use Rattle.rounds.specs.WriteRounds.{ended_write};
 ghost use Rattle.smo.specs.Reads.{IsReadPage};
-ghost use Rattle.smo.specs.Upkeep.{IsIdle};
 ghost use Rattle.smo.specs.Versions.{Version};
 
 use crate::places::Places;
 use crate::task::Task;
 use crate::then::Then;
-use crate::unlinked::Unlinked;
-use base_page::Page;
 use bw_model::{Command, Reply};
-use deltas::{Merge, Record, Term, Unterm};
-use installs::{End, Plan, Spares, plans_may_be_linked};
+use installs::{End, Spares, plans_may_be_linked};
 use rounds::{WriteEnded, WriteRound};
 use row_search::{KeyWords, Rows};
-use smo::{PageInHand, SplitPlan, Upkeep, plan_upkeep};
+use smo::{After, Plan, plan_upkeep};
 use std::alloc::Allocator;
-use traces::{chain_is_one, chains_make_pages, updates_fit};
+use traces::{chains_make_pages, updates_fit};
 
 impl Task {
     /// A writer makes the change that is due where its round ended, or goes on at the leaf.
@@ -50,18 +47,13 @@ impl Task {
         ensures asks { IsSome (wanted_at spares.now (state_of places.new)) }
         ensures same { IsSameTask self.old self.new }
         ensures have { HaveLimits self.new.limits places.new }
+        ensures goes { AfterWriting self.old places.old.writer.round (Some (ended_write places.old.writer ended)) (state_of places.new) }
     {
         match ended {
             WriteEnded::Again | WriteEnded::Done => self.begin_round(places),
             WriteEnded::Removed => places.write_left(rows, pass),
-            WriteEnded::Consolidate => self.begin_consolidation(spares, places, rows, pass),
-            WriteEnded::Split(plan) => self.begin_split(spares, plan, places),
-            WriteEnded::Term(term) => self.begin_term(spares, term, places),
-            WriteEnded::Root(root) => self.begin_root(spares, root, places),
-            WriteEnded::Tend(upkeep) => self.begin_upkeep(spares, upkeep, places),
+            WriteEnded::Due(plan, after) => self.begin_due(spares, plan, after, places),
             WriteEnded::Leaf => self.end_at_sought_leaf(spares, places, rows, pass),
-            WriteEnded::Merge(merge) => self.begin_merge(spares, merge, places),
-            WriteEnded::Unterm(unterm) => self.begin_unlink(spares, unterm, places),
         }
     }
 
@@ -111,7 +103,7 @@ impl Task {
     {
         plans_may_be_linked();
         match self.upkeep_at(places.writer(), rows, pass) {
-            Some(plan) => places.begin_change(self, spares, plan, Then::Round),
+            Some(plan) => places.begin_change(self, spares, plan, Then::After(After::Round)),
             None => self.execute_at_leaf(spares, places, rows, pass),
         }
     }
@@ -130,7 +122,7 @@ impl Task {
     {
         match (self.command(), round.kept_parent()) {
             (Command::Delete(_) | Command::Tidy(_), Some(parent)) => {
-                upkeep_at_leaf(parent, round.page(), rows, pass)
+                plan_upkeep(parent, round.page(), rows, pass)
             }
             _ => None,
         }
@@ -175,175 +167,24 @@ impl Task {
         places.begin_change(self, spares, plan, Then::Reply(reply))
     }
 
-    /// A base is linked in the place of the chain of the page in hand.
+    /// A change begins that is due where the round ended.
     #[inline(never)]
-    fn begin_consolidation<R: Rows, A: Allocator>(
+    fn begin_due<R: Rows, A: Allocator>(
         &self,
         spares: &Spares,
+        plan: Plan,
+        after: After,
         places: &mut Places<R, A>,
-        rows: &R,
-        pass: &mut R::Pass,
     )
         requires have { HaveLimits self.now.limits places.old }
-        requires faced { (k : Knowledge) × (r : Recalled) × FacesWritten self.now spares.now k r (end.Consolidate places.old.writer.page) × AreThere (R.has rows.now pass.old) k }
-        ensures looks { pass.new ≡ pass.old }
-        ensures stands { (k : Knowledge) (r : Recalled) → FacesWritten self.now spares.now k r (end.Consolidate places.old.writer.page) → ShowsState self.now spares.now k r (state_of places.new) }
+        requires faced { (k : Knowledge) × (r : Recalled) × FacesWritten self.now spares.now k r (end.Due plan after) }
+        ensures stands { (k : Knowledge) (r : Recalled) → FacesWritten self.now spares.now k r (end.Due plan after) → ShowsState self.now spares.now k r (state_of places.new) }
         ensures few { (r : Recalled) → left_at self.now.limits r spares.now (state_of places.new) ≤ few_changes self.now.limits + 1 }
         ensures asks { IsSome (wanted_at spares.now (state_of places.new)) }
         ensures have { HaveLimits self.now.limits places.new }
     {
         plans_may_be_linked();
-        chain_is_one();
-        let page = places.writer().page();
-        let base = page.chain().consolidated(rows, pass);
-        let plan = Plan::Install {
-            pid: page.pid(),
-            head: page.head(),
-            content: Record::Base(base),
-        };
-        let unlinked = Unlinked::chain(page);
-        places.begin_change(self, spares, plan, Then::Limbo(unlinked))
-    }
-
-    /// The page in hand is split; its new page is an errand then.
-    #[inline(never)]
-    fn begin_split<R: Rows, A: Allocator>(
-        &self,
-        spares: &Spares,
-        plan: SplitPlan,
-        places: &mut Places<R, A>,
-    )
-        requires have { HaveLimits self.now.limits places.old }
-        requires faced { (k : Knowledge) × (r : Recalled) × FacesWritten self.now spares.now k r (end.Split places.old.writer.page plan) }
-        ensures stands { (k : Knowledge) (r : Recalled) → FacesWritten self.now spares.now k r (end.Split places.old.writer.page plan) → ShowsState self.now spares.now k r (state_of places.new) }
-        ensures few { (r : Recalled) → left_at self.now.limits r spares.now (state_of places.new) ≤ few_changes self.now.limits + 1 }
-        ensures asks { IsSome (wanted_at spares.now (state_of places.new)) }
-        ensures have { HaveLimits self.now.limits places.new }
-    {
-        plans_may_be_linked();
-        let separator = plan.upper.low().copied();
-        let pid = places.writer().page().pid();
-        let plan = Plan::Split { pid, plan };
-        places.begin_change(self, spares, plan, Then::Errand(separator))
-    }
-
-    /// A page's term is linked on the page in the parent's place.
-    #[inline(never)]
-    fn begin_term<R: Rows, A: Allocator>(
-        &self,
-        spares: &Spares,
-        term: Term,
-        places: &mut Places<R, A>,
-    )
-        requires have { HaveLimits self.now.limits places.old }
-        requires faced { (k : Knowledge) × (r : Recalled) × FacesWritten self.now spares.now k r (end.Term places.old.writer.parent term) }
-        ensures stands { (k : Knowledge) (r : Recalled) → FacesWritten self.now spares.now k r (end.Term places.old.writer.parent term) → ShowsState self.now spares.now k r (state_of places.new) }
-        ensures few { (r : Recalled) → left_at self.now.limits r spares.now (state_of places.new) ≤ few_changes self.now.limits + 1 }
-        ensures asks { IsSome (wanted_at spares.now (state_of places.new)) }
-        ensures have { HaveLimits self.now.limits places.new }
-    {
-        plans_may_be_linked();
-        let parent = places.writer().parent();
-        let plan = Plan::Install {
-            pid: parent.pid(),
-            head: parent.head(),
-            content: Record::Term(term),
-        };
-        places.begin_change(self, spares, plan, Then::Round)
-    }
-
-    /// A root is linked over the page in the left one's place and its right.
-    #[inline(never)]
-    fn begin_root<R: Rows, A: Allocator>(
-        &self,
-        spares: &Spares,
-        root: Page,
-        places: &mut Places<R, A>,
-    )
-        requires have { HaveLimits self.now.limits places.old }
-        requires faced { (k : Knowledge) × (r : Recalled) × FacesWritten self.now spares.now k r (end.Root places.old.writer.left root) }
-        ensures stands { (k : Knowledge) (r : Recalled) → FacesWritten self.now spares.now k r (end.Root places.old.writer.left root) → ShowsState self.now spares.now k r (state_of places.new) }
-        ensures few { (r : Recalled) → left_at self.now.limits r spares.now (state_of places.new) ≤ few_changes self.now.limits + 1 }
-        ensures asks { IsSome (wanted_at spares.now (state_of places.new)) }
-        ensures have { HaveLimits self.now.limits places.new }
-    {
-        plans_may_be_linked();
-        let left = places.writer().left().pid();
-        let plan = Plan::Root { left, root };
-        places.begin_change(self, spares, plan, Then::Round)
-    }
-
-    /// The page in hand, which is small, is removed, or the page in the parent's place holds its term.
-    #[inline(never)]
-    fn begin_upkeep<R: Rows, A: Allocator>(
-        &self,
-        spares: &Spares,
-        upkeep: Upkeep,
-        places: &mut Places<R, A>,
-    )
-        requires have { HaveLimits self.now.limits places.old }
-        requires faced { (k : Knowledge) × (r : Recalled) × FacesWritten self.now spares.now k r (end.Tend places.old.writer.parent places.old.writer.page upkeep) }
-        ensures stands { (k : Knowledge) (r : Recalled) → FacesWritten self.now spares.now k r (end.Tend places.old.writer.parent places.old.writer.page upkeep) → ShowsState self.now spares.now k r (state_of places.new) }
-        ensures few { (r : Recalled) → left_at self.now.limits r spares.now (state_of places.new) ≤ few_changes self.now.limits + 1 }
-        ensures asks { IsSome (wanted_at spares.now (state_of places.new)) }
-        ensures have { HaveLimits self.now.limits places.new }
-    {
-        plans_may_be_linked();
-        let plan = planned(upkeep, places.writer().parent(), places.writer().page());
-        places.begin_change(self, spares, plan, Then::Round)
-    }
-
-    /// What the page in hand has, which is removed, comes into the leaf in the left one's place.
-    #[inline(never)]
-    fn begin_merge<R: Rows, A: Allocator>(
-        &self,
-        spares: &Spares,
-        merge: Merge,
-        places: &mut Places<R, A>,
-    )
-        requires have { HaveLimits self.now.limits places.old }
-        requires faced { (k : Knowledge) × (r : Recalled) × FacesWritten self.now spares.now k r (end.Merge places.old.writer.left places.old.writer.page merge) }
-        ensures stands { (k : Knowledge) (r : Recalled) → FacesWritten self.now spares.now k r (end.Merge places.old.writer.left places.old.writer.page merge) → ShowsState self.now spares.now k r (state_of places.new) }
-        ensures few { (r : Recalled) → left_at self.now.limits r spares.now (state_of places.new) ≤ few_changes self.now.limits + 1 }
-        ensures asks { IsSome (wanted_at spares.now (state_of places.new)) }
-        ensures have { HaveLimits self.now.limits places.new }
-    {
-        plans_may_be_linked();
-        let left = places.writer().left();
-        let plan = Plan::Install {
-            pid: left.pid(),
-            head: left.head(),
-            content: Record::Merge(merge),
-        };
-        places.begin_change(self, spares, plan, Then::Round)
-    }
-
-    /// The page in the parent's place loses the term of the page in hand, which was merged, and that page is cleared.
-    #[inline(never)]
-    fn begin_unlink<R: Rows, A: Allocator>(
-        &self,
-        spares: &Spares,
-        unterm: Unterm,
-        places: &mut Places<R, A>,
-    )
-        requires have { HaveLimits self.now.limits places.old }
-        requires faced { (k : Knowledge) × (r : Recalled) × FacesWritten self.now spares.now k r (end.Unterm places.old.writer.parent places.old.writer.left places.old.writer.page unterm) }
-        ensures stands { (k : Knowledge) (r : Recalled) → FacesWritten self.now spares.now k r (end.Unterm places.old.writer.parent places.old.writer.left places.old.writer.page unterm) → ShowsState self.now spares.now k r (state_of places.new) }
-        ensures few { (r : Recalled) → left_at self.now.limits r spares.now (state_of places.new) ≤ few_changes self.now.limits + 1 }
-        ensures asks { IsSome (wanted_at spares.now (state_of places.new)) }
-        ensures have { HaveLimits self.now.limits places.new }
-    {
-        plans_may_be_linked();
-        let parent = places.writer().parent();
-        let removed = places.writer().page();
-        let plan = Plan::Unlink {
-            pid: parent.pid(),
-            head: parent.head(),
-            unterm,
-            removal: removed.head(),
-        };
-        let unlinked = Unlinked::page(removed);
-        places.begin_change(self, spares, plan, Then::Limbo(unlinked))
+        places.begin_change(self, spares, plan, Then::After(after))
     }
 
     /// An update that won has its reply; any other change is followed by a new round, and one for which nothing was free by none.
@@ -365,52 +206,15 @@ impl Task {
                 let reply = reply.copied();
                 places.leave(reply);
             }
-            (End::Won, Then::Errand(separator)) => {
+            (End::Won, Then::After(After::Errand(separator))) => {
                 let separator = separator.copied();
                 self.add_errand(separator);
                 self.begin_round(places);
             }
-            (End::Won, Then::Round | Then::Limbo(_)) | (End::Lost, _) => self.begin_round(places),
+            (End::Won, Then::After(After::Round | After::Limbo(_))) | (End::Lost, _) => {
+                self.begin_round(places)
+            }
             (End::Full(kind), _) => places.give_up(kind),
         }
-    }
-}
-
-/// What is done first at a small leaf below a page.
-fn upkeep_at_leaf<R: Rows, A: Allocator>(
-    parent: &PageInHand<R, A>,
-    leaf: &PageInHand<R, A>,
-    rows: &R,
-    pass: &mut R::Pass,
-) -> Option<Plan>
-    requires parent { IsReadPage (R.has rows.now pass.old) parent.now }
-    requires page { IsReadPage (R.has rows.now pass.old) leaf.now }
-    ensures looks { pass.new ≡ pass.old }
-    ensures due { MatchOption result (IsIdle parent.now leaf.now) (IsUpkeepPlan parent.now leaf.now) }
-{
-    let upkeep = plan_upkeep(parent, leaf, rows, pass)?;
-    Some(planned(upkeep, parent, leaf))
-}
-
-/// The change by which the page is removed, or its parent holds its term.
-#[inline(never)]
-fn planned<R: Rows, A: Allocator>(
-    upkeep: Upkeep,
-    parent: &PageInHand<R, A>,
-    page: &PageInHand<R, A>,
-) -> Plan
-    ensures { result ≡ plan_of parent.now page.now upkeep }
-{
-    match upkeep {
-        Upkeep::Remove(remove) => Plan::Install {
-            pid: page.pid(),
-            head: page.head(),
-            content: Record::Remove(remove),
-        },
-        Upkeep::Hold(hold) => Plan::Install {
-            pid: parent.pid(),
-            head: parent.head(),
-            content: Record::Hold(hold),
-        },
     }
 }

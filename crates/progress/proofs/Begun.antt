@@ -15,7 +15,7 @@ use Rattle.traces.specs.trace.Trace.{TakesStep, command_of, commands_after}
 use Rattle.traces.proofs.TraceLaws.{command_of-push}
 use Rattle.op_machine.proofs.LogLaws.{take-one}
 use Rattle.op_machine.specs.theorem.Operations.{IsOperation, Operation, TakesOwnStep}
-use Rattle.progress.proofs.Placed.{take_past}
+use Rattle.traces.proofs.Cuts.{take_past}
 
 -- The actor began an operation at a place before this one, and none after it.
 pub record LastBegin (entries : List Entry) (a n : ℕ) : Type 0 where

@@ -15,7 +15,8 @@ use Rattle.traces.specs.declared.trace.Entry.TheVariants.{Begin, Step}
 use Rattle.traces.specs.trace.Run.{IsRun}
 use Rattle.traces.specs.trace.Steps.{IsAnswer, memory_after}
 use Rattle.traces.specs.trace.Trace.{TakesStep, memory_at, memory_of}
-use Rattle.progress.proofs.Placed.{memory_next, take_past}
+use Rattle.traces.proofs.Cuts.{take_past}
+use Rattle.progress.proofs.Placed.{memory_next}
 
 -- the last place at which it was so, before one at which it isn't
 pub last_so : (f : ℕ → ℕ) (v m n : ℕ) → f m ≡ v → m ≤ n → f n ≢ v → (k : ℕ) × (m ≤ k) × (k < n) × (f k ≡ v) × (f (suc k) ≢ v)

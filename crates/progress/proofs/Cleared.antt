@@ -1,53 +1,33 @@
 -- A page that is cleared was removed.
 use Rattle.std.proofs.Common.{◌≡◌, ◌≢◌, ◌<◌, ◌⊎◌, ℕ, List, Bool, true, false, refl, subst, inl, inr, arith}
-use Rattle.std.specs.Prelude.{if◌then◌else◌, ◌==◌}
+use Rattle.std.specs.Prelude.{if◌then◌else◌, ◌==◌, ⊤}
 use Rattle.tree_limits.specs.declared.limits.Limits.{Limits}
 use Rattle.deltas.specs.Memory.{Memory}
 use Rattle.deltas.specs.declared.record.Record.TheVariants as delta
 use Rattle.deltas.specs.declared.record.Remove.{Remove}
 use Rattle.traces.specs.declared.trace.Entry.{Entry}
-use Rattle.traces.specs.trace.Trace.{Happens, memory_at}
+use Rattle.traces.specs.trace.Trace.{Happens}
 use Rattle.op_machine.specs.theorem.Links.{Installs}
-use Rattle.op_machine.specs.theorem.Phases.{Phase, MovesPhase, MovesAt, IsInPhase, KeepsPhases, first_phase, free, indexed, removed, merged, cleared}
-use Rattle.op_machine.specs.theorem.Phases.{takes, splits, becomes_root, terms, under_root, holds, removes, merges, unterms, reuses}
+use Rattle.op_machine.specs.theorem.Phases.{Phase, MovesPhase, MovesAt, IsInPhase, KeepsPhases, first_phase, free, indexed, owned, removed, merged, cleared}
+use Rattle.op_machine.specs.theorem.Phases.{takes, holds, removes, merges, unterms, reuses}
+
+-- the phase in which a move to each one started, where it was one alone; and what removed a page
+abbrev pub CameBy : Memory → Entry → ℕ → Phase → Phase → Type 0
+CameBy memory entry pid from free = from ≡ cleared
+CameBy memory entry pid from owned = from ≡ free
+CameBy memory entry pid from removed = (remove : Remove) × Installs memory entry pid (delta.Remove remove)
+CameBy memory entry pid from merged = from ≡ removed
+CameBy memory entry pid from cleared = from ≡ merged
+CameBy memory entry pid from to = ⊤
 
 module _ {memory : Memory} {entry : Entry} {pid : ℕ} where
-  -- what comes before each phase of a removal
-  to_cleared : (from to : Phase) → MovesPhase memory entry pid from to → to ≡ cleared → from ≡ merged
-  to_cleared from to (takes a is) e = cc
-  to_cleared from to (splits s split i at) e = cc
-  to_cleared from to (becomes_root i) e = cc
-  to_cleared from to (terms s term i at) e = cc
-  to_cleared from to (under_root r c k h i j l m) e = cc
-  to_cleared from to (holds s hold i at) e = cc
-  to_cleared from to (removes remove i) e = cc
-  to_cleared from to (merges s merge c i j at) e = cc
-  to_cleared from to (unterms s unterm i at) e = refl
-  to_cleared from to (reuses a w b x is in_word) e = cc
-
-  to_merged : (from to : Phase) → MovesPhase memory entry pid from to → to ≡ merged → from ≡ removed
-  to_merged from to (takes a is) e = cc
-  to_merged from to (splits s split i at) e = cc
-  to_merged from to (becomes_root i) e = cc
-  to_merged from to (terms s term i at) e = cc
-  to_merged from to (under_root r c k h i j l m) e = cc
-  to_merged from to (holds s hold i at) e = cc
-  to_merged from to (removes remove i) e = cc
-  to_merged from to (merges s merge c i j at) e = refl
-  to_merged from to (unterms s unterm i at) e = cc
-  to_merged from to (reuses a w b x is in_word) e = cc
-
-  to_removed : (from to : Phase) → MovesPhase memory entry pid from to → to ≡ removed → (remove : Remove) × Installs memory entry pid (delta.Remove remove)
-  to_removed from to (takes a is) e = absurd (cc e)
-  to_removed from to (splits s split i at) e = absurd (cc e)
-  to_removed from to (becomes_root i) e = absurd (cc e)
-  to_removed from to (terms s term i at) e = absurd (cc e)
-  to_removed from to (under_root r c k h i j l m) e = absurd (cc e)
-  to_removed from to (holds s hold i at) e = absurd (cc e)
-  to_removed from to (removes remove i) e = (remove, i)
-  to_removed from to (merges s merge c i j at) e = absurd (cc e)
-  to_removed from to (unterms s unterm i at) e = absurd (cc e)
-  to_removed from to (reuses a w b x is in_word) e = absurd (cc e)
+  pub came_by : (from to : Phase) → MovesPhase memory entry pid from to → CameBy memory entry pid from to
+  came_by from to (takes a is) = refl
+  came_by from to (removes remove i) = (remove, i)
+  came_by from to (merges s merge c i j at) = refl
+  came_by from to (unterms s unterm i at) = refl
+  came_by from to (reuses a w b x is in_word) = refl
+  came_by from to other = tt
 
 -- no page begins removed, merged or cleared
 pub begins_in_use : (pid : ℕ) (phase : Phase) → phase ≡ first_phase pid → (phase ≡ indexed) ⊎ (phase ≡ free)
@@ -72,9 +52,9 @@ module _ (limits : Limits) (entries : List Entry) (keeps : KeepsPhases limits en
       → (m : ℕ) × (m < n) × ((remove : Remove) × Happens limits entries m (λ memory entry. Installs memory entry pid (delta.Remove remove)))
   was_removed n at =
       let third = was_moved n cleared (λ e. cc e) (λ e. cc e) at in
-      let second = was_moved third.0 merged (λ e. cc e) (λ e. cc e) (came_from third.0 third.1 cleared merged (λ memory entry moves. to_cleared third.1 cleared moves refl) third.3) in
-      let first = was_moved second.0 removed (λ e. cc e) (λ e. cc e) (came_from second.0 second.1 merged removed (λ memory entry moves. to_merged second.1 merged moves refl) second.3) in
-      let installs = to_removed {memory = memory_at limits entries first.0} {entry = first.3.entry} first.1 removed first.3.holds refl in
+      let second = was_moved third.0 merged (λ e. cc e) (λ e. cc e) (came_from third.0 third.1 cleared merged (λ memory entry. came_by third.1 cleared) third.3) in
+      let first = was_moved second.0 removed (λ e. cc e) (λ e. cc e) (came_from second.0 second.1 merged removed (λ memory entry. came_by second.1 merged) second.3) in
+      let installs = came_by first.1 removed first.3.holds in
       let a : third.0 < n = third.2 in
       let b : second.0 < third.0 = second.2 in
       let c : first.0 < second.0 = first.2 in

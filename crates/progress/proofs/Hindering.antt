@@ -11,6 +11,7 @@ use Rattle.bw_model.specs.declared.step.Link.{Link}
 use Rattle.bw_model.specs.declared.step.Link.TheVariants as link
 use Rattle.bw_model.specs.declared.step.Step.TheVariants.{Exchange, Slot, TakePid, TakeRow}
 use Rattle.deltas.specs.Memory.{Memory}
+use Rattle.base_page.proofs.KeyLaws.{not_true}
 use Rattle.traces.specs.declared.trace.Entry.{Entry}
 use Rattle.traces.specs.declared.trace.Entry.TheVariants.{Step}
 use Rattle.traces.specs.discipline.Recalled.{cause_worth}
@@ -27,7 +28,7 @@ use Rattle.progress.proofs.Between.{take_of}
 use Rattle.progress.proofs.Counted.{Each}
 use Rattle.progress.proofs.Payers.{IsIn, Pays, all_distinct, more_paid, most_of, paid_by, pays_for}
 use Rattle.progress.proofs.Settled.{cleared_none, owned_none}
-use Rattle.progress.proofs.Tallies.{Listed, passes, passes_in, tally, tally_either, tally_most}
+use Rattle.progress.proofs.Tallies.{Listed, one_at_most, passes, passes_in, tally, tally_either, tally_most}
 
 -- whether a link changes the tree
 abbrev pub counts : Option Link → Bool
@@ -63,10 +64,6 @@ changed m (Some (Step a (Exchange slot old new) (Whether true) r)) e =
     (Step a (Exchange slot old new) (Whether true) r, refl, (a, slot, old, new, h.0, ((r, refl), h.1), h.2, h.3))
 changed m o e = absurd (cc)
 
-not_true : (b : Bool) → not b ≡ true → b ≡ false
-not_true true e = absurd (cc)
-not_true false e = refl
-
 apart : (b a : ℕ) → not (b == a) ≡ true → b ≢ a
 apart b a e same = elim (eqb_tells b a) [ inl tells ↦ cc (not_true (b == a) e, tells.0) | inr tells ↦ tells.1 same ]
 
@@ -76,16 +73,8 @@ taken_beside m a (Some (Step b (TakeRow row) (Whether true) r)) e = (Step b (Tak
 taken_beside m a o e = absurd (cc)
 
 beside_takes : (a : ℕ) (o : Option Entry) → cond (takes_beside a o) 1 0 ≤ cond (passes takes_number o) 1 0
-beside_takes a (Some (Step b (TakePid pid) (Whether true) r)) = at_most (not (b == a))
-  where
-    at_most : (t : Bool) → cond t 1 0 ≤ 1
-    at_most true = omega arith
-    at_most false = omega arith
-beside_takes a (Some (Step b (TakeRow row) (Whether true) r)) = at_most (not (b == a))
-  where
-    at_most : (t : Bool) → cond t 1 0 ≤ 1
-    at_most true = omega arith
-    at_most false = omega arith
+beside_takes a (Some (Step b (TakePid pid) (Whether true) r)) = one_at_most (not (b == a))
+beside_takes a (Some (Step b (TakeRow row) (Whether true) r)) = one_at_most (not (b == a))
 beside_takes a o = omega arith
 
 either : (b c : Bool) → b || c ≡ true → (b ≡ true) ⊎ (c ≡ true)

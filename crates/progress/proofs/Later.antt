@@ -18,8 +18,9 @@ use Rattle.progress.specs.Unhindered.{RunsAreUnhindered}
 use Rattle.progress.proofs.Between.{take_of}
 use Rattle.progress.proofs.Counted.{AreDistinct, Each, IsNotAmong}
 use Rattle.progress.proofs.Hindering.{among_hinder, hinder, paid_by_hinder, pays_hinder}
-use Rattle.progress.proofs.Payers.{IsIn, Pays, all_distinct, apart_from, by_order, is_take, pays_for, same_cause}
+use Rattle.progress.proofs.Payers.{IsIn, Pays, all_distinct, apart_from, by_order, pays_for, same_cause}
 use Rattle.progress.proofs.Settled.{cleared_none}
+use Rattle.progress.proofs.Spans.{is_take}
 use Rattle.progress.proofs.Tallies.{listed, tally, tally_most, tally_same, tally_split, tally_within}
 
 -- a test that passes at the first places, and goes on as another one after them
@@ -78,8 +79,8 @@ module _ (limits : Limits) (entries : List Entry) (run : IsRun limits entries) (
   same_number j c d (low, high, inr (inl p)) (low', high', inl q) = absurd (let lt : j < limits.pids = q.0 in let e : j ≡ limits.pids = p.0 in omega arith)
   same_number j c d (low, high, inr (inr p)) (low', high', inl q) = absurd (apart j p.0 q.0 p.2)
   same_number j c d (low, high, inr (inl p)) (low', high', inr (inl q)) =
-      by_order c d (λ lt. let l : q.1.since < m = q.1.low in q.1.calm c _ _ (omega arith) lt p.1.took (is_take limits entries run op p.1.pids p.1.number))
-      (λ lt. let l : p.1.since < m = p.1.low in p.1.calm d _ _ (omega arith) lt q.1.took (is_take limits entries run op q.1.pids q.1.number))
+      by_order c d (λ lt. let l : q.1.since < m = q.1.low in q.1.calm c _ _ (omega arith) lt p.1.took (is_take p.1.pids p.1.number))
+      (λ lt. let l : p.1.since < m = p.1.low in p.1.calm d _ _ (omega arith) lt q.1.took (is_take q.1.pids q.1.number))
   same_number j c d (low, high, inr (inl p)) (low', high', inr (inr q)) = absurd (beyond j q.0 p.0 q.2)
   same_number j c d (low, high, inr (inr p)) (low', high', inr (inl q)) = absurd (beyond j p.0 q.0 p.2)
   same_number j c d (low, high, inr (inr (k, le, e, p))) (low', high', inr (inr (i, le', e', q))) =

@@ -1,33 +1,28 @@
 -- Each cause of an operation needs an entry of its own, where nobody has placed a removal.
-use Rattle.std.proofs.Common.{◌≡◌, ◌≢◌, ◌<◌, ◌≤◌, ◌+◌, ◌-◌, ◌*◌, ◌⊎◌, ℕ, zero, suc, List, [], ◌∷◌, Option, Some, Bool, true, false, drop, length, take, refl, sym, ap, subst, ◌∙◌, inl, inr, arith}
+use Rattle.std.proofs.Common.{◌≡◌, ◌≢◌, ◌<◌, ◌≤◌, ◌+◌, ◌-◌, ◌*◌, ◌⊎◌, ℕ, suc, List, [], ◌∷◌, Some, Bool, true, false, length, take, refl, sym, ap, subst, ◌∙◌, inl, inr, arith}
 use Rattle.std.proofs.Math.Nat.{mul-le-mul_left}
 use Rattle.std.proofs.lemmas.Bool.{cases_lt}
-use Rattle.std.proofs.lemmas.Bool.Decides.{eqb_tells}
 use Rattle.std.proofs.lemmas.List.Elements.{All-head, All-tail}
-use Rattle.std.specs.List.{All, count_by}
+use Rattle.std.specs.List.{All}
 use Rattle.std.specs.List.Sorted.{IsStrictlyIncreasing}
-use Rattle.std.specs.Prelude.{◌==◌, not, slice_get, slice_index, slice_range}
+use Rattle.std.specs.Prelude.{slice_index}
 use Rattle.tree_limits.specs.declared.limits.Limits.{Limits}
-use Rattle.bw_model.specs.declared.command.Reply.{Reply}
 use Rattle.bw_model.specs.declared.step.Answer.TheVariants.{Number, Whether}
 use Rattle.bw_model.specs.declared.step.Step.TheVariants.{Exchange, Slot}
 use Rattle.bw_model.specs.declared.step.Link.{Link}
 use Rattle.bw_model.specs.declared.step.Link.TheVariants as link
 use Rattle.traces.specs.declared.trace.Entry.{Entry}
-use Rattle.traces.specs.declared.trace.Entry.TheVariants.{Step}
-use Rattle.traces.specs.discipline.Recalled.{cause_worth}
 use Rattle.traces.specs.trace.Run.{IsRun}
 use Rattle.traces.specs.trace.Trace.{TakesStep, memory_at}
 use Rattle.op_machine.specs.theorem.Links.{link_of}
 use Rattle.op_machine.specs.theorem.Direct.{IsCause, IsDirect, IsExchangeOf, IsTake, TakesNone}
 use Rattle.op_machine.specs.theorem.Operations.{IsOperation, Operation, TakesOwnStep}
 use Rattle.op_machine.specs.theorem.Phases.{KeepsPhases}
-use Rattle.op_machine.specs.theorem.Progress.{PlacesNoRemoval, steps_from}
-use Rattle.progress.specs.Meanwhile.{StepsArePaidMeanwhile, hinders}
+use Rattle.op_machine.specs.theorem.Progress.{PlacesNoRemoval}
 use Rattle.progress.proofs.Between.{take_of}
 use Rattle.progress.proofs.Causes.{meets_none}
-use Rattle.progress.proofs.Counted.{AreDistinct, Each, IsNotAmong, Passes, no_more}
-use Rattle.progress.proofs.Spans.{ExchangedBeside, TakenBeside, lost_by_change, missed_by_take, of_own, same_step}
+use Rattle.progress.proofs.Counted.{AreDistinct, Each, IsNotAmong}
+use Rattle.progress.proofs.Spans.{ExchangedBeside, TakenBeside, is_take, lost_by_change, missed_by_take, of_own, same_step}
 
 tail_up : (c : ℕ) (cs : List ℕ) → IsStrictlyIncreasing (c ∷ cs) → IsStrictlyIncreasing cs
 tail_up c cs up k h = subst (λ j. slice_index (c ∷ cs) (suc k) < slice_index (c ∷ cs) j) (let e : suc k + 1 ≡ suc (k + 1) = omega arith in e) (up (suc k) (omega arith))
@@ -50,11 +45,6 @@ not_among c (d ∷ ds) h = (λ same. let lt : c < d = h.0 in omega arith, not_am
 pub all_distinct : (cs : List ℕ) → IsStrictlyIncreasing cs → AreDistinct cs
 all_distinct [] up = tt
 all_distinct (c ∷ cs) up = (not_among c cs (above_first c cs up), all_distinct cs (tail_up c cs up))
-
-pub get_drop : {X : Type 0} (xs : List X) (a j : ℕ) → slice_get (drop a xs) j ≡ slice_get xs (a + j)
-get_drop xs zero j = ap (slice_get xs) (let e : j ≡ 0 + j = omega arith in e)
-get_drop [] (suc a) j = refl
-get_drop (x ∷ xs) (suc a) j = get_drop xs a j ∙ ap (slice_get (x ∷ xs)) (let e : suc (a + j) ≡ suc a + j = omega arith in e)
 
 abbrev pub IsIn : ℕ → List ℕ → Type 0
 IsIn d [] = ⊥
@@ -112,10 +102,6 @@ module _ (limits : Limits) (entries : List Entry) (run : IsRun limits entries) (
   abbrev pub Pays : ℕ → ℕ → Type 0
   Pays k c = (op.start < k) × (k ≤ c) × (WinsItself k c ⊎ LosesTo k c ⊎ MissesTo k c)
 
-  pub is_take : (pids : Bool) (number : ℕ) → IsTake (take_of pids number)
-  is_take true number = tt
-  is_take false number = tt
-
   no_take : (pids : Bool) (number slot old new : ℕ) → Exchange slot old new ≡ take_of pids number → ⊥
   no_take true number slot old new e = cc
   no_take false number slot old new e = cc
@@ -141,21 +127,6 @@ module _ (limits : Limits) (entries : List Entry) (run : IsRun limits entries) (
       by_order c d (λ lt. q.none c _ _ (omega (arith, q.low, p.high)) lt p.took slot) (λ lt. p.none d _ _ (omega (arith, p.low, q.high)) lt q.took (sym slot))
   same_cause k c d (low, high, inr (inr p)) (low', high', inr (inr q)) =
       by_order c d (λ lt. q.none c _ _ (omega (arith, q.low, p.high)) lt p.took (is_take p.pids p.number)) (λ lt. p.none d _ _ (omega (arith, p.low, q.high)) lt q.took (is_take q.pids q.number))
-
-  -- it counts as one that hinders
-  passes_not : (other : ℕ) → other ≢ op.actor → not (other == op.actor) ≡ true
-  passes_not other ne = elim (eqb_tells other op.actor) [ inl same ↦ absurd (ne same.1) | inr apart ↦ rw apart.0 refl ]
-
-  take_hinders : (pids : Bool) (number other : ℕ) (reply : Option Reply) → other ≢ op.actor → hinders op.actor (Step other (take_of pids number) (Whether true) reply) ≡ true
-  take_hinders true number other reply ne = passes_not other ne
-  take_hinders false number other reply ne = passes_not other ne
-
-  pays_hinders : (k c : ℕ) → WinsItself k c ⊎ LosesTo k c ⊎ MissesTo k c → (e : Entry) × (slice_get entries k ≡ Some e) × (hinders op.actor e ≡ true)
-  pays_hinders k c (inl p) =
-      let e : Entry = Step op.actor (Exchange p.slot p.old p.new) (Whether true) p.took.0 in
-      (e, subst (λ j. slice_get entries j ≡ Some e) (sym p.same) p.took.1.entry, refl)
-  pays_hinders k c (inr (inl p)) = (Step p.beside.0 (Exchange p.slot p.old p.beside.1) (Whether true) p.beside.3.0, p.beside.3.1, refl)
-  pays_hinders k c (inr (inr p)) = (Step p.beside.0 (take_of p.pids p.number) (Whether true) p.beside.2.0, p.beside.2.1, take_hinders p.pids p.number p.beside.0 p.beside.2.0 p.beside.1)
 
   -- for each of these causes an entry after the begin, and different ones for different ones
   pub record PaidBy (cs : List ℕ) : Type 0 where
@@ -190,17 +161,6 @@ module _ (limits : Limits) (entries : List Entry) (run : IsRun limits entries) (
         each = ((c, inl refl, pays), more_causes c cs rest.places rest.each);
       }
 
-  all_pass : (n : ℕ) (cs js : List ℕ) → ((d : ℕ) → IsIn d cs → d ≤ n) → Each (λ j. (d : ℕ) × IsIn d cs × Pays (op.start + j) d) js
-      → Each (λ j. (j < suc n - op.start) × Passes (hinders op.actor) (drop op.start entries) j) js
-  all_pass n cs [] within each = tt
-  all_pass n cs (j ∷ js) within each =
-      let pays = each.0.2 in
-      let low : op.start < op.start + j = pays.0 in
-      let high : op.start + j ≤ each.0.0 = pays.1 in
-      let most : each.0.0 ≤ n = within each.0.0 each.0.1 in
-      let found = pays_hinders (op.start + j) each.0.0 pays.2 in
-      ((omega arith, (found.0, get_drop entries op.start j ∙ found.1, found.2)), all_pass n cs js within each.1)
-
   module _ (keeps : KeepsPhases limits entries) (direct : IsDirect limits entries) (begun : IsOperation entries op) (n : ℕ) (none : PlacesNoRemoval (take n entries)) where
     -- what a cause needed
     pub pays_for : (c : ℕ) → (c ≤ n) × IsCause limits entries op c → (k : ℕ) × Pays k c
@@ -230,21 +190,5 @@ module _ (limits : Limits) (entries : List Entry) (run : IsRun limits entries) (
     most_of (c ∷ cs) all d (inl here) = rw here (All-head (λ c. (c ≤ n) × IsCause limits entries op c) c cs all).0
     most_of (c ∷ cs) all d (inr there) = most_of cs (All-tail (λ c. (c ≤ n) × IsCause limits entries op c) c cs all) d there
 
-    pub few_causes : (cs : List ℕ) → IsStrictlyIncreasing cs → All (λ c. (c ≤ n) × IsCause limits entries op c) cs → length cs ≤ count_by (hinders op.actor) (slice_range entries op.start (suc n))
-    few_causes cs up all =
-        let paid = paid_by (λ c. (c ≤ n) × IsCause limits entries op c) pays_for cs (all_distinct cs up) all in
-        let pass = all_pass n cs paid.places (most_of cs all) paid.each in
-        let most : length paid.places ≤ count_by (hinders op.actor) (take (suc n - op.start) (drop op.start entries))
-        = no_more (hinders op.actor) (drop op.start entries) (suc n - op.start) paid.places paid.distinct pass in
-        rw paid.as_many at most
-
 pub more_paid : (steps worth causes most : ℕ) → causes ≤ most → steps ≤ worth * (causes + 1) → steps ≤ worth * (most + 1)
 more_paid steps worth causes most le paid = let grown : worth * (causes + 1) ≤ worth * (most + 1) = mul-le-mul_left worth (omega arith) in omega (arith, grown, paid)
-
-pub paid_meanwhile : StepsArePaidMeanwhile
-paid_meanwhile limits entries run keeps direct = record {
-  few = λ op n begun own none.
-      let h = direct.few op n begun own in
-      let most : length h.0 ≤ count_by (hinders op.actor) (slice_range entries op.start (suc n)) = few_causes limits entries run op keeps direct begun n none h.0 h.1 h.2 in
-      more_paid (steps_from entries op.actor op.start n) (cause_worth limits) (length h.0) (count_by (hinders op.actor) (slice_range entries op.start (suc n))) most h.3;
-}

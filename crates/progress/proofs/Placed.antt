@@ -1,8 +1,8 @@
 -- A record that stands in a row was placed there, or stood there from the beginning.
-use Rattle.std.proofs.Common.{◌≡◌, ◌<◌, ◌≤◌, ◌⊎◌, ◌∷◌, ℕ, zero, suc, List, Option, None, Some, Bool, true, false, take, refl, sym, ap, subst, ◌∙◌, inl, inr, arith}
+use Rattle.std.proofs.Common.{◌≡◌, ◌<◌, ◌≤◌, ◌⊎◌, ℕ, zero, suc, List, Option, None, Some, Bool, true, false, take, refl, sym, ap, subst, ◌∙◌, inl, inr, arith}
 use Rattle.std.proofs.lemmas.Bool.Decides.{eqb_tells}
 use Rattle.std.proofs.lemmas.Option.{same_Some}
-use Rattle.std.specs.Prelude.{if◌then◌else◌, slice_get, ◌==◌, []}
+use Rattle.std.specs.Prelude.{if◌then◌else◌, slice_get, ◌==◌}
 use Rattle.tree_limits.specs.declared.limits.Limits.{Limits}
 use Rattle.bw_model.specs.declared.step.Answer.{Answer}
 use Rattle.bw_model.specs.declared.step.Step.{Step as StepOf}
@@ -16,21 +16,10 @@ use Rattle.traces.specs.declared.trace.Entry.{Entry}
 use Rattle.traces.specs.declared.trace.Entry.TheVariants.{Begin, Step}
 use Rattle.traces.specs.trace.Steps.{memory_after}
 use Rattle.traces.specs.trace.Trace.{TakesStep, memory_after_entry, memory_at, memory_of}
+use Rattle.traces.proofs.Cuts.{get_take, take_past}
 use Rattle.traces.proofs.TraceLaws.{memory_of-push}
 use Rattle.op_machine.proofs.LogLaws.{take-one}
 use Rattle.op_machine.specs.theorem.Progress.{PlacesNoRemoval}
-
-pub get_taken : {X : Type 0} (xs : List X) (m n : ℕ) → m < n → slice_get (take n xs) m ≡ slice_get xs m
-get_taken xs m zero lt = absurd (omega arith)
-get_taken [] m (suc n) lt = refl
-get_taken (x ∷ xs) zero (suc n) lt = refl
-get_taken (x ∷ xs) (suc m) (suc n) lt = get_taken xs m n (omega arith)
-
-pub take_past : {X : Type 0} (xs : List X) (n : ℕ) → slice_get xs n ≡ None → take (suc n) xs ≡ take n xs
-take_past [] zero e = refl
-take_past [] (suc n) e = refl
-take_past (x ∷ xs) zero e = cc
-take_past (x ∷ xs) (suc n) e = ap (λ rest. x ∷ rest) (take_past xs n e)
 
 -- the memory before one step, from that before the step before
 pub memory_next : (limits : Limits) (entries : List Entry) (n : ℕ) (entry : Entry) → slice_get entries n ≡ Some entry
@@ -87,5 +76,5 @@ none_stands limits entries k n row remove le none stands = elim (was_placed limi
   | inr placed ↦
       let lt : placed.0 < k = placed.1 in
       let took = placed.2 in
-      none placed.0 took.0 row remove took.1 (took.2.0, get_taken entries placed.0 n (omega arith) ∙ took.2.1)
+      none placed.0 took.0 row remove took.1 (took.2.0, get_take entries placed.0 n (omega arith) ∙ took.2.1)
 ]

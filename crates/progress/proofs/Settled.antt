@@ -13,34 +13,10 @@ use Rattle.op_machine.specs.theorem.Phases.{IsInPhase, KeepsPhases, MovesAt, Mov
 use Rattle.op_machine.specs.theorem.Phases.{takes, splits, becomes_root, terms, under_root, holds, removes, merges, unterms, reuses}
 use Rattle.op_machine.specs.theorem.Progress.{PlacesNoRemoval}
 use Rattle.op_machine.proofs.PhaseLaws.{is_taken}
-use Rattle.progress.proofs.Cleared.{begins_in_use, came_from, was_removed}
+use Rattle.progress.proofs.Cleared.{begins_in_use, came_by, came_from, was_removed}
 use Rattle.progress.proofs.Placed.{none_stands}
 
 module _ {memory : Memory} {entry : Entry} {pid : ℕ} where
-  to_owned : (from to : Phase) → MovesPhase memory entry pid from to → to ≡ owned → from ≡ free
-  to_owned from to (takes a is) e = refl
-  to_owned from to (splits s split i at) e = cc
-  to_owned from to (becomes_root i) e = cc
-  to_owned from to (terms s term i at) e = cc
-  to_owned from to (under_root r c k h i j l m) e = cc
-  to_owned from to (holds s hold i at) e = cc
-  to_owned from to (removes remove i) e = cc
-  to_owned from to (merges s merge c i j at) e = cc
-  to_owned from to (unterms s unterm i at) e = cc
-  to_owned from to (reuses a w b x is in_word) e = cc
-
-  to_free : (from to : Phase) → MovesPhase memory entry pid from to → to ≡ free → from ≡ cleared
-  to_free from to (takes a is) e = cc
-  to_free from to (splits s split i at) e = cc
-  to_free from to (becomes_root i) e = cc
-  to_free from to (terms s term i at) e = cc
-  to_free from to (under_root r c k h i j l m) e = cc
-  to_free from to (holds s hold i at) e = cc
-  to_free from to (removes remove i) e = cc
-  to_free from to (merges s merge c i j at) e = cc
-  to_free from to (unterms s unterm i at) e = cc
-  to_free from to (reuses a w b x is in_word) e = refl
-
   -- what takes a page makes it nothing else
   taken_only : (from to : Phase) → MovesPhase memory entry pid from to → (a : ℕ) → IsStep entry a (TakePid pid) (Whether true) → to ≡ owned
   taken_only from to (takes a is) b took = refl
@@ -73,7 +49,7 @@ module _ (limits : Limits) (entries : List Entry) (keeps : KeepsPhases limits en
         not_owned (taken_only before phase one.holds took.0 (subst (λ x. IsStep x took.0 (TakePid pid) (Whether true)) entry took.1))
 
     free_none : (j : ℕ) → m ≤ j → j ≤ n → IsInPhase limits entries j pid free → ⊥
-    free_none j le within (inl (i, from, lt, moves, rests)) = cleared_none i pid (omega arith) (came_from limits entries keeps pid i from free cleared (λ memory entry mv. to_free from free mv refl) moves)
+    free_none j le within (inl (i, from, lt, moves, rests)) = cleared_none i pid (omega arith) (came_from limits entries keeps pid i from free cleared (λ memory entry. came_by from free) moves)
     free_none j le within (inr (rests, is)) = by_first at_m
       where
         by_first : IsInPhase limits entries m pid phase → ⊥
@@ -83,7 +59,7 @@ module _ (limits : Limits) (entries : List Entry) (keeps : KeepsPhases limits en
     pub owned_none : (k : ℕ) → m ≤ k → k ≤ n → IsInPhase limits entries k pid owned → ⊥
     owned_none k le within (inr (rests, is)) = elim (begins_in_use pid owned is) [ inl e ↦ cc e | inr e ↦ cc e ]
     owned_none k le within (inl (j, from, lt, moves, rests)) = elim (cases_lt j m) [
-      | inr after ↦ free_none j after (omega arith) (came_from limits entries keeps pid j from owned free (λ memory entry mv. to_owned from owned mv refl) moves)
+      | inr after ↦ free_none j after (omega arith) (came_from limits entries keeps pid j from owned free (λ memory entry. came_by from owned) moves)
       | inl before ↦ by_last before at_m
     ]
       where

@@ -23,6 +23,10 @@ abbrev pub look_of : Bool → ℕ → StepOf Record
 look_of true number = PidBits (number / 64)
 look_of false number = RowBits (number / 64)
 
+pub is_take : (pids : Bool) (number : ℕ) → IsTake (take_of pids number)
+is_take true number = tt
+is_take false number = tt
+
 module _ (entries : List Entry) (op : Operation) where
   -- between its begin and a step of it, each step of its actor is the operation's
   pub own_between : (k n : ℕ) (s t : StepOf Record) (x y : Answer Record) → op.start < k → k < n → TakesStep entries k op.actor s x → TakesOwnStep entries op n t y → TakesOwnStep entries op k s x
@@ -91,10 +95,6 @@ module _ (limits : Limits) (entries : List Entry) (run : IsRun limits entries) (
   none_free : (pids : Bool) (number n : ℕ) → TakesOwnStep entries op n (take_of pids number) (Whether false) → freedom pids (memory_at limits entries n) number ≢ 1
   none_free true number n missed = is_taken ((memory_at limits entries n).free_pids number) (run.each n _ missed.1.entry).2
   none_free false number n missed = is_taken ((memory_at limits entries n).free_rows number) (run.each n _ missed.1.entry).2
-
-  is_take : (pids : Bool) (number : ℕ) → IsTake (take_of pids number)
-  is_take true number = tt
-  is_take false number = tt
 
   no_look : (pids : Bool) (number other : ℕ) → look_of pids other ≡ take_of pids number → ⊥
   no_look true number other e = cc

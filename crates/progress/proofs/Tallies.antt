@@ -1,10 +1,7 @@
 -- How many places from one on pass a test, and sums of numbers.
 use Rattle.std.proofs.Common.{◌≡◌, ◌<◌, ◌≤◌, ◌+◌, ◌-◌, ◌*◌, ◌++◌, ℕ, zero, suc, List, [], ◌∷◌, Option, None, Some, Bool, true, false, cond, drop, length, take, refl, ap, ◌∙◌, inl, inr, arith}
 use Rattle.std.proofs.Math.Nat.{mul-add}
-use Rattle.std.proofs.Math.Seq.{get_or-append_seam}
-use Rattle.std.proofs.lemmas.Bool.{cases_lt}
 use Rattle.std.proofs.lemmas.Bool.Decides.{eqb_tells}
-use Rattle.std.proofs.lemmas.List.{get_or_append_left}
 use Rattle.std.proofs.lemmas.List.Elements.{All-push, All-weaker}
 use Rattle.std.proofs.lemmas.List.Sums.{fold-append}
 use Rattle.std.specs.List.{All, count_by}
@@ -12,8 +9,8 @@ use Rattle.std.specs.List.Sorted.{IsStrictlyIncreasing}
 use Rattle.std.specs.Prelude.{◌==◌, slice_get}
 use Rattle.op_machine.proofs.LogLaws.{take-one}
 use Rattle.progress.proofs.Counted.{AreDistinct, Each, among, distinct_without, each_without, without}
-use Rattle.progress.proofs.Payers.{get_drop}
-use Rattle.progress.proofs.Placed.{take_past}
+use Rattle.traces.proofs.Cuts.{get_drop, take_past}
+use Rattle.traces.proofs.Pushes.{increasing_push, pushed_length}
 
 -- how many of the first n places from m on pass the test
 abbrev pub tally : (ℕ → Bool) → ℕ → ℕ → ℕ
@@ -55,17 +52,13 @@ tally_none t m (suc n) each =
     let here : cond {A = ℕ} (t (m + n)) 1 0 ≡ 0 = ap (λ (b : Bool). cond {A = ℕ} b 1 0) (each n (omega arith)) in
     omega (arith, rest, here)
 
+pub one_at_most : (b : Bool) → cond b 1 0 ≤ 1
+one_at_most true = omega arith
+one_at_most false = omega arith
+
 pub tally_within : (t : ℕ → Bool) (m n : ℕ) → tally t m n ≤ n
 tally_within t m zero = omega arith
 tally_within t m (suc n) = let rest = tally_within t m n in let here = one_at_most (t (m + n)) in omega (arith, rest, here)
-  where
-    one_at_most : (b : Bool) → cond b 1 0 ≤ 1
-    one_at_most true = omega arith
-    one_at_most false = omega arith
-
-pushed_length : (xs : List ℕ) (x : ℕ) → length (xs ++ x ∷ []) ≡ suc (length xs)
-pushed_length [] x = refl
-pushed_length (y ∷ xs) x = ap suc (pushed_length xs x)
 
 module _ (t : ℕ → Bool) (m : ℕ) where
   -- different places that pass are no more than are counted
@@ -86,16 +79,6 @@ module _ (t : ℕ → Bool) (m : ℕ) where
     pub increasing : IsStrictlyIncreasing places
     pub each : All (λ k. (m ≤ k) × (k < m + n) × (t k ≡ true)) places
     pub counts : length places ≡ tally t m n
-
-  increasing_push : (xs : List ℕ) (x : ℕ) → IsStrictlyIncreasing xs → All (λ y. y < x) xs → IsStrictlyIncreasing (xs ++ x ∷ [])
-  increasing_push xs x up below k h =
-      let long : length (xs ++ x ∷ []) ≡ suc (length xs) = pushed_length xs x in
-      elim (cases_lt (k + 1) (length xs)) [
-        | inl lt ↦ rw (get_or_append_left xs (x ∷ []) 0 k (omega arith), get_or_append_left xs (x ∷ []) 0 (k + 1) lt) (up k lt)
-        | inr ge ↦
-            let at : k + 1 ≡ length xs = omega arith in
-            rw (get_or_append_left xs (x ∷ []) 0 k (omega arith), at, get_or-append_seam xs x [] 0) (below k 0 (omega arith))
-      ]
 
   one_listed : (n : ℕ) → Listed n → Listed (suc n)
   one_listed n before = by_test (t (m + n)) refl

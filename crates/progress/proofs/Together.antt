@@ -21,8 +21,8 @@ use Rattle.op_machine.specs.theorem.Progress.{AreAmong, ChangesTree, PlacesNoRem
 use Rattle.progress.specs.Unhindered.{RunsAreLockFree}
 use Rattle.progress.proofs.Begun.{LastBegin, actor_below, begins_here, command_next, last_begin, one_on}
 use Rattle.progress.proofs.Hindering.{happens, hinder, hinder_parts, is_change, paid_by_hinder}
-use Rattle.progress.proofs.Placed.{get_taken, take_past}
-use Rattle.progress.proofs.Tallies.{counted_range, counted_taken, listed, passes, passes_in, sum, sum_both, sum_less, sum_none, sum_one, sum_worth, tally, tally_grows, tally_none, tally_split}
+use Rattle.traces.proofs.Cuts.{get_take, take_past}
+use Rattle.progress.proofs.Tallies.{counted_range, counted_taken, listed, one_at_most, passes, passes_in, sum, sum_both, sum_less, sum_none, sum_one, sum_worth, tally, tally_grows, tally_none, tally_split}
 
 -- the entry begins an operation of the actor's
 abbrev begin_of : ℕ → Entry → Bool
@@ -51,7 +51,7 @@ sum_ones (suc n) = let rest = sum_ones n in omega (arith, rest)
 -- an earlier part places no removal either
 none_before : (entries : List Entry) (m n : ℕ) → m ≤ n → PlacesNoRemoval (take n entries) → PlacesNoRemoval (take m entries)
 none_before entries m n le none k actor row remove answer (reply, is) = elim (cases_lt k m) [
-  | inl lt ↦ none k actor row remove answer (reply, get_taken entries k n (omega arith) ∙ sym (get_taken entries k m lt) ∙ is)
+  | inl lt ↦ none k actor row remove answer (reply, get_take entries k n (omega arith) ∙ sym (get_take entries k m lt) ∙ is)
   | inr ge ↦ absurd (let e = beyond entries m k ge in cc (e, is))
 ]
   where
@@ -277,7 +277,7 @@ module _ (limits : Limits) (entries : List Entry) (run : IsRun limits entries) w
           omega (arith, before, begins, now)
       by_entry before (Some (Begin b c)) at = elim (eqb_tells a b) [
         | inl same ↦
-            let begins : cond {A = ℕ} (passes_in (begin_of a) entries (0 + n)) 1 0 ≤ 1 = small (passes_in (begin_of a) entries (0 + n)) in
+            let begins : cond {A = ℕ} (passes_in (begin_of a) entries (0 + n)) 1 0 ≤ 1 = one_at_most (passes_in (begin_of a) entries (0 + n)) in
             let idle : under_way (command_of (take n entries) a) ≡ 0 = ap under_way (ap (command_of (take n entries)) same.1 ∙ (run.each n (Begin b c) at).1) in
             let after : commands_after (command_of (take n entries)) (Begin b c) a ≡ Some c = rw same.0 refl in
             let now : under_way (command_of (take (suc n) entries) a) ≡ 1 = ap under_way (command_next entries a n (Begin b c) at ∙ after) in
@@ -289,10 +289,6 @@ module _ (limits : Limits) (entries : List Entry) (run : IsRun limits entries) w
             let now : under_way (command_of (take (suc n) entries) a) ≡ under_way (command_of (take n entries) a) = ap under_way (command_next entries a n (Begin b c) at ∙ after) in
             omega (arith, before, begins, now)
       ]
-        where
-          small : (t : Bool) → cond t 1 0 ≤ 1
-          small true = omega arith
-          small false = omega arith
       by_entry before (Some (Step b s x None)) at =
           let begins : cond {A = ℕ} (passes_in (begin_of a) entries (0 + n)) 1 0 ≡ 0 = mark (begin_of a) (Some (Step b s x None)) at in
           let now : under_way (command_of (take (suc n) entries) a) ≡ under_way (command_of (take n entries) a) = ap under_way (command_next entries a n (Step b s x None) at) in

@@ -1,3 +1,2 @@
 pub mod Readers
-pub mod Meanwhile
 pub mod Unhindered

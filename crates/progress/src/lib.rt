@@ -9,11 +9,9 @@
 #![tactic(auto)]
 
 mod examples;
-mod meanwhile;
 mod readers;
 mod unhindered;
 
-pub use examples::{fills_hinder_nobody, inserts_hinder, removals_are_seen};
-pub use meanwhile::steps_are_paid_meanwhile;
+pub use examples::{fills_hinder_nobody, removals_are_seen};
 pub use readers::readers_read_at_once;
 pub use unhindered::runs_make_progress;

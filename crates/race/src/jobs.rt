@@ -1,6 +1,7 @@
 //! Jobs, of the commands that are asked of them.
 
-ghost use Rattle.std.specs.Prelude.{◌≡◌, ◌<◌, [], All, IfOk, OnOk, map};
+ghost use Rattle.std.specs.Prelude.{◌<◌, [], All, IfOk, OnOk, map};
+ghost use Rattle.shell_lines.specs.declared.race_line.TheConstants.{JOBS};
 ghost use Rattle.race.specs.Jobs.{AddsJob, AreJobsOf};
 ghost use Rattle.race.specs.Lists.{AreListsOf};
 
@@ -22,7 +23,7 @@ fn no_lists(alloc: Global) -> Result<Vec<Vec<Command>>, AllocError>
 
 /// The commands of each job number, in order.
 fn lists_of(alloc: Global, asked: Vec<JobCommand>) -> Result<Vec<Vec<Command>>, AllocError>
-    requires { All (λ asks. asks.job < 4096) asked.items }
+    requires { All (λ asks. asks.job < JOBS) asked.items }
     ensures { IfOk result (λ lists. AreListsOf asked.items (map (λ list. list.items) lists.items)) }
 {
     let mut lists = no_lists(alloc)?;
@@ -45,7 +46,7 @@ fn add_job(jobs: &mut Vec<Job>, number: u32, commands: Vec<Command>) -> Result<(
 
 /// The jobs that are asked for.
 pub fn jobs_of(alloc: Global, asked: Vec<JobCommand>) -> Result<Vec<Job>, AllocError>
-    requires { All (λ asks. asks.job < 4096) asked.items }
+    requires { All (λ asks. asks.job < JOBS) asked.items }
     ensures { IfOk result (λ jobs. AreJobsOf asked.items jobs.items) }
 {
     let lists = lists_of(alloc, asked)?;

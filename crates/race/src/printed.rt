@@ -2,7 +2,7 @@
 
 ghost use Rattle.std.specs.List.{flat_map};
 ghost use Rattle.byte_streams.specs.Output.{Prints};
-ghost use Rattle.race.specs.Results.{job_reply_text, result_text, results_text};
+ghost use Rattle.race.specs.Results.{job_reply_text, results_text};
 
 use bw_model::Reply;
 use bw_shell::{show_number, show_reply};

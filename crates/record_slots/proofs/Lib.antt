@@ -9,5 +9,6 @@ pub mod RuleLaws
 pub mod ShortTexts
 pub mod SpellingLaws
 pub mod TextLaws
+pub mod Unused
 pub mod WordLaws
 pub mod WrittenLaws

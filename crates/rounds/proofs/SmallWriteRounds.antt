@@ -2,10 +2,8 @@
 use Rattle.std.proofs.Common.{◌≡◌, ℕ, true, false, Some, None, refl}
 use Rattle.std.specs.Option.{option_map}
 use Rattle.deltas.specs.declared.record.Record.{Record}
-use Rattle.deltas.specs.declared.record.Merge.{Merge as MergeRecord}
-use Rattle.deltas.specs.declared.record.Term.{Term as TermRecord}
-use Rattle.deltas.specs.declared.record.Unterm.{Unterm as UntermRecord}
-use Rattle.smo.specs.declared.upkeep.Upkeep.{Upkeep}
+use Rattle.smo.specs.declared.after.After.{After}
+use Rattle.smo.specs.declared.plan.Plan.{Plan}
 use Rattle.smo.specs.Reads.{IsReadPage}
 use Rattle.smo.specs.Versions.{Version}
 use Rattle.descent.specs.Courses as kept
@@ -14,7 +12,7 @@ use Rattle.descent.specs.WriteEnds as end
 use Rattle.rounds.specs.Courses.{write_goal, kept_if}
 use Rattle.rounds.specs.WriteRounds.{AreReadToWrite, PlacedWrite, again_if, ended_write}
 use Rattle.rounds.specs.declared.course.Aim.TheVariants as aim
-use Rattle.rounds.specs.declared.write_ended.WriteEnded.TheVariants.{Removed, Term, Tend, Leaf, Merge, Unterm}
+use Rattle.rounds.specs.declared.write_ended.WriteEnded.TheVariants.{Removed, Due, Leaf}
 
 module _ (round : writer.WriteRound) (first second third : Version) where
   -- the first page is in hand, the second stands in the parent's place, the third in the left one's
@@ -27,17 +25,8 @@ module _ (round : writer.WriteRound) (first second third : Version) where
   is_leaf : ended_write (record stands { round = record round { parent = Some second } }) Leaf ≡ end.Leaf (Some second) first
   is_leaf = refl
 
-  gets_term : (term : TermRecord) → ended_write stands (Term term) ≡ end.Term second term
-  gets_term term = refl
-
-  is_small : (upkeep : Upkeep) → ended_write stands (Tend upkeep) ≡ end.Tend second first upkeep
-  is_small upkeep = refl
-
-  gets_first : (merge : MergeRecord) → ended_write stands (Merge merge) ≡ end.Merge third first merge
-  gets_first merge = refl
-
-  loses_first : (unterm : UntermRecord) → ended_write stands (Unterm unterm) ≡ end.Unterm second third first unterm
-  loses_first unterm = refl
+  is_due : (plan : Plan) (after : After) → ended_write stands (Due plan after) ≡ end.Due plan after
+  is_due plan after = refl
 
   goes_on : option_map (ended_write stands) None ≡ None
   goes_on = refl

@@ -9,7 +9,7 @@ use Rattle.descent.specs.WriteRounds as rounds
 use Rattle.descent.specs.WriteEnds.{WriteEnd}
 use Rattle.descent.specs.WriteEnds as end
 use Rattle.rounds.specs.declared.write_ended.WriteEnded.{WriteEnded}
-use Rattle.rounds.specs.declared.write_ended.WriteEnded.TheVariants.{Again, Removed, Consolidate, Split, Term, Root, Tend, Leaf, Merge, Unterm, Done}
+use Rattle.rounds.specs.declared.write_ended.WriteEnded.TheVariants.{Again, Removed, Due, Leaf, Done}
 
 -- The round, the page in hand, which was read whole last, and the pages that stand in the places of the parent and of the left page.
 pub record PlacedWrite : Type 0 where
@@ -22,14 +22,8 @@ pub record PlacedWrite : Type 0 where
 abbrev pub ended_write : PlacedWrite → WriteEnded → WriteEnd
 ended_write round Again = end.Again
 ended_write round Removed = end.Removed round.page
-ended_write round Consolidate = end.Consolidate round.page
-ended_write round (Split plan) = end.Split round.page plan
-ended_write round (Term term) = end.Term round.parent term
-ended_write round (Root root) = end.Root round.left root
-ended_write round (Tend upkeep) = end.Tend round.parent round.page upkeep
+ended_write round (Due plan after) = end.Due plan after
 ended_write round Leaf = end.Leaf round.round.parent round.page
-ended_write round (Merge merge) = end.Merge round.left round.page merge
-ended_write round (Unterm unterm) = end.Unterm round.parent round.left round.page unterm
 ended_write round Done = end.Done
 
 -- a page that was named isn't there, or the round reads on

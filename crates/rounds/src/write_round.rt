@@ -26,7 +26,7 @@ use crate::way::{child_on_way, right_on_way};
 use crate::{Asked, Descent, Seen, WriteEnded};
 use bw_model::{Key, Limits};
 use row_search::{KeyWords, RowAt, Rows};
-use smo::{MANY_DELTAS, PageInHand};
+use smo::{After, MANY_DELTAS, PageInHand};
 use std::alloc::{AllocError, Allocator, Global};
 use std::marker::Model;
 
@@ -117,20 +117,6 @@ impl<R: Rows, A: Allocator> WriteRound<R, A> {
         ensures { result.now ≡ self.now.page }
     {
         self.descent.page()
-    }
-
-    /// The page that stands in the parent's place.
-    pub fn parent(&self) -> &PageInHand<R, A>
-        ensures { result.now ≡ self.now.parent }
-    {
-        self.course.parent()
-    }
-
-    /// The page that stands in the left one's place.
-    pub fn left(&self) -> &PageInHand<R, A>
-        ensures { result.now ≡ self.now.left }
-    {
-        self.course.left()
     }
 
     /// The parent of the pages that are read, where one is kept.
@@ -260,14 +246,8 @@ impl<R: Rows, A: Allocator> WriteRound<R, A> {
         ensures treats { TreatsWrite self.old.round self.old.page self.new.round (option_map (ended_write self.new) result) }
         ensures same { IsSame self.old.round self.new.round }
     {
-        if self.course.has_parent() {
-            return match self.due_term(rows, pass) {
-                Some(term) => Some(WriteEnded::Term(term)),
-                None => self.decide(rows, pass),
-            };
-        }
-        match self.due_root(rows, pass) {
-            Some(root) => Some(WriteEnded::Root(root)),
+        match self.due_aside(rows, pass) {
+            Some(plan) => Some(WriteEnded::Due(plan, After::Round)),
             None => self.decide(rows, pass),
         }
     }
@@ -312,10 +292,10 @@ impl<R: Rows, A: Allocator> WriteRound<R, A> {
         ensures same { IsSame self.old.round self.new.round }
     {
         if self.is_long(rows, pass) {
-            return Some(WriteEnded::Consolidate);
+            return Some(self.end_long(rows, pass));
         }
         if self.is_wide(rows, pass) {
-            return Some(WriteEnded::Split(self.due_split(rows, pass)));
+            return Some(self.end_wide(rows, pass));
         }
         self.go_on(rows, pass)
     }
@@ -360,7 +340,7 @@ impl<R: Rows, A: Allocator> WriteRound<R, A> {
         ensures same { IsSame self.old.round self.new.round }
     {
         match self.due_upkeep(rows, pass) {
-            Some(upkeep) => Some(WriteEnded::Tend(upkeep)),
+            Some(upkeep) => Some(WriteEnded::Due(upkeep, After::Round)),
             None => {
                 self.go_below(rows, pass);
                 None

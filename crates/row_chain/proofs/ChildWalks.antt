@@ -1,36 +1,47 @@
 -- The child of the greatest term that a walk finds.
-use Rattle.std.proofs.Common.{◌≡◌, ◌<◌, ℕ, List, Bool, true, false, Option, Some, None, refl, sym, ap, subst, ◌∙◌, arith}
-use Rattle.std.specs.Prelude.{IsTrue, IsSome, MatchOption, not}
-use Rattle.std.specs.Ordering.{is_lt}
-use Rattle.std.specs.declared.cmp.Ordering.TheVariants.{Less}
-use Rattle.bw_model.specs.Bytes.{key_cmp, is_below}
+use Rattle.std.proofs.Common.{◌≡◌, ◌<◌, ℕ, List, ◌++◌, Bool, true, false, Option, Some, None, refl, sym, ap, subst, ◌∙◌, arith}
+use Rattle.std.specs.Prelude.{MatchOption}
+use Rattle.bw_model.specs.Bytes.{is_below}
 use Rattle.base_page.specs.declared.item.Content.{Content}
 use Rattle.base_page.specs.declared.item.Content.TheVariants.{Value, Child}
 use Rattle.base_page.specs.Pages.{child_in}
 use Rattle.base_page.specs.Places.{IsGreatest, IsGreatestChild, HasNoChild}
-use Rattle.base_page.proofs.KeyLaws.{above, below_from, by_order, itself, not_true}
+use Rattle.base_page.proofs.KeyLaws.{not_true}
 use Rattle.base_page.proofs.PageLaws.{belongs}
 use Rattle.deltas.specs.declared.record.Record.{Record}
 use Rattle.traces.specs.chain.Chains.{content_in}
 use Rattle.traces.specs.chain.Fitted.{IsFitted}
 use Rattle.traces.proofs.FittedLaws.{page_of, ruled}
+use Rattle.row_chain.specs.Walks.{is_left, IsGreatestKey}
+use Rattle.row_chain.proofs.WalkLaws.{kept}
 
 no_child : (o : Option Content) → ((child : ℕ) (held : Bool) → o ≡ Some (Child child held) → ⊥) → child_in o ≡ None
 no_child None f = refl
 no_child (Some (Value value)) f = refl
 no_child (Some (Child child held)) f = absurd (f child held refl)
 
-the_child : (o : Option Content) (child : ℕ) → child_in o ≡ Some child → (held : Bool) × (o ≡ Some (Child child held))
-the_child None child h = cc
-the_child (Some (Value value)) child h = cc
-the_child (Some (Child other held)) child h = let is : other ≡ child = cc in (held, ap (λ n. Some (Child n held)) is)
+-- the best key so far, and the child that the records have at it
+abbrev pub IsBest : (List ℕ → Option Content) → (List ℕ → Bool) → Option (List ℕ) → Option ℕ → Type 0
+IsBest contents passes best child = IsGreatestKey contents passes best × MatchOption best (child ≡ None) (λ key. child ≡ child_in (contents key))
 
--- is below, or isn't above, as tests
-below_is : (a b : List ℕ) → key_cmp a b ≡ Less → is_below a b ≡ true
-below_is a b h = ap is_lt h
+pub best_new : (records : List Record) (passes : List ℕ → Bool) (key : List ℕ) (content : Content) (child : Option ℕ) → IsGreatest (content_in records) passes key content → child ≡ child_in (Some content)
+    → IsBest (content_in records) passes (Some key) child
+best_new records passes key content child g e = ((content, g), e ∙ ap child_in (sym g.has))
 
-not_above : (a b : List ℕ) → key_cmp a b ≡ Less → not (is_below b a) ≡ true
-not_above a b h = ap (λ o. not (is_lt o)) (above a b h)
+pub best_kept : (newer older : List Record) (passes : List ℕ → Bool) (best : Option (List ℕ)) (child : Option ℕ) → IsBest (content_in newer) passes best child
+    → IsGreatestKey (content_in (newer ++ older)) passes best → IsBest (content_in (newer ++ older)) passes best child
+best_kept newer older passes None child b g = (g, b.1)
+best_kept newer older passes (Some key) child b g = (g, b.1 ∙ ap child_in (b.0.1.has ∙ sym (kept newer older key b.0.0 b.0.1.has)))
+
+-- A key at the bound is the greatest, whatever is under the records.
+pub at_bound : (front rest : List Record) (below : Bool) (bound key : List ℕ) (content : Content) → below ≡ false → key ≡ bound
+    → IsGreatest (content_in front) (is_left below bound) key content → IsGreatest (content_in (front ++ rest)) (is_left below bound) key content
+at_bound front rest true bound key content e is g = cc
+at_bound front rest false bound key content e is g = record {
+  has = kept front rest key content g.has;
+  passing = g.passing;
+  greatest = λ other pass some. subst (λ k. is_below k other ≡ false) (sym is) (not_true (is_below bound other) pass);
+}
 
 module _ (chain : List Record) (fitted : IsFitted chain) where
   -- where one key has a value, no key has a child
@@ -43,56 +54,16 @@ module _ (chain : List Record) (fitted : IsFitted chain) where
       omega (arith, leaf, index)
 
   -- the child at the greatest key that passes
-  pub child_at_greatest : (passes : List ℕ → Bool) (key : List ℕ) (content : Content) → IsGreatest (content_in chain) passes key content
+  child_at_greatest : (passes : List ℕ → Bool) (key : List ℕ) (content : Content) → IsGreatest (content_in chain) passes key content
       → MatchOption (child_in (Some content)) (HasNoChild (content_in chain) passes) (IsGreatestChild (content_in chain) passes)
   child_at_greatest passes key (Value value) g = record { none = λ q pass. no_child (content_in chain q) (λ child held e. one_kind key q value child held g.has e) }
   child_at_greatest passes key (Child child held) g = record { separator = key; held = held; greatest = g }
 
-  module _ (key : List ℕ) where
-    abbrev Upto : List ℕ → Bool
-    Upto q = not (is_below key q)
+  pub child_found : (passes : List ℕ → Bool) (key : List ℕ) (content : Content) (child : Option ℕ) → IsGreatest (content_in chain) passes key content → child ≡ child_in (Some content)
+      → MatchOption child (HasNoChild (content_in chain) passes) (IsGreatestChild (content_in chain) passes)
+  child_found passes key content child g e = subst (λ r. MatchOption r (HasNoChild (content_in chain) passes) (IsGreatestChild (content_in chain) passes)) (sym e) (child_at_greatest passes key content g)
 
-    abbrev Below : List ℕ → Bool
-    Below q = is_below q key
-
-    -- the child at the key itself
-    pub child_here : (child : ℕ) → child_in (content_in chain key) ≡ Some child → IsGreatestChild (content_in chain) Upto child
-    child_here child h =
-        let is = the_child (content_in chain key) child h in
-        record {
-          separator = key;
-          held = is.0;
-          greatest = record { has = is.1; passing = ap (λ o. not (is_lt o)) (itself key); greatest = λ other pass some. not_true (is_below key other) pass };
-        }
-
-    upto : {G : Type 0} (q : List ℕ) → IsTrue (Upto q) → (IsTrue (Below q) → G) → (q ≡ key → G) → G
-    upto q pass f g = by_order q key (λ less. f (below_is q key less)) g
-        (λ more. let clash : false ≡ true = sym (ap not (below_is key q more)) ∙ pass in cc)
-
-    -- a child below the key, where the key has a content that is no child
-    at_key : (separator : List ℕ) (child : ℕ) (held : Bool) → content_in chain separator ≡ Some (Child child held) → child_in (content_in chain key) ≡ None → (o : Option Content) → content_in chain key ≡ o → IsSome o → ⊥
-    at_key separator child held has none None e some = cc
-    at_key separator child held has none (Some (Value value)) e some = one_kind key separator value child held e has
-    at_key separator child held has none (Some (Child other mark)) e some = let clash : None ≡ Some other = sym none ∙ ap child_in e in cc
-
-    -- no child at the key itself: the one below it
-    pub child_upto : child_in (content_in chain key) ≡ None → (found : Option ℕ) → MatchOption found (HasNoChild (content_in chain) Below) (IsGreatestChild (content_in chain) Below)
-        → MatchOption found (HasNoChild (content_in chain) Upto) (IsGreatestChild (content_in chain) Upto)
-    child_upto none None h = record { none = λ q pass. upto q pass (λ less. h.none q less) (λ is. ap (λ k. child_in (content_in chain k)) is ∙ none) }
-    child_upto none (Some child) h = record {
-      separator = h.separator;
-      held = h.held;
-      greatest = record {
-        has = h.greatest.has;
-        passing = below_passes h.separator h.greatest.passing;
-        greatest = λ other pass some. upto other pass
-            (λ less. h.greatest.greatest other less some)
-            (λ is. absurd (at_key h.separator child h.held h.greatest.has none (content_in chain key) refl (ap_some is some)));
-      };
-    }
-      where
-        below_passes : (q : List ℕ) → IsTrue (Below q) → IsTrue (Upto q)
-        below_passes q less = not_above q key (below_from q key less)
-
-        ap_some : {other : List ℕ} → other ≡ key → IsSome (content_in chain other) → IsSome (content_in chain key)
-        ap_some is some = subst (λ q. IsSome (content_in chain q)) is some
+  pub child_best : (passes : List ℕ → Bool) (best : Option (List ℕ)) (child : Option ℕ) → IsBest (content_in chain) passes best child
+      → MatchOption child (HasNoChild (content_in chain) passes) (IsGreatestChild (content_in chain) passes)
+  child_best passes None child b = subst (λ r. MatchOption r (HasNoChild (content_in chain) passes) (IsGreatestChild (content_in chain) passes)) (sym b.1) (record { none = λ q pass. ap child_in (b.0 q pass) })
+  child_best passes (Some key) child b = child_found passes key b.0.0 child b.0.1 (b.1 ∙ ap child_in b.0.1.has)

@@ -7,6 +7,8 @@ pub mod Newest
 pub mod Offers
 pub mod OneKeys
 pub mod PairLaws
+pub mod Passing
 pub mod Places
 pub mod Standing
 pub mod WalkLaws
+pub mod Winners

@@ -1,11 +1,13 @@
 pub mod Bisect
 pub mod Bounds
+pub mod ChangeLaws
 pub mod Found
 pub mod ItemReads
 pub mod ItemTexts
 pub mod KeyOrder
 pub mod ReadingLaws
 pub mod RowTexts
+pub mod SaidItems
 pub mod SaidLaws
 pub mod WordByWord
 pub mod WordsCmp

@@ -1,3 +1,5 @@
+pub mod Items
+pub mod Changes
 pub mod OneKey
 pub mod Placed
 pub mod Reading

@@ -8,14 +8,17 @@ ghost use Rattle.record_slots.specs.declared.layout.TheConstants.{ROW_WORDS, TEX
 ghost use Rattle.row_search.specs.Placed.{HasSpelling};
 
 mod bounds;
+mod items;
 mod keys;
 mod names;
+mod parts;
 mod says;
 
 use crate::{Rows, Told};
 use deltas::Record;
 use record_slots::{
-    ITEM_UNIT, LEVEL_UNIT, PART_LIMIT, ROW_WORDS, TEXT_WORDS, read_words, rows_have_words,
+    FIRST_ITEM, ITEM_UNIT, ITEM_WORDS, LEVEL_UNIT, PART_LIMIT, ROW_WORDS, TEXT_WORDS, read_words,
+    rows_have_words,
 };
 use std::marker::Model;
 
@@ -96,7 +99,7 @@ impl<R: Rows> RowAt<R> {
         words
     }
 
-    /// All its words.
+    /// All its words. Those that it uses are looked at; the rest are 0.
     fn words(&self, rows: &R, pass: &mut R::Pass) -> [u64; ROW_WORDS]
         requires read { R.has rows.now pass.old self.now.row self.now.content }
         ensures same { pass.new ≡ pass.old }
@@ -104,9 +107,10 @@ impl<R: Rows> RowAt<R> {
     {
         rows_have_words();
         self.keeps_spelling();
+        let used = FIRST_ITEM + ITEM_WORDS * self.item_count();
         let mut words = [0; ROW_WORDS];
         let mut place = 0;
-        while place < ROW_WORDS {
+        while place < used {
             words[place] = self.word(rows, pass, place);
             place += 1;
         }

@@ -5,9 +5,9 @@ use Rattle.bw_tree.specs.Seats.{IsSame, Seat}
 use Rattle.seats.specs.Gathered.{SeesOn}
 
 -- the list, and behind it what is taken of each element of another list, from that one's last to its first
-abbrev pub behind : {X Y : Type 0} → (X → Y) → List Y → List X → List Y
-behind f list [] = list
-behind f list (x ∷ xs) = behind f list xs ++ f x ∷ []
+abbrev pub with_each_behind : {X Y : Type 0} → (X → Y) → List Y → List X → List Y
+with_each_behind f list [] = list
+with_each_behind f list (x ∷ xs) = with_each_behind f list xs ++ f x ∷ []
 
 -- A work was done with a seat. The seat is what the work has left, and may have seen more of others since; it has seen all that it had seen.
 pub record IsWorkDone {W : Type 0} (comes_to : W → Seat → W → Seat → Type 0) (before after : Seat × W) : Type 0 where
@@ -28,8 +28,8 @@ pub record AreDone {W : Type 0} (comes_to : W → Seat → W → Seat → Type 0
   pub others : List Seat
   pub before : List (Seat × W)
   pub after : List (Seat × W)
-  pub seats : old ≡ behind (λ one. one.0) others before
-  pub works : given ≡ behind (λ one. one.1) [] before
-  pub seats_after : new ≡ behind (λ one. one.0) others after
-  pub works_after : done ≡ behind (λ one. one.1) [] after
+  pub seats : old ≡ with_each_behind (λ one. one.0) others before
+  pub works : given ≡ with_each_behind (λ one. one.1) [] before
+  pub seats_after : new ≡ with_each_behind (λ one. one.0) others after
+  pub works_after : done ≡ with_each_behind (λ one. one.1) [] after
   pub each : AreEachDone comes_to before after

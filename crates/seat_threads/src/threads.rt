@@ -3,7 +3,7 @@ ghost use Rattle.std.specs.Prelude.{◌≡◌, ◌<◌, ◌≤◌, ◌+◌, ◌�
 ghost use Rattle.std.specs.Vec.{vec_capacity};
 ghost use Rattle.bw_tree.specs.Seats.{IsSame};
 ghost use Rattle.bw_tree.specs.Trees.{AreSeatsOf, IsSeatOf};
-ghost use Rattle.seat_threads.specs.Works.{AreDone, AreEachDone, IsWorkDone, behind};
+ghost use Rattle.seat_threads.specs.Works.{AreDone, AreEachDone, IsWorkDone, with_each_behind};
 
 use bw_tree::{BwSeat, Tree};
 use std::thread::{Threads, for_each_mut};
@@ -96,8 +96,8 @@ fn seated<W: Work>(
     ensures left { AreSeatsOf tree.now seats.new.items }
     ensures own { All (λ job. IsSeatOf tree.now job.0) result.items }
     ensures none { works.new.items ≡ [] }
-    ensures seats { behind (λ job. job.0) seats.new.items result.items ≡ seats.old.items }
-    ensures works { behind (λ job. job.1) works.new.items result.items ≡ works.old.items }
+    ensures seats { with_each_behind (λ job. job.0) seats.new.items result.items ≡ seats.old.items }
+    ensures works { with_each_behind (λ job. job.1) works.new.items result.items ≡ works.old.items }
     ensures count { vec_len seats.new + vec_len result ≡ vec_len seats.old }
     ensures all { vec_len result ≡ vec_len works.old }
     ensures seats_room { vec_capacity seats.new ≡ vec_capacity seats.old }
@@ -144,8 +144,8 @@ fn work_with<W: Work>(tree: &Tree, seat: &mut BwSeat, work: &mut W)
 fn parted<W: Work>(seats: &mut Vec<BwSeat>, works: &mut Vec<W>, jobs: Vec<(BwSeat, W)>)
     requires seats_room { vec_len seats.old + vec_len jobs ≤ vec_capacity seats.old }
     requires works_room { vec_len works.old + vec_len jobs ≤ vec_capacity works.old }
-    ensures seats { seats.new.items ≡ behind (λ job. job.0) seats.old.items jobs.items }
-    ensures works { works.new.items ≡ behind (λ job. job.1) works.old.items jobs.items }
+    ensures seats { seats.new.items ≡ with_each_behind (λ job. job.0) seats.old.items jobs.items }
+    ensures works { works.new.items ≡ with_each_behind (λ job. job.1) works.old.items jobs.items }
     ensures count { vec_len seats.new ≡ vec_len seats.old + vec_len jobs }
     ensures all { vec_len works.new ≡ vec_len works.old + vec_len jobs }
 {

@@ -5,7 +5,7 @@ use Rattle.std.proofs.lemmas.List.{append_assoc, append_cancel_left, length-appe
 use Rattle.traces.specs.declared.trace.Entry.{Entry}
 use Rattle.traces.specs.discipline.Disciplined.{Extends, own_entries}
 use Rattle.traces.proofs.OwnEntries.{extends_self, own_append, own_extends}
-use Rattle.traces.proofs.Pushes.{slice_get-push_cases}
+use Rattle.traces.proofs.Pushes.{slice_get-push_cases, slice_get_below}
 use Rattle.tree_law.specs.Own.{OwnLasts}
 use Rattle.bw_tree.specs.Calls.{calls_along}
 use Rattle.bw_tree.specs.Notes.{HasHeeded, note_of}
@@ -13,7 +13,7 @@ use Rattle.bw_tree.specs.Runs.{IsOneHistory, StartsWith}
 use Rattle.bw_tree.specs.Seats.{Seat}
 use Rattle.bw_tree.specs.Trees.{AreSeatsOf, IsSeatOf, Tree}
 use Rattle.seats.specs.Gathered.{IsHistoryOf, HasSeenAll, HaveGathered, HaveHeeded, IsGathered, SeesOn}
-use Rattle.seats.proofs.Seeing.{below_of, heeded}
+use Rattle.seats.proofs.Seeing.{heeded}
 
 left_empty : {X : Type 0} (xs ys : List X) → xs ++ ys ≡ [] → xs ≡ []
 left_empty [] ys e = refl
@@ -79,16 +79,17 @@ module _ (own : OwnLasts) (tree : Tree) (front others olds news : List Seat) (la
         each = λ n old new at_old at_new. elim (slice_get-push_cases front last n old (sym (ap (λ z. slice_get z n) before) ∙ at_old)) [
           | inl there ↦ elim (slice_get-push_cases others later n new (sym (ap (λ z. slice_get z n) after) ∙ at_new)) [
             | inl there_new ↦ one_of_front n old new there there_new
-            | inr is ↦ let below = below_of front n old there in let place = is.0 in absurd (omega (arith, below, place, count))
+            | inr is ↦ let below = slice_get_below front n old there in let place = is.0 in absurd (omega (arith, below, place, count))
           ]
           | inr is ↦ elim (slice_get-push_cases others later n new (sym (ap (λ z. slice_get z n) after) ∙ at_new)) [
-            | inl there_new ↦ let below = below_of others n new there_new in let place = is.0 in absurd (omega (arith, below, place, count))
+            | inl there_new ↦ let below = slice_get_below others n new there_new in let place = is.0 in absurd (omega (arith, below, place, count))
             | inr is_new ↦ subst (λ z. IsGathered later.seen z new) (sym is.1) (subst (IsGathered later.seen last) (sym is_new.1) (one_gathered last later on seen.history))
           ]
         ];
       }
 
-there : {X : Type 0} (xs : List X) (n : ℕ) → n < length xs → (x : X) × (slice_get xs n ≡ Some x)
+-- something stands at each place within
+pub there : {X : Type 0} (xs : List X) (n : ℕ) → n < length xs → (x : X) × (slice_get xs n ≡ Some x)
 there [] n below = absurd (omega (arith, below))
 there (x ∷ xs) zero below = (x, refl)
 there (x ∷ xs) (suc n) below = there xs n (omega (arith, below))
@@ -96,7 +97,7 @@ there (x ∷ xs) (suc n) below = there xs n (omega (arith, below))
 -- they are the tree's, as they were
 pub own_gathered : (tree : Tree) (olds news : List Seat) → HaveGathered olds news → AreSeatsOf tree olds → AreSeatsOf tree news
 own_gathered tree olds news h own n new at =
-    let below = below_of news n new at in
+    let below = slice_get_below news n new at in
     let count = h.count in
     let old = there olds n (omega (arith, below, count)) in
     let was = own n old.0 old.1 in

@@ -1,8 +1,9 @@
 -- A list with one element more, where there was memory for it, and a list whose last element is taken.
 use Rattle.std.proofs.Common.{◌≡◌, ℕ, zero, suc, List, [], ◌∷◌, ◌++◌, ◌+◌, All, Some, ap, arith, drop, length, refl, subst, take, ◌∙◌}
-use Rattle.std.specs.Prelude.{IfSome, None, OnOk, Option, Result, Ok, Err, is_ok, option_to_list, slice_get, true}
+use Rattle.std.specs.Prelude.{IfSome, None, Option, option_to_list, slice_get}
 use Rattle.std.proofs.lemmas.List.{length-append}
 use Rattle.std.proofs.lemmas.Option.{same_Some}
+use Rattle.traces.proofs.Pushes.{take-push_whole}
 
 -- one element more
 pub one_longer : {X : Type 0} (xs ys : List X) (last : X) → ys ≡ xs ++ last ∷ [] → length ys ≡ length xs + 1
@@ -28,24 +29,15 @@ last_of P xs None all = tt
 last_of P [] (Some x) all = all zero x refl
 last_of P (first ∷ xs) (Some x) all = last_of P xs (Some x) (λ n y e. all (suc n) y e)
 
--- what is so where a result is Ok
-pub where_ok : {T E : Type 0} {P : Type 0} (r : Result T E) → true ≡ is_ok r → OnOk r P → P
-where_ok (Ok x) is p = p
-where_ok (Err e) is p = cc
-
 -- what holds of all holds of the one at a place
 pub all_at : {X : Type 0} (P : X → Type 0) (xs : List X) → All P xs → (n : ℕ) (x : X) → slice_get xs n ≡ Some x → P x
 all_at P [] all n x e = cc
 all_at P (first ∷ xs) all zero x e = subst P (same_Some first x e) (all 0 first (omega arith))
 all_at P (first ∷ xs) all (suc n) x e = all_at P xs (λ k d below. all (suc k) d (omega (arith, below))) n x e
 
-all_taken : {X : Type 0} (xs ys : List X) → take (length xs) (xs ++ ys) ≡ xs
-all_taken [] ys = refl
-all_taken (x ∷ xs) ys = ap (λ rest. x ∷ rest) (all_taken xs ys)
-
 -- what is written over a whole list stands in its place
 pub written : {X : Type 0} (n : ℕ) (xs ys : List X) → n ≡ length xs → take n (xs ++ drop (length xs) ys) ≡ xs
-written n xs ys long = ap (λ k. take k (xs ++ drop (length xs) ys)) long ∙ all_taken xs (drop (length xs) ys)
+written n xs ys long = ap (λ k. take k (xs ++ drop (length xs) ys)) long ∙ take-push_whole xs (drop (length xs) ys)
 
 -- and one more element behind it
 pub pushed_behind : {X : Type 0} (n : ℕ) (xs ys news : List X) (x y : X) → n ≡ length xs → news ≡ take n (xs ++ drop (length xs) ys) ++ x ∷ [] → x ≡ y → news ≡ xs ++ y ∷ []

@@ -8,6 +8,7 @@ use Rattle.std.proofs.lemmas.List.{append_assoc}
 use Rattle.traces.specs.declared.trace.Entry.{Entry}
 use Rattle.traces.specs.discipline.Disciplined.{Extends, own_entries}
 use Rattle.traces.specs.trace.Trace.{command_of}
+pub use Rattle.traces.proofs.Pushes.{slice_get_below}
 use Rattle.traces.proofs.OwnEntries.{extends_self, others_append, own_extends}
 use Rattle.tree_law.specs.Own.{OwnLasts}
 use Rattle.bw_tree.specs.Calls.{calls_along}
@@ -43,11 +44,6 @@ pub at_index : {X : Type 0} (xs : List X) (n : ℕ) (x : X) → n < length xs �
 at_index [] n x lt e = absurd (omega (arith, lt))
 at_index (y ∷ ys) zero x lt e = ap Some (sym e)
 at_index (y ∷ ys) (suc n) x lt e = at_index ys n x (omega (arith, lt)) e
-
-pub below_of : {X : Type 0} (xs : List X) (n : ℕ) (x : X) → slice_get xs n ≡ Some x → n < length xs
-below_of [] n x e = cc
-below_of (y ∷ ys) zero x e = omega arith
-below_of (y ∷ ys) (suc n) x e = let below = below_of ys n x e in omega (arith, below)
 
 pub index_is : {X : Type 0} (xs : List X) (n : ℕ) (x d : X) → slice_get xs n ≡ Some x → slice_index_or xs n d ≡ x
 index_is [] n x d e = cc

@@ -1,6 +1,5 @@
 //! Seats see what others have seen.
 ghost use Rattle.std.specs.Prelude.{◌≡◌, ◌≤◌, vec_len};
-ghost use Rattle.std.specs.Vec.{vec_capacity};
 ghost use Rattle.bw_tree.specs.Notes.{note_of};
 ghost use Rattle.bw_tree.specs.Trees.{AreSeatsOf, IsSeatOf};
 ghost use Rattle.seats.specs.Gathered.{HasSeenAll, HaveGathered, HaveHeeded, SeesOn};

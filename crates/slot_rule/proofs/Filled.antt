@@ -18,7 +18,6 @@ use Rattle.bw_model.specs.declared.step.Step.TheVariants.{Place}
 use Rattle.deltas.specs.declared.record.Record.{Record}
 use Rattle.deltas.specs.Memory.{Memory, replaced_at}
 use Rattle.traces.specs.declared.trace.Entry.{Entry}
-use Rattle.traces.specs.discipline.Disciplined.{Extends}
 use Rattle.traces.specs.discipline.Knowledge.{knows}
 use Rattle.traces.specs.trace.Trace.{memory_of}
 use Rattle.record_slots.specs.Layout.{last_at, row_size}
@@ -29,17 +28,16 @@ use Rattle.tree_words.specs.Words.{words_in}
 use Rattle.slot_rule.specs.declared.view.Reach.{Reach}
 use Rattle.slot_rule.specs.declared.view.Reach.TheVariants.{Idle, Writing, Noted}
 use Rattle.slot_rule.specs.declared.view.Part.{Part}
-use Rattle.slot_rule.specs.Running.{IsPartWritten, IsSettled, KnowsPlaceable, KeepsRowsApart, HasSpelling, PartFits}
+use Rattle.slot_rule.specs.Running.{IsPartWritten, IsSettled, KnowsPlaceable, KeepsRowsApart, HasSpelling}
 use Rattle.slot_rule.specs.Steps.{IsLawfulStep, Took, Fills, Places, tail_from, used_by, used_by_either, written_over}
-use Rattle.slot_rule.specs.Views.{part, alone, Mine, seen_of, SitsAt}
+use Rattle.slot_rule.specs.Views.{alone, Mine, seen_of, SitsAt}
 use Rattle.slot_rule.proofs.ByWord.{spells_row}
 use Rattle.slot_rule.proofs.UsedWords.{few_of_either, zero_behind, zero_behind_in}
 use Rattle.slot_rule.proofs.Measured.{no_other}
-use Rattle.slot_rule.proofs.Parts.{goes_extends, settled_back, starts_self}
+use Rattle.slot_rule.proofs.Parts.{settled_back, starts_self}
 use Rattle.slot_rule.proofs.Roster.{set_at}
-use Rattle.slot_rule.proofs.Turns.{TableState, Rule, at_each, turn, event_telling}
+use Rattle.slot_rule.proofs.Turns.{TableState, Rule, at_each, extends_now, fits_now, knows_now, turn, event_telling}
 use Rattle.deltas.proofs.Replaced.{replaced_same, replaced_other}
-use Rattle.traces.proofs.OwnEntries.{knows_extends}
 
 -- where a seat stands that has written one more word
 abbrev with_word : ℕ → Reach → Reach
@@ -60,14 +58,8 @@ module _ (limits : Limits) (law : Limits → List Entry → Type 0) (apart : Kee
   module _ (slots id actor : ℕ) (me : Mine) (row first : ℕ) (written : List ℕ) (within : row < limits.rows) (is : SitsAt limits actor (Writing row first written) me) (owned : KnowsPlaceable (knows (seen_of me) actor) row) where
     -- what the seat knows now
     module _ (s : TableState) (h : Rule limits law s) (there : get_elem? s.views id ≡ some (alone limits actor (seen_of me) (Writing row first written))) where
-      fit : PartFits limits s.words h.run (part limits actor (seen_of me) (Writing row first written))
-      fit = (h.each id (alone limits actor (seen_of me) (Writing row first written)) there).0
-
-      extends_now : Extends actor (seen_of me) h.run
-      extends_now = goes_extends (Writing row first written) actor (seen_of me) h.run tt fit.extends
-
       may_now : KnowsPlaceable (knows h.run actor) row
-      may_now = subst (λ k. KnowsPlaceable k row) (sym (knows_extends actor (seen_of me) h.run extends_now)) owned
+      may_now = subst (λ k. KnowsPlaceable k row) (sym (knows_now limits law s h id actor (seen_of me) (Writing row first written) tt there)) owned
 
       -- a row of which the seat has written no word
       other_row : (i k x other j : ℕ) (view : List Part) → i ≡ row_at row k → k < row_size → other < limits.rows → j < row_size → row ≢ other → IsSettled (set s.views id view) other
@@ -92,7 +84,7 @@ module _ (limits : Limits) (law : Limits → List Entry → Type 0) (apart : Kee
         let there : get_elem? s.views id ≡ some (alone limits actor (seen_of me) (Writing row first written)) = here ∙ ap (λ (z : Mine). some z.0) is in
         let at : ℕ = row_at row (length written + 1) in
         let now = may_now s h there in
-        let now_fits = (fit s h there).reach in
+        let now_fits = (fits_now limits law s h id actor (seen_of me) (Writing row first written) tt there).reach in
         let more : length (written ++ x ∷ []) ≡ suc (length written) = omega (arith, length-append written (x ∷ [])) in
         let wide = h.wide in
         let view : List Part = alone limits actor (seen_of me) (Writing row first (written ++ x ∷ [])) in
@@ -108,7 +100,7 @@ module _ (limits : Limits) (law : Limits → List Entry → Type 0) (apart : Kee
                 writes = λ other row' ne may _ j small. others_row s h there (length written + 1) x other row' j (omega arith) ne may small;
                 records = λ other row' ne may. refl;
               }
-              (extends_now s h there) h.kept h.begins h.actors
+              (extends_now limits law s h id actor (seen_of me) (Writing row first written) tt there) h.kept h.begins h.actors
               record {
                 may = now;
                 there = within;
@@ -154,7 +146,7 @@ module _ (limits : Limits) (law : Limits → List Entry → Type 0) (apart : Kee
             spells = λ view _. spells_row limits s.words memory (record memory { rows = rows }) (IsSettled s.views) (IsSettled (set s.views id view)) h.spells row 0 header within (omega arith) refl
                 (λ other j below small st. dite (ℕ_discrete other row)
                 (λ e. subst (λ (z : ℕ). get_or (set s.words at header) (row_at z j) 0 ≡ get_or (words_in (rows z)) j 0) (sym e)
-                (placed_word s h header content j (fit s h there).reach enough small ∙ ap (λ o. get_or (words_in o) j 0) (sym (replaced_same row (Some content) memory.rows))))
+                (placed_word s h header content j (fits_now limits law s h id actor (seen_of me) (Writing row first written) tt there).reach enough small ∙ ap (λ o. get_or (words_in o) j 0) (sym (replaced_same row (Some content) memory.rows))))
                 (λ ne. other_row s h there at 0 header other j view refl (omega arith) below small (λ e. ne (sym e)) st ∙ ap (λ o. get_or (words_in o) j 0) (sym (replaced_other row (Some content) memory.rows other ne))));
             kept = λ other stays e. dite (ℕ_discrete other row)
                 (λ same. let new : Some content ≡ Some stays = sym (ap rows same ∙ replaced_same row (Some content) memory.rows) ∙ e in

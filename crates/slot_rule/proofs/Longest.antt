@@ -12,16 +12,16 @@ use Rattle.slot_rule.specs.declared.view.Reach.{Reach}
 use Rattle.slot_rule.specs.declared.view.Reach.TheVariants.{Idle, Writing, Noted}
 use Rattle.slot_rule.specs.declared.view.Part.{Part}
 use Rattle.slot_rule.specs.Longest.{LongestIsSeen}
-use Rattle.slot_rule.specs.Running.{Each, PartFits, actor_of, everywhere, is_at, times}
+use Rattle.slot_rule.specs.Running.{Each, PartFits, entry_actor, everywhere, is_at, times}
 use Rattle.slot_rule.proofs.Parts.{Stands, goes_extends, mark}
 
 -- the last entry is the actor's
 abbrev EndsBy : ℕ → List Entry → Type 0
 EndsBy actor [] = ⊥
-EndsBy actor (entry ∷ []) = actor_of entry ≡ actor
+EndsBy actor (entry ∷ []) = entry_actor entry ≡ actor
 EndsBy actor (first ∷ second ∷ rest) = EndsBy actor (second ∷ rest)
 
-is_own : (actor : ℕ) (entry : Entry) → actor_of entry ≡ actor → is_entry_of actor entry ≡ true
+is_own : (actor : ℕ) (entry : Entry) → entry_actor entry ≡ actor → is_entry_of actor entry ≡ true
 is_own actor (Begin other command) e = eq-eqb actor other (sym e)
 is_own actor (Step other step answer reply) e = eq-eqb actor other (sym e)
 
@@ -42,12 +42,12 @@ saw_all actor [] (entry ∷ rest) ends none = absurd (some_own actor (entry ∷ 
 saw_all actor (first ∷ []) (entry ∷ rest) ends none = absurd (some_own actor (entry ∷ rest) ends none)
 saw_all actor (first ∷ second ∷ seen) (entry ∷ rest) ends none = saw_all actor (second ∷ seen) (entry ∷ rest) ends none
 
-ends_by : (limits : Limits) (entry : Entry) (run : List Entry) → Each (λ one. actor_of one < limits.actors) (entry ∷ run) → (actor : ℕ) × (actor < limits.actors) × EndsBy actor (entry ∷ run)
-ends_by limits entry [] all = (actor_of entry, all.0, refl)
+ends_by : (limits : Limits) (entry : Entry) (run : List Entry) → Each (λ one. entry_actor one < limits.actors) (entry ∷ run) → (actor : ℕ) × (actor < limits.actors) × EndsBy actor (entry ∷ run)
+ends_by limits entry [] all = (entry_actor entry, all.0, refl)
 ends_by limits first (second ∷ rest) all = ends_by limits second rest all.1
 
 -- Some actor has all of the run, wherever its seat has seen it up to its own last entry.
-whole : (limits : Limits) (run : List Entry) → Each (λ one. actor_of one < limits.actors) run → (actor : ℕ) × (actor < limits.actors) × ((seen : List Entry) → Extends actor seen run → seen ≡ run)
+whole : (limits : Limits) (run : List Entry) → Each (λ one. entry_actor one < limits.actors) run → (actor : ℕ) × (actor < limits.actors) × ((seen : List Entry) → Extends actor seen run → seen ≡ run)
 whole limits [] all = (0, omega (arith, limits.allowed.some_actor), nothing)
   where
     nothing : (seen : List Entry) → Extends 0 seen [] → seen ≡ []

@@ -9,7 +9,6 @@ use Rattle.atomic_table.specs.Table.{step, keeps, Allows}
 use Rattle.tree_limits.specs.declared.limits.Limits.{Limits}
 use Rattle.deltas.specs.Memory.{Memory}
 use Rattle.traces.specs.declared.trace.Entry.{Entry}
-use Rattle.traces.specs.discipline.Disciplined.{Extends}
 use Rattle.traces.specs.discipline.Knowledge.{knows}
 use Rattle.traces.specs.trace.Trace.{memory_of}
 use Rattle.record_slots.specs.Layout.{row_size}
@@ -20,12 +19,11 @@ use Rattle.slot_rule.specs.declared.view.Reach.TheVariants.{Idle, Writing, Noted
 use Rattle.slot_rule.specs.declared.view.Part.{Part}
 use Rattle.slot_rule.specs.Running.{Each, IsSettled, KnowsPlaceable, KeepsRowsApart, LeavesRow, PartFits, ReachFits}
 use Rattle.slot_rule.specs.Steps.{Measures, used_by}
-use Rattle.slot_rule.specs.Views.{alone, part, Mine, seen_of, SitsAt}
+use Rattle.slot_rule.specs.Views.{alone, Mine, seen_of, SitsAt}
 use Rattle.slot_rule.proofs.UsedWords.{few_in}
-use Rattle.slot_rule.proofs.Parts.{IsApart, apart_ne, each_zip, elsewhere, goes_extends, times_alone}
+use Rattle.slot_rule.proofs.Parts.{IsApart, apart_ne, each_zip, elsewhere, times_alone}
 use Rattle.slot_rule.proofs.Roster.{same_view}
-use Rattle.slot_rule.proofs.Turns.{TableState, Rule, turn, same_actor, same_limits, spares_quiet, spells_quiet}
-use Rattle.traces.proofs.OwnEntries.{knows_extends}
+use Rattle.slot_rule.proofs.Turns.{TableState, Rule, extends_now, knows_now, turn, same_actor, same_limits, spares_quiet, spells_quiet}
 
 module _ (limits : Limits) (law : Limits → List Entry → Type 0) (apart : KeepsRowsApart limits (law limits)) where
   -- The row into which one actor may place a record is no other's.
@@ -53,9 +51,8 @@ module _ (limits : Limits) (law : Limits → List Entry → Type 0) (apart : Kee
     pub measures : Allows (Rule limits law) slots id me (row_at row 0) (λ n. n) (Measures (step slots (row_at row 0) 0 0 none) me)
     measures s h _ here _ =
         let there : get_elem? s.views id ≡ some (alone limits actor (seen_of me) Idle) = here ∙ ap (λ (z : Mine). some z.0) is in
-        let fit : PartFits limits s.words h.run (part limits actor (seen_of me) Idle) = (h.each id (alone limits actor (seen_of me) Idle) there).0 in
-        let extends : Extends actor (seen_of me) h.run = goes_extends Idle actor (seen_of me) h.run tt fit.extends in
-        let may : KnowsPlaceable (knows h.run actor) row = subst (λ k. KnowsPlaceable k row) (sym (knows_extends actor (seen_of me) h.run extends)) owned in
+        let extends = extends_now limits law s h id actor (seen_of me) Idle tt there in
+        let may : KnowsPlaceable (knows h.run actor) row = subst (λ k. KnowsPlaceable k row) (sym (knows_now limits law s h id actor (seen_of me) Idle tt there)) owned in
         let at : ℕ = row_at row 0 in
         let n : ℕ = get_or s.words at 0 in
         let memory : Memory = memory_of limits h.run in

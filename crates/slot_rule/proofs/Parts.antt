@@ -23,7 +23,7 @@ use Rattle.tree_words.specs.Words.{SpellsWhere}
 use Rattle.slot_rule.specs.declared.view.Reach.{Reach}
 use Rattle.slot_rule.specs.declared.view.Reach.TheVariants.{Idle, Writing, Noted}
 use Rattle.slot_rule.specs.declared.view.Part.{Part}
-use Rattle.slot_rule.specs.Running.{Each, ExtendsFor, LeavesRow, IsSettled, StartsWith, GoesOnWithStep, BeginWithSteps, actor_of, is_at, times, everywhere}
+use Rattle.slot_rule.specs.Running.{Each, ExtendsFor, LeavesRow, IsSettled, StartsWith, GoesOnWithStep, BeginWithSteps, entry_actor, is_at, times, everywhere}
 use Rattle.slot_rule.specs.Steps.{opened, with_step}
 use Rattle.slot_rule.specs.Views.{alone}
 use Rattle.traces.proofs.OwnEntries.{AreOthers, others_append}
@@ -97,7 +97,7 @@ begins_events actor None step answer reply = tt
 begins_events actor (Some command) step answer reply = (refl, tt)
 
 pub actors_events : (limits : Limits) (actor : ℕ) (begun : Option Command) (step : StepOf Record) (answer : Answer Record) (reply : Option Reply) → actor < limits.actors
-    → Each (λ entry. actor_of entry < limits.actors) (events actor begun step answer reply)
+    → Each (λ entry. entry_actor entry < limits.actors) (events actor begun step answer reply)
 actors_events limits actor None step answer reply there = (there, tt)
 actors_events limits actor (Some command) step answer reply there = (there, (there, tt))
 

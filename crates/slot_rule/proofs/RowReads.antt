@@ -10,7 +10,6 @@ use Rattle.bw_model.specs.declared.step.Answer.TheVariants.{Content}
 use Rattle.bw_model.specs.declared.step.Step.TheVariants.{Row}
 use Rattle.deltas.specs.declared.record.Record.{Record}
 use Rattle.traces.specs.declared.trace.Entry.{Entry}
-use Rattle.traces.specs.discipline.Disciplined.{Extends}
 use Rattle.traces.specs.discipline.Knowledge.{knows}
 use Rattle.traces.specs.trace.Trace.{memory_of}
 use Rattle.record_slots.specs.Layout.{row_size}
@@ -21,11 +20,9 @@ use Rattle.slot_rule.specs.declared.view.Reach.TheVariants.{Idle, Writing, Noted
 use Rattle.slot_rule.specs.declared.view.Reach.{Reach}
 use Rattle.slot_rule.specs.declared.view.Part.{Part}
 use Rattle.slot_rule.specs.Running.{Each, HasSpelling, IsSettled, KnowsPlaceable, KnowsReadable, KeepsRowsApart, LeavesRow, PartFits, ReachFits}
-use Rattle.slot_rule.specs.Steps.{IsLawfulStep, Looks, Reads, ReadsFirst}
+use Rattle.slot_rule.specs.Steps.{IsLawfulStep, Looks, ReadsRow, ReadsFirst}
 use Rattle.slot_rule.specs.Views.{alone, Mine, seen_of, SitsAt}
-use Rattle.slot_rule.proofs.Parts.{goes_extends}
-use Rattle.slot_rule.proofs.Turns.{TableState, Rule, turn, event_telling, same_actor, same_limits, spares_quiet, spells_quiet}
-use Rattle.traces.proofs.OwnEntries.{knows_extends}
+use Rattle.slot_rule.proofs.Turns.{TableState, Rule, extends_now, knows_now, turn, event_telling, same_actor, same_limits, spares_quiet, spells_quiet}
 
 module _ (limits : Limits) (law : Limits → List Entry → Type 0) (apart : KeepsRowsApart limits (law limits)) where
   -- no other seat writes into a row that the actor may read
@@ -56,14 +53,8 @@ module _ (limits : Limits) (law : Limits → List Entry → Type 0) (apart : Kee
   module _ (slots id actor : ℕ) (me : Mine) (row : ℕ) (within : row < limits.rows) (is : SitsAt limits actor Idle me) (known : KnowsReadable (knows (seen_of me) actor) row) where
     -- what the seat knows now
     module _ (s : TableState) (h : Rule limits law s) (there : get_elem? s.views id ≡ some (alone limits actor (seen_of me) Idle)) where
-      extends_now : Extends actor (seen_of me) h.run
-      extends_now = goes_extends Idle actor (seen_of me) h.run tt ((h.each id (alone limits actor (seen_of me) Idle) there).0).extends
-
-      knows_now : knows h.run actor ≡ knows (seen_of me) actor
-      knows_now = knows_extends actor (seen_of me) h.run extends_now
-
       may_now : KnowsReadable (knows h.run actor) row
-      may_now = subst (λ k. KnowsReadable k row) (sym knows_now) known
+      may_now = subst (λ k. KnowsReadable k row) (sym (knows_now limits law s h id actor (seen_of me) Idle tt there)) known
 
     looks : (place : ℕ) → place < row_size → Allows (Rule limits law) slots id me (row_at row place) (λ n. n) (Looks (step slots (row_at row place) 0 0 none) me)
     looks place small s h _ here _ =
@@ -74,7 +65,7 @@ module _ (limits : Limits) (law : Limits → List Entry → Type 0) (apart : Kee
           view,
           keeps,
           tt,
-          turn limits law s h id actor (seen_of me) Idle tt there me.1 at n h.run (seen_of me) Idle tt h.legal (spares_quiet limits law actor at s.words h.run) (extends_now s h there) h.kept h.begins h.actors tt
+          turn limits law s h id actor (seen_of me) Idle tt there me.1 at n h.run (seen_of me) Idle tt h.legal (spares_quiet limits law actor at s.words h.run) (extends_now limits law s h id actor (seen_of me) Idle tt there) h.kept h.begins h.actors tt
               (spells_quiet limits law s h id actor (seen_of me) there at view),
           (
             ap (λ (c : List (ℕ × Unit {0})). (view, c)) (ap (λ (z : Mine). z.1) is) ∙ sym is,
@@ -82,15 +73,15 @@ module _ (limits : Limits) (law : Limits → List Entry → Type 0) (apart : Kee
                 let who : actor ≡ actor' = same_actor limits limits' actor actor' Idle Idle me is is' in
                 let row_same : row ≡ row' = omega arith in
                 let place_same : place ≡ place' = omega arith in
-                let seen : (knows h.run actor).read.seen row ≡ Some content = ap (λ k. k.read.seen row) (knows_now s h there) ∙ ap (λ (z : ℕ × ℕ). (knows (seen_of me) z.0).read.seen z.1) (λ k. (who k, row_same k)) ∙ has.seen in
+                let seen : (knows h.run actor).read.seen row ≡ Some content = ap (λ k. k.read.seen row) (knows_now limits law s h id actor (seen_of me) Idle tt there) ∙ ap (λ (z : ℕ × ℕ). (knows (seen_of me) z.0).read.seen z.1) (λ k. (who k, row_same k)) ∙ has.seen in
                 word_is s h actor row place (may_now s h there) within small
                 ∙ ap (λ o. get_or (words_in o) place 0) (apart.stands actor row content h.run h.legal seen)
                 ∙ ap (λ (j : ℕ). get_or (words_of content) j 0) place_same,
           ),
         )
 
-    reads : IsLawfulStep law limits actor (seen_of me) None (Row row) None → Allows (Rule limits law) slots id me (row_at row 0) (λ n. n) (Reads law (step slots (row_at row 0) 0 0 none) me)
-    reads may = event_telling limits law slots id actor me Idle (row_at row 0) (λ n. n) None (Row row) None (Reads law (step slots (row_at row 0) 0 0 none) me) tt is may
+    reads : IsLawfulStep law limits actor (seen_of me) None (Row row) None → Allows (Rule limits law) slots id me (row_at row 0) (λ n. n) (ReadsRow law (step slots (row_at row 0) 0 0 none) me)
+    reads may = event_telling limits law slots id actor me Idle (row_at row 0) (λ n. n) None (Row row) None (ReadsRow law (step slots (row_at row 0) 0 0 none) me) tt is may
         (λ s h there.
         let at : ℕ = row_at row 0 in
         let n : ℕ = get_or s.words at 0 in
@@ -119,6 +110,6 @@ module _ (law : Limits → List Entry → Type 0) (key limits : Limits) (own : k
   looks_at place small at = subst (λ (z : Limits × ℕ). Allows (Rule z.0 law) slots id me z.1 (λ n. n) (Looks (step slots z.1 0 0 none) me)) (λ k. (sym own k, sym at k))
       (looks limits law apart slots id actor me row within is known place small)
 
-  pub reads_at : word ≡ row_at row 0 → IsLawfulStep law limits actor (seen_of me) None (Row row) None → Allows (Rule key law) slots id me word (λ n. n) (Reads law (step slots word 0 0 none) me)
-  reads_at at may = subst (λ (z : Limits × ℕ). Allows (Rule z.0 law) slots id me z.1 (λ n. n) (Reads law (step slots z.1 0 0 none) me)) (λ k. (sym own k, sym at k))
+  pub reads_at : word ≡ row_at row 0 → IsLawfulStep law limits actor (seen_of me) None (Row row) None → Allows (Rule key law) slots id me word (λ n. n) (ReadsRow law (step slots word 0 0 none) me)
+  reads_at at may = subst (λ (z : Limits × ℕ). Allows (Rule z.0 law) slots id me z.1 (λ n. n) (ReadsRow law (step slots z.1 0 0 none) me)) (λ k. (sym own k, sym at k))
       (reads limits law apart slots id actor me row within is known may)

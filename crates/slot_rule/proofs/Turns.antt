@@ -23,11 +23,11 @@ use Rattle.tree_words.specs.Words.{words_in, SpellsWhere}
 use Rattle.slot_rule.specs.declared.view.Reach.{Reach}
 use Rattle.slot_rule.specs.declared.view.Reach.TheVariants.{Idle, Writing, Noted}
 use Rattle.slot_rule.specs.declared.view.Part.{Part}
-use Rattle.slot_rule.specs.Running.{Each, ExtendsFor, StartsWith, KnowsPlaceable, IsSettled, IsSpelledRow, ReachFits, PartFits, BeginWithSteps, actor_of, everywhere, Running}
+use Rattle.slot_rule.specs.Running.{Each, ExtendsFor, StartsWith, KnowsPlaceable, IsSettled, IsSpelledRow, ReachFits, PartFits, BeginWithSteps, entry_actor, everywhere, Running}
 use Rattle.slot_rule.specs.Views.{Mine, part, alone, seen_of, SitsAt}
 use Rattle.slot_rule.specs.Steps.{with_step, IsLawfulStep, Took, Event}
 use Rattle.slot_rule.proofs.Parts.{IsApart, Stands, actors_events, apart_ne, each_append, each_zip, extends_goes, goes_extends, events, others_events, with_events, memory_stepped, settled_back, spells_views, starts_on, starts_self, times_alone, times_of_one, everywhere_set, elsewhere, begins_on, begins_events}
-use Rattle.traces.proofs.OwnEntries.{extends_self, extends_on, knows_on}
+use Rattle.traces.proofs.OwnEntries.{extends_self, extends_on, knows_extends, knows_on}
 
 abbrev pub TableState : Type 0
 TableState = State (Unit {0}) (List Part)
@@ -61,6 +61,17 @@ at_each P limits actor reach me is p limits' actor' reach' is' =
 module _ (limits : Limits) (law : Limits → List Entry → Type 0) where
   abbrev pub Rule : TableState → Type 0
   Rule = Running limits (law limits)
+
+  -- what a seat that stands there has seen the longest run goes on from, and the actor knows no more after that
+  module _ (s : TableState) (h : Rule s) (id actor : ℕ) (seen : List Entry) (reach : Reach) (stands : Stands reach) (there : get_elem? s.views id ≡ some (alone limits actor seen reach)) where
+    pub fits_now : PartFits limits s.words h.run (part limits actor seen reach)
+    fits_now = (h.each id (alone limits actor seen reach) there).0
+
+    pub extends_now : Extends actor seen h.run
+    extends_now = goes_extends reach actor seen h.run stands fits_now.extends
+
+    pub knows_now : knows h.run actor ≡ knows seen actor
+    knows_now = knows_extends actor seen h.run extends_now
 
   -- what a step of the actor leaves to each other actor
   pub record Spares (actor : ℕ) (words words' : List ℕ) (run run' : List Entry) : Type 0 where
@@ -117,7 +128,7 @@ module _ (limits : Limits) (law : Limits → List Entry → Type 0) where
   pub turn : (s : TableState) (h : Rule s) (id actor : ℕ) (seen : List Entry) (reach : Reach) → Stands reach → get_elem? s.views id ≡ some (alone limits actor seen reach)
       → (carried : List (ℕ × Unit {0})) (i x : ℕ) (run' seen' : List Entry) (reach' : Reach) → Stands reach' → law limits run' → Spares actor s.words (set s.words i x) h.run run' → Extends actor seen' run'
       → ((row : ℕ) (content : Record) → (memory_of limits run').rows row ≡ Some content → IsSpelledRow limits row content)
-      → BeginWithSteps run' → Each (λ entry. actor_of entry < limits.actors) run' → ReachFits limits (set s.words i x) run' actor reach' → SpellsWhere limits (set s.words i x) (memory_of limits run') (IsSettled (set s.views id (alone limits actor seen' reach')))
+      → BeginWithSteps run' → Each (λ entry. entry_actor entry < limits.actors) run' → ReachFits limits (set s.words i x) run' actor reach' → SpellsWhere limits (set s.words i x) (memory_of limits run') (IsSettled (set s.views id (alone limits actor seen' reach')))
       → Rule (stepped s i x id carried (alone limits actor seen' reach') keeps)
   turn s h id actor seen reach stands at carried i x run' seen' reach' stands' legal spares extends kept begins actors fits spells = let one = times_alone limits actor seen reach stands in let mine = h.each id (alone limits actor seen reach) at in record {
     run = run';
@@ -157,8 +168,8 @@ module _ (limits : Limits) (law : Limits → List Entry → Type 0) where
       → Allows Rule slots id me i f then
   event_telling slots id actor me reach i f begun step reply then stands is may ready s h _ at _ =
       let at' : get_elem? s.views id ≡ some (alone limits actor (seen_of me) reach) = at ∙ ap (λ (z : Mine). some z.0) is in
-      let fit : PartFits limits s.words h.run (part limits actor (seen_of me) reach) = (h.each id _ at').0 in
-      let extends : Extends actor (seen_of me) h.run = goes_extends reach actor (seen_of me) h.run stands fit.extends in
+      let fit = fits_now s h id actor (seen_of me) reach stands at' in
+      let extends = extends_now s h id actor (seen_of me) reach stands at' in
       let t = ready s h at' in
       let answer : Answer Record = t.0 in
       let r = t.1 in
@@ -180,7 +191,7 @@ module _ (limits : Limits) (law : Limits → List Entry → Type 0) where
         tt,
         turn s h id actor (seen_of me) reach stands at' me.1 i (f (get_or s.words i 0)) later later Idle tt legal spares (extends_self actor later)
             (subst (λ m. (row : ℕ) (content : Record) → m.rows row ≡ Some content → IsSpelledRow limits row content) (sym after) r.kept)
-            begins (subst (Each (λ entry. actor_of entry < limits.actors)) (sym grown) (each_append (λ entry. actor_of entry < limits.actors) h.run more h.actors (actors_events limits actor begun step answer reply fit.there))) tt
+            begins (subst (Each (λ entry. entry_actor entry < limits.actors)) (sym grown) (each_append (λ entry. entry_actor entry < limits.actors) h.run more h.actors (actors_events limits actor begun step answer reply fit.there))) tt
             (subst (λ m. SpellsWhere limits (set s.words i (f (get_or s.words i 0))) m (IsSettled (set s.views id (alone limits actor later Idle)))) (sym after) (r.spells _ refl)),
         t.2 (alone limits actor later Idle, me.1) (ap (λ (c : List (ℕ × Unit {0})). (alone limits actor later Idle, c)) (ap (λ (z : Mine). z.1) is))
             record { run = h.run; legal = h.legal; extends = extends; answered = r.answered; grown = refl; begins = begins; kept = legal },
@@ -195,7 +206,5 @@ module _ (limits : Limits) (law : Limits → List Entry → Type 0) where
       (λ s h at. (
         got (get_or s.words i 0),
         ready s h at,
-        λ me' is' took limits' other other_is.
-            subst (λ (z : Limits × ℕ). SitsAt z.0 z.1 Idle me' × Took law z.0 z.1 (seen_of me) begun step (got (get_or s.words i 0)) reply (seen_of me'))
-            (λ k. (same_limits limits limits' actor other Idle Idle me is other_is k, same_actor limits limits' actor other Idle Idle me is other_is k)) (is', took),
+        λ me' is' took limits' other. at_each (λ l b _. SitsAt l b Idle me' × Took law l b (seen_of me) begun step (got (get_or s.words i 0)) reply (seen_of me')) limits actor Idle me is (is', took) limits' other Idle,
       ))

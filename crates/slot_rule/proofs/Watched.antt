@@ -7,7 +7,7 @@ use Rattle.atomic_table.specs.Seated.{TableId}
 use Rattle.tree_limits.specs.declared.limits.Limits.{Limits}
 use Rattle.bw_model.specs.declared.step.Answer.TheVariants.{Number}
 use Rattle.bw_model.specs.declared.step.Step.{Step}
-use Rattle.bw_model.specs.declared.step.Step.TheVariants.{Slot, Row, Epoch, Announce, PidBits, RowBits, Place, Exchange, TakePid, TakeRow, Enter, Leave, Retire, ReusePids, ReuseRows}
+use Rattle.bw_model.specs.declared.step.Step.TheVariants.{Slot, Row, Epoch, Announce, PidBits, RowBits, Place, ReusePids, ReuseRows}
 use Rattle.deltas.specs.declared.record.Record.{Record}
 use Rattle.deltas.specs.Memory.{Memory}
 use Rattle.traces.specs.declared.trace.Entry.{Entry}
@@ -26,21 +26,9 @@ use Rattle.slot_rule.proofs.Turns.{TableState, Rule}
 
 -- a step that reads a word sets no bits, and is told the number
 reads_none : (step : Step Record) → operation_of step ≡ Load → SetsBits step
-reads_none (Slot pid) is = tt
-reads_none (Row row) is = tt
-reads_none Epoch is = tt
-reads_none (Announce actor) is = tt
-reads_none (PidBits word) is = tt
-reads_none (RowBits word) is = tt
-reads_none (Place row content) is = tt
-reads_none (Exchange slot old new) is = tt
-reads_none (TakePid pid) is = tt
-reads_none (TakeRow row) is = tt
-reads_none (Enter epoch) is = tt
-reads_none Leave is = tt
-reads_none (Retire epoch) is = tt
 reads_none (ReusePids word bits) is = cc
 reads_none (ReuseRows word bits) is = cc
+reads_none other is = tt
 
 reads_number : (limits : Limits) (step : Step Record) (found : ℕ) → HasWord limits step → operation_of step ≡ Load → told step found ≡ Number found
 reads_number limits (Slot pid) found has is = refl
@@ -50,14 +38,7 @@ reads_number limits (Announce actor) found has is = refl
 reads_number limits (PidBits word) found has is = refl
 reads_number limits (RowBits word) found has is = refl
 reads_number limits (Place row content) found has is = absurd has
-reads_number limits (Exchange slot old new) found has is = cc
-reads_number limits (TakePid pid) found has is = cc
-reads_number limits (TakeRow row) found has is = cc
-reads_number limits (Enter epoch) found has is = cc
-reads_number limits Leave found has is = cc
-reads_number limits (Retire epoch) found has is = cc
-reads_number limits (ReusePids word bits) found has is = cc
-reads_number limits (ReuseRows word bits) found has is = cc
+reads_number limits other found has is = cc
 
 module _ (change : StepsChangeOneWord) (limits : Limits) (law : Limits → List Entry → Type 0) where
   -- what the memory answers after the longest run

@@ -120,9 +120,9 @@ BeginWithSteps (Begin actor command ∷ rest) = GoesOnWithStep actor rest × Beg
 BeginWithSteps (Step actor step answer reply ∷ rest) = BeginWithSteps rest
 
 -- the actor whose entry it is
-abbrev pub actor_of : Entry → ℕ
-actor_of (Begin actor command) = actor
-actor_of (Step actor step answer reply) = actor
+abbrev pub entry_actor : Entry → ℕ
+entry_actor (Begin actor command) = actor
+entry_actor (Step actor step answer reply) = actor
 
 -- There is a longest run, which has the law, and which goes on from what each seat has seen. The words are those of the memory after it,
 -- but for rows into which a seat is in the midst of placing a record. Each actor stands in exactly one seat, so the longest run is one
@@ -134,7 +134,7 @@ pub record Running (limits : Limits) (law : List Entry → Type 0) (s : State (U
   pub spells : SpellsWhere limits s.words (memory_of limits run) (IsSettled s.views)
   pub kept : (row : ℕ) (content : Record) → (memory_of limits run).rows row ≡ Some content → IsSpelledRow limits row content
   pub begins : BeginWithSteps run
-  pub actors : Each (λ entry. actor_of entry < limits.actors) run
+  pub actors : Each (λ entry. entry_actor entry < limits.actors) run
   pub once : (actor : ℕ) → everywhere actor s.views ≤ 1
   pub somewhere : (actor : ℕ) → actor < limits.actors → 1 ≤ everywhere actor s.views
   pub each : (id : ℕ) (view : List Part) → get_elem? s.views id ≡ some view → Each (PartFits limits s.words run) view

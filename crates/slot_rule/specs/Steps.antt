@@ -69,8 +69,8 @@ abbrev pub Acts : (Limits → List Entry → Type 0) → Option Command → Step
 Acts law begun step reply me found me' = Event law begun step reply Idle me (told step found) me'
 
 -- The first word of a row is read, which is the step.
-abbrev pub Reads : (Limits → List Entry → Type 0) → Made (Unit {0}) → Mine → ℕ → Mine → Type 0
-Reads law made me found me' = (limits : Limits) (actor row : ℕ) → SitsAt limits actor Idle me → made.word ≡ row_at row 0
+abbrev pub ReadsRow : (Limits → List Entry → Type 0) → Made (Unit {0}) → Mine → ℕ → Mine → Type 0
+ReadsRow law made me found me' = (limits : Limits) (actor row : ℕ) → SitsAt limits actor Idle me → made.word ≡ row_at row 0
     → SitsAt limits actor Idle me' × ReadsFirst law limits actor (seen_of me) row found (seen_of me')
 
 -- The seat has taken no step. The run that it has seen now goes on from what it had seen by steps of others alone, and a step that reads the

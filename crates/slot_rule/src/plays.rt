@@ -49,9 +49,9 @@ pub(crate) struct Reading<P> {
 }
 
 impl<P: Law> Play<(), View> for Reading<P> {
-    ghost use Rattle.slot_rule.specs.Steps.{Reads};
+    ghost use Rattle.slot_rule.specs.Steps.{ReadsRow};
 
-    ghost then = { Reads P.law };
+    ghost then = { ReadsRow P.law };
 }
 
 /// A word of a row whose record was read is looked at, and no step is taken.

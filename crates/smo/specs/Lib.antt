@@ -3,6 +3,7 @@ pub mod Sizes
 pub mod Neighbours
 pub mod Readings
 pub mod Reads
+pub mod Bases
 pub mod Splits
 pub mod Terms
 pub mod Roots
@@ -10,5 +11,6 @@ pub mod Holds
 pub mod Removals
 pub mod Merges
 pub mod Unterms
+pub mod Plans
 pub mod Linking
 pub mod Upkeep

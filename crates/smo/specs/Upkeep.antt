@@ -1,10 +1,13 @@
 -- What is done first at a small page: its term is held, and then it is removed.
-use Rattle.std.specs.Prelude.{◌≢◌, ◌≤◌, length}
+use Rattle.std.specs.Prelude.{◌≡◌, ◌≢◌, ◌≤◌, ◌⊎◌, length}
+use Rattle.deltas.specs.declared.record.Hold.{Hold}
+use Rattle.deltas.specs.declared.record.Record.TheVariants as kind
+use Rattle.deltas.specs.declared.record.Remove.{Remove}
 use Rattle.smo.specs.Holds.{CanHold, IsHoldPlan}
 use Rattle.smo.specs.Removals.{CanRemove, IsRemovePlan}
 use Rattle.smo.specs.Sizes.{HasItems, HasNoneHeld}
-use Rattle.smo.specs.declared.upkeep.Upkeep.{Upkeep}
-use Rattle.smo.specs.declared.upkeep.Upkeep.TheVariants.{Hold, Remove}
+use Rattle.smo.specs.declared.plan.Plan.{Plan}
+use Rattle.smo.specs.Plans.{over}
 use Rattle.smo.specs.Versions.{Version}
 
 -- A page may be removed that isn't page 1 and has at most 4 items, none of them held.
@@ -13,15 +16,23 @@ pub record IsSmall (page : Version) : Type 0 where
   pub few : HasItems page.chain (λ items. length items ≤ 4)
   pub unheld : HasNoneHeld page.chain
 
--- The removal may be placed on the page; or the page may not be removed yet, and the hold of its term may be placed on its parent.
-abbrev pub IsUpkeepDue : Version → Version → Upkeep → Type 0
-IsUpkeepDue parent page (Remove remove) = IsRemovePlan parent page remove
-IsUpkeepDue parent page (Hold hold) = (¬ CanRemove parent page) × IsHoldPlan parent page hold
+-- The plan removes the page, which may be removed.
+pub record RemovesPage (parent page : Version) (plan : Plan) : Type 0 where
+  pub remove : Remove
+  pub is : plan ≡ over page (kind.Remove remove)
+  pub due : IsRemovePlan parent page remove
+
+-- The page may not be removed yet, and the plan holds its term in its parent.
+pub record HoldsTerm (parent page : Version) (plan : Plan) : Type 0 where
+  pub hold : Hold
+  pub is : plan ≡ over parent (kind.Hold hold)
+  pub unheld : ¬ CanRemove parent page
+  pub due : IsHoldPlan parent page hold
 
 -- what is due at a small page
-pub record IsUpkeep (parent page : Version) (upkeep : Upkeep) : Type 0 where
+pub record IsUpkeep (parent page : Version) (plan : Plan) : Type 0 where
   pub small : IsSmall page
-  pub due : IsUpkeepDue parent page upkeep
+  pub due : RemovesPage parent page plan ⊎ HoldsTerm parent page plan
 
 -- Nothing is due: the page isn't small, or its term is neither held nor may be.
 abbrev pub IsIdle : Version → Version → Type 0

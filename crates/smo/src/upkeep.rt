@@ -5,28 +5,19 @@ ghost use Rattle.smo.specs.Upkeep.{IsIdle, IsUpkeep};
 
 use crate::held::is_unheld;
 use crate::sizes::FEW_ITEMS;
-use crate::{PageInHand, plan_hold, plan_remove};
-use deltas::{Hold, Remove};
+use crate::{PageInHand, Plan, plan_hold, plan_remove};
+use deltas::Record;
 use row_search::Rows;
 use std::alloc::Allocator;
 
-/// What is done first at a small page, below its parent.
-#[derive(Drop)]
-pub enum Upkeep {
-    /// The page is removed.
-    Remove(Remove),
-    /// The parent holds the page's term.
-    Hold(Hold),
-}
-
-/// The removal of the page where its term is held, else the hold of its term; none exactly where the page is page 1, or has more
+/// The plan of the removal of the page where its term is held, else of the hold of its term; none exactly where the page is page 1, or has more
 /// than a few items or a held one, or its term is neither held nor may be. Most pages are told by their number of items alone.
 pub fn plan_upkeep<R: Rows, A: Allocator>(
     parent: &PageInHand<R, A>,
     page: &PageInHand<R, A>,
     rows: &R,
     pass: &mut R::Pass,
-) -> Option<Upkeep>
+) -> Option<Plan>
     requires parent { IsReadPage (R.has rows.now pass.old) parent.now }
     requires page { IsReadPage (R.has rows.now pass.old) page.now }
     ensures same { pass.new ≡ pass.old }
@@ -45,8 +36,8 @@ pub fn plan_upkeep<R: Rows, A: Allocator>(
         return None;
     }
     if let Some(remove) = plan_remove(parent, page, rows, pass) {
-        return Some(Upkeep::Remove(remove));
+        return Some(Plan::over(page, Record::Remove(remove)));
     }
     let hold = plan_hold(parent, page, rows, pass)?;
-    Some(Upkeep::Hold(hold))
+    Some(Plan::over(parent, Record::Hold(hold)))
 }

@@ -17,7 +17,7 @@ use Rattle.deltas.specs.declared.record.Record.{Record}
 use Rattle.deltas.specs.declared.record.Record.TheVariants.{Base}
 use Rattle.deltas.specs.Applies.{Applies}
 use Rattle.deltas.specs.Spellable.{HasPid, IsPid, IsRow, IsSpellableLink, IsSpellablePage}
-use Rattle.traces.specs.chain.Examples.{leaf, split, split_leaf, merge, merged_leaf, put, delete, remove, leaf_chain, index, index_page, term, hold, unterm, termed_page, held_page, untermed_page, index_chain, index_split, split_index, upper_index, index_merge, merged_index, hold_again, long_index, put_over_removal, put_outside, base_over_base, first_held, marked_base, unnamed_split}
+use Rattle.traces.specs.chain.Examples.{leaf, split, split_leaf, merge, merged_leaf, put_k07, delete, remove, leaf_chain, index, index_page, term, hold, unterm, termed_page, held_page, untermed_page, index_chain, split_to_page_4, split_index, page_4, index_merge, merged_index, hold_again, long_index, put_over_removal, put_outside, base_over_base, first_held, marked_base, unnamed_split}
 use Rattle.traces.specs.chain.Fitted.{FitsOver, IsPageChain, Makes}
 use Rattle.traces.proofs.FittedLaws.{by_order, first_spellable, found_first, fits_over, Makes-base, Makes-next}
 
@@ -172,33 +172,33 @@ merge_fits = fits_over split_leaf merge lower merged refl ((omega arith, omega a
     })
     merge_applies ruled_merged
 
-put_applies : Applies merged put with_07
+put_applies : Applies merged put_k07 with_07
 put_applies = record { ascending = ruled_with_07.is_page.ordered.ascending; contents = λ q. refl; level = refl; low = refl; high = refl; right = refl; removed = refl }
 
-put_makes : Makes (put ∷ merged_leaf) with_07
-put_makes = Makes-next merged_leaf put merged with_07 merge_makes put_applies
+put_makes : Makes (put_k07 ∷ merged_leaf) with_07
+put_makes = Makes-next merged_leaf put_k07 merged with_07 merge_makes put_applies
 
-put_fits : FitsOver merged_leaf put
-put_fits = fits_over merged_leaf put merged with_07 refl (omega arith, omega arith) merge_makes
+put_fits : FitsOver merged_leaf put_k07
+put_fits = fits_over merged_leaf put_k07 merged with_07 refl (omega arith, omega arith) merge_makes
     (record { alive = refl; leaf = refl; covered = refl; room = λ absent. omega arith })
     put_applies ruled_with_07
 
 delete_applies : Applies with_07 delete without_08
 delete_applies = record { ascending = ruled_without_08.is_page.ordered.ascending; contents = delete_contents; level = refl; low = refl; high = refl; right = refl; removed = refl }
 
-delete_makes : Makes (delete ∷ put ∷ merged_leaf) without_08
-delete_makes = Makes-next (put ∷ merged_leaf) delete with_07 without_08 put_makes delete_applies
+delete_makes : Makes (delete ∷ put_k07 ∷ merged_leaf) without_08
+delete_makes = Makes-next (put_k07 ∷ merged_leaf) delete with_07 without_08 put_makes delete_applies
 
-delete_fits : FitsOver (put ∷ merged_leaf) delete
-delete_fits = fits_over (put ∷ merged_leaf) delete with_07 without_08 refl (omega arith, omega arith) put_makes
+delete_fits : FitsOver (put_k07 ∷ merged_leaf) delete
+delete_fits = fits_over (put_k07 ∷ merged_leaf) delete with_07 without_08 refl (omega arith, omega arith) put_makes
     (record { alive = refl; leaf = refl; covered = refl })
     delete_applies ruled_without_08
 
 remove_applies : Applies without_08 (remove 15) removed
 remove_applies = record { ascending = ruled_removed.is_page.ordered.ascending; contents = λ q. refl; level = refl; low = refl; high = refl; right = refl; removed = refl }
 
-remove_fits : FitsOver (delete ∷ put ∷ merged_leaf) (remove 15)
-remove_fits = fits_over (delete ∷ put ∷ merged_leaf) (remove 15) without_08 removed refl (omega arith, (omega arith, omega arith)) delete_makes
+remove_fits : FitsOver (delete ∷ put_k07 ∷ merged_leaf) (remove 15)
+remove_fits = fits_over (delete ∷ put_k07 ∷ merged_leaf) (remove 15) without_08 removed refl (omega arith, (omega arith, omega arith)) delete_makes
     (record { alive = refl; level = refl; few = omega arith; inner = refl })
     remove_applies ruled_removed
 
@@ -321,37 +321,37 @@ cut_contents q = by_order q k09
     (λ is. subst (λ k. content_at cut.items k ≡ (if not (is_below k k09) then None else content_at (both 3 false).items k)) (sym is) refl)
     (λ more. rw (above_09 q more, above_first q more) refl)
 
-merged_contents : (q : List ℕ) → content_at (both 5 false).items q ≡ (if not (is_below q k09) && true then content_at upper_index.items q else content_at cut.items q)
+merged_contents : (q : List ℕ) → content_at (both 5 false).items q ≡ (if not (is_below q k09) && true then content_at page_4.items q else content_at cut.items q)
 merged_contents q = by_order q k09
     (λ less. rw less refl)
-    (λ is. subst (λ k. content_at (both 5 false).items k ≡ (if not (is_below k k09) && true then content_at upper_index.items k else content_at cut.items k)) (sym is) refl)
+    (λ is. subst (λ k. content_at (both 5 false).items k ≡ (if not (is_below k k09) && true then content_at page_4.items k else content_at cut.items k)) (sym is) refl)
     (λ more. rw (above_09 q more, above_first q more) refl)
 
-stands_upper_index : IsSpellablePage upper_index
+stands_page_4 : IsSpellablePage page_4
 unfolding IsStrictlySortedBy
-stands_upper_index = record {
+stands_page_4 = record {
   ruled = record {
-    is_page = is_page upper_index refl (record { few = omega arith; ascending = (tt, tt) }) (refl, tt) (omega arith, tt);
+    is_page = is_page page_4 refl (record { few = omega arith; ascending = (tt, tt) }) (refl, tt) (omega arith, tt);
     ends = refl;
     top = omega arith;
     terms = λ above. record { first = (refl, refl); few = omega arith; apart = tt };
   };
   alive = refl;
   right = tt;
-  children = All-from_recursion (λ (item : Item). HasPid item.content) upper_index.items ((omega arith, omega arith), tt);
+  children = All-from_recursion (λ (item : Item). HasPid item.content) page_4.items ((omega arith, omega arith), tt);
 }
 
 again_makes : Makes index_chain (both 3 false)
 again_makes = Makes-next untermed_page (term 7 3) index (both 3 false) unterm_makes (term_applies 7 3)
 
-cut_applies : Applies (both 3 false) index_split cut
+cut_applies : Applies (both 3 false) split_to_page_4 cut
 cut_applies = record { ascending = ruled_cut.is_page.ordered.ascending; contents = cut_contents; level = refl; low = refl; high = refl; right = refl; removed = refl }
 
 cut_makes : Makes split_index cut
-cut_makes = Makes-next index_chain index_split (both 3 false) cut again_makes cut_applies
+cut_makes = Makes-next index_chain split_to_page_4 (both 3 false) cut again_makes cut_applies
 
-cut_fits : FitsOver index_chain index_split
-cut_fits = fits_over index_chain index_split (both 3 false) cut refl (linked 1 8 4 (omega arith) (omega arith, omega arith) (omega arith, omega arith)) again_makes
+cut_fits : FitsOver index_chain split_to_page_4
+cut_fits = fits_over index_chain split_to_page_4 (both 3 false) cut refl (linked 1 8 4 (omega arith) (omega arith, omega arith) (omega arith, omega arith)) again_makes
     (record { alive = refl; level = refl; covered = refl; inner = refl })
     cut_applies ruled_cut
 
@@ -362,8 +362,8 @@ back_makes : Makes merged_index (both 5 false)
 back_makes = Makes-next split_index index_merge cut (both 5 false) cut_makes back_applies
 
 back_fits : FitsOver split_index index_merge
-back_fits = fits_over split_index index_merge cut (both 5 false) refl ((omega arith, omega arith), not_empty, omega arith, stands_upper_index) cut_makes
-    (record { alive = refl; level = refl; meets = refl; merged = stands_upper_index.ruled.is_page; room = omega arith })
+back_fits = fits_over split_index index_merge cut (both 5 false) refl ((omega arith, omega arith), not_empty, omega arith, stands_page_4) cut_makes
+    (record { alive = refl; level = refl; meets = refl; merged = stands_page_4.ruled.is_page; room = omega arith })
     back_applies (ruled_both 5 false)
 
 held_again_fits : FitsOver merged_index hold_again

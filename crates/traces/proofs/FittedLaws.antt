@@ -6,11 +6,10 @@ use Rattle.std.proofs.lemmas.List.Elements.{All-from_recursion, recursion_from_A
 use Rattle.std.proofs.lemmas.Option.{same_Some}
 use Rattle.std.specs.List.Sorted.{IsStrictlySortedBy}
 use Rattle.std.specs.Ordering.{is_eq, ordering_reverse}
-use Rattle.std.specs.declared.cmp.Ordering.{Ordering}
-use Rattle.std.specs.declared.cmp.Ordering.TheVariants.{Less, Equal, Greater}
+use Rattle.std.specs.declared.cmp.Ordering.TheVariants.{Less, Greater}
 use Rattle.std.proofs.lemmas.Cmp.{nat_list_cmp_total, tied_itself}
-use Rattle.std.proofs.lemmas.Map.Lookups.{exact_bytes}
 use Rattle.bw_model.specs.Bytes.{key_cmp}
+pub use Rattle.base_page.proofs.KeyLaws.{by_order}
 use Rattle.base_page.specs.declared.item.Content.{Content}
 use Rattle.base_page.specs.declared.item.Content.TheVariants.{Value, Child}
 use Rattle.base_page.specs.declared.item.Item.{Item}
@@ -28,17 +27,6 @@ use Rattle.traces.specs.chain.Chains.{content_in, level_in, low_in, right_in}
 use Rattle.traces.specs.chain.Fitted.{FitsOver, IsFitted, Makes}
 
 -- items
-
-above : (a b : List ℕ) → key_cmp b a ≡ Greater → key_cmp a b ≡ Less
-above a b h = nat_list_cmp_total.antisymm a b ∙ ap ordering_reverse h
-
-pub by_order : {G : Type 0} (a b : List ℕ) → (key_cmp a b ≡ Less → G) → (a ≡ b → G) → (key_cmp b a ≡ Less → G) → G
-by_order {G} a b f g h = cases (key_cmp a b) refl
-  where
-    cases : (o : Ordering) → key_cmp a b ≡ o → G
-    cases Less e = f e
-    cases Equal e = g (exact_bytes a b e)
-    cases Greater e = h (above b a e)
 
 pub found_first : (item : Item) (items : List Item) → content_at (item ∷ items) item.key ≡ Some item.content
 found_first item items = rw (tied_itself nat_list_cmp_total item.key) refl
@@ -181,24 +169,16 @@ pids_in page stands = recursion_from_All (λ (item : Item). HasPid item.content)
 said_pid : (newest : Record) → IsSpellable newest → (key : List ℕ) (content : Content) → content_said newest key ≡ Some content → HasPid content
 said_pid (kind.Base page) h key content e = content_all HasPid page.items (pids_in page h) key content e
 said_pid (kind.Put put) h key content e = subst HasPid (same_Some _ _ e) tt
-said_pid (kind.Delete delete) h key content e = cc
-said_pid (kind.Split split) h key content e = cc
 said_pid (kind.Term term) h key content e = subst HasPid (same_Some _ _ e) h.1.names
 said_pid (kind.Hold hold) h key content e = subst HasPid (same_Some _ _ e) h.1.names
-said_pid (kind.Remove remove) h key content e = cc
 said_pid (kind.Merge merge) h key content e = content_all HasPid merge.items (pids_in _ h.3) key content e
-said_pid (kind.Unterm unterm) h key content e = cc
+said_pid other h key content e = cc
 
 right_pid : (newest : Record) → IsSpellable newest → (under : Option ℕ) → IfSome under IsPid → IfSome (right_after newest under) IsPid
 right_pid (kind.Base page) h under is = h.right
-right_pid (kind.Put put) h under is = is
-right_pid (kind.Delete delete) h under is = is
 right_pid (kind.Split split) h under is = h.names
-right_pid (kind.Term term) h under is = is
-right_pid (kind.Hold hold) h under is = is
-right_pid (kind.Remove remove) h under is = is
 right_pid (kind.Merge merge) h under is = h.3.right
-right_pid (kind.Unterm unterm) h under is = is
+right_pid other h under is = is
 
 -- each record of a fitted chain is one that a row can spell
 pub first_spellable : (newest : Record) (under : List Record) → IsFitted (newest ∷ under) → IsSpellable newest

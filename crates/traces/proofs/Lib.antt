@@ -1,5 +1,6 @@
 pub mod ChainLaws
 pub mod Pushes
+pub mod Cuts
 pub mod RunLaws
 pub mod TraceLaws
 pub mod FittedLaws

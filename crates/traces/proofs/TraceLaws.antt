@@ -1,5 +1,5 @@
 -- What one more entry changes.
-use Rattle.std.proofs.Common.{◌≡◌, ◌<◌, ◌≤◌, ◌⊎◌, length-append, ℕ, List, [], ◌∷◌, ◌++◌, length, Some, sym, subst, inl, inr, arith, ap}
+use Rattle.std.proofs.Common.{◌≡◌, ◌<◌, ◌≤◌, ◌⊎◌, ℕ, List, [], ◌∷◌, ◌++◌, length, Some, sym, subst, inl, inr, arith, ap}
 use Rattle.std.specs.Prelude.{slice_get}
 use Rattle.std.proofs.lemmas.List.Sums.{fold-append}
 use Rattle.tree_limits.specs.declared.limits.Limits.{Limits}
@@ -42,18 +42,6 @@ module _ (entries : List Entry) (entry : Entry) where
     λ later answer after leaves.
         elim (TakesStep-push_cases later actor Leave answer leaves) [ inl before ↦ h.2 later answer after before | inr last ↦ stays answer last.1 ],
   )
-
-  -- it learns what the entry shows
-  pub HasLearnt-shown : (actor row : ℕ) → ShowsRow (entries ++ entry ∷ []) (length entries) actor row → HasLearnt (entries ++ entry ∷ []) actor row
-  HasLearnt-shown actor row h = (
-    length entries,
-    h,
-    λ later answer after leaves.
-        let below : later < length (entries ++ entry ∷ []) = slice_get_below _ later _ leaves.1 in absurd (later_than_last entries entry later after below),
-  )
-    where
-      later_than_last : (es : List Entry) (e : Entry) (later : ℕ) → length es < later → later < length (es ++ e ∷ []) → ⊥
-      later_than_last es e later after below = grind (arith, length-append)
 
   -- what it has learnt it had learnt before, or the entry shows it; and the entry is no leave of its
   pub HasLearnt-push_cases : (actor row : ℕ) → HasLearnt (entries ++ entry ∷ []) actor row

@@ -6,7 +6,7 @@ use Rattle.std.specs.List.Sorted.{IsStrictlySortedBy}
 use Rattle.std.specs.Ordering.{is_eq, ordering_reverse}
 use Rattle.std.specs.declared.cmp.Ordering.{Ordering}
 use Rattle.std.specs.declared.cmp.Ordering.TheVariants.{Less, Equal, Greater}
-use Rattle.std.proofs.lemmas.Cmp.{nat_list_cmp_total, tied_itself}
+use Rattle.std.proofs.lemmas.Cmp.{nat_list_cmp_total}
 use Rattle.std.proofs.lemmas.List.Elements.{All-from_recursion, recursion_from_All}
 use Rattle.bw_model.specs.Bytes.{key_cmp, is_in_range}
 use Rattle.base_page.specs.declared.item.Content.{Content}
@@ -14,6 +14,7 @@ use Rattle.base_page.specs.declared.item.Content.TheVariants.{Value}
 use Rattle.base_page.specs.declared.item.Item.{Item}
 use Rattle.base_page.specs.Pages.{Page, content_at, AreItems, IsAscending, IsOfLevel}
 use Rattle.base_page.specs.Rules.{IsRuled}
+pub use Rattle.base_page.proofs.KeyLaws.{itself}
 use Rattle.deltas.specs.declared.record.Put.{Put}
 use Rattle.deltas.specs.declared.record.Delete.{Delete}
 use Rattle.deltas.specs.declared.record.Record.{Record}
@@ -22,9 +23,6 @@ use Rattle.deltas.specs.Spellable.{IsRow}
 use Rattle.deltas.specs.Fits.{FitsPut, FitsDelete}
 use Rattle.traces.specs.chain.Fitted.{FitsOver, Makes}
 use Rattle.traces.proofs.FittedLaws.{by_order, all_below, ascends_after, fits_over, lacks_first}
-
-pub itself : (key : List ℕ) → key_cmp key key ≡ Equal
-itself = tied_itself nat_list_cmp_total
 
 pub greater : (a b : List ℕ) → key_cmp b a ≡ Less → key_cmp a b ≡ Greater
 greater a b less = nat_list_cmp_total.antisymm a b ∙ ap ordering_reverse less

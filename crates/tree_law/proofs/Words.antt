@@ -102,7 +102,7 @@ pub use Rattle.tree_law.specs.Put.{put}
 pub use Rattle.tree_law.specs.Removal.{removal}
 pub use Rattle.tree_law.specs.Replies.{IsRepliedAt}
 pub use Rattle.tree_law.specs.Shared.{shared, slot_in, row_in, Shared}
-pub use Rattle.tree_law.specs.State.{IsReadyPage, Tells, operation_of, IsSearch, IsState, phase_of, IsInTree, IsUnended, IsAnsweredBy, IsMarked, HasFound, IsNamed}
+pub use Rattle.tree_law.specs.State.{IsReadyPage, Tells, operation_from, IsSearch, IsState, phase_of, IsInTree, IsUnended, IsAnsweredBy, IsMarked, HasFound, IsNamed}
 pub use Rattle.tree_law.specs.Stood.{HaveStood, WasRead, WereRead, WasLeafWith, IsLeafWith}
 pub use Rattle.tree_law.specs.Times.{Times, Timed, times_after, LimboFits, Outing, Holds, NamesSince, IsSince, HeldHead, out_after, is_linked, is_cleared, is_base, split_page}
 pub use Rattle.tree_law.specs.TraceLaws.{Opens}

@@ -40,18 +40,18 @@ use Rattle.tree_law.specs.Tree.{IsTree}
 abbrev pub IsUnended : List Entry → ℕ → ℕ → Type 0
 IsUnended entries start actor = (later : ℕ) (command : Command) → start < later → slice_get entries later ≡ Some (Begin actor command) → ⊥
 
-abbrev pub operation_of : ℕ → ℕ → Command → Operation
-operation_of start actor command = record { start = start; actor = actor; command = command }
+abbrev pub operation_from : ℕ → ℕ → Command → Operation
+operation_from start actor command = record { start = start; actor = actor; command = command }
 
 -- what the trace says of an actor's unfinished operation: the logs at its own steps, and the one at its point, if it has one
 pub record Tells (entries : List Entry) (points : List Bool) (actor : ℕ) (asked : Command) (point : Option (List Update)) (logs : List (List Update)) : Type 0 where
   pub start : ℕ
   pub begins : slice_get entries start ≡ Some (Begin actor asked)
   pub unended : IsUnended entries start actor
-  pub logs_at : (log : List Update) → Among log logs → (m : ℕ) × IsOwnStep entries (operation_of start actor asked) m × (log_at entries points m ≡ log) × (command_of (take m entries) actor ≡ Some asked)
+  pub logs_at : (log : List Update) → Among log logs → (m : ℕ) × IsOwnStep entries (operation_from start actor asked) m × (log_at entries points m ≡ log) × (command_of (take m entries) actor ≡ Some asked)
   pub point_at : MatchOption point
-      ((m : ℕ) → IsOwnStep entries (operation_of start actor asked) m → IsPoint points m → ⊥)
-      (λ log. (m : ℕ) × IsOwnStep entries (operation_of start actor asked) m × IsPoint points m × (log_at entries points m ≡ log))
+      ((m : ℕ) → IsOwnStep entries (operation_from start actor asked) m → IsPoint points m → ⊥)
+      (λ log. (m : ℕ) × IsOwnStep entries (operation_from start actor asked) m × IsPoint points m × (log_at entries points m ≡ log))
 
 -- what an unfinished operation has found empty, and where
 pub record IsSearch (entries : List Entry) (operation : Operation) (k : Knowledge) : Type 0 where

@@ -1,8 +1,12 @@
 //! How large a tree is.
 ghost use Rattle.std.specs.Prelude.{◌≡◌, ◌≤◌, ◌%◌, ◌^◌, ◌↔◌, IsOk, IfOk, IsTrue, true, false};
+ghost use Rattle.tree_limits.specs.declared.limits.TheConstants.{WORD_BITS};
 ghost use Rattle.tree_limits.specs.Limits.{AreLargeLimits, AreLimits};
 
 use thiserror::Error;
+
+/// The bits of a word of free PIDs or rows.
+pub(crate) const WORD_BITS: u64 = 64;
 
 /// How many actors there are at most.
 pub(crate) const MAX_ACTORS: u64 = 16;
@@ -57,11 +61,11 @@ pub struct Limits {
     pub ghost small: { is_large ≡ false → AreLimits actors pids rows epoch },
 }
 
-/// Whether a count is a multiple of 64, from 64 to the most.
+/// Whether a count is one of whole words, from one word to the most.
 fn is_whole(count: u64, most: u64) -> bool
-    ensures { IsTrue result ↔ (64 ≤ count) × (count ≤ most) × (count % 64 ≡ 0) }
+    ensures { IsTrue result ↔ (WORD_BITS ≤ count) × (count ≤ most) × (count % WORD_BITS ≡ 0) }
 {
-    (64..=most).contains(&count) && count % 64 == 0
+    (WORD_BITS..=most).contains(&count) && count % WORD_BITS == 0
 }
 
 impl Limits {

@@ -1,11 +1,9 @@
 //! Limits by the number of keys. specs/Room.antt has the rule in one place, and docs/DECISIONS.md the reasons.
 ghost use Rattle.std.specs.Prelude.{◌≡◌, ◌≤◌, ◌^◌, ◌↔◌, ℕ, IsOk, IfOk, MatchOption, true, false};
+ghost use Rattle.tree_limits.specs.declared.limits.TheConstants.{MAX_ACTORS, MAX_LARGE_PIDS, MAX_PIDS};
 ghost use Rattle.tree_limits.specs.Room.{AreProposed, AreProposedLarge, IsMostKeys, in_whole_words, large_pids_for, large_rows_for, pages_for, pids_for, rows_for};
 
-use crate::limits::{BadLimits, Limits, MAX_ACTORS, MAX_LARGE_PIDS, MAX_PIDS, MAX_ROWS};
-
-/// The bits of a word of free PIDs or rows.
-const WORD_BITS: u64 = 64;
+use crate::limits::{BadLimits, Limits, MAX_ACTORS, MAX_LARGE_PIDS, MAX_PIDS, MAX_ROWS, WORD_BITS};
 
 /// As many keys as a split leaves on both sides at least.
 const LEAF_KEYS: u64 = 8;
@@ -99,7 +97,7 @@ impl Limits {
 
 /// The PIDs that so many keys can take.
 fn pids_for(actors: u64, keys: u64) -> u64
-    requires few { actors ≤ 16 }
+    requires few { actors ≤ MAX_ACTORS }
     ensures { result ≡ pids_for actors keys }
 {
     in_whole_words(1 + pages_for(keys) + SEAT_PIDS * actors)
@@ -116,8 +114,8 @@ fn pages_for(keys: u64) -> u64
 
 /// The rows that so many PIDs can take.
 fn rows_for(actors: u64, pids: u64) -> u64
-    requires actors { actors ≤ 16 }
-    requires pids { pids ≤ 4096 }
+    requires actors { actors ≤ MAX_ACTORS }
+    requires pids { pids ≤ MAX_PIDS }
     ensures { result ≡ rows_for actors pids }
 {
     in_whole_words(CHAIN_ROWS * pids + SEAT_ROWS * actors)
@@ -125,7 +123,7 @@ fn rows_for(actors: u64, pids: u64) -> u64
 
 /// The PIDs that so many keys can take in a large tree.
 fn large_pids_for(actors: u64, keys: u64) -> u64
-    requires few { actors ≤ 16 }
+    requires few { actors ≤ MAX_ACTORS }
     ensures { result ≡ large_pids_for actors keys }
 {
     let pages = pages_for(keys);
@@ -134,8 +132,8 @@ fn large_pids_for(actors: u64, keys: u64) -> u64
 
 /// The rows that so many PIDs can take in a large tree.
 fn large_rows_for(actors: u64, pids: u64) -> u64
-    requires actors { actors ≤ 16 }
-    requires pids { pids ≤ 4194304 }
+    requires actors { actors ≤ MAX_ACTORS }
+    requires pids { pids ≤ MAX_LARGE_PIDS }
     ensures { result ≡ large_rows_for actors pids }
 {
     in_whole_words(LARGE_CHAIN_ROWS * pids + LARGE_SEAT_ROWS * actors)

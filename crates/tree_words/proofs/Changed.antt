@@ -11,7 +11,7 @@ use Rattle.bw_model.specs.declared.step.Step.TheVariants.{Slot, Row, Epoch, Anno
 use Rattle.deltas.specs.declared.record.Record.{Record}
 use Rattle.deltas.specs.Memory.{Memory, replaced_at}
 use Rattle.traces.specs.trace.Steps.{IsWordOf, memory_after}
-use Rattle.tree_words.specs.Layout.{slot_at, pid_bits_at, row_bits_at, epoch_at, announced_at, row_at, width}
+use Rattle.tree_words.specs.Layout.{slot_at, pid_bits_at, row_bits_at, epoch_at, announced_at, width}
 use Rattle.tree_words.specs.Changes.{HasWord, SetsBits, word_after, SpellsParts, ChangesOneWord, OperationsLeaveWords, StepsChangeOneWord, StoresTellNothing, WordsStandApart}
 use Rattle.tree_words.proofs.FreeBits.{word_kept, bits_set, word_apart, taken, found_free}
 use Rattle.deltas.proofs.Replaced.{replaced_same, replaced_other}
@@ -151,52 +151,17 @@ pub all_change : StepsChangeOneWord
 all_change limits words memory actor step long spells few within bits = changes limits words memory long spells actor few step within bits
 
 pub all_apart : WordsStandApart
-all_apart limits actor (Slot pid) few within = record { there = omega arith; apart = λ row j below small. λ e. absurd (omega arith) }
 all_apart limits actor (Row row) few within = absurd within
-all_apart limits actor Epoch few within = record { there = omega arith; apart = λ row j below small. λ e. absurd (omega arith) }
-all_apart limits actor (Announce other) few within = record { there = omega arith; apart = λ row j below small. λ e. absurd (omega arith) }
-all_apart limits actor (PidBits word) few within = record { there = omega arith; apart = λ row j below small. λ e. absurd (omega arith) }
-all_apart limits actor (RowBits word) few within = record { there = omega arith; apart = λ row j below small. λ e. absurd (omega arith) }
 all_apart limits actor (Place row content) few within = absurd within
-all_apart limits actor (Exchange slot old new) few within = record { there = omega arith; apart = λ row j below small. λ e. absurd (omega arith) }
 all_apart limits actor (TakePid pid) few within = let p = limits.allowed.whole_pids in record { there = omega arith; apart = λ row j below small. λ e. absurd (omega arith) }
 all_apart limits actor (TakeRow row) few within = let r = limits.allowed.whole_rows in record { there = omega arith; apart = λ row j below small. λ e. absurd (omega arith) }
-all_apart limits actor (Enter epoch) few within = record { there = omega arith; apart = λ row j below small. λ e. absurd (omega arith) }
-all_apart limits actor Leave few within = record { there = omega arith; apart = λ row j below small. λ e. absurd (omega arith) }
-all_apart limits actor (Retire epoch) few within = record { there = omega arith; apart = λ row j below small. λ e. absurd (omega arith) }
-all_apart limits actor (ReusePids word bits) few within = record { there = omega arith; apart = λ row j below small. λ e. absurd (omega arith) }
-all_apart limits actor (ReuseRows word bits) few within = record { there = omega arith; apart = λ row j below small. λ e. absurd (omega arith) }
+all_apart limits actor other few within = record { there = omega arith; apart = λ row j below small. λ e. absurd (omega arith) }
 
 pub all_leave : OperationsLeaveWords
 all_leave (Slot pid) found = refl
-all_leave (Row row) found = refl
-all_leave Epoch found = refl
-all_leave (Announce other) found = refl
-all_leave (PidBits word) found = refl
-all_leave (RowBits word) found = refl
-all_leave (Place row content) found = refl
-all_leave (Exchange slot old new) found = refl
-all_leave (TakePid pid) found = refl
-all_leave (TakeRow row) found = refl
-all_leave (Enter epoch) found = refl
-all_leave Leave found = refl
-all_leave (Retire epoch) found = refl
-all_leave (ReusePids word bits) found = refl
-all_leave (ReuseRows word bits) found = refl
+all_leave other found = refl
 
 pub all_quiet : StoresTellNothing
-all_quiet (Slot pid) = tt
-all_quiet (Row row) = tt
-all_quiet Epoch = tt
-all_quiet (Announce other) = tt
-all_quiet (PidBits word) = tt
-all_quiet (RowBits word) = tt
-all_quiet (Place row content) = tt
-all_quiet (Exchange slot old new) = tt
-all_quiet (TakePid pid) = tt
-all_quiet (TakeRow row) = tt
 all_quiet (Enter epoch) = λ found. refl
 all_quiet Leave = λ found. refl
-all_quiet (Retire epoch) = tt
-all_quiet (ReusePids word bits) = tt
-all_quiet (ReuseRows word bits) = tt
+all_quiet other = tt

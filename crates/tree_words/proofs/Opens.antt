@@ -1,11 +1,11 @@
 -- The opening words are those of the opening memory.
-use Rattle.std.proofs.Common.{◌≡◌, ◌≢◌, ◌⊎◌, ◌<◌, ◌≤◌, ◌+◌, ◌*◌, ◌-◌, ◌/◌, ◌%◌, ◌++◌, ◌∷◌, ℕ, zero, suc, List, length, set, get_or, replicate, Bool, true, false, inl, inr, refl, sym, ap, subst, arith, ◌∙◌, get_or-set_same, get_or-set_other, length-set, ne_eqb}
+use Rattle.std.proofs.Common.{◌≡◌, ◌≢◌, ◌⊎◌, ◌<◌, ◌≤◌, ◌+◌, ◌*◌, ◌-◌, ◌/◌, ◌%◌, ◌++◌, ◌∷◌, ℕ, zero, suc, List, length, set, get_or, replicate, inl, inr, refl, sym, ap, subst, arith, ◌∙◌, get_or-set_same, get_or-set_other, length-set, ne_eqb}
 use Rattle.std.specs.Prelude.{if◌then◌else◌, nat_le, nat_lt, ◌&&◌}
 use Rattle.std.specs.Int.{bit_at}
-use Rattle.std.proofs.lemmas.Bool.{cases_lt}
-use Rattle.std.proofs.lemmas.Bool.Decides.{nat_tests}
+use Rattle.std.proofs.lemmas.Bool.{cases_lt, le-leb, lt-leb, lt-ltb}
+use Rattle.std.proofs.lemmas.Bool.Decides.{eqb_tells}
 use Rattle.std.proofs.lemmas.List.{get_or-replicate, length-replicate}
-use Rattle.std.proofs.lemmas.Nat.Bits.{bit_at_mask_below, bit_at_mask_inside, bit_at_ones, bit_at-zero}
+use Rattle.std.proofs.lemmas.Nat.Bits.{bit_at_mask_below, bit_at_mask_inside, bit_at_ones}
 use Rattle.tree_limits.specs.declared.limits.Limits.{Limits}
 use Rattle.base_page.specs.Pages.{empty_leaf}
 use Rattle.deltas.specs.declared.record.Record.TheVariants.{Base}
@@ -14,27 +14,12 @@ use Rattle.traces.specs.trace.Steps.{IsWordOf}
 use Rattle.record_slots.specs.Layout.{no_bound, row_size, second_at, text_size}
 use Rattle.record_slots.specs.Parts.{first_word}
 use Rattle.record_slots.specs.Spelling.{words_left, words_of}
-use Rattle.tree_words.specs.Layout.{slot_at, pid_bits_at, row_bits_at, epoch_at, announced_at, row_at, rows_at, width}
+use Rattle.tree_words.specs.Layout.{slot_at, pid_bits_at, row_bits_at, epoch_at, announced_at, row_at, width}
 use Rattle.tree_words.specs.Opening.{with_ones, with_free, opening_words}
 use Rattle.tree_words.specs.Words.{words_in, AreWordsOf}
 
 same_or_not : (a b : ℕ) → (a ≡ b) ⊎ (a ≢ b)
-same_or_not a b = elim (cases_lt a b) [
-  | inl lt ↦ inr (λ same. absurd (omega arith))
-  | inr ge ↦ elim (cases_lt b a) [ inl lt ↦ inr (λ same. absurd (omega arith)) | inr le ↦ inl (omega arith) ]
-]
-
-le_true : (a b : ℕ) → a ≤ b → nat_le a b ≡ true
-le_true a b h = grind (arith, nat_tests)
-
-le_false : (a b : ℕ) → b < a → nat_le a b ≡ false
-le_false a b h = grind (arith, nat_tests)
-
-lt_true : (a b : ℕ) → a < b → nat_lt a b ≡ true
-lt_true a b h = grind (arith, nat_tests)
-
-lt_false : (a b : ℕ) → b ≤ a → nat_lt a b ≡ false
-lt_false a b h = grind (arith, nat_tests)
+same_or_not a b = elim (eqb_tells a b) [ inl same ↦ inl same.1 | inr apart ↦ inr apart.1 ]
 
 ones_length : (from n : ℕ) (ws : List ℕ) → length (with_ones from n ws) ≡ length ws
 ones_length from zero ws = refl
@@ -66,28 +51,15 @@ low_word count some = record { fits = omega arith; says = low }
   where
     low : (i : ℕ) → i < 64 → bit_at 18446744073709551612 i ≡ (if nat_le 2 (64 * 0 + i) && nat_lt (64 * 0 + i) count then 1 else 0)
     low i below = elim (cases_lt i 2) [
-      | inl lt ↦ rw (le_false 2 (64 * 0 + i) (omega arith)) (bit_at_mask_below 2 64 i lt)
-      | inr ge ↦ rw (le_true 2 (64 * 0 + i) (omega arith), lt_true (64 * 0 + i) count (omega arith)) (bit_at_mask_inside 2 64 i ge below)
+      | inl lt ↦ rw (lt-leb 2 (64 * 0 + i) (omega arith)) (bit_at_mask_below 2 64 i lt)
+      | inr ge ↦ rw (le-leb 2 (64 * 0 + i) (omega arith), lt-ltb (64 * 0 + i) count (omega arith)) (bit_at_mask_inside 2 64 i ge below)
     ]
 
 high_word : (count word : ℕ) → count % 64 ≡ 0 → 0 < word → word < count / 64 → Free count word 18446744073709551615
 high_word count word whole some within = record {
   fits = omega arith;
-  says = λ i below. rw (le_true 2 (64 * word + i) (omega arith), lt_true (64 * word + i) count (omega arith)) (bit_at_ones 64 i below);
+  says = λ i below. rw (le-leb 2 (64 * word + i) (omega arith), lt-ltb (64 * word + i) count (omega arith)) (bit_at_ones 64 i below);
 }
-
-no_bit : (i : ℕ) → bit_at 0 i ≡ 0
-no_bit i = bit_at-zero i
-
-past_word : (count word : ℕ) → count % 64 ≡ 0 → count / 64 ≤ word → Free count word 0
-past_word count word whole past = record {
-  fits = omega arith;
-  says = λ i below. rw (lt_false (64 * word + i) count (omega arith)) (no_bit i ∙ and_false (nat_le 2 (64 * word + i)));
-}
-  where
-    and_false : (b : Bool) → ◌≡◌ {A = ℕ} 0 (if b && false then 1 else 0)
-    and_false true = refl
-    and_false false = refl
 
 free_inside : (count from word : ℕ) (ws : List ℕ) → count % 64 ≡ 0 → 64 ≤ count → word < count / 64 → from + count / 64 ≤ length ws → Free count word (get_or (with_free from (count / 64) ws) (from + word) 0)
 free_inside count from word ws whole some within long = let len = ones_length from (count / 64) ws in elim (same_or_not word 0) [
@@ -191,7 +163,7 @@ module _ (limits : Limits) where
     | inl zero_is ↦ rw zero_is (get_or-set_other L6 (row_at 1 second_at) (slot_at limits 0) no_bound 0 (λ e. absurd (omega arith)) ∙ get_or-set_other L5 (row_at 1 0) (slot_at limits 0) (first_word 1 0 0) 0 (λ e. absurd (omega arith)) ∙ get_or-set_other L4 epoch_at (slot_at limits 0) limits.epoch 0 (λ e. absurd (omega arith)) ∙ get_or-set_other L3 (slot_at limits 1) (slot_at limits 0) 1 0 (λ e. absurd (omega arith)) ∙ get_or-set_same L2 (slot_at limits 0) 1 0 (let l = l2 in omega arith))
     | inr some ↦ elim (same_or_not pid 1) [
       | inl one_is ↦ rw one_is (get_or-set_other L6 (row_at 1 second_at) (slot_at limits 1) no_bound 0 (λ e. absurd (omega arith)) ∙ get_or-set_other L5 (row_at 1 0) (slot_at limits 1) (first_word 1 0 0) 0 (λ e. absurd (omega arith)) ∙ get_or-set_other L4 epoch_at (slot_at limits 1) limits.epoch 0 (λ e. absurd (omega arith)) ∙ get_or-set_same L3 (slot_at limits 1) 1 0 (let l = l3 in omega arith))
-      | inr more ↦ rw (le_false pid 1 (omega arith)) (nowhere (slot_at limits pid) (omega arith) (λ e. some (omega arith)) (λ e. more (omega arith)) (λ e. absurd (omega arith)) (λ e. absurd (omega arith)) (λ e. absurd (omega arith)) (λ k h e. absurd (omega arith)) (λ k h e. absurd (omega arith)))
+      | inr more ↦ rw (lt-leb pid 1 (omega arith)) (nowhere (slot_at limits pid) (omega arith) (λ e. some (omega arith)) (λ e. more (omega arith)) (λ e. absurd (omega arith)) (λ e. absurd (omega arith)) (λ e. absurd (omega arith)) (λ k h e. absurd (omega arith)) (λ k h e. absurd (omega arith)))
     ]
   ]
 

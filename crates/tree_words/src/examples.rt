@@ -2,7 +2,7 @@
 ghost use Rattle.std.specs.Prelude.{◌≡◌, true, false};
 ghost use Rattle.tree_limits.specs.declared.limits.Limits.{Limits};
 ghost use Rattle.bw_model.specs.declared.step.Answer.TheVariants.{Number, Whether, Done};
-ghost use Rattle.bw_model.specs.declared.step.Step.TheVariants.{Slot, Announce, PidBits, RowBits, Exchange, TakePid, TakeRow, Enter, Leave, Retire, ReusePids, ReuseRows};
+ghost use Rattle.bw_model.specs.declared.step.Step.TheVariants.{Slot, Announce, RowBits, Exchange, TakePid, TakeRow, Enter, Leave, Retire, ReusePids, ReuseRows};
 ghost use Rattle.tree_words.specs.Changes.{changed_word, told, word_after};
 
 /// The words of steps of actor 3, as a table of 4,096 PIDs and 16,384 rows is laid out.

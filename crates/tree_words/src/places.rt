@@ -1,5 +1,5 @@
 //! Where the words of each part stand.
-ghost use Rattle.std.specs.Prelude.{◌≡◌, ◌<◌, ◌≤◌};
+ghost use Rattle.std.specs.Prelude.{◌≡◌};
 ghost use Rattle.tree_words.specs.Layout.{announced_at, epoch_at, pid_bits_at, row_at, row_bits_at, slot_at, width};
 
 use bw_model::Limits;

@@ -66,17 +66,7 @@ module _ (limits : Limits) (run : List Entry) (points : List Bool) (operation : 
   pub paged : (answer : Reply) → IsTrueReply limits run points operation answer → IsPaged run points operation from answer
   paged reply.Full is = absurd (let never = subst (λ c. IsTrue (is_writer c)) asks is.0 in cc)
   paged reply.Tidied is = absurd (not_tidy is)
-  paged (reply.Value value) is = at_point (reply.Value value) is
-  paged reply.None is = at_point reply.None is
-  paged reply.Inserted is = at_point reply.Inserted is
-  paged (reply.Exists value) is = at_point (reply.Exists value) is
-  paged reply.Set is = at_point reply.Set is
-  paged (reply.Replaced value) is = at_point (reply.Replaced value) is
-  paged (reply.Deleted value) is = at_point (reply.Deleted value) is
-  paged reply.Absent is = at_point reply.Absent is
-  paged reply.Swapped is = at_point reply.Swapped is
-  paged (reply.Differs value) is = at_point (reply.Differs value) is
-  paged (reply.Page items next) is = at_point (reply.Page items next) is
+  paged other is = at_point other is
 
 -- what a page shows is the map's at its operation's point
 pub page_is_shown : (limits : Limits) (turns : List Turn) (run : List Entry) (bound : Option (List ℕ)) (page : WalkedPage) (linear : IsLinearized limits turns run) → IsPageOf run bound page → IsPageShown run linear.points bound page

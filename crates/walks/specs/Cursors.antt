@@ -117,6 +117,6 @@ abbrev pub HasManyPages : Cursor → Seat → List (List ℕ × List ℕ) → Li
 HasManyPages old seat before after new later = (walked : HasWalked old seat before after new later) × (length walked.pages ≡ 2 ^ 64 - 1)
 
 -- Why a scan stopped.
-abbrev pub HasStopped : Scanned → Cursor → Seat → ℕ → List (List ℕ × List ℕ) → List (List ℕ × List ℕ) → Cursor → Seat → Type 0
-HasStopped scanned.End old seat budget before after new later = new.at ≡ None
-HasStopped scanned.Spent old seat budget before after new later = IsSpentAt seat budget new later ⊎ HasManyPages old seat before after new later
+abbrev pub HasScanStopped : Scanned → Cursor → Seat → ℕ → List (List ℕ × List ℕ) → List (List ℕ × List ℕ) → Cursor → Seat → Type 0
+HasScanStopped scanned.End old seat budget before after new later = new.at ≡ None
+HasScanStopped scanned.Spent old seat budget before after new later = IsSpentAt seat budget new later ⊎ HasManyPages old seat before after new later

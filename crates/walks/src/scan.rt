@@ -5,7 +5,7 @@ ghost use Rattle.bw_model.specs.declared.pairs.TheConstants.{MAX_PAIRS};
 ghost use Rattle.bw_tree.specs.Runs.{IsOneHistory};
 ghost use Rattle.bw_tree.specs.Seats.{IsSame, unfinished_command};
 ghost use Rattle.bw_tree.specs.Trees.{IsSeatOf};
-ghost use Rattle.walks.specs.Cursors.{HasStopped, HasTold, HasWalked, IsNextOf, added_by, cursor_command};
+ghost use Rattle.walks.specs.Cursors.{HasScanStopped, HasTold, HasWalked, IsNextOf, added_by, cursor_command};
 
 use crate::cursor::{Cursor, Walk};
 use bw_model::{Key, MAX_PAIRS, Value};
@@ -38,7 +38,7 @@ impl Cursor {
         ensures ready { unfinished_command seat.new ≡ cursor_command self.new }
         ensures walked { HasWalked self.old seat.old list.old.items list.new.items self.new seat.new }
         ensures told { HasTold self.old seat.old list.old.items list.new.items self.new seat.new }
-        ensures stopped { IfOk result (λ scanned. HasStopped scanned self.old seat.old budget list.old.items list.new.items self.new seat.new) }
+        ensures stopped { IfOk result (λ scanned. HasScanStopped scanned self.old seat.old budget list.old.items list.new.items self.new seat.new) }
         ensures full { OnErr result (vec_capacity list.new < length list.new.items + MAX_PAIRS) }
         ensures history { IsOneHistory seat.new.limits seat.new.seen }
     {

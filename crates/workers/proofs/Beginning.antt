@@ -7,8 +7,10 @@ use Rattle.workers.specs.declared.begun.Back.{Back}
 use Rattle.workers.specs.declared.begun.Begun.{Begun}
 use Rattle.workers.specs.declared.begun.Begun.TheVariants as begun
 use Rattle.workers.specs.declared.worker.Worker.{Worker}
+use Rattle.traces.proofs.Pushes.{slice_get_below}
+use Rattle.seats.proofs.Gathering.{there}
+use Rattle.seats.proofs.Seeing.{index_is}
 use Rattle.workers.specs.Begun.{AreBegun, ComesBack, HasJoined, HaveComeBack, HaveJoined, IsBack, IsBegun, IsToldBy}
-use Rattle.workers.proofs.Parting.{below_of, index_is, there}
 
 -- what stands in a longer list stands in the list, or is the last
 at_more : {X : Type 0} (xs : List X) (x z : X) (n : ℕ) → slice_get (xs ++ x ∷ []) n ≡ Some z → (slice_get xs n ≡ Some z) ⊎ ((n ≡ length xs) × (x ≡ z))
@@ -25,10 +27,10 @@ each_more : {X Y : Type 0} (R : ℕ → X → Y → Type 0) (xs : List X) (ys : 
 each_more R xs ys x y count each one n a b at_a at_b = elim (at_more xs x a n at_a) [
   | inl here ↦ elim (at_more ys y b n at_b) [
     | inl there ↦ each n a b here there
-    | inr last ↦ let below = below_of xs n a here in let e = last.0 in absurd (omega (arith, below, e, count))
+    | inr last ↦ let below = slice_get_below xs n a here in let e = last.0 in absurd (omega (arith, below, e, count))
   ]
   | inr end ↦ elim (at_more ys y b n at_b) [
-    | inl there ↦ let below = below_of ys n b there in let e = end.0 in absurd (omega (arith, below, e, count))
+    | inl there ↦ let below = slice_get_below ys n b there in let e = end.0 in absurd (omega (arith, below, e, count))
     | inr last ↦ subst (λ k. R k a b) (sym last.0) (subst (λ z. R (length ys) z b) end.1 (subst (R (length ys) x) last.1 one))
   ]
 ]
@@ -74,7 +76,7 @@ pub came_back : {A : Type 0} (told same : Bool) (limit id : ℕ) (olds news : Li
 came_back told same limit id olds news ones is joined says = subst (λ z. HaveComeBack z limit olds news) (sym says) record {
   count = joined.count ∙ is.count;
   each = λ place old new at_old at_new.
-      let below = below_of olds place old at_old in
+      let below = slice_get_below olds place old at_old in
       let one = there ones place (omega (arith, below, is.count)) in
       joined.each place one.0 new one.1 at_new limit id place old (is.each place old one.0 at_old one.1);
 }

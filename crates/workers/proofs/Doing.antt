@@ -9,7 +9,7 @@ use Rattle.workers.specs.declared.job.JobResult.{JobResult}
 use Rattle.workers.specs.declared.worker.Worker.{Worker}
 use Rattle.workers.specs.Jobs.{calls_told}
 use Rattle.workers.specs.Worked.{GoesOn}
-use Rattle.workers.specs.Working.{Adds, HasDone}
+use Rattle.workers.specs.Working.{AddsResult, HasDone}
 use Rattle.workers.proofs.Going.{goes_on, stays}
 
 abbrev IsAt : {A : Type 0} → ℕ → JobResult A → Type 0
@@ -25,7 +25,7 @@ none_done place limit worker idle empty =
     }
 
 -- one job more
-pub one_more : {A : Type 0} (place limit : ℕ) (old : Seat) (mid new : Worker A) → HasDone place limit old mid → vec_len mid.done < limit → Adds place mid new → HasDone place limit old new
+pub one_more : {A : Type 0} (place limit : ℕ) (old : Seat) (mid new : Worker A) → HasDone place limit old mid → vec_len mid.done < limit → AddsResult place mid new → HasDone place limit old new
 one_more place limit old mid new before below adds =
     let told = flat_map-append calls_told mid.done.items (adds.result ∷ []) ∙ ap (λ z. flat_map calls_told mid.done.items ++ z) (append-nil (calls_told adds.result)) in
     let longer = new.done.ok.0 ∙ ap length adds.kept ∙ length-append mid.done.items (adds.result ∷ []) in

@@ -5,8 +5,9 @@ use mathlib.Core.Logic.{dite}
 use native.Mathlib.Decide.{ℕ_discrete}
 use Rattle.workers.specs.declared.job.Job.{Job}
 use Rattle.workers.specs.declared.job.JobResult.{JobResult}
+use Rattle.seats.proofs.Gathering.{there}
+use Rattle.seats.proofs.Seeing.{index_is}
 use Rattle.workers.specs.Jobs.{AreResultsOf, IsResultOf}
-use Rattle.workers.proofs.Parting.{index_is, there}
 
 -- the results below a place are the jobs'
 abbrev pub AreLooked : {A : Type 0} → List Job → List (JobResult A) → ℕ → Type 0

@@ -1,6 +1,6 @@
 -- Workers are made of seats, and parted from them again.
 use Rattle.std.proofs.Common.{◌≡◌, ◌<◌, ◌≤◌, ◌+◌, ◌*◌, ℕ, zero, suc, List, [], ◌∷◌, Some, refl, sym, ap, subst, ◌++◌, ◌∙◌, arith, All, Vec, false, flat_map, length, map, true}
-use Rattle.std.specs.Prelude.{Bool, IsPermutation, MatchBool, Option, slice_get, slice_index_or, vec_len}
+use Rattle.std.specs.Prelude.{Bool, IsPermutation, MatchBool, Option, slice_get, vec_len}
 use Rattle.std.specs.List.Sorted.{IsNonDecreasingBy}
 use Rattle.std.proofs.Math.Nat.{mul-le-mul_right}
 use Rattle.std.proofs.lemmas.Grind.{flat_map-append}
@@ -17,7 +17,10 @@ use Rattle.workers.specs.declared.worker.Worker.{Worker}
 use Rattle.workers.specs.declared.job.Job.{Job}
 use Rattle.workers.specs.declared.job.JobsRefusal.{JobsRefusal}
 use Rattle.workers.specs.declared.job.JobsRefusal.TheVariants.{NotRun, Results}
+use Rattle.traces.proofs.Pushes.{slice_get_below}
 use Rattle.bw_tree.proofs.Going.{same_on, starts_on}
+use Rattle.seats.proofs.Gathering.{there}
+use Rattle.seats.proofs.Seeing.{index_is}
 use Rattle.seats.specs.Gathered.{HaveGathered, SeesOn}
 use Rattle.workers.specs.Jobs.{AreResultsOf, calls_told}
 use Rattle.workers.specs.Worked.{AreIdle, AreNamed, GoesOn, HasWorked, HaveOneHistory, HaveStopped, HaveWorked}
@@ -49,21 +52,6 @@ has_room before room limit count all done one is few some below given full =
     let long = ap (λ z. vec_len z) is in
     let most : (count + 1) * limit ≤ all * limit = mul-le-mul_right limit (omega (arith, below)) in
     let times = times_more count limit in omega (arith, long, few, some, most, times, given, full)
-
-pub below_of : {X : Type 0} (xs : List X) (n : ℕ) (x : X) → slice_get xs n ≡ Some x → n < length xs
-below_of [] n x e = cc
-below_of (y ∷ ys) zero x e = omega arith
-below_of (y ∷ ys) (suc n) x e = let below = below_of ys n x e in omega (arith, below)
-
-pub there : {X : Type 0} (xs : List X) (n : ℕ) → n < length xs → (x : X) × (slice_get xs n ≡ Some x)
-there [] n below = absurd (omega (arith, below))
-there (y ∷ ys) zero below = (y, refl)
-there (y ∷ ys) (suc n) below = there ys n (omega (arith, below))
-
-pub index_is : {X : Type 0} (xs : List X) (n : ℕ) (x d : X) → slice_get xs n ≡ Some x → slice_index_or xs n d ≡ x
-index_is [] n x d e = cc
-index_is (y ∷ ys) zero x d e = same_Some y x e
-index_is (y ∷ ys) (suc n) x d e = index_is ys n x d e
 
 -- what stands in a mapped list is of what stands in the list
 of_map : {X Y : Type 0} (f : X → Y) (xs : List X) (n : ℕ) (y : Y) → slice_get (map f xs) n ≡ Some y → (x : X) × (slice_get xs n ≡ Some x) × (f x ≡ y)
@@ -109,7 +97,7 @@ all_few told limit olds news few back k d below =
 
 placed : {A : Type 0} (limit : ℕ) (olds news : List (Worker A)) → HaveComeBack true limit olds news → ArePlaced 0 news
 placed limit olds news back n worker at =
-    let below = below_of news n worker at in
+    let below = slice_get_below news n worker at in
     let old = there olds n (omega (arith, below, back.count)) in
     All-weaker (λ result. result.seat ≡ n) (λ result. result.seat ≡ 0 + n) (λ result e. omega (arith, e)) (done_by worker) (back.each n old.0 worker old.1 at).0.named
 
@@ -149,7 +137,7 @@ worked_reordered xs ys olds news moved worked = record {
 -- seats that have worked are the tree's, and idle
 pub own_after : {A : Type 0} (tree : Tree) (results : List (JobResult A)) (olds news : List Seat) → HaveWorked results olds news → AreSeatsOf tree olds → AreSeatsOf tree news
 own_after tree results olds news worked own place after at =
-    let below = below_of news place after at in
+    let below = slice_get_below news place after at in
     let old = there olds place (omega (arith, below, worked.count)) in
     let before = own place old.0 old.1 in
     let h = (worked.each place old.0 after old.1 at).goes in
@@ -157,7 +145,7 @@ own_after tree results olds news worked own place after at =
 
 pub idle_after : {A : Type 0} (results : List (JobResult A)) (olds news : List Seat) → HaveWorked results olds news → AreIdle news
 idle_after results olds news worked place after at =
-    let below = below_of news place after at in
+    let below = slice_get_below news place after at in
     let old = there olds place (omega (arith, below, worked.count)) in
     (worked.each place old.0 after old.1 at).goes.idle
 
@@ -178,7 +166,7 @@ goes_on_seen old mid new made goes on = record {
 -- each seat was there before
 was_there : (mids news : List Seat) → HaveGathered mids news → (n : ℕ) (new : Seat) → slice_get news n ≡ Some new → (mid : Seat) × (slice_get mids n ≡ Some mid)
 was_there mids news g n new at =
-    let below = below_of news n new at in
+    let below = slice_get_below news n new at in
     let count = g.count in there mids n (omega (arith, below, count))
 
 pub gathered : {A : Type 0} (results : List (JobResult A)) (olds mids news : List Seat) → HaveWorked results olds mids → HaveGathered mids news → HaveWorked results olds news

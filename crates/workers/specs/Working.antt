@@ -9,7 +9,7 @@ use Rattle.workers.specs.Jobs.{calls_told}
 use Rattle.workers.specs.Worked.{GoesOn}
 
 -- A worker ran a job, and its list has one result more, which names its place.
-pub record Adds {A : Type 0} (place : ℕ) (old new : Worker A) : Type 0 where
+pub record AddsResult {A : Type 0} (place : ℕ) (old new : Worker A) : Type 0 where
   pub result : JobResult A
   pub named : result.seat ≡ place
   pub kept : new.done.items ≡ old.done.items ++ result ∷ []

@@ -5,7 +5,7 @@ ghost use Rattle.bw_tree.specs.Runs.{IsOneHistory};
 ghost use Rattle.bw_tree.specs.Seats.{unfinished_command};
 ghost use Rattle.bw_tree.specs.Trees.{IsSeatOf};
 ghost use Rattle.workers.specs.Worked.{GoesOn};
-ghost use Rattle.workers.specs.Working.{Adds, HasDone};
+ghost use Rattle.workers.specs.Working.{AddsResult, HasDone};
 
 use crate::gate::Gate;
 use crate::job::JobResult;
@@ -80,7 +80,7 @@ impl<A: Allocator> Worker<A> {
         requires own { IsSeatOf tree.now self.old.seat }
         requires idle { unfinished_command self.old.seat ≡ None }
         requires room { vec_len self.old.done < vec_capacity self.old.done }
-        ensures adds { Adds place self.old self.new }
+        ensures adds { AddsResult place self.old self.new }
         ensures room { vec_capacity self.new.done ≡ vec_capacity self.old.done }
     {
         let Task {

@@ -1,4 +1,4 @@
-//! What changes of a page give.
+//! Changes of a page where it lies.
 ghost use Rattle.std.specs.Prelude.{◌≡◌, ◌+◌, ◌++◌, ◌<◌, ◌≤◌, ℕ, List, Some, None, IsTrue, true, if◌then◌else◌, length, take, drop, slice_index_or, is_some};
 ghost use Rattle.std.specs.Ordering.{is_eq};
 ghost use Rattle.bw_model.specs.Bytes.{key_cmp, is_below, is_in_range};
@@ -10,78 +10,68 @@ use crate::{Content, Page};
 use bw_model::Key;
 
 impl Page {
-    /// The page where the key has the content, in place of what it had.
-    pub fn with_put(self, key: Key, content: Content) -> Page
-        requires covered { IsTrue (is_in_range self.low self.high key) }
-        requires kind { IsOfLevel self.level content }
-        requires room { content_at self.items key ≡ None → length self.items < MAX_ITEMS }
-        ensures page { IsPage result }
-        ensures frame { result ≡ record self { items = result.items } }
-        ensures contents { (q : List ℕ) → content_at result.items q ≡ (if is_eq (key_cmp q key) then Some content else content_at self.items q) }
-        ensures count { length result.items ≡ (if is_some (content_at self.items key) then length self.items else length self.items + 1) }
+    /// Gives the key the content, in place of what it had.
+    pub fn put(&mut self, key: Key, content: Content)
+        requires covered { IsTrue (is_in_range self.old.low self.old.high key) }
+        requires kind { IsOfLevel self.old.level content }
+        requires room { content_at self.old.items key ≡ None → length self.old.items < MAX_ITEMS }
+        ensures page { IsPage self.new }
+        ensures frame { self.new ≡ record self.old { items = self.new.items } }
+        ensures contents { (q : List ℕ) → content_at self.new.items q ≡ (if is_eq (key_cmp q key) then Some content else content_at self.old.items q) }
+        ensures count { length self.new.items ≡ (if is_some (content_at self.old.items key) then length self.old.items else length self.old.items + 1) }
     {
-        let mut page = self;
-        page.items.put(key, content);
-        page
+        self.items.put(key, content);
     }
 
-    /// The page where the key is absent.
-    pub fn without(self, key: &Key) -> Page
-        ensures page { IsPage result }
-        ensures frame { result ≡ record self { items = result.items } }
-        ensures contents { (q : List ℕ) → content_at result.items q ≡ (if is_eq (key_cmp q key.now) then None else content_at self.items q) }
-        ensures count { length self.items ≡ (if is_some (content_at self.items key.now) then length result.items + 1 else length result.items) }
+    /// Takes away what the key has.
+    pub fn delete(&mut self, key: &Key)
+        ensures page { IsPage self.new }
+        ensures frame { self.new ≡ record self.old { items = self.new.items } }
+        ensures contents { (q : List ℕ) → content_at self.new.items q ≡ (if is_eq (key_cmp q key.now) then None else content_at self.old.items q) }
+        ensures count { length self.old.items ≡ (if is_some (content_at self.old.items key.now) then length self.new.items + 1 else length self.new.items) }
     {
-        let mut page = self;
-        page.items.remove(key);
-        page
+        self.items.remove(key);
     }
 
-    /// The page where the key's term, if it has one, is held.
-    pub fn with_held(self, key: &Key) -> Page
-        ensures page { IsPage result }
-        ensures frame { result ≡ record self { items = result.items } }
-        ensures contents { (q : List ℕ) → content_at result.items q ≡ (if is_eq (key_cmp q key.now) then held (content_at self.items key.now) else content_at self.items q) }
-        ensures count { length result.items ≡ length self.items }
+    /// Holds the key's term, if it has one.
+    pub fn hold(&mut self, key: &Key)
+        ensures page { IsPage self.new }
+        ensures frame { self.new ≡ record self.old { items = self.new.items } }
+        ensures contents { (q : List ℕ) → content_at self.new.items q ≡ (if is_eq (key_cmp q key.now) then held (content_at self.old.items key.now) else content_at self.old.items q) }
+        ensures count { length self.new.items ≡ length self.old.items }
     {
-        let mut page = self;
-        match page.items.child_at(key) {
+        match self.items.child_at(key) {
             None => {}
             Some(child) => {
                 let content = Content::Child {
                     page: child,
                     held: true,
                 };
-                page.items.put(key.copied(), content);
+                self.items.put(key.copied(), content);
             }
         }
-        page
     }
 
-    /// The page, removed.
-    pub fn with_removed(self) -> Page
-        ensures page { IsPage result }
-        ensures frame { result ≡ record self { removed = true } }
+    /// Removes the page.
+    pub fn remove(&mut self)
+        ensures page { IsPage self.new }
+        ensures frame { self.new ≡ record self.old { removed = true } }
     {
-        let mut page = self;
-        page.removed = true;
-        page
+        self.removed = true;
     }
 
-    /// The page up to the separator, with the page `right` to its right.
-    pub fn lower_part(self, separator: Key, right: u32) -> Page
-        requires { IsTrue (is_below self.low separator) }
-        ensures page { IsPage result }
-        ensures frame { result ≡ record self { high = Some separator; right = Some right; items = result.items } }
-        ensures contents { (q : List ℕ) → content_at result.items q ≡ (if is_below q separator then content_at self.items q else None) }
-        ensures count { length result.items ≤ length self.items }
+    /// Keeps the part below the separator, with the page `right` to its right.
+    pub fn end_at(&mut self, separator: Key, right: u32)
+        requires { IsTrue (is_below self.old.low separator) }
+        ensures page { IsPage self.new }
+        ensures frame { self.new ≡ record self.old { high = Some separator; right = Some right; items = self.new.items } }
+        ensures contents { (q : List ℕ) → content_at self.new.items q ≡ (if is_below q separator then content_at self.old.items q else None) }
+        ensures count { length self.new.items ≤ length self.old.items }
     {
-        let mut page = self;
-        let place = page.items.count_below(&separator);
-        page.items.truncate(place);
-        page.high = Some(separator);
-        page.right = Some(right);
-        page
+        let place = self.items.count_below(&separator);
+        self.items.truncate(place);
+        self.high = Some(separator);
+        self.right = Some(right);
     }
 
     /// The two parts of a split: the items before the place, and those from it on. The low key of the
@@ -110,22 +100,20 @@ impl Page {
         (lower, upper)
     }
 
-    /// The page with the range, the right and the items of its neighbour to the right.
-    pub fn joined(self, neighbour: &Page) -> Page
-        requires meets { self.high ≡ Some neighbour.now.low }
-        requires level { neighbour.now.level ≡ self.level }
-        requires room { length self.items + length neighbour.now.items ≤ MAX_ITEMS }
-        ensures page { IsPage result }
-        ensures frame { result ≡ record self { high = neighbour.now.high; right = neighbour.now.right; items = self.items ++ neighbour.now.items } }
-        ensures contents { (q : List ℕ) → content_at result.items q ≡ (if is_in_range neighbour.now.low neighbour.now.high q then content_at neighbour.now.items q else content_at self.items q) }
+    /// Takes the range, the right and the items of its neighbour to the right, too.
+    pub fn join(&mut self, neighbour: &Page)
+        requires meets { self.old.high ≡ Some neighbour.now.low }
+        requires level { neighbour.now.level ≡ self.old.level }
+        requires room { length self.old.items + length neighbour.now.items ≤ MAX_ITEMS }
+        ensures page { IsPage self.new }
+        ensures frame { self.new ≡ record self.old { high = neighbour.now.high; right = neighbour.now.right; items = self.old.items ++ neighbour.now.items } }
+        ensures contents { (q : List ℕ) → content_at self.new.items q ≡ (if is_in_range neighbour.now.low neighbour.now.high q then content_at neighbour.now.items q else content_at self.old.items q) }
     {
-        let mut page = self;
-        page.items.append(&neighbour.items);
-        page.high = match &neighbour.high {
+        self.items.append(&neighbour.items);
+        self.high = match &neighbour.high {
             None => None,
             Some(high) => Some(high.copied()),
         };
-        page.right = neighbour.right;
-        page
+        self.right = neighbour.right;
     }
 }

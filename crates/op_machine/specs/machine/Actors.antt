@@ -18,7 +18,7 @@ use Rattle.op_machine.specs.machine.Hands.{Hand, empty_hand}
 use Rattle.op_machine.specs.machine.Lacks.{HasLack}
 use Rattle.op_machine.specs.machine.Ops.{Goes, IsAtRestWith}
 use Rattle.op_machine.specs.machine.UnderWay.{UnderWay}
-use Rattle.op_machine.specs.machine.UnderWay.{IsSpentBy, steps_due}
+use Rattle.op_machine.specs.machine.UnderWay.{GoesLeftAt, IsSpentBy, StepsAt, steps_due}
 
 -- what an actor keeps between operations, the operation that it is at, and what ran out for the last one, where its reply was Full
 pub record Actor : Type 0 where
@@ -108,7 +108,8 @@ pub record IsToldActorThere (is_there : ℕ → Record → Type 0) (at : Actor) 
   pub there : AreThere is_there (learn k going.running.wanted answer)
 
 -- The actor might take the step, with the reply; what it keeps then shows what it knows and recalls, and of the steps that were
--- left it has spent one, or a cause paid for more; few are left. Where the reply is Full, it tells what ran out.
+-- left it has spent one, or a cause paid for more; few are left. Where the reply is Full, it tells what ran out. In a round it makes of
+-- the answer what the round makes of it; where it meets a removed page, it goes to the left of that page.
 pub record ActsOn (limits : Limits) (actor : ℕ) (k : Knowledge) (r : Recalled) (old : Actor) (step : StepOf Record) (answer : Answer Record) (reply : Option Reply) (new : Actor) : Type 0 where
   pub allowed : IsAllowed limits actor k step reply
   pub useful : IsOfUse k step
@@ -117,3 +118,5 @@ pub record ActsOn (limits : Limits) (actor : ℕ) (k : Knowledge) (r : Recalled)
   pub spends : IsSpentBy limits r old.hand old.running step answer new.hand new.running
   pub few : steps_due (recall r step answer) new.hand new.running ≤ cause_worth limits * 10
   pub lacks : HasLack limits k reply old.lacks new.lacks
+  pub steps : StepsAt old.running answer new.running
+  pub left : GoesLeftAt old.running answer new.running

@@ -17,7 +17,8 @@ use Rattle.op_machine.specs.machine.Outcomes.{Outcome, Begun, Epoch, Entered, Re
 use Rattle.op_machine.specs.machine.Shows.{recall_last}
 use Rattle.op_machine.specs.machine.States.{State}
 use Rattle.op_machine.specs.machine.States as at
-use Rattle.op_machine.specs.declared.then.Then.TheVariants.{Round, Limbo, Errand, Reply}
+use Rattle.op_machine.specs.declared.then.Then.TheVariants.{After, Reply}
+use Rattle.smo.specs.declared.after.After.TheVariants.{Round, Limbo, Errand}
 
 -- how many steps a change takes at most
 abbrev pub few_changes : Limits → ℕ
@@ -59,9 +60,9 @@ left_for limits (Written (write_end.Removed page)) = left_round limits + few_cha
 left_for limits (Written write_end.Done) = one_round limits
 left_for limits (Written end) = few_changes limits + 1
 left_for limits (Changed Won (Reply reply)) = 1
-left_for limits (Changed Won Round) = one_round limits
-left_for limits (Changed Won (Limbo unlinked)) = one_round limits
-left_for limits (Changed Won (Errand key)) = one_round limits + one_round limits
+left_for limits (Changed Won (After Round)) = one_round limits
+left_for limits (Changed Won (After (Limbo unlinked))) = one_round limits
+left_for limits (Changed Won (After (Errand key))) = one_round limits + one_round limits
 left_for limits (Changed Lost then) = one_round limits
 left_for limits (Changed (Full kind) then) = 1
 

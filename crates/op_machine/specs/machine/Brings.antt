@@ -12,9 +12,10 @@ use Rattle.traces.specs.discipline.Discipline.{found}
 use Rattle.traces.specs.discipline.Knowledge.{Knowledge}
 use Rattle.installs.specs.declared.change.End.{End}
 use Rattle.installs.specs.declared.change.End.TheVariants.{Won}
-use Rattle.installs.specs.declared.plan.Plan.{Plan}
-use Rattle.installs.specs.declared.plan.Plan.TheVariants.{Install, Split, Root, Unlink}
+use Rattle.smo.specs.declared.plan.Plan.{Plan}
+use Rattle.smo.specs.declared.plan.Plan.TheVariants.{Install, Split, Root, Unlink}
 use Rattle.installs.specs.Changes.{linked_after, linked_by}
+use Rattle.smo.specs.declared.after.After.TheVariants.{Round, Limbo, Errand}
 use Rattle.smo.specs.declared.split.SplitPlan.{SplitPlan}
 use Rattle.smo.specs.Sizes.{HasFewItems}
 use Rattle.op_machine.specs.theorem.Halves.{AreHalves}
@@ -22,7 +23,7 @@ use Rattle.op_machine.specs.machine.Errands.{with_errand}
 use Rattle.op_machine.specs.machine.Hands.{IsTakenBy, TakesNothing}
 use Rattle.op_machine.specs.machine.Upkeep.{IsTidying}
 use Rattle.op_machine.specs.declared.then.Then.{Then}
-use Rattle.op_machine.specs.declared.then.Then.TheVariants.{Round, Limbo, Errand, Reply}
+use Rattle.op_machine.specs.declared.then.Then.TheVariants.{After, Reply}
 
 -- The plan links the command's update over a leaf as it was read, where neither a consolidation nor a split is due, and this is the reply over that leaf.
 pub record IsUpdateOf (k : Knowledge) (command : Command) (plan : Plan) (answered : ReplyOf) : Type 0 where
@@ -51,9 +52,9 @@ IsNoSplit (Unlink pid head unterm removal) = ⊤
 -- takes out, another change nothing.
 abbrev pub Brings : Knowledge → Command → Plan → Then → Type 0
 Brings k command plan (Reply answered) = IsUpdateOf k command plan answered
-Brings k command plan Round = IsNoSplit plan × TakesNothing plan × (linked_after plan Won None ≡ None) × IsTidying command plan
-Brings k command plan (Limbo unlinked) = IsTakenBy k plan unlinked
-Brings k command plan (Errand key) = (pid : ℕ) × (split : SplitPlan) × (plan ≡ Split pid split) × (split.upper.low ≡ key)
+Brings k command plan (After Round) = IsNoSplit plan × TakesNothing plan × (linked_after plan Won None ≡ None) × IsTidying command plan
+Brings k command plan (After (Limbo unlinked)) = IsTakenBy k plan unlinked
+Brings k command plan (After (Errand key)) = (pid : ℕ) × (split : SplitPlan) × (plan ≡ Split pid split) × (split.upper.low ≡ key)
 
 -- A base comes only over a chain that has deltas. A split is planned as one, and leaves items enough on both sides.
 abbrev pub IsUsefulOver : Knowledge → ℕ → Record → Type 0
@@ -83,5 +84,5 @@ update_over (Tidy key) next = newest.Remove (record { level = 0; next = next })
 
 -- the errands once a change has ended: a split that won adds its own
 abbrev pub errands_after : End → Then → List (List ℕ) → List (List ℕ)
-errands_after Won (Errand key) errands = with_errand key errands
+errands_after Won (After (Errand key)) errands = with_errand key errands
 errands_after end then errands = errands

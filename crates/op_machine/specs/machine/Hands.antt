@@ -11,11 +11,12 @@ use Rattle.epochs.specs.Limbo.{Limbo}
 use Rattle.installs.specs.Spares.{Spares}
 use Rattle.installs.specs.declared.change.End.{End}
 use Rattle.installs.specs.declared.change.End.TheVariants.{Won}
-use Rattle.installs.specs.declared.plan.Plan.{Plan}
-use Rattle.installs.specs.declared.plan.Plan.TheVariants.{Install, Unlink}
+use Rattle.smo.specs.declared.plan.Plan.{Plan}
+use Rattle.smo.specs.declared.plan.Plan.TheVariants.{Install, Unlink}
 use Rattle.op_machine.specs.declared.then.Then.{Then}
 use Rattle.op_machine.specs.declared.then.Then.TheVariants as then
-use Rattle.op_machine.specs.declared.unlinked.Unlinked.{Unlinked}
+use Rattle.smo.specs.declared.after.After.TheVariants as next
+use Rattle.smo.specs.declared.unlinked.Unlinked.{Unlinked}
 use Rattle.sweep.specs.Kept.{empty_limbo}
 
 -- what was taken and not linked, and what was taken out of the tree and is not freed
@@ -67,5 +68,5 @@ pub record GoesToLimbo (limits : Limits) (k : Knowledge) (unlinked : Unlinked) (
 
 -- What is known to be in limbo once a change has ended: a change that has won may have taken something out.
 abbrev pub Unlinks : Limits → Knowledge → End → Then → Limbos → Type 0
-Unlinks limits k Won (then.Limbo unlinked) after = GoesToLimbo limits k unlinked after
+Unlinks limits k Won (then.After (next.Limbo unlinked)) after = GoesToLimbo limits k unlinked after
 Unlinks limits k end then after = after ≡ k.limbo

@@ -5,8 +5,10 @@ use Rattle.bw_model.specs.declared.step.Step.{Step as StepOf}
 use Rattle.deltas.specs.declared.record.Record.{Record}
 use Rattle.traces.specs.discipline.Knowledge.{Knowledge}
 use Rattle.traces.specs.discipline.Recalled.{Recalled}
+use Rattle.op_machine.specs.machine.GoesLeft.{GoesLeft}
 use Rattle.op_machine.specs.machine.Hands.{Hand}
 use Rattle.op_machine.specs.machine.Ops.{Goes, Obeys, Op, Shows, wanted_of}
+use Rattle.op_machine.specs.machine.RoundSteps.{StepsInRound}
 use Rattle.op_machine.specs.machine.Shows.{FitsLast, learn_last, recall_last}
 use Rattle.op_machine.specs.machine.Spending.{Spends}
 use Rattle.op_machine.specs.machine.Tasks.{IsSameTask}
@@ -24,10 +26,13 @@ Wants op hand asked = (k : Knowledge) (r : Recalled) → Shows op hand k r → G
 abbrev pub ShowsOn : Op → Hand → Answer Record → Op → Hand → Type 0
 ShowsOn old had told new has = (k : Knowledge) (r : Recalled) → Shows old had k r → FitsLast old.task.limits k (wanted_of old had) told → Shows new has (learn_last k (wanted_of old had) told) (recall_last r (wanted_of old had) told)
 
--- The operation has taken the answer, and wants a step: whichever it wants, it obeys by it, with fewer steps left, at the same task.
+-- The operation has taken the answer, and wants a step: whichever it wants, it obeys by it, with fewer steps left, at the same task. In a
+-- round it has made of the answer what the round makes of it; where it meets a removed page, it goes to the left of that page.
 pub record Takes (old : Op) (had : Hand) (told : Answer Record) (new : Op) (has : Hand) : Type 0 where
   pub shows : ShowsOn old had told new has
   pub asks : IsSome (wanted_of new has)
   pub obeys : (asked : StepOf Record) → Wants new has asked → Obeys old had told new has (Step asked)
   pub spends : (asked : StepOf Record) → Spends old had told new has (Step asked)
   pub same : IsSameTask old.task new.task
+  pub steps : StepsInRound old.task old.state told new.state
+  pub left : GoesLeft old.task old.state told new.state

@@ -33,7 +33,7 @@ use Rattle.op_machine.specs.machine.Tasks.{IsBetweenChanges, IsAtRest, Seeks, Ta
 use Rattle.op_machine.specs.machine.States.{State, Change, Leave}
 use Rattle.op_machine.specs.machine.States as at
 use Rattle.op_machine.specs.declared.then.Then.{Then}
-use Rattle.op_machine.specs.declared.then.Then.TheVariants.{Round, Limbo, Errand, Reply}
+use Rattle.op_machine.specs.declared.then.Then.TheVariants.{After, Reply}
 
 -- what an operation has come to, where it goes from one state to another: it begins, has read the epoch, has entered, or
 -- a round or a change has ended
@@ -98,9 +98,7 @@ pub record IsAtLeafBelow (task : Task) (spares : Spares) (k : Knowledge) (r : Re
 -- nothing of the kind is free.
 abbrev pub FacesChanged : Task → Spares → Knowledge → End → Then → Type 0
 FacesChanged task spares k Won (Reply answered) = IsBetweenChanges task spares k × MayReply task.limits task.actor k answered × (answered ≢ reply.Full)
-FacesChanged task spares k Won Round = Seeks task spares k × (is_writer task.command ≡ true)
-FacesChanged task spares k Won (Limbo unlinked) = Seeks task spares k × (is_writer task.command ≡ true)
-FacesChanged task spares k Won (Errand key) = Seeks task spares k × (is_writer task.command ≡ true)
+FacesChanged task spares k Won (After after) = Seeks task spares k × (is_writer task.command ≡ true)
 FacesChanged task spares k Lost then = Seeks task spares k × (is_writer task.command ≡ true)
 FacesChanged task spares k (Full kind) then = Seeks task spares k × (is_writer task.command ≡ true) × AllFull task.limits k.asked kind
 

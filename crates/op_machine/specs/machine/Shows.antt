@@ -16,10 +16,11 @@ use Rattle.descent.specs.ReadRounds as read
 use Rattle.descent.specs.WriteRounds as write
 use Rattle.descent.specs.Courses.{Seek}
 use Rattle.installs.specs.Changes as change
+use Rattle.smo.specs.Plans.{head_of, slot_of}
 use Rattle.installs.specs.Bounded as bound
 use Rattle.installs.specs.Spares.{Spares}
 use Rattle.traces.specs.trace.Within.{IsWithin}
-use Rattle.installs.specs.declared.plan.Plan.{Plan}
+use Rattle.smo.specs.declared.plan.Plan.{Plan}
 use Rattle.bw_model.specs.Replies.{is_writer}
 use Rattle.op_machine.specs.machine.Brings.{Brings, IsReadPlan, IsUsefulPlan}
 use Rattle.op_machine.specs.machine.Lacks.{TellsLack}
@@ -74,7 +75,7 @@ pub record MayBegin (task : Task) (spares : Spares) (k : Knowledge) (r : Recalle
   pub brings : Brings k task.command plan then
   pub useful : IsUsefulPlan k plan
   pub split : IsReadPlan k plan
-  pub recalled : WasHead r (change.slot_of plan) (change.head_of plan)
+  pub recalled : WasHead r (slot_of plan) (head_of plan)
 
 -- by the state of an operation
 abbrev pub ShowsState : Task → Spares → Knowledge → Recalled → State → Type 0

@@ -5,8 +5,10 @@ use Rattle.bw_model.specs.declared.step.Answer.{Answer}
 use Rattle.bw_model.specs.declared.step.Step.{Step as StepOf}
 use Rattle.deltas.specs.declared.record.Record.{Record}
 use Rattle.traces.specs.discipline.Recalled.{Recalled, IsStepSpent, recall}
+use Rattle.op_machine.specs.machine.GoesLeft.{GoesLeft}
 use Rattle.op_machine.specs.machine.Hands.{Hand}
 use Rattle.op_machine.specs.machine.Ops.{Op, wanted_of}
+use Rattle.op_machine.specs.machine.RoundSteps.{StepsInRound}
 use Rattle.op_machine.specs.machine.Spending.{steps_left}
 
 pub record UnderWay : Type 0 where
@@ -36,3 +38,15 @@ steps_due r hand (Some running) = steps_left r running.op hand
 -- A step is taken: of the steps that were left it has spent one, or a cause paid for more.
 abbrev pub IsSpentBy : Limits → Recalled → Hand → Option UnderWay → StepOf Record → Answer Record → Hand → Option UnderWay → Type 0
 IsSpentBy limits r had old step answer has new = IsStepSpent limits r step answer (steps_due r had old) (steps_due (recall r step answer) has new)
+
+-- In a round, what was under way and what is then make of the answer what the round makes of it, and what follows its end.
+abbrev pub StepsAt : Option UnderWay → Answer Record → Option UnderWay → Type 0
+StepsAt None answer now = ⊤
+StepsAt (Some old) answer None = ⊤
+StepsAt (Some old) answer (Some new) = StepsInRound old.op.task old.op.state answer new.op.state
+
+-- Where it meets a removed page with the answer, it goes to the left of that page.
+abbrev pub GoesLeftAt : Option UnderWay → Answer Record → Option UnderWay → Type 0
+GoesLeftAt None answer now = ⊤
+GoesLeftAt (Some old) answer None = ⊤
+GoesLeftAt (Some old) answer (Some new) = GoesLeft old.op.task old.op.state answer new.op.state

@@ -3,11 +3,9 @@ use Rattle.std.specs.Prelude.{◌≡◌, Bool, Option, None, Some, true, false, 
 use Rattle.bw_model.specs.declared.command.Command.{Command}
 use Rattle.bw_model.specs.declared.command.Command.TheVariants.{Delete, Get, Insert, Page, Swap, Tidy, Upsert}
 use Rattle.deltas.specs.declared.record.Record.TheVariants as kind
-use Rattle.installs.specs.declared.plan.Plan.{Plan}
-use Rattle.installs.specs.declared.plan.Plan.TheVariants.{Install}
+use Rattle.smo.specs.declared.plan.Plan.{Plan}
+use Rattle.smo.specs.declared.plan.Plan.TheVariants.{Install}
 use Rattle.smo.specs.Upkeep.{IsIdle, IsUpkeep}
-use Rattle.smo.specs.declared.upkeep.Upkeep.{Upkeep}
-use Rattle.smo.specs.declared.upkeep.Upkeep.TheVariants.{Hold, Remove}
 use Rattle.smo.specs.Versions.{Version}
 
 -- the commands that make the tree smaller
@@ -19,17 +17,6 @@ tidies (Insert key value) = false
 tidies (Upsert key value) = false
 tidies (Swap key expected value) = false
 tidies (Page key) = false
-
--- the change by which the page is removed, or its parent holds its term
-abbrev pub plan_of : Version → Version → Upkeep → Plan
-plan_of parent page (Remove remove) = Install page.pid page.head (kind.Remove remove)
-plan_of parent page (Hold hold) = Install parent.pid parent.head (kind.Hold hold)
-
--- The plan is the change that is due at a small page.
-pub record IsUpkeepPlan (parent page : Version) (plan : Plan) : Type 0 where
-  pub upkeep : Upkeep
-  pub due : IsUpkeep parent page upkeep
-  pub is : plan ≡ plan_of parent page upkeep
 
 -- Nothing is due for a command at a leaf, with a page above it or without one.
 abbrev pub IsIdleFor : Command → Option Version → Version → Type 0
@@ -45,4 +32,4 @@ IsTidying command plan = ⊤
 -- The plan is what a command does first at a small leaf below the page above it.
 abbrev pub IsUpkeepFor : Command → Option Version → Version → Plan → Type 0
 IsUpkeepFor command None leaf plan = ⊥
-IsUpkeepFor command (Some parent) leaf plan = (tidies command ≡ true) × IsUpkeepPlan parent leaf plan
+IsUpkeepFor command (Some parent) leaf plan = (tidies command ≡ true) × IsUpkeep parent leaf plan

@@ -10,6 +10,7 @@ use Rattle.installs.specs.Spares.{Spares}
 use Rattle.op_machine.specs.machine.Bounded.{IsSpentLast, LeavesFor, left_at, left_for, with_errands}
 use Rattle.op_machine.specs.machine.Hands.{Hand}
 use Rattle.op_machine.specs.machine.Ops.{Op}
+use Rattle.op_machine.specs.machine.RoundSteps.{StepsInRound}
 use Rattle.op_machine.specs.machine.Outcomes.{Comes, Faces, IsToldAt, Outcome, lacks_at}
 use Rattle.op_machine.specs.machine.Shows.{FitsLast, ShowsState, learn_last, recall_last, wanted_at}
 use Rattle.op_machine.specs.machine.Tasks.{IsSameTask, Task}
@@ -70,6 +71,7 @@ pub record AsksOn (old : Op) (had : Spares) (told : Answer Record) (new : Op) (h
   pub asks : IsSome (asked_of new has)
   pub same : IsSameTask old.task new.task
   pub sweep : new.sweep ≡ old.sweep
+  pub steps : StepsInRound old.task old.state told new.state
 
 -- It is done with the reply with which it was to leave.
 abbrev pub LeavesWith : State → Want → Type 0

@@ -4,25 +4,24 @@ ghost use Rattle.std.specs.Bool.{Decides};
 ghost use Rattle.base_page.specs.declared.item.Content.TheVariants.{Child};
 ghost use Rattle.traces.specs.chain.Chains.{content_in, level_in};
 ghost use Rattle.descent.specs.Courses as goal;
-ghost use Rattle.descent.specs.WriteResponses.{CanTreatWrite, IsIdleOnWay, IsTended, TreatsWrite};
+ghost use Rattle.descent.specs.WriteResponses.{CanTreatWrite, EndsDue, IsHere, IsIdleOnWay, IsSplitFinished, IsTended, TreatsWrite};
 ghost use Rattle.descent.specs.WriteRounds.{IsLong, SeeksLeaf};
 ghost use Rattle.row_chain.specs.Placed.{IsReadChain};
 ghost use Rattle.rounds.specs.WriteRounds.{AreReadToWrite, ended_write};
 ghost use Rattle.smo.specs.Reads.{IsReadPage};
-ghost use Rattle.smo.specs.Roots.{CanRoot, IsRootPlan};
 ghost use Rattle.smo.specs.Sizes.{HasManyItems};
-ghost use Rattle.smo.specs.Splits.{CanSplit, IsSplitPlan};
-ghost use Rattle.smo.specs.Terms.{CanPost, IsTermPlan};
+ghost use Rattle.smo.specs.Splits.{CanSplit};
 ghost use Rattle.smo.specs.Upkeep.{IsUpkeep};
+ghost use Rattle.smo.specs.declared.after.After.TheVariants.{Round};
 
 use crate::{WriteEnded, WriteRound};
-use base_page::{Content, Page};
-use deltas::Term;
+use base_page::Content;
+use deltas::Record;
 use row_chain::Chain;
 use row_search::{KeyWords, Rows};
 use smo::{
-    MANY_ITEMS, SplitPlan, Upkeep, many_deltas, plan_merge, plan_root, plan_split, plan_term,
-    plan_unterm, plan_upkeep,
+    After, MANY_ITEMS, PageInHand, Plan, Unlinked, many_deltas, plan_base, plan_merge, plan_root,
+    plan_split, plan_term, plan_unterm, plan_upkeep,
 };
 use std::alloc::Allocator;
 
@@ -50,50 +49,78 @@ impl<R: Rows, A: Allocator> WriteRound<R, A> {
         chain.item_count(rows, pass) >= MANY_ITEMS
     }
 
-    /// The split of a page that has few deltas and many items.
+    /// Ends at a page that is to be consolidated.
     #[inline(never)]
-    pub(super) fn due_split(&self, rows: &R, pass: &mut R::Pass) -> SplitPlan
+    pub(super) fn end_long(&self, rows: &R, pass: &mut R::Pass) -> WriteEnded
         requires read { IsReadPage (R.has rows.now pass.old) self.now.page }
+        requires here { IsHere self.now.round self.now.page }
+        requires long { IsLong self.now.round.limits self.now.round.due self.now.page.chain }
+        ensures looks { pass.new ≡ pass.old }
+        ensures treats { TreatsWrite self.now.round self.now.page self.now.round (Some (ended_write self.now result)) }
+    {
+        let page = self.page();
+        page.chain().was_read(rows, pass);
+        let base = plan_base(page, rows, pass);
+        let plan = Plan::over(page, Record::Base(base));
+        let unlinked = Unlinked::chain(page);
+        WriteEnded::Due(plan, After::Limbo(unlinked))
+    }
+
+    /// Ends at a page that has few deltas and many items: it is to be split.
+    #[inline(never)]
+    pub(super) fn end_wide(&self, rows: &R, pass: &mut R::Pass) -> WriteEnded
+        requires read { IsReadPage (R.has rows.now pass.old) self.now.page }
+        requires here { IsHere self.now.round self.now.page }
+        requires short { ¬ IsLong self.now.round.limits self.now.round.due self.now.page.chain }
         requires can { CanSplit self.now.page }
         ensures looks { pass.new ≡ pass.old }
-        ensures plan { IsSplitPlan self.now.page result }
+        ensures treats { TreatsWrite self.now.round self.now.page self.now.round (Some (ended_write self.now result)) }
     {
-        match plan_split(self.page(), rows, pass) {
-            Some(plan) => plan,
+        let page = self.page();
+        match plan_split(page, rows, pass) {
+            Some(plan) => {
+                let separator = plan.upper.low().copied();
+                let pid = page.pid();
+                WriteEnded::Due(Plan::Split { pid, plan }, After::Errand(separator))
+            }
             None => unreachable!(),
         }
     }
 
-    /// The term of the page in hand in the one in the parent's place.
+    /// What finishes the split of the left page: the term of the page in hand in the parent, or, where there is none, the root over both.
     #[inline(never)]
-    pub(super) fn due_term(&self, rows: &R, pass: &mut R::Pass) -> Option<Term>
-        requires parent { IsReadPage (R.has rows.now pass.old) self.now.parent }
-        requires read { IsReadPage (R.has rows.now pass.old) self.now.page }
+    pub(super) fn due_aside(&self, rows: &R, pass: &mut R::Pass) -> Option<Plan>
+        requires read { AreReadToWrite (R.has rows.now pass.old) self.now.round self.now.page }
+        requires seeks { SeeksLeaf self.now.round.goal }
+        requires left { self.now.round.left ≡ Some self.now.left }
         ensures looks { pass.new ≡ pass.old }
-        ensures plan { MatchOption result (¬ CanPost self.now.parent self.now.page) (IsTermPlan self.now.parent self.now.page) }
+        ensures plan { MatchOption result (IsSplitFinished self.now.round.parent self.now.round.left self.now.page) (λ plan. EndsDue self.now.round self.now.page plan Round) }
     {
-        plan_term(self.parent(), self.page(), rows, pass)
-    }
-
-    /// The root over the page in the left one's place and the page in hand.
-    #[inline(never)]
-    pub(super) fn due_root(&self, rows: &R, pass: &mut R::Pass) -> Option<Page>
-        requires left { IsReadPage (R.has rows.now pass.old) self.now.left }
-        requires read { IsReadPage (R.has rows.now pass.old) self.now.page }
-        ensures looks { pass.new ≡ pass.old }
-        ensures plan { MatchOption result (¬ CanRoot self.now.left self.now.page) (IsRootPlan self.now.left self.now.page) }
-    {
-        plan_root(self.left(), self.page(), rows, pass)
+        if self.course.has_parent() {
+            let parent = self.parent();
+            return match plan_term(parent, self.page(), rows, pass) {
+                None => None,
+                Some(term) => Some(Plan::over(parent, Record::Term(term))),
+            };
+        }
+        let left = self.left();
+        match plan_root(left, self.page(), rows, pass) {
+            None => None,
+            Some(root) => Some(Plan::Root {
+                left: left.pid(),
+                root,
+            }),
+        }
     }
 
     /// What is done first at the index page in hand, where it is small and below the parent, on the way to the leaf of a key.
-    pub(super) fn due_upkeep(&self, rows: &R, pass: &mut R::Pass) -> Option<Upkeep>
+    pub(super) fn due_upkeep(&self, rows: &R, pass: &mut R::Pass) -> Option<Plan>
         requires read { AreReadToWrite (R.has rows.now pass.old) self.now.round self.now.page }
         requires seeks { SeeksLeaf self.now.round.goal }
         requires tends { self.now.round.tends ≡ true }
         requires index { 0 < level_in self.now.page.chain }
         ensures looks { pass.new ≡ pass.old }
-        ensures upkeep { MatchOption result (IsIdleOnWay self.now.round self.now.page) (λ upkeep. IsTended self.now.round self.now.parent self.now.page × IsUpkeep self.now.parent self.now.page upkeep) }
+        ensures upkeep { MatchOption result (IsIdleOnWay self.now.round self.now.page) (λ plan. IsTended self.now.round self.now.parent self.now.page × IsUpkeep self.now.parent self.now.page plan) }
     {
         if self.is_left() || !self.course.has_parent() {
             return None;
@@ -110,9 +137,13 @@ impl<R: Rows, A: Allocator> WriteRound<R, A> {
         ensures looks { pass.new ≡ pass.old }
         ensures treats { TreatsWrite self.now.round self.now.page self.now.round (Some (ended_write self.now result)) }
     {
-        match plan_merge(self.left(), self.page(), rows, pass) {
+        let left = self.left();
+        match plan_merge(left, self.page(), rows, pass) {
             None => WriteEnded::Done,
-            Some(merge) => WriteEnded::Merge(merge),
+            Some(merge) => {
+                let plan = Plan::over(left, Record::Merge(merge));
+                WriteEnded::Due(plan, After::Round)
+            }
         }
     }
 
@@ -127,10 +158,36 @@ impl<R: Rows, A: Allocator> WriteRound<R, A> {
         ensures looks { pass.new ≡ pass.old }
         ensures treats { TreatsWrite self.now.round self.now.page self.now.round (Some (ended_write self.now result)) }
     {
-        match plan_unterm(self.parent(), self.left(), self.page(), rows, pass) {
+        let parent = self.parent();
+        let removed = self.page();
+        removed.chain().was_read(rows, pass);
+        match plan_unterm(parent, self.left(), removed, rows, pass) {
             None => WriteEnded::Done,
-            Some(unterm) => WriteEnded::Unterm(unterm),
+            Some(unterm) => {
+                let plan = Plan::Unlink {
+                    pid: parent.pid(),
+                    head: parent.head(),
+                    unterm,
+                    removal: removed.head(),
+                };
+                let unlinked = Unlinked::page(removed);
+                WriteEnded::Due(plan, After::Limbo(unlinked))
+            }
         }
+    }
+
+    /// The page that stands in the parent's place.
+    fn parent(&self) -> &PageInHand<R, A>
+        ensures { result.now ≡ self.now.parent }
+    {
+        self.course.parent()
+    }
+
+    /// The page that stands in the left one's place.
+    fn left(&self) -> &PageInHand<R, A>
+        ensures { result.now ≡ self.now.left }
+    {
+        self.course.left()
     }
 
     /// Whether the parent, where one is kept, has this child's term at the key, held.

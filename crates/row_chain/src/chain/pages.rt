@@ -1,6 +1,8 @@
 //! The page that a chain makes.
 ghost use Rattle.std.specs.Prelude.{◌≡◌, ◌+◌, ◌∷◌, [], ℕ, false, length, slice_index_or};
 ghost use Rattle.base_page.specs.Rules.{IsRuled};
+ghost use Rattle.deltas.specs.Applies.{Applies};
+ghost use Rattle.deltas.specs.Fits.{FitsOnPage};
 ghost use Rattle.deltas.specs.declared.record.Record.{Record};
 ghost use Rattle.deltas.specs.declared.record.Record.TheVariants.{Base};
 ghost use Rattle.traces.specs.chain.Chains.{is_removed, low_in};
@@ -10,13 +12,12 @@ ghost use Rattle.row_chain.specs.Placed.{IsReadChain};
 
 use crate::Chain;
 use base_page::Page;
-use deltas::{Record, apply};
-use row_search::Rows;
+use deltas::apply;
+use row_search::{RowAt, Rows};
 use std::alloc::Allocator;
 
 impl<R: Rows, A: Allocator> Chain<R, A> {
-    /// The page that the chain makes: each delta, from the oldest on, changes the page under it. Decodes each record, and moves a page
-    /// for each: for what is done seldom.
+    /// The page that the chain makes: each delta, from the oldest on, changes the page under it where that lies.
     #[inline(never)]
     pub fn page(&self, rows: &R, pass: &mut R::Pass) -> Page
         requires read { IsReadChain (R.has rows.now pass.old) self.now }
@@ -29,7 +30,7 @@ impl<R: Rows, A: Allocator> Chain<R, A> {
         let records = self.as_read(rows, pass);
         let mut page = self.base_page(rows, pass);
         for place in (0..self.deltas()).rev() {
-            page = apply(page, &records[place].record(rows, pass));
+            change(&mut page, &records[place], rows, pass);
         }
         page
     }
@@ -57,9 +58,45 @@ impl<R: Rows, A: Allocator> Chain<R, A> {
     {
         self.was_read(rows, pass);
         self.keeps_rules();
-        match self.as_read(rows, pass)[self.deltas()].record(rows, pass) {
-            Record::Base(page) => page,
-            _ => unreachable!(),
-        }
+        self.as_read(rows, pass)[self.deltas()].base(rows, pass)
     }
+}
+
+/// Makes of the page what the row's record makes of it. Of a put and of a delete, which most are, no more is decoded than they have.
+fn change<R: Rows>(page: &mut Page, row: &RowAt<R>, rows: &R, pass: &mut R::Pass)
+    requires read { R.has rows.now pass.old row.now.row row.now.content }
+    requires fits { FitsOnPage page.old row.now.content }
+    ensures same { pass.new ≡ pass.old }
+    ensures applies { Applies page.old row.now.content page.new }
+{
+    if let Some(put) = row.put(rows, pass) {
+        put.apply(page);
+        return;
+    }
+    change_unless_put(page, row, rows, pass);
+}
+
+/// The same of a record that is no put.
+fn change_unless_put<R: Rows>(page: &mut Page, row: &RowAt<R>, rows: &R, pass: &mut R::Pass)
+    requires read { R.has rows.now pass.old row.now.row row.now.content }
+    requires fits { FitsOnPage page.old row.now.content }
+    ensures same { pass.new ≡ pass.old }
+    ensures applies { Applies page.old row.now.content page.new }
+{
+    if let Some(delete) = row.delete(rows, pass) {
+        delete.apply(page);
+        return;
+    }
+    change_decoded(page, row, rows, pass);
+}
+
+/// The same by the whole record, decoded.
+#[inline(never)]
+fn change_decoded<R: Rows>(page: &mut Page, row: &RowAt<R>, rows: &R, pass: &mut R::Pass)
+    requires read { R.has rows.now pass.old row.now.row row.now.content }
+    requires fits { FitsOnPage page.old row.now.content }
+    ensures same { pass.new ≡ pass.old }
+    ensures applies { Applies page.old row.now.content page.new }
+{
+    apply(page, &row.record(rows, pass));
 }

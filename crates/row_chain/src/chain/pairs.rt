@@ -14,7 +14,7 @@ use row_search::Rows;
 use std::alloc::Allocator;
 
 impl<R: Rows, A: Allocator> Chain<R, A> {
-    /// The pairs of the page from the key on, up to its high key; an index page has none. Decodes each record, as the page does.
+    /// The pairs of the page from the key on, up to its high key; an index page has none.
     #[inline(never)]
     pub fn pairs_from(&self, rows: &R, pass: &mut R::Pass, from: &Key) -> Pairs
         requires read { IsReadChain (R.has rows.now pass.old) self.now }

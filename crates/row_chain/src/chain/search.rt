@@ -2,7 +2,7 @@
 ghost use Rattle.std.specs.Prelude.{◌≡◌, ◌<◌, ◌++◌, List, IsSome, IsTrue, MatchOption, not, is_some, ⊤};
 ghost use Rattle.std.specs.List.{All};
 ghost use Rattle.bw_model.specs.Bytes.{is_below};
-ghost use Rattle.base_page.specs.Pages.{child_in, value_in};
+ghost use Rattle.base_page.specs.Pages.{value_in};
 ghost use Rattle.base_page.specs.Places.{IsGreatestChild, HasNoChild};
 ghost use Rattle.deltas.specs.declared.record.Record.{Record};
 ghost use Rattle.deltas.specs.Records.{content_said};
@@ -52,10 +52,7 @@ impl<R: Rows, A: Allocator> Chain<R, A> {
     {
         self.was_read(rows, pass);
         self.keeps_rules();
-        match self.child_at(rows, pass, key) {
-            Some(child) => Some(child),
-            None => self.child_below(rows, pass, key),
-        }
+        self.greatest_child(rows, pass, key, false)
     }
 
     /// The child of the greatest term below the key, or none.
@@ -69,22 +66,7 @@ impl<R: Rows, A: Allocator> Chain<R, A> {
     {
         self.was_read(rows, pass);
         self.keeps_rules();
-        match self.greatest_below(rows, pass, key) {
-            Some(separator) => self.child_at(rows, pass, &separator),
-            None => None,
-        }
-    }
-
-    /// The child that the page has at the key, which the newest record that names the key says, or none.
-    fn child_at(&self, rows: &R, pass: &mut R::Pass, key: &KeyWords) -> Option<u32>
-        requires read { IsReadChain (R.has rows.now pass.old) self.now }
-        ensures same { pass.new ≡ pass.old }
-        ensures child { result ≡ child_in (content_in self.now.records key.now) }
-    {
-        match newest_of(self.as_read(rows, pass), rows, pass, key) {
-            Some(newest) => newest.child_said(rows, pass, key),
-            None => None,
-        }
+        self.greatest_child(rows, pass, key, true)
     }
 }
 

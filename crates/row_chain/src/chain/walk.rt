@@ -1,110 +1,196 @@
-//! The walk from the newest record of a chain to its greatest key below another.
-ghost use Rattle.std.specs.Prelude.{◌≡◌, [], ◌∷◌, None, Some, if◌then◌else◌};
+//! The walk from the newest record of a chain to the child of its greatest term that passes.
+ghost use Rattle.std.specs.Prelude.{◌≡◌, ◌≤◌, ◌<◌, ◌-◌, ◌++◌, [], ◌∷◌, ℕ, Bool, List, IsFalse, IsTrue, MatchOption, ⊤, false, length, option_copied, slice_index_or};
 ghost use Rattle.std.specs.List.{All};
-ghost use Rattle.bw_model.specs.Bytes.{is_below};
-ghost use Rattle.base_page.specs.Pages.{content_at};
-ghost use Rattle.record_slots.specs.Parts.{items_of};
+ghost use Rattle.base_page.specs.declared.item.Item.{Item};
+ghost use Rattle.base_page.specs.Pages.{AreItems};
+ghost use Rattle.base_page.specs.Places.{IsAt, IsGreatest, IsGreatestChild, HasNoChild};
 ghost use Rattle.traces.specs.chain.Chains.{content_in};
-ghost use Rattle.row_chain.specs.Walks.{greater, is_open, IsGreatestKey};
+ghost use Rattle.row_search.specs.Items.{items_said};
+ghost use Rattle.row_chain.specs.Walks.{is_above, is_left, is_taken, IsGreatestKey, IsPassed};
 ghost use Rattle.row_chain.specs.Placed.{IsReadChain, contents};
 
-use super::search::newest_of;
 use crate::Chain;
 use row_search::{KeyWords, RowAt, Rows};
 use std::alloc::Allocator;
 
 impl<R: Rows, A: Allocator> Chain<R, A> {
-    /// The greatest key below this one at which the page has an item, or none: each record offers the greatest one that it says
-    /// and that no newer record names.
-    pub(super) fn greatest_below(
+    /// The child of the greatest term that is below the bound, or at it where it needn't be below, or none. One pass, from the newest
+    /// record on: each says at most one term that is above the best one so far and that no newer record names, and then it is the best.
+    /// A term at the bound ends the pass. The last record's key is loaded only where a newer record may take keys away.
+    pub(super) fn greatest_child(
         &self,
         rows: &R,
         pass: &mut R::Pass,
         bound: &KeyWords,
-    ) -> Option<KeyWords>
+        below: bool,
+    ) -> Option<u32>
         requires read { IsReadChain (R.has rows.now pass.old) self.now }
         ensures same { pass.new ≡ pass.old }
-        ensures greatest { IsGreatestKey (content_in self.now.records) (λ q. is_below q bound.now) result }
+        ensures child { MatchOption result
+            (HasNoChild (content_in self.now.records) (is_left below bound.now))
+            (IsGreatestChild (content_in self.now.records) (is_left below bound.now)) }
     {
+        self.was_read(rows, pass);
+        self.keeps_rules();
         let records = self.as_read(rows, pass);
-        let mut greatest = None;
+        let mut best = None;
+        let mut child = None;
         for place in 0..records.len() {
-            let offered = offered(&records[place], &records[..place], rows, pass, bound);
-            greatest = greater(greatest, offered);
+            let row = &records[place];
+            let (count, at_bound) = passing(row, rows, pass, bound, below);
+            match winner(row, &records[..place], rows, pass, count, best.as_ref()) {
+                None => {}
+                Some(won) => {
+                    child = row.child_at(rows, pass, won);
+                    if is_last(at_bound, won, count) {
+                        return child;
+                    }
+                    if place + 1 == records.len() {
+                        return child;
+                    }
+                    best = Some(row.key_said(rows, pass, won));
+                }
+            }
         }
-        greatest
+        child
     }
 }
 
-/// The greatest key below the bound that the record says to be there, and no newer one names.
-fn offered<R: Rows>(
+/// How many of the items that the record says are there pass, and whether the last of those is at the bound.
+fn passing<R: Rows>(
+    row: &RowAt<R>,
+    rows: &R,
+    pass: &mut R::Pass,
+    bound: &KeyWords,
+    below: bool,
+) -> (usize, bool)
+    requires here { R.has rows.now pass.old row.now.row row.now.content }
+    ensures same { pass.new ≡ pass.old }
+    ensures passed { IsPassed (items_said row.now.content) (is_left below bound.now) result.0 }
+    ensures items { AreItems (items_said row.now.content) }
+    ensures at_bound { IsTrue result.1 → IsFalse below × IsAt (items_said row.now.content) bound.now (result.0 - 1) }
+{
+    match row.place_said(rows, pass, bound) {
+        Ok(place) => {
+            if below {
+                return (place, false);
+            }
+            (place + 1, true)
+        }
+        Err(place) => (place, false),
+    }
+}
+
+/// Whether the place is that of the last item that passes, which is at the bound.
+fn is_last(at_bound: bool, place: usize, count: usize) -> bool
+    requires { place < count }
+    ensures last { IsTrue result → IsTrue at_bound × (place ≡ count - 1) }
+{
+    if at_bound {
+        return place == count - 1;
+    }
+    false
+}
+
+/// The place of the greatest of the record's first items that no newer record names, where it is above the best key of the newer
+/// records.
+fn winner<R: Rows>(
     row: &RowAt<R>,
     newer: &[RowAt<R>],
     rows: &R,
     pass: &mut R::Pass,
-    bound: &KeyWords,
-) -> Option<KeyWords>
+    count: usize,
+    best: Option<&KeyWords>,
+) -> Option<usize>
     requires here { R.has rows.now pass.old row.now.row row.now.content }
     requires read { All (λ placed. R.has rows.now pass.old placed.row placed.content) newer.now }
+    requires within { count ≤ length (items_said row.now.content) }
     ensures same { pass.new ≡ pass.old }
-    ensures greatest { IsGreatestKey (content_in (row.now.content ∷ [])) (is_open (contents newer.now) bound.now) result }
+    ensures there { MatchOption result ⊤ (λ place. place < count) }
+    ensures wins { (passes : List ℕ → Bool)
+        → AreItems (items_said row.now.content)
+        → IsPassed (items_said row.now.content) passes count
+        → IsGreatestKey (content_in (contents newer.now)) passes (option_copied best.entry)
+        → MatchOption result
+        (IsGreatestKey (content_in (contents newer.now ++ row.now.content ∷ [])) passes (option_copied best.entry))
+        (λ place. (d : Item) → IsGreatest (content_in (contents newer.now ++ row.now.content ∷ [])) passes
+        (slice_index_or (items_said row.now.content) place d).key
+        (slice_index_or (items_said row.now.content) place d).content) }
 {
     row.keeps_spelling();
-    match row.one_key(rows, pass) {
-        Some((key, true)) => if_open(key, newer, rows, pass, bound),
-        Some((_, false)) => None,
-        None => last_open(row, newer, rows, pass, bound),
-    }
-}
-
-/// The key, where it is below the bound, and no newer record names it.
-fn if_open<R: Rows>(
-    key: KeyWords,
-    newer: &[RowAt<R>],
-    rows: &R,
-    pass: &mut R::Pass,
-    bound: &KeyWords,
-) -> Option<KeyWords>
-    requires read { All (λ placed. R.has rows.now pass.old placed.row placed.content) newer.now }
-    ensures same { pass.new ≡ pass.old }
-    ensures open { result ≡ (if is_open (contents newer.now) bound.now key then Some key else None) }
-{
-    if key.compare(bound).is_lt() && newest_of(newer, rows, pass, &key).is_none() {
-        return Some(key);
-    }
-    None
-}
-
-/// The greatest key of the record's items that is below the bound, and that no newer record names.
-fn last_open<R: Rows>(
-    row: &RowAt<R>,
-    newer: &[RowAt<R>],
-    rows: &R,
-    pass: &mut R::Pass,
-    bound: &KeyWords,
-) -> Option<KeyWords>
-    requires here { R.has rows.now pass.old row.now.row row.now.content }
-    requires read { All (λ placed. R.has rows.now pass.old placed.row placed.content) newer.now }
-    ensures same { pass.new ≡ pass.old }
-    ensures greatest { IsGreatestKey (content_at (items_of row.now.content)) (is_open (contents newer.now) bound.now) result }
-{
-    let count = row.items_below(rows, pass, bound);
     for place in (0..count).rev() {
-        let key = row.key_at(rows, pass, place);
-        if newest_of(newer, rows, pass, &key).is_none() {
-            return Some(key);
+        if !is_above(row, place, rows, pass, best) {
+            return None;
+        }
+        if !is_taken(row, place, newer, rows, pass) {
+            return Some(place);
         }
     }
     None
 }
 
-/// The greater of two keys, of which either may be missing.
-fn greater(one: Option<KeyWords>, two: Option<KeyWords>) -> Option<KeyWords>
-    ensures { result ≡ greater one two }
+/// Whether the key of the record's item is above the best one, as each is where there is none.
+fn is_above<R: Rows>(
+    row: &RowAt<R>,
+    place: usize,
+    rows: &R,
+    pass: &mut R::Pass,
+    best: Option<&KeyWords>,
+) -> bool
+    requires here { R.has rows.now pass.old row.now.row row.now.content }
+    requires there { place < length (items_said row.now.content) }
+    ensures same { pass.new ≡ pass.old }
+    ensures above { (d : Item) → result ≡ is_above (option_copied best.entry) (slice_index_or (items_said row.now.content) place d).key }
 {
-    match (one, two) {
-        (Some(one), Some(two)) => Some(if one.compare(&two).is_lt() { two } else { one }),
-        (None, two) => two,
-        (one, None) => one,
+    match best {
+        None => true,
+        Some(best) => row.compare_said(rows, pass, place, best).is_gt(),
     }
+}
+
+/// Whether a newer record takes the key of the record's item away. The key is loaded only where there is a record that may.
+fn is_taken<R: Rows>(
+    row: &RowAt<R>,
+    place: usize,
+    newer: &[RowAt<R>],
+    rows: &R,
+    pass: &mut R::Pass,
+) -> bool
+    requires here { R.has rows.now pass.old row.now.row row.now.content }
+    requires there { place < length (items_said row.now.content) }
+    requires read { All (λ placed. R.has rows.now pass.old placed.row placed.content) newer.now }
+    ensures same { pass.new ≡ pass.old }
+    ensures taken { (d : Item) → result ≡ is_taken (contents newer.now) (slice_index_or (items_said row.now.content) place d).key }
+{
+    if !any_may_take(newer) {
+        return false;
+    }
+    let key = row.key_said(rows, pass, place);
+    any_takes(newer, rows, pass, &key)
+}
+
+/// Whether one of the records may take keys away.
+fn any_may_take<R: Rows>(newer: &[RowAt<R>]) -> bool
+    ensures none { IsFalse result → (key : List ℕ) → is_taken (contents newer.now) key ≡ false }
+{
+    for newest in newer {
+        if newest.may_take() {
+            return true;
+        }
+    }
+    false
+}
+
+/// Whether one of the records takes the key away.
+fn any_takes<R: Rows>(newer: &[RowAt<R>], rows: &R, pass: &mut R::Pass, key: &KeyWords) -> bool
+    requires read { All (λ placed. R.has rows.now pass.old placed.row placed.content) newer.now }
+    ensures same { pass.new ≡ pass.old }
+    ensures taken { result ≡ is_taken (contents newer.now) key.now }
+{
+    for newest in newer {
+        if newest.takes(rows, pass, key) {
+            return true;
+        }
+    }
+    false
 }

@@ -11,7 +11,7 @@ use std::cmp::Ordering;
 
 impl<R: Rows> RowAt<R> {
     /// How its first key compares with the key.
-    fn compare_first(&self, rows: &R, pass: &mut R::Pass, key: &KeyWords) -> Ordering
+    pub(super) fn compare_first(&self, rows: &R, pass: &mut R::Pass, key: &KeyWords) -> Ordering
         requires read { R.has rows.now pass.old self.now.row self.now.content }
         ensures same { pass.new ≡ pass.old }
         ensures compared { result ≡ key_cmp (row_of self.now.content).first key.now }

@@ -74,7 +74,7 @@ impl<R: Rows> RowAt<R> {
     }
 
     /// What the item at the place has.
-    fn content(&self, rows: &R, pass: &mut R::Pass, place: usize) -> Content
+    pub(super) fn content(&self, rows: &R, pass: &mut R::Pass, place: usize) -> Content
         requires read { R.has rows.now pass.old self.now.row self.now.content }
         requires there { place < length (items_of self.now.content) }
         ensures same { pass.new ≡ pass.old }

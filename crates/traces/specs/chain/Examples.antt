@@ -37,14 +37,14 @@ abbrev pub merged_leaf : List Record
 merged_leaf = merge ∷ split_leaf
 
 -- then "k07" put, "k08" deleted, and the page removed
-abbrev pub put : Record
-put = delta.Put (record { next = 13; key = codes "k07"; value = codes "v07" })
+abbrev pub put_k07 : Record
+put_k07 = delta.Put (record { next = 13; key = codes "k07"; value = codes "v07" })
 
 abbrev pub delete : Record
 delete = delta.Delete (record { next = 14; key = codes "k08" })
 
 abbrev pub leaf_chain : List Record
-leaf_chain = remove 15 ∷ delete ∷ put ∷ merged_leaf
+leaf_chain = remove 15 ∷ delete ∷ put_k07 ∷ merged_leaf
 
 -- an index page with the term of page 1, and then that of page 2, which is held and taken out again
 abbrev pub index : Page
@@ -76,17 +76,17 @@ abbrev pub index_chain : List Record
 index_chain = term 7 3 ∷ untermed_page
 
 -- then the page split there to page 4, and that one merged back, where it had a term there of page 5, which is held
-abbrev pub index_split : Record
-index_split = delta.Split (record { level = 1; next = 8; separator = codes "k09"; page = 4 })
+abbrev pub split_to_page_4 : Record
+split_to_page_4 = delta.Split (record { level = 1; next = 8; separator = codes "k09"; page = 4 })
 
 abbrev pub split_index : List Record
-split_index = index_split ∷ index_chain
+split_index = split_to_page_4 ∷ index_chain
 
-abbrev pub upper_index : Page
-upper_index = record { level = 1; low = codes "k09"; high = None; right = None; removed = false; items = record { key = codes "k09"; content = Child 5 false } ∷ [] }
+abbrev pub page_4 : Page
+page_4 = record { level = 1; low = codes "k09"; high = None; right = None; removed = false; items = record { key = codes "k09"; content = Child 5 false } ∷ [] }
 
 abbrev pub index_merge : Record
-index_merge = delta.Merge (record { level = 1; next = 9; low = codes "k09"; high = None; right = None; items = upper_index.items })
+index_merge = delta.Merge (record { level = 1; next = 9; low = codes "k09"; high = None; right = None; items = page_4.items })
 
 abbrev pub merged_index : List Record
 merged_index = index_merge ∷ split_index
@@ -113,7 +113,7 @@ index_of items = delta.Base (record index { items = items }) ∷ []
 -- What doesn't fit: a put over a removal, a put of a key that a split cut off, a base over a base, a hold of the first term, a
 -- base that is marked removed, and a split to a page that can't be.
 abbrev pub put_over_removal : List Record
-put_over_removal = put ∷ removed_leaf
+put_over_removal = put_k07 ∷ removed_leaf
 
 abbrev pub put_outside : List Record
 put_outside = delta.Put (record { next = 12; key = codes "k09"; value = codes "v09" }) ∷ split_leaf

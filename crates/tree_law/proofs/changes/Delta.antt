@@ -73,10 +73,7 @@ module _ {m : Shared} {log : List Update} {o : Owners} {knows : ℕ → Knowledg
     where
       stage_used : (stage : Stage) (level : ℕ) (low : Key) → phase_of (Placed stage level low) ≡ free → ⊥
       stage_used Fresh level low e = cc
-      stage_used Indexed level low e = cc
-      stage_used Held level low e = cc
-      stage_used Removed level low e = cc
-      stage_used Merged level low e = cc
+      stage_used other level low e = cc
 
   -- the chain of a page whose slot was not exchanged is worth no more
   pub kept : (page : ℕ) → page ≢ p → (is_alive (o'.page page) ≡ true → is_alive (o.page page) ≡ true) → worths' page ≤ worths page

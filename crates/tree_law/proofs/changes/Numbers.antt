@@ -2,7 +2,7 @@
 use Rattle.tree_law.proofs.Words.{◌⊎◌, [], ap, refl, cond, Option, List, inl, ◌≢◌, length, ◌++◌, ◌≤◌, inr, suc, zero}
 use Rattle.tree_law.proofs.Words.{◌∷◌, ℕ, ◌≡◌, ◌∙◌, ◌<◌, arith, ◌+◌, true, cases_lt, All, All-weaker, count_by, eqb_tells, ◌==◌}
 use Rattle.tree_law.proofs.Words.{Limits, Command, Reply, Answer, Whether, StepOf, TakePid, TakeRow, Place, Exchange, Slot, Row, Epoch, Announce, PidBits, RowBits, Enter, Leave, ReusePids, ReuseRows, Number, Content, Record, memory_of, knows, Knowledge, learn, finished, begun, IsAnswer, May, Entry, Begin, Step}
-use Rattle.tree_law.proofs.Words.{exchanged, emptied, OwnPage, Other, Empty, Ready, Gone, OwnRow, Written, put, shared, IsState, PageOwner, Keeps, Placed}
+use Rattle.tree_law.proofs.Words.{exchanged, emptied, OwnPage, Other, Empty, Ready, Gone, OwnRow, Written, put, shared, IsState, PageOwner, Keeps}
 use Rattle.bw_model.specs.declared.step.Link.TheVariants as link
 use Rattle.traces.specs.discipline.Discipline.{MayExchange}
 use Rattle.traces.specs.discipline.Knowledge.{Belongings, Foreign, Taken}
@@ -13,12 +13,12 @@ use Rattle.std.proofs.lemmas.List.Elements.{All-push}
 use Rattle.op_machine.specs.theorem.Progress.{ChangesTree, takes_number}
 use Rattle.tree_law.specs.Changes.{AreUsed, numbers_had, page_mark, pids_had, row_mark, rows_had, total}
 use Rattle.tree_law.specs.Owners.{Owner, Free, Spare, Linked, OwnFits, PageFits}
-use Rattle.tree_law.specs.Phase.{Nobody, Cleared}
 use Rattle.tree_law.proofs.shape.Puts.{by_equal, put_other, put_same}
 use Rattle.tree_law.proofs.trace.Beginning.{knows-push}
 use Rattle.tree_law.proofs.trace.Owned.{pushed_length}
 use Rattle.tree_law.proofs.links.Exchanged.{exchanging, roots, empties, clears, readies, rebuilds, updates, splits, unterms, hands, misses}
-use Rattle.tree_law.proofs.direct.Counting.{count_push, increasing_push}
+use Rattle.traces.proofs.Pushes.{increasing_push}
+use Rattle.tree_law.proofs.direct.Counting.{count_push}
 use Rattle.tree_law.proofs.direct.Linking.{change}
 use Rattle.tree_law.proofs.changes.Totals.{bounded, none, one}
 
@@ -58,9 +58,7 @@ row_small (Written content) = omega arith
 
 page_small : (page : OwnPage) → page_mark page ≤ 1
 page_small Other = omega arith
-page_small Empty = omega arith
-page_small (Ready row) = omega arith
-page_small Gone = omega arith
+page_small other = omega arith
 
 module _ (limits : Limits) where
   abbrev pub had : Knowledge → ℕ
@@ -131,9 +129,7 @@ module _ (limits : Limits) where
 
         by_page : (page : OwnPage) → k.own.pages (suc p) ≡ page → UsesFew (Exchange (suc p) (suc old) (suc new)) (Whether true)
         by_page (Ready base) e = inl (rw e (omega arith))
-        by_page Other e = changes (λ base f. cc (e, f))
-        by_page Empty e = changes (λ base f. cc (e, f))
-        by_page Gone e = changes (λ base f. cc (e, f))
+        by_page other e = changes (λ base f. cc (e, f))
 
     -- a number that is free is nobody's
     unowned_row : (row : ℕ) → (memory_of limits entries).free_rows row ≡ true → row_mark (k.own.rows row) ≡ 0
@@ -239,10 +235,8 @@ row_of_below n (Spare b) = below b n
 row_of_below n Linked = 0
 
 abbrev page_of_below : ℕ → PageOwner → ℕ
-page_of_below n Nobody = 0
 page_of_below n (Keeps b) = below b n
-page_of_below n (Placed stage level low) = 0
-page_of_below n (Cleared b level low) = 0
+page_of_below n other = 0
 
 row_below_small : (n : ℕ) (o : Owner) → row_of_below n o ≤ 1
 row_below_small n Free = omega arith
@@ -250,10 +244,8 @@ row_below_small n (Spare b) = below_small b n
 row_below_small n Linked = omega arith
 
 page_below_small : (n : ℕ) (o : PageOwner) → page_of_below n o ≤ 1
-page_below_small n Nobody = omega arith
 page_below_small n (Keeps b) = below_small b n
-page_below_small n (Placed stage level low) = omega arith
-page_below_small n (Cleared b level low) = omega arith
+page_below_small n other = omega arith
 
 row_grows : (n : ℕ) (o : Owner) → row_of_below n o ≤ row_of_below (suc n) o
 row_grows n Free = omega arith
@@ -261,10 +253,8 @@ row_grows n (Spare b) = below_grows b n
 row_grows n Linked = omega arith
 
 page_grows : (n : ℕ) (o : PageOwner) → page_of_below n o ≤ page_of_below (suc n) o
-page_grows n Nobody = omega arith
 page_grows n (Keeps b) = below_grows b n
-page_grows n (Placed stage level low) = omega arith
-page_grows n (Cleared b level low) = omega arith
+page_grows n other = omega arith
 
 row_counted : (n : ℕ) (o : Owner) (w : Option Record) (own : OwnRow) → OwnFits n o w own → row_of_below n o + row_mark own ≤ row_of_below (suc n) o
 row_counted n o w Foreign fits = let more = row_grows n o in omega (arith, more)

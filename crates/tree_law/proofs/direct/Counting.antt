@@ -1,26 +1,15 @@
 -- The causes of an operation pay for one step more: by those that were left, or by being one more cause.
-use Rattle.tree_law.proofs.Words.{false, [], ap, cond, suc, List, true, inl, length, ◌++◌, ◌≤◌, inr, ◌∷◌, sym, ℕ, ◌≡◌, Bool, ◌∙◌, ◌<◌, arith, take, ◌+◌, ◌^◌, drop, ◌*◌, ◌-◌, cases_lt, All-weaker}
-use Rattle.tree_law.proofs.Words.{fold-append, All, count_by, IsStrictlyIncreasing, slice_range, Limits, Entry, is_step_of, IsCause, IsOperation, Operation, Affords}
+use Rattle.tree_law.proofs.Words.{false, [], ap, cond, suc, List, true, inl, length, ◌++◌, ◌≤◌, inr, ◌∷◌, sym, ℕ, ◌≡◌, Bool, ◌∙◌, ◌<◌, arith, take, ◌+◌, drop, ◌*◌, ◌-◌, cases_lt, All-weaker}
+use Rattle.tree_law.proofs.Words.{fold-append, All, count_by, slice_range, Limits, Entry, is_step_of, IsCause, IsOperation, Operation, Affords}
 use Rattle.std.proofs.Common.{length-drop, refl}
 use Rattle.tree_law.specs.Direct.{AffordsFrom}
 use Rattle.std.proofs.Math.Nat.{mul-one, mul-suc}
 use Rattle.traces.specs.discipline.Recalled.{cause_worth}
-use Rattle.std.proofs.Math.Seq.{get_or-append_seam}
-use Rattle.std.proofs.lemmas.List.{drop-append-le, drop_all, drop_at, get_or_append_left, take-append-le}
+use Rattle.std.proofs.lemmas.List.{drop-append-le, drop_all, drop_at, take-append-le}
 use Rattle.std.proofs.lemmas.List.Elements.{All-head, All-push}
 use Rattle.std.proofs.lemmas.Option.{slice_get_within}
-use Rattle.tree_law.proofs.trace.Owned.{pushed_length}
+use Rattle.traces.proofs.Pushes.{increasing_push, pushed_length}
 use Rattle.tree_law.proofs.direct.Causes.{cause_kept}
-
-pub increasing_push : (xs : List ℕ) (x : ℕ) → IsStrictlyIncreasing xs → All (λ y. y < x) xs → IsStrictlyIncreasing (xs ++ x ∷ [])
-increasing_push xs x up below k h =
-    let long : length (xs ++ x ∷ []) ≡ suc (length xs) = pushed_length xs x in
-    elim (cases_lt (k + 1) (length xs)) [
-      | inl lt ↦ rw (get_or_append_left xs (x ∷ []) 0 k (omega arith), get_or_append_left xs (x ∷ []) 0 (k + 1) lt) (up k lt)
-      | inr ge ↦
-          let at : k + 1 ≡ length xs = omega arith in
-          rw (get_or_append_left xs (x ∷ []) 0 k (omega arith), at, get_or-append_seam xs x [] 0) (below k 0 (omega arith))
-    ]
 
 pub count_push : {X : Type 0} (p : X → Bool) (xs : List X) (x : X) → count_by p (xs ++ x ∷ []) ≡ count_by p xs + cond (p x) 1 0
 count_push p xs x = fold-append _ _ xs (x ∷ [])

@@ -1,7 +1,7 @@
 -- All levels of a state stand, and each one's first page is the child at the empty key of the first page above it.
 use Rattle.tree_law.proofs.Words.{false, ap, refl, suc, List, ◌∷◌, ◌≤◌, subst, sym, ℕ, ◌≡◌, ◌∙◌, ◌<◌, arith, Option, Some, Limits, ContentOf, Child, Value, Item, Memory, Record}
 use Rattle.tree_law.proofs.Words.{IsChainOf, IsChainOf-unique, content_in, content_at, low_in, high_in, memory_of, log_of, Entry, Key, Covers, IsUnder}
-use Rattle.tree_law.proofs.Words.{Indexed, Stage, Fresh, Held, Removed, Merged, mark, rank, shared, IsState, spec, []}
+use Rattle.tree_law.proofs.Words.{Indexed, Stage, mark, rank, shared, IsState, spec, []}
 use Rattle.std.specs.List.{AllByRecursion}
 use Rattle.std.proofs.lemmas.List.Elements.{recursion_from_All}
 use Rattle.base_page.specs.Pages.{IsOfLevel}
@@ -25,11 +25,8 @@ first_child level low (item ∷ items) above kinds first = go item.content kinds
 
 -- a term that isn't held is that of an indexed page
 indexed_mark : (st : Stage) (q : ℕ) → mark st q ≡ Some (Child q false) → st ≡ Indexed
-indexed_mark Fresh q e = absurd (cc)
 indexed_mark Indexed q e = refl
-indexed_mark Held q e = absurd (cc)
-indexed_mark Removed q e = absurd (cc)
-indexed_mark Merged q e = absurd (cc)
+indexed_mark other q e = absurd (cc)
 
 from_empty : (c : List Record) → low_in c ≡ [] → IsUnder (low_in c) (high_in c) → Covers c []
 from_empty c e some = record { low = rw e (empty_lowest []); high = rw e at some }

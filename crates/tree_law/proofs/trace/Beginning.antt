@@ -3,7 +3,7 @@ use Rattle.tree_law.proofs.Words.{false, ◌⊎◌, ap, refl, ltb, Option, suc, 
 use Rattle.tree_law.proofs.Words.{ltb-true, fold-append, Update, Command, Limits, ReuseRows, ReusePids, opening, Memory, slice_get_below, slice_get_kept, slice_get-push_cases}
 use Rattle.tree_law.proofs.Words.{slice_get-push, IsRun-push, TakesStep-push_cases, memory_of-push, command_of-push, begun, knows, Knowledge, knows_after, ShowsRow, memory_at, command_of, memory_of}
 use Rattle.tree_law.proofs.Words.{Entry, Begin, and_right, same_operation, and_left, log_of-push, IsOperation, Operation, indexed, log_at, log_of, HasMapOf, UnlinksPid, UnlinksRow, HandsPid}
-use Rattle.tree_law.proofs.Words.{HandsRow, IsInLimbo, Owners, Indexed, put, shared, slot_in, IsReadyPage, Tells, operation_of, IsSearch, IsState, phase_of}
+use Rattle.tree_law.proofs.Words.{HandsRow, IsInLimbo, Owners, Indexed, put, shared, slot_in, IsReadyPage, Tells, operation_from, IsSearch, IsState, phase_of}
 use Rattle.tree_law.proofs.Words.{IsInTree, IsUnended, HaveStood, Times, Timed, Opens, IsTree, same_Some, []}
 use Rattle.std.proofs.Common.{leb}
 use Rattle.traces.proofs.RunLaws.{IsRun-none}
@@ -182,12 +182,12 @@ begins limits entries a c state below idle =
     }
   where
     -- what is so of each unfinished operation: the one that begins, and those of others
-    unfinished_begin : (P : Operation → Knowledge → Type 0) → P (operation_of (length entries) a c) (begun (knows entries a) c)
+    unfinished_begin : (P : Operation → Knowledge → Type 0) → P (operation_from (length entries) a c) (begun (knows entries a) c)
         → ((op : Operation) → IsOperation entries op → IsUnended entries op.start op.actor → command_of entries op.actor ≡ Some op.command → P op (knows entries op.actor))
         → (op : Operation) → IsOperation (entries ++ Begin a c ∷ []) op → IsUnended (entries ++ Begin a c ∷ []) op.start op.actor → command_of (entries ++ Begin a c ∷ []) op.actor ≡ Some op.command → P op (knows (entries ++ Begin a c ∷ []) op.actor)
     unfinished_begin P new others op is unended asks = rw (knows-push entries (Begin a c)) (elim (slice_get-push_cases entries (Begin a c) op.start _ is) [
       | inr at ↦
-          let same : op ≡ operation_of (length entries) a c = same_operation op (operation_of (length entries) a c) at.0 (let e = at.1 in cc) (let e = at.1 in cc) in
+          let same : op ≡ operation_from (length entries) a c = same_operation op (operation_from (length entries) a c) at.0 (let e = at.1 in cc) (let e = at.1 in cc) in
           rw same (rw (put_same (knows entries) a (begun (knows entries a) c)) new)
       | inl before ↦
           let other : op.actor ≢ a = λ i. unended (length entries) c (slice_get_below entries op.start _ before) (rw i (slice_get-push entries (Begin a c))) in

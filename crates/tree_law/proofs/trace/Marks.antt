@@ -2,7 +2,7 @@
 use Rattle.tree_law.proofs.Words.{false, [], ap, refl, cond, Option, suc, None, List, true, inl, length, ◌++◌, inr, ◌∷◌, subst, sym, ℕ, ◌≡◌, Bool, zero, ◌∙◌, ◌<◌, arith, Some, take, cases_lt}
 use Rattle.tree_law.proofs.Words.{MatchOption, Update, Command, Reply, Limits, Answer, StepOf, Record, slice_get_below, slice_get_kept, slice_get-push, take-push, take-push_whole, memory_at-push}
 use Rattle.tree_law.proofs.Words.{memory_at, command_of, memory_of, Entry, Begin, Step, log_at-push, IsOperation, Operation, Finishes, IsOwnStep, log_at, log_of, IsPoint, HasMapOf, IsQuiet, Tells}
-use Rattle.tree_law.proofs.Words.{operation_of, IsUnended, IsAnsweredBy, IsMarked, HasFound}
+use Rattle.tree_law.proofs.Words.{operation_from, IsUnended, IsAnsweredBy, IsMarked, HasFound}
 use Rattle.tree_law.specs.State.{Justifies}
 use Rattle.tree_law.proofs.trace.Searches.{held_back_kept, nothing_free_kept}
 use Rattle.tree_law.proofs.trace.Owned.{pushed_length, point_below, point_last, own_step_kept, own_cases, step_cases, step_below, own_new, unended_kept, operation_old}
@@ -103,7 +103,7 @@ module _ (entries : List Entry) (points : List Bool) (last : Entry) (mark : Bool
   pub tells_other : (b : ℕ) (asked : Command) (point : Option (List Update)) (logs : List (List Update)) → ((c : Command) → last ≡ Begin b c → ⊥)
       → ((step : StepOf Record) (answer : Answer Record) (reply : Option Reply) → last ≡ Step b step answer reply → ⊥) → Tells entries points b asked point logs → Tells entries' points' b asked point logs
   tells_other b asked point logs no_begin no_step t =
-      let op : Operation = operation_of t.start b asked in
+      let op : Operation = operation_from t.start b asked in
       record {
         start = t.start;
         begins = slice_get_kept entries (last ∷ []) t.start _ t.begins;
@@ -112,19 +112,19 @@ module _ (entries : List Entry) (points : List Bool) (last : Entry) (mark : Bool
         point_at = point_kept point t.point_at;
       }
     where
-      logs_kept : {l : List Update} (m : ℕ) → IsOwnStep entries (operation_of t.start b asked) m → log_at entries points m ≡ l → command_of (take m entries) b ≡ Some asked
-          → (n : ℕ) × IsOwnStep entries' (operation_of t.start b asked) n × (log_at entries' points' n ≡ l) × (command_of (take n entries') b ≡ Some asked)
+      logs_kept : {l : List Update} (m : ℕ) → IsOwnStep entries (operation_from t.start b asked) m → log_at entries points m ≡ l → command_of (take m entries) b ≡ Some asked
+          → (n : ℕ) × IsOwnStep entries' (operation_from t.start b asked) n × (log_at entries' points' n ≡ l) × (command_of (take n entries') b ≡ Some asked)
       logs_kept m own same asks =
-          let lt : m < length entries = step_below entries last (operation_of t.start b asked) m own in
-          (m, own_step_kept entries last (operation_of t.start b asked) m own, log_same (operation_of t.start b asked) m own ∙ same, rw (take-push entries (last ∷ []) m (omega arith)) asks)
+          let lt : m < length entries = step_below entries last (operation_from t.start b asked) m own in
+          (m, own_step_kept entries last (operation_from t.start b asked) m own, log_same (operation_from t.start b asked) m own ∙ same, rw (take-push entries (last ∷ []) m (omega arith)) asks)
 
-      point_kept : (o : Option (List Update)) → MatchOption o ((m : ℕ) → IsOwnStep entries (operation_of t.start b asked) m → IsPoint points m → ⊥) (λ l. (m : ℕ) × IsOwnStep entries (operation_of t.start b asked) m × IsPoint points m × (log_at entries points m ≡ l))
-          → MatchOption o ((m : ℕ) → IsOwnStep entries' (operation_of t.start b asked) m → IsPoint points' m → ⊥) (λ l. (m : ℕ) × IsOwnStep entries' (operation_of t.start b asked) m × IsPoint points' m × (log_at entries' points' m ≡ l))
-      point_kept None h = λ m own p. elim (step_cases entries last (operation_of t.start b asked) m own) [
-        | inl own' ↦ h m own' (point_old (operation_of t.start b asked) m own' p)
+      point_kept : (o : Option (List Update)) → MatchOption o ((m : ℕ) → IsOwnStep entries (operation_from t.start b asked) m → IsPoint points m → ⊥) (λ l. (m : ℕ) × IsOwnStep entries (operation_from t.start b asked) m × IsPoint points m × (log_at entries points m ≡ l))
+          → MatchOption o ((m : ℕ) → IsOwnStep entries' (operation_from t.start b asked) m → IsPoint points' m → ⊥) (λ l. (m : ℕ) × IsOwnStep entries' (operation_from t.start b asked) m × IsPoint points' m × (log_at entries' points' m ≡ l))
+      point_kept None h = λ m own p. elim (step_cases entries last (operation_from t.start b asked) m own) [
+        | inl own' ↦ h m own' (point_old (operation_from t.start b asked) m own' p)
         | inr at ↦ no_step at.1.0 at.1.1 at.1.2 at.1.3
       ]
-      point_kept (Some l) h = (h.0, own_step_kept entries last (operation_of t.start b asked) h.0 h.1, slice_get_kept points (mark ∷ []) h.0 true h.2, log_same (operation_of t.start b asked) h.0 h.1 ∙ h.3)
+      point_kept (Some l) h = (h.0, own_step_kept entries last (operation_from t.start b asked) h.0 h.1, slice_get_kept points (mark ∷ []) h.0 true h.2, log_same (operation_from t.start b asked) h.0 h.1 ∙ h.3)
 
   -- what is told of the actor whose step this is
   pub tells_own : (a : ℕ) (step : StepOf Record) (answer : Answer Record) (reply : Option Reply) (asked : Command) (point : Option (List Update)) (logs : List (List Update)) (log : List Update)
@@ -138,7 +138,7 @@ module _ (entries : List Entry) (points : List Bool) (last : Entry) (mark : Bool
     point_at = point_kept mark refl point t.point_at;
   }
     where
-      new : IsOwnStep entries' (operation_of t.start a asked) (length entries)
+      new : IsOwnStep entries' (operation_from t.start a asked) (length entries)
       new = own_new entries last t.start a asked step answer reply t.begins t.unended is
 
       last_log : log_at entries' points' (length entries) ≡ log
@@ -146,21 +146,21 @@ module _ (entries : List Entry) (points : List Bool) (last : Entry) (mark : Bool
           let whole : log_at entries points (length entries) ≡ log_of entries points = rw (take_whole entries (length entries) refl, take_whole points (length entries) (sym beside)) refl in
           log_at-push entries points (last ∷ []) (mark ∷ []) (length entries) beside (omega arith) ∙ whole ∙ now
 
-      logs_kept : {l : List Update} (m : ℕ) → IsOwnStep entries (operation_of t.start a asked) m → log_at entries points m ≡ l → command_of (take m entries) a ≡ Some asked
-          → (n : ℕ) × IsOwnStep entries' (operation_of t.start a asked) n × (log_at entries' points' n ≡ l) × (command_of (take n entries') a ≡ Some asked)
+      logs_kept : {l : List Update} (m : ℕ) → IsOwnStep entries (operation_from t.start a asked) m → log_at entries points m ≡ l → command_of (take m entries) a ≡ Some asked
+          → (n : ℕ) × IsOwnStep entries' (operation_from t.start a asked) n × (log_at entries' points' n ≡ l) × (command_of (take n entries') a ≡ Some asked)
       logs_kept m own same asks' =
-          let lt : m < length entries = step_below entries last (operation_of t.start a asked) m own in
-          (m, own_step_kept entries last (operation_of t.start a asked) m own, log_same (operation_of t.start a asked) m own ∙ same, rw (take-push entries (last ∷ []) m (omega arith)) asks')
+          let lt : m < length entries = step_below entries last (operation_from t.start a asked) m own in
+          (m, own_step_kept entries last (operation_from t.start a asked) m own, log_same (operation_from t.start a asked) m own ∙ same, rw (take-push entries (last ∷ []) m (omega arith)) asks')
 
       point_kept : (k : Bool) → mark ≡ k → (o : Option (List Update))
-          → MatchOption o ((m : ℕ) → IsOwnStep entries (operation_of t.start a asked) m → IsPoint points m → ⊥) (λ l. (m : ℕ) × IsOwnStep entries (operation_of t.start a asked) m × IsPoint points m × (log_at entries points m ≡ l))
-          → MatchOption (cond k (Some log) o) ((m : ℕ) → IsOwnStep entries' (operation_of t.start a asked) m → IsPoint points' m → ⊥) (λ l. (m : ℕ) × IsOwnStep entries' (operation_of t.start a asked) m × IsPoint points' m × (log_at entries' points' m ≡ l))
+          → MatchOption o ((m : ℕ) → IsOwnStep entries (operation_from t.start a asked) m → IsPoint points m → ⊥) (λ l. (m : ℕ) × IsOwnStep entries (operation_from t.start a asked) m × IsPoint points m × (log_at entries points m ≡ l))
+          → MatchOption (cond k (Some log) o) ((m : ℕ) → IsOwnStep entries' (operation_from t.start a asked) m → IsPoint points' m → ⊥) (λ l. (m : ℕ) × IsOwnStep entries' (operation_from t.start a asked) m × IsPoint points' m × (log_at entries' points' m ≡ l))
       point_kept true k o h = (length entries, new, rw beside at (slice_get-push points mark ∙ ap Some k), last_log)
-      point_kept false k None h = λ m own p. elim (step_cases entries last (operation_of t.start a asked) m own) [
-        | inl own' ↦ h m own' (point_old (operation_of t.start a asked) m own' p)
+      point_kept false k None h = λ m own p. elim (step_cases entries last (operation_from t.start a asked) m own) [
+        | inl own' ↦ h m own' (point_old (operation_from t.start a asked) m own' p)
         | inr at ↦ let marked : mark ≡ true = point_last points mark m (at.0 ∙ sym beside) p in absurd (cc)
       ]
-      point_kept false k (Some l) h = (h.0, own_step_kept entries last (operation_of t.start a asked) h.0 h.1, slice_get_kept points (mark ∷ []) h.0 true h.2, log_same (operation_of t.start a asked) h.0 h.1 ∙ h.3)
+      point_kept false k (Some l) h = (h.0, own_step_kept entries last (operation_from t.start a asked) h.0 h.1, slice_get_kept points (mark ∷ []) h.0 true h.2, log_same (operation_from t.start a asked) h.0 h.1 ∙ h.3)
 
   pub quiet_push : (limits : Limits) → IsQuiet limits entries points → HasMapOf (memory_of limits entries') (log_of entries' points') → IsQuiet limits entries' points'
   quiet_push limits old new = record {

@@ -1,13 +1,10 @@
 -- One more entry: which steps are an operation's own.
-use Rattle.tree_law.proofs.Words.{◌⊎◌, [], ap, refl, Option, suc, List, true, inl, length, ◌++◌, inr, ◌∷◌, sym, ℕ, ◌≡◌, Bool, ◌∙◌, ◌<◌, arith, Some, cases_lt, slice_get, Command, Reply, Answer}
+use Rattle.tree_law.proofs.Words.{◌⊎◌, [], ap, Option, suc, List, true, inl, length, ◌++◌, inr, ◌∷◌, sym, ℕ, ◌≡◌, Bool, ◌∙◌, ◌<◌, arith, Some, cases_lt, slice_get, Command, Reply, Answer}
 use Rattle.tree_law.proofs.Words.{StepOf, Record, slice_get_below, slice_get_kept, slice_get-push_cases, slice_get-push, Entry, Begin, Step, IsOperation, Operation, IsOwnStep, TakesOwnStep, IsPoint}
-use Rattle.tree_law.proofs.Words.{operation_of, IsUnended}
+use Rattle.tree_law.proofs.Words.{operation_from, IsUnended}
 use Rattle.traces.proofs.Pushes.{slice_get-append_left}
+pub use Rattle.traces.proofs.Pushes.{pushed_length}
 use Rattle.op_machine.specs.theorem.Operations.{IsOwnEntry}
-
-pub pushed_length : {X : Type 0} (xs : List X) (x : X) → length (xs ++ x ∷ []) ≡ suc (length xs)
-pushed_length [] x = refl
-pushed_length (y ∷ xs) x = ap suc (pushed_length xs x)
 
 pub same_start : (entries : List Entry) (s t a : ℕ) (c d : Command) → slice_get entries s ≡ Some (Begin a c) → slice_get entries t ≡ Some (Begin a d) → IsUnended entries s a → IsUnended entries t a → s ≡ t
 same_start entries s t a c d e f us ut = elim (cases_lt s t) [
@@ -53,7 +50,7 @@ module _ (entries : List Entry) (last : Entry) where
   step_below op n h = slice_get_below entries n _ h.2.1.entry
 
   pub takes_new : (start a : ℕ) (c : Command) (step : StepOf Record) (answer : Answer Record) (reply : Option Reply) → slice_get entries start ≡ Some (Begin a c) → IsUnended entries start a → last ≡ Step a step answer reply
-      → TakesOwnStep longer (operation_of start a c) (length entries) step answer
+      → TakesOwnStep longer (operation_from start a c) (length entries) step answer
   takes_new start a c step answer reply begins unended is = (
     reply,
     record {
@@ -64,7 +61,7 @@ module _ (entries : List Entry) (last : Entry) where
   )
 
   pub own_new : (start a : ℕ) (c : Command) (step : StepOf Record) (answer : Answer Record) (reply : Option Reply) → slice_get entries start ≡ Some (Begin a c) → IsUnended entries start a → last ≡ Step a step answer reply
-      → IsOwnStep longer (operation_of start a c) (length entries)
+      → IsOwnStep longer (operation_from start a c) (length entries)
   own_new start a c step answer reply begins unended is = (step, answer, takes_new start a c step answer reply begins unended is)
 
   pub unended_kept : (start a : ℕ) → IsUnended entries start a → ((c : Command) → last ≡ Begin a c → ⊥) → IsUnended longer start a

@@ -1,7 +1,9 @@
 -- A mark set later, at an own step at which the command makes no update: each log stays.
+use lib.Seq.{take-take}
+use Rattle.traces.proofs.Cuts.{get_take}
 use Rattle.tree_law.proofs.Words.{false, ◌⊎◌, ap, refl, Option, suc, None, List, true, inl, ◌≢◌, length, ◌++◌, ◌≤◌, inr, ◌∷◌, sym, ℕ, ◌≡◌, Bool, zero, ◌∙◌, ◌<◌, arith, Some, take, cases_lt}
 use Rattle.tree_law.proofs.Words.{slice_get, MatchOption, Update, logged_value, update_of, command_key, Command, Reply, Limits, slice_get_below, command_of, Entry, Begin, Step, same_operation}
-use Rattle.tree_law.proofs.Words.{IsOperation, Operation, Finishes, IsOwnStep, log_at, log_of, IsPoint, IsQuiet, UpdatesAtLinks, Tells, operation_of, IsMarked, []}
+use Rattle.tree_law.proofs.Words.{IsOperation, Operation, Finishes, IsOwnStep, log_at, log_of, IsPoint, IsQuiet, UpdatesAtLinks, Tells, operation_from, IsMarked, []}
 use Rattle.std.proofs.Common.{set}
 use Rattle.op_machine.specs.theorem.Points.{updates_at}
 use Rattle.op_machine.proofs.LogLaws.{log_of-marked, log_at-step}
@@ -33,18 +35,6 @@ take_set_above [] m x (suc n) lt = refl
 take_set_above (y ∷ xs) zero x (suc n) lt = refl
 take_set_above (y ∷ xs) (suc m) x (suc n) lt = ap (λ rest. y ∷ rest) (take_set_above xs m x n (omega arith))
 
-take_take : {X : Type 0} (xs : List X) (m n : ℕ) → m ≤ n → take m (take n xs) ≡ take m xs
-take_take xs zero n le = refl
-take_take xs (suc m) zero le = absurd (omega arith)
-take_take [] (suc m) (suc n) le = refl
-take_take (x ∷ xs) (suc m) (suc n) le = ap (λ rest. x ∷ rest) (take_take xs m n (omega arith))
-
-get_take : {X : Type 0} (xs : List X) (m n : ℕ) → m < n → slice_get (take n xs) m ≡ slice_get xs m
-get_take xs m zero lt = absurd (omega arith)
-get_take [] m (suc n) lt = refl
-get_take (x ∷ xs) zero (suc n) lt = refl
-get_take (x ∷ xs) (suc m) (suc n) lt = get_take xs m n (omega arith)
-
 unmarked : (points : List Bool) (m : ℕ) → m < length points → (IsPoint points m → ⊥) → slice_get points m ≡ Some false
 unmarked [] m lt never = absurd (omega arith)
 unmarked (true ∷ points) zero lt never = absurd (never refl)
@@ -64,7 +54,7 @@ own_same entries p q m is is' own own' =
     same_operation p q starts actors (let e : slice_get entries p.start ≡ Some (Begin q.actor q.command) = rw starts is' in cc (is, e))
 
 module _ (limits : Limits) (entries : List Entry) (points : List Bool) (a : ℕ) (asked : Command) (logs : List (List Update)) (marked : IsMarked limits entries points) (t : Tells entries points a asked None logs)
-    (place : ℕ) (mine : IsOwnStep entries (operation_of t.start a asked) place) (asks : command_of (take place entries) a ≡ Some asked) (none : update_of a asked (logged_value (log_at entries points place) (command_key asked)) ≡ None) where
+    (place : ℕ) (mine : IsOwnStep entries (operation_from t.start a asked) place) (asks : command_of (take place entries) a ≡ Some asked) (none : update_of a asked (logged_value (log_at entries points place) (command_key asked)) ≡ None) where
   abbrev pub remarked : List Bool
   remarked = set points place true
 
@@ -84,7 +74,7 @@ module _ (limits : Limits) (entries : List Entry) (points : List Bool) (a : ℕ)
   log_at_same n = elim (cases_lt place n) [
     | inl lt ↦ rw (take_set_above points place true n lt)
         (log_of-marked (take n entries) (take n points) place (Step a mine.0 mine.1 mine.2.0) (get_take entries place n lt ∙ mine.2.1.entry) (get_take points place n lt ∙ was_unmarked)
-        (rw (take_take entries place n (omega arith), take_take points place n (omega arith)) no_update))
+        (rw (take-take place n entries (omega arith), take-take place n points (omega arith)) no_update))
     | inr le ↦ rw (take_set_below points place true n le)
   ]
 
@@ -100,12 +90,12 @@ module _ (limits : Limits) (entries : List Entry) (points : List Bool) (a : ℕ)
   -- no own step of the operation was marked
   alone : (op : Operation) (i j : ℕ) → IsOperation entries op → IsOwnStep entries op i → i ≡ place → IsOwnStep entries op j → IsPoint points j → ⊥
   alone op i j is own e own' p =
-      t.point_at j (rw (own_same entries op (operation_of t.start a asked) place is t.begins (rw e at own) mine) at own') p
+      t.point_at j (rw (own_same entries op (operation_from t.start a asked) place is t.begins (rw e at own) mine) at own') p
 
-  pub marked' : ((n : ℕ) (reply : Reply) → Finishes entries (operation_of t.start a asked) n reply → ⊥) → IsMarked limits entries remarked
+  pub marked' : ((n : ℕ) (reply : Reply) → Finishes entries (operation_from t.start a asked) n reply → ⊥) → IsMarked limits entries remarked
   marked' unfinished = record {
     beside = beside';
-    own = λ n p. elim (point_cases n p) [ inl e ↦ (operation_of t.start a asked, t.begins, rw e mine) | inr p' ↦ marked.own n p' ];
+    own = λ n p. elim (point_cases n p) [ inl e ↦ (operation_from t.start a asked, t.begins, rw e mine) | inr p' ↦ marked.own n p' ];
     one = λ op i j is oi oj pi pj. elim (point_cases i pi) [
       | inl ei ↦ elim (point_cases j pj) [ inl ej ↦ ei ∙ sym ej | inr pj' ↦ absurd (alone op i j is oi ei oj pj') ]
       | inr pi' ↦ elim (point_cases j pj) [ inl ej ↦ absurd (alone op j i is oj ej oi pi') | inr pj' ↦ marked.one op i j is oi oj pi' pj' ]
@@ -115,7 +105,7 @@ module _ (limits : Limits) (entries : List Entry) (points : List Bool) (a : ℕ)
       | inr h ↦ inr (record {
         unmarked = λ m own p. elim (point_cases m p) [
           | inl e ↦
-              unfinished n reply (rw (own_same entries op (operation_of t.start a asked) place is t.begins (rw e at own) mine) at ends)
+              unfinished n reply (rw (own_same entries op (operation_from t.start a asked) place is t.begins (rw e at own) mine) at ends)
           | inr p' ↦ h.unmarked m own p'
         ];
         finds = h.finds;
@@ -123,8 +113,8 @@ module _ (limits : Limits) (entries : List Entry) (points : List Bool) (a : ℕ)
     ];
   }
 
-  pub logs_told : (b : ℕ) (c : Command) (start : ℕ) (k : List Update) → ((m : ℕ) × IsOwnStep entries (operation_of start b c) m × (log_at entries points m ≡ k) × (command_of (take m entries) b ≡ Some c))
-      → (m : ℕ) × IsOwnStep entries (operation_of start b c) m × (log_at entries remarked m ≡ k) × (command_of (take m entries) b ≡ Some c)
+  pub logs_told : (b : ℕ) (c : Command) (start : ℕ) (k : List Update) → ((m : ℕ) × IsOwnStep entries (operation_from start b c) m × (log_at entries points m ≡ k) × (command_of (take m entries) b ≡ Some c))
+      → (m : ℕ) × IsOwnStep entries (operation_from start b c) m × (log_at entries remarked m ≡ k) × (command_of (take m entries) b ≡ Some c)
   logs_told b c start k h = (h.0, h.1, log_at_same h.0 ∙ h.2, h.3)
 
   pub marked_now : IsPoint remarked place
@@ -149,8 +139,8 @@ module _ (limits : Limits) (entries : List Entry) (points : List Bool) (a : ℕ)
     point_at = go point u.point_at;
   }
     where
-      go : (o : Option (List Update)) → MatchOption o ((m : ℕ) → IsOwnStep entries (operation_of u.start b c) m → IsPoint points m → ⊥) (λ k. (m : ℕ) × IsOwnStep entries (operation_of u.start b c) m × IsPoint points m × (log_at entries points m ≡ k))
-          → MatchOption o ((m : ℕ) → IsOwnStep entries (operation_of u.start b c) m → IsPoint remarked m → ⊥) (λ k. (m : ℕ) × IsOwnStep entries (operation_of u.start b c) m × IsPoint remarked m × (log_at entries remarked m ≡ k))
+      go : (o : Option (List Update)) → MatchOption o ((m : ℕ) → IsOwnStep entries (operation_from u.start b c) m → IsPoint points m → ⊥) (λ k. (m : ℕ) × IsOwnStep entries (operation_from u.start b c) m × IsPoint points m × (log_at entries points m ≡ k))
+          → MatchOption o ((m : ℕ) → IsOwnStep entries (operation_from u.start b c) m → IsPoint remarked m → ⊥) (λ k. (m : ℕ) × IsOwnStep entries (operation_from u.start b c) m × IsPoint remarked m × (log_at entries remarked m ≡ k))
       go None h = λ m own p. elim (point_cases m p) [
         | inl e ↦ let e1 = (rw e at own).2.1.entry in let e2 = mine.2.1.entry in absurd (ne (cc (e1, e2)))
         | inr p' ↦ h m own p'

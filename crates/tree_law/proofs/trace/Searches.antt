@@ -1,7 +1,7 @@
 -- What an operation has found stays found, and what a further step finds.
 use Rattle.tree_law.proofs.Words.{false, ◌⊎◌, ap, refl, Option, suc, None, List, true, inl, length, ◌++◌, ◌≤◌, inr, ◌∷◌, sym, ℕ, ◌≡◌, Bool, zero, ◌∙◌, ◌<◌, arith, Some, slice_get}
 use Rattle.tree_law.proofs.Words.{Command, Reply, Limits, Answer, Number, StepOf, PidBits, RowBits, Record, slice_get_below, memory_at-push, low_in, is_removed, LacksRoom, HoldsBack, begun}
-use Rattle.tree_law.proofs.Words.{Knowledge, finished, learn, LivePage, Entry, Begin, Step, WasHeldBack, Operation, TakesOwnStep, operation_of, IsSearch, IsUnended, WasRead, []}
+use Rattle.tree_law.proofs.Words.{Knowledge, finished, learn, LivePage, Entry, Begin, Step, WasHeldBack, Operation, TakesOwnStep, operation_from, IsSearch, IsUnended, WasRead, []}
 use Rattle.op_machine.specs.theorem.Answered.{FindsNothingFree}
 use Rattle.traces.specs.discipline.Knowledge.{Asked}
 use Rattle.tree_law.proofs.shape.Puts.{by_equal}
@@ -79,7 +79,7 @@ module _ (entries : List Entry) (last : Entry) where
   }
 
   -- an operation that begins has found nothing
-  pub search_new : (a : ℕ) (c : Command) (k : Knowledge) → IsSearch longer (operation_of (length entries) a c) (begun k c)
+  pub search_new : (a : ℕ) (c : Command) (k : Knowledge) → IsSearch longer (operation_from (length entries) a c) (begun k c)
   search_new a c k = record {
     unfinished = λ n reply ends.
         let low : length entries < n = ends.2.begun in
@@ -92,14 +92,14 @@ module _ (entries : List Entry) (last : Entry) where
 
   -- and an own step that does not end it adds what it read
   pub search_own : (start a : ℕ) (c : Command) (s : StepOf Record) (x : Answer Record) (k : Knowledge) → slice_get entries start ≡ Some (Begin a c) → IsUnended entries start a
-      → last ≡ Step a s x None → IsSearch entries (operation_of start a c) k → IsSearch longer (operation_of start a c) (finished (learn k s x) None)
+      → last ≡ Step a s x None → IsSearch entries (operation_from start a c) k → IsSearch longer (operation_from start a c) (finished (learn k s x) None)
   search_own start a c s x k begins unended is h = record {
-    unfinished = λ n reply ends. elim (own_cases entries last (operation_of start a c) n ends.0 ends.1 (Some reply) ends.2) [ inl own ↦ h.unfinished n reply (ends.0, ends.1, own) | inr at ↦ let e = at.1 in absurd (cc) ];
-    pids_at = λ word e. elim (words_cases true k s x word e) [ inl f ↦ let g = h.pids_at word f in (g.0, takes_kept (operation_of start a c) g.0 _ _ g.1) | inr new ↦ (length entries, takes (PidBits word) (Number 0) new.0 new.1) ];
-    rows_at = λ word e. elim (words_cases false k s x word e) [ inl f ↦ let g = h.rows_at word f in (g.0, takes_kept (operation_of start a c) g.0 _ _ g.1) | inr new ↦ (length entries, takes (RowBits word) (Number 0) new.0 new.1) ];
+    unfinished = λ n reply ends. elim (own_cases entries last (operation_from start a c) n ends.0 ends.1 (Some reply) ends.2) [ inl own ↦ h.unfinished n reply (ends.0, ends.1, own) | inr at ↦ let e = at.1 in absurd (cc) ];
+    pids_at = λ word e. elim (words_cases true k s x word e) [ inl f ↦ let g = h.pids_at word f in (g.0, takes_kept (operation_from start a c) g.0 _ _ g.1) | inr new ↦ (length entries, takes (PidBits word) (Number 0) new.0 new.1) ];
+    rows_at = λ word e. elim (words_cases false k s x word e) [ inl f ↦ let g = h.rows_at word f in (g.0, takes_kept (operation_from start a c) g.0 _ _ g.1) | inr new ↦ (length entries, takes (RowBits word) (Number 0) new.0 new.1) ];
   }
     where
-      takes : (t : StepOf Record) (y : Answer Record) → s ≡ t → x ≡ y → TakesOwnStep longer (operation_of start a c) (length entries) t y
+      takes : (t : StepOf Record) (y : Answer Record) → s ≡ t → x ≡ y → TakesOwnStep longer (operation_from start a c) (length entries) t y
       takes t y i j = takes_new entries last start a c t y None begins unended (is ∙ λ d. Step a (i d) (j d) None)
 
 -- what an actor may take for want of room, its operation has found

@@ -2,7 +2,7 @@
 use Rattle.tree_law.proofs.Words.{[], ap, refl, Option, None, List, inl, ◌≢◌, length, inr, sym, ℕ, ◌≡◌, Bool, ◌∙◌, ◌<◌, arith, Some, take, ⊎_elim, same_Some, IfSome, MatchOption, Update}
 use Rattle.tree_law.proofs.Words.{logged_value, update_of, command_key, Command, Reply, Limits, Record, slice_get_below, IsChainFrom, low_in, level_in, high_in, MayReply, MayAnswer, knows}
 use Rattle.tree_law.proofs.Words.{memory_at, command_of, memory_of, Entry, WasHeldBack, RepliesAt, Operation, IsOwnStep, log_at, log_of, IsPoint, IsQuiet, UpdatesAtLinks, IsRepliedAt}
-use Rattle.tree_law.proofs.Words.{shared, Tells, operation_of, IsState, IsAnsweredBy, IsMarked, HasFound, HaveStood, WereRead, WasLeafWith}
+use Rattle.tree_law.proofs.Words.{shared, Tells, operation_from, IsState, IsAnsweredBy, IsMarked, HasFound, HaveStood, WereRead, WasLeafWith}
 use Rattle.traces.specs.discipline.Discipline.{IsHeldBack, MayShowPage, MayCallTidy, MayGiveUp}
 use Rattle.tree_law.proofs.answering.Answering.{answers}
 use Rattle.tree_law.proofs.shape.{chain_stands, shows}
@@ -21,14 +21,14 @@ pub record Settled (limits : Limits) (entries : List Entry) (log : List Update) 
   pub mine : Tells entries points a asked own_point (logs a)
   pub others : (b : ℕ) (c : Command) → b ≢ a → command_of entries b ≡ Some c → Tells entries points b c (point b) (logs b)
   pub quietly : r ≡ None → own_point ≡ point a
-  pub replied : (reply : Reply) → r ≡ Some reply → IsAnsweredBy limits entries points (operation_of mine.start a asked) reply
+  pub replied : (reply : Reply) → r ≡ Some reply → IsAnsweredBy limits entries points (operation_from mine.start a asked) reply
 
 module _ (limits : Limits) (entries : List Entry) (a : ℕ) (asked : Command) (state : IsState limits entries) (asks : command_of entries a ≡ Some asked) where
   abbrev begun : Tells entries state.points a asked (state.point a) (state.logs a)
   begun = state.tells a asked asks
 
   abbrev mine : Operation
-  mine = operation_of begun.start a asked
+  mine = operation_from begun.start a asked
 
   -- where the points stay
   as_they_are : (r : Option Reply) → ((reply : Reply) → r ≡ Some reply → IsAnsweredBy limits entries state.points mine reply) → Settled limits entries (log_of entries state.points) state.point state.logs a asked r

@@ -2,7 +2,7 @@
 use Rattle.tree_law.proofs.Words.{false, ◌⊎◌, ap, refl, Option, suc, List, true, inl, length, ◌++◌, ◌≤◌, inr, ◌∷◌, subst, sym, ℕ, ◌≡◌, ◌∙◌, ◌<◌, arith, Some, slice_get, Update, Command, Reply, Limits}
 use Rattle.tree_law.proofs.Words.{Answer, Number, StepOf, Slot, Memory, Record, [], take-push, take-push_whole, IsChainFrom, right_in, low_in, is_removed, level_in, May, WasStanding}
 use Rattle.tree_law.proofs.Words.{Knowledge, learn, Readings, LivePage, IsAnswer, memory_after, memory_at, command_of, Entry, Begin, Step, Operation, Key, Linked, Owners, Reached}
-use Rattle.tree_law.proofs.Words.{InOrder, shared, slot_in, row_in, Shared, operation_of, IsUnended, HaveStood, WasRead, WereRead, WasLeafWith, IsLeafWith, IsTree, spec, Level, InPlace, same_Some}
+use Rattle.tree_law.proofs.Words.{InOrder, shared, slot_in, row_in, Shared, operation_from, IsUnended, HaveStood, WasRead, WereRead, WasLeafWith, IsLeafWith, IsTree, spec, Level, InPlace, same_Some}
 use Rattle.tree_law.proofs.links.Exchanged.{exchanged_alike}
 use Rattle.tree_law.proofs.links.Keeping.{alive_place, met_placed}
 use Rattle.tree_law.proofs.links.Learning.{learning, at_page, wins, leaves}
@@ -108,7 +108,7 @@ module _ (limits : Limits) (entries : List Entry) (last : Entry) where
       (begins : slice_get entries start ≡ Some (Begin a c)) (unended : IsUnended entries start a) (asks : command_of entries a ≡ Some c) (last_is : last ≡ Step a step answer r)
       (may : May a (knows a) step) (is_answer : IsAnswer memory step answer) (kept : (row : ℕ) → o.row row ≡ Linked → (memory_after a step memory).rows row ≡ memory.rows row) where
     abbrev op : Operation
-    op = operation_of start a c
+    op = operation_from start a c
 
     was_new : (page : LivePage) → IsLeafWith memory page → WasLeafWith limits longer op page
     was_new page leaf = record {

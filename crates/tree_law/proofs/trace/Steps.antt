@@ -4,7 +4,7 @@ use Rattle.tree_law.proofs.Words.{IsSome, IfSome, IsFalse, if◌then◌else◌, 
 use Rattle.tree_law.proofs.Words.{Number, StepOf, ReuseRows, ReusePids, Leave, Slot, Memory, Record, slice_get_kept, slice_get-push_cases, IsRun-push, memory_of-push, command_of-push, MayReply}
 use Rattle.tree_law.proofs.Words.{IsAllowed, knows, Knowledge, finished, learn, IsAnswer, memory_after, command_of, memory_of, commands_after, Entry, Begin, Step, same_operation, log_of-push}
 use Rattle.tree_law.proofs.Words.{RepliesAt, IsOperation, Operation, IsOwnStep, IsInPhase, MovesPhase, Phase, log_of, IsPoint, LinksUpdate, IsFirst, IsReuse, After, IsDue, Indexed, Linked, Phased, put, shared}
-use Rattle.tree_law.proofs.Words.{slot_in, IsReadyPage, Tells, operation_of, IsSearch, IsState, phase_of, IsInTree, IsUnended, IsAnsweredBy, HasFound, HaveStood, Times, Timed, times_after, IsTree, []}
+use Rattle.tree_law.proofs.Words.{slot_in, IsReadyPage, Tells, operation_from, IsSearch, IsState, phase_of, IsInTree, IsUnended, IsAnsweredBy, HasFound, HaveStood, Times, Timed, times_after, IsTree, []}
 use Rattle.std.specs.Option.{option_to_list}
 use Rattle.bw_model.specs.declared.command.Command.TheVariants.{Get, Delete, Page, Tidy}
 use Rattle.bw_model.specs.declared.command.Reply.TheVariants as reply
@@ -76,11 +76,11 @@ module _ (limits : Limits) (entries : List Entry) (a : ℕ) (step : StepOf Recor
   pointed : mark ≡ true → z.own_point ≡ None
   pointed e = (elim r as (λ o. r ≡ o → z.own_point ≡ None) [ None ↦ λ i. z.quietly i ∙ alone e | Some reply ↦ λ i. let f = unpointed reply i in absurd (cc) ]) refl
 
-  is_mine : (op : Operation) → IsOperation entries op → op.actor ≡ a → IsUnended entries op.start op.actor → op ≡ operation_of z.mine.start a asked
+  is_mine : (op : Operation) → IsOperation entries op → op.actor ≡ a → IsUnended entries op.start op.actor → op ≡ operation_from z.mine.start a asked
   is_mine op begun actor unended =
       let begun' : slice_get entries op.start ≡ Some (Begin a op.command) = rw actor at begun in
       let start : op.start ≡ z.mine.start = same_start entries op.start z.mine.start a op.command asked begun' z.mine.begins (rw actor at unended) z.mine.unended in
-      same_operation op (operation_of z.mine.start a asked) start actor (cc ((rw start at begun'), z.mine.begins))
+      same_operation op (operation_from z.mine.start a asked) start actor (cc ((rw start at begun'), z.mine.begins))
 
   justified : (op : Operation) (reply : Reply) → IsOperation entries op → op.actor ≡ a → IsUnended entries op.start op.actor → r ≡ Some reply → IsAnsweredBy limits entries z.points op reply
   justified op reply begun actor unended e = rw (is_mine op begun actor unended) (z.replied reply e)
@@ -132,7 +132,7 @@ module _ (limits : Limits) (entries : List Entry) (a : ℕ) (step : StepOf Recor
 
   -- what is so of each unfinished operation: the actor's own, where it goes on, and those of others
   unfinished_after : (P : Operation → Knowledge → Type 0)
-      → ((start : ℕ) (c : Command) → slice_get entries start ≡ Some (Begin a c) → IsUnended entries start a → command_of entries a ≡ Some c → r ≡ None → P (operation_of start a c) (finished (learn (knows entries a) step answer) r))
+      → ((start : ℕ) (c : Command) → slice_get entries start ≡ Some (Begin a c) → IsUnended entries start a → command_of entries a ≡ Some c → r ≡ None → P (operation_from start a c) (finished (learn (knows entries a) step answer) r))
       → ((op : Operation) → op.actor ≢ a → IsOperation entries op → IsUnended entries op.start op.actor → command_of entries op.actor ≡ Some op.command → P op (knows entries op.actor))
       → (op : Operation) → IsOperation longer op → IsUnended longer op.start op.actor → command_of longer op.actor ≡ Some op.command → P op (knows longer op.actor)
   unfinished_after P goes_on others op begun' unended' asks' = rw (knows-push entries last) (by_equal op.actor a
@@ -150,7 +150,7 @@ module _ (limits : Limits) (entries : List Entry) (a : ℕ) (step : StepOf Recor
 
       own : (o : Option Reply) → r ≡ o → op.actor ≡ a → P op (finished (learn (knows entries a) step answer) r)
       own None no_reply i =
-          let same : op ≡ operation_of op.start a op.command = same_operation op (operation_of op.start a op.command) refl i refl in
+          let same : op ≡ operation_from op.start a op.command = same_operation op (operation_from op.start a op.command) refl i refl in
           let begun_a : slice_get entries op.start ≡ Some (Begin a op.command) = rw i at begun in
           let asked_a : command_of entries a ≡ Some op.command = rw i at (rw no_reply at asked') in
           rw same (goes_on op.start op.command begun_a (rw i at unended) asked_a no_reply)
@@ -161,14 +161,14 @@ module _ (limits : Limits) (entries : List Entry) (a : ℕ) (step : StepOf Recor
   searches_after : (op : Operation) → IsOperation longer op → IsUnended longer op.start op.actor → command_of longer op.actor ≡ Some op.command
       → IsSearch longer op (knows longer op.actor)
   searches_after = unfinished_after (IsSearch longer)
-      (λ start c begun unended asks no_reply. subst (λ o. IsSearch longer (operation_of start a c) (finished (learn (knows entries a) step answer) o)) (sym no_reply)
-      (search_own entries last start a c step answer (knows entries a) begun unended (λ d. Step a step answer (no_reply d)) (state.searches (operation_of start a c) begun unended asks)))
+      (λ start c begun unended asks no_reply. subst (λ o. IsSearch longer (operation_from start a c) (finished (learn (knows entries a) step answer) o)) (sym no_reply)
+      (search_own entries last start a c step answer (knows entries a) begun unended (λ d. Step a step answer (no_reply d)) (state.searches (operation_from start a c) begun unended asks)))
       (λ op ne begun unended asks. search_other entries last op (knows entries op.actor) (state.searches op begun unended asks) (λ s x y e. ne (let j : a ≡ op.actor = cc in sym j)))
 
   stood_after : (op : Operation) → IsOperation longer op → IsUnended longer op.start op.actor → command_of longer op.actor ≡ Some op.command
       → HaveStood limits longer op (memory_of limits longer).rows (knows longer op.actor).read
   stood_after op = rw (memory_of-push limits entries last) (unfinished_after (λ op k. HaveStood limits longer op (memory_after a step (memory_of limits entries)).rows k.read)
-      (λ start c begun unended asks no_reply. stood_own limits entries last (memory_of limits entries) state.is_tree a start c step answer r (ap (memory_of limits) (take_whole entries (length entries) refl)) begun unended asks refl allowed.may is n.same (state.stood (operation_of start a c) begun unended asks))
+      (λ start c begun unended asks no_reply. stood_own limits entries last (memory_of limits entries) state.is_tree a start c step answer r (ap (memory_of limits) (take_whole entries (length entries) refl)) begun unended asks refl allowed.may is n.same (state.stood (operation_from start a c) begun unended asks))
       (λ op ne begun unended asks. stood_kept limits entries last state.is_tree (memory_after a step (memory_of limits entries)).rows n.same op op.actor (state.stood op begun unended asks)) op)
 
   between : (pid : ℕ) (from to : Phase) → MovesPhase (memory_of limits entries) last pid from to → (phase_of (state.owners.page pid) ≡ from) × (phase_of (n.owners.page pid) ≡ to)
@@ -215,15 +215,15 @@ module _ (limits : Limits) (entries : List Entry) (a : ℕ) (step : StepOf Recor
         (λ ne t. rw t (tells_other entries z.points last mark z.marked.beside b c (state.point b) (state.logs b) (λ d i. absurd (cc)) (λ s x y i. ne (let j : a ≡ b = cc in sym j))
         (z.others b c ne (sym (other_command r b ne) ∙ (rw (command_of-push entries last) at e)))));
     marked = marked_push entries z.points last mark z.marked.beside limits z.marked
-        (λ e. (operation_of z.mine.start a asked, z.mine.begins, own_new entries last z.mine.start a asked step answer r z.mine.begins z.mine.unended refl))
+        (λ e. (operation_from z.mine.start a asked, z.mine.begins, own_new entries last z.mine.start a asked step answer r z.mine.begins z.mine.unended refl))
         (λ e op begun own m own' p.
-        let same : op ≡ operation_of z.mine.start a asked = own_same longer op (operation_of z.mine.start a asked) (length entries) (slice_get_kept entries (last ∷ []) op.start _ begun) (slice_get_kept entries (last ∷ []) z.mine.start _ z.mine.begins) own (own_new entries last z.mine.start a asked step answer r z.mine.begins z.mine.unended refl) in
+        let same : op ≡ operation_from z.mine.start a asked = own_same longer op (operation_from z.mine.start a asked) (length entries) (slice_get_kept entries (last ∷ []) op.start _ begun) (slice_get_kept entries (last ∷ []) z.mine.start _ z.mine.begins) own (own_new entries last z.mine.start a asked step answer r z.mine.begins z.mine.unended refl) in
         let none = rw (pointed e) at z.mine.point_at in
         none m (rw same at own') p)
         (λ op s x reply begun e unended. let same : r ≡ Some reply = cc in (justified op reply begun (let i : a ≡ op.actor = cc in sym i) unended same, unpointed reply same))
         (λ e op begun own m reply ends.
-        let same : op ≡ operation_of z.mine.start a asked = own_same longer op (operation_of z.mine.start a asked) (length entries) (slice_get_kept entries (last ∷ []) op.start _ begun) (slice_get_kept entries (last ∷ []) z.mine.start _ z.mine.begins) own (own_new entries last z.mine.start a asked step answer r z.mine.begins z.mine.unended refl) in
-        (state.searches (operation_of z.mine.start a asked) z.mine.begins z.mine.unended asks).unfinished m reply (rw same at ends));
+        let same : op ≡ operation_from z.mine.start a asked = own_same longer op (operation_from z.mine.start a asked) (length entries) (slice_get_kept entries (last ∷ []) op.start _ begun) (slice_get_kept entries (last ∷ []) z.mine.start _ z.mine.begins) own (own_new entries last z.mine.start a asked step answer r z.mine.begins z.mine.unended refl) in
+        (state.searches (operation_from z.mine.start a asked) z.mine.begins z.mine.unended asks).unfinished m reply (rw same at ends));
     run = IsRun-push limits entries last state.run (rw asks refl, may_take state.is_tree state.named a step answer r allowed.may is refl step allowed.may, is);
     ends = ends_push entries last state.ends (step_ends limits (knows entries a) a step answer r allowed.replied allowed.ends);
     updates = updates_push limits entries z.points last mark z.marked.beside z.updates updated_now;

@@ -1,18 +1,21 @@
-use Rattle.std.proofs.Common.{ap, map, subst, sym, ◌∙◌}
+use Rattle.std.proofs.Common.{map, subst, sym, ◌∙◌}
 use Rattle.bw_model.specs.declared.command.Reply.TheVariants as reply
 use Rattle.bw_tree.specs.Loaded.{AreLoaded, IsStopped}
 use Rattle.bw_tree.specs.declared.called.Called.TheVariants as called
 use Rattle.bw_tree.specs.declared.filling.TheConstants.{LOAD_BUDGET}
 use Rattle.bw_tree_c.specs.Loaded.{given_pair}
-use Rattle.bw_tree_c.specs.declared.shared.Shared.{Shared}
+use Rattle.bw_tree_c.proofs.Taking.{one_tree}
 use Rattle.bw_tree_c.proofs.Unloading.{is_full, is_spent}
 use Rattle.bw_tree_c.proofs.loading.shared_with.Goals as goal
 
-pub returns-in-Ok-new-2-clause-ok : goal.returns-in-Ok-new-2-clause-ok
-returns-in-Ok-new-2-clause-ok c = record {
+pub shared_with_seats-requires-clause-one : goal.shared_with_seats-requires-clause-one
+shared_with_seats-requires-clause-one c = one_tree c.in-Ok.opened.0 c.args.limits c.in-Ok.opened.1.items c.in-Ok.ensures.limits c.in-Ok.ensures.loaded.stand.count c.in-Ok.ensures.own
+
+pub returns-in-Some-clause-ok : goal.returns-in-Some-clause-ok
+returns-in-Some-clause-ok c = record {
   tree = c.in-Ok.opened.0;
   limits = c.in-Ok.ensures.limits;
-  loaded = subst (λ seats. AreLoaded c.in-Ok.opened.0 seats (map given_pair c.args.given.now)) (sym (ap (λ (s : Shared). s.slots.items) c.in-Ok-new-2.ensures.ok ∙ c.in-Some.ensures))
+  loaded = subst (λ seats. AreLoaded c.in-Ok.opened.0 seats (map given_pair c.args.given.now)) (sym c.in-Some.ensures)
       (subst (AreLoaded c.in-Ok.opened.0 c.in-Ok.opened.1.items) (c.as_slice.ensures.value ∙ c.in_ok-pairs.ensures.ok) c.in-Ok.ensures.loaded);
 }
 

@@ -50,8 +50,8 @@ record-requires g c =
     let within : c.loop-place.place - 1 < length chain = omega (arith, long, c.loop-place.auto.place, c.loop-place-test.true) in
     (memory, get_or chain (c.loop-place.place - 1) no_record, has, record_there memory.rows (memory.slots c.args.pid) chain stands.records c.deref-in-loop-place.result.now (c.deref-in-loop-place.ensures.0 ∙ rows) (c.loop-place.place - 1) within 0 no_record)
 
-pub apply-page-requires : goal.apply-page-requires
-apply-page-requires g c =
+pub apply-requires : goal.apply-requires
+apply-requires g c =
     let (memory, chain, has, stands) = c.requires.stands in
     let rows = c.rows_of-chain.ensures memory chain has stands in
     let long = c.len-base.ensures.value ∙ ap length rows ∙ rows_long (memory.slots c.args.pid) chain in
@@ -66,7 +66,7 @@ loop-place-preserved g c = λ memory chain has stands.
     let within : c.loop-place.place - 1 < length chain = omega (arith, long, c.loop-place.auto.place, c.loop-place-test.true) in
     let at = record_at memory.rows (memory.slots c.args.pid) chain stands.records c.deref-in-loop-place.result.now (c.deref-in-loop-place.ensures.0 ∙ rows) (c.loop-place.place - 1) within 0 c.record.result c.record.result (c.record.ensures memory has) in
     let next : c.loop-place.place ≡ suc (c.loop-place.place - 1) = omega (arith, c.loop-place-test.true) in
-    next_makes chain (c.loop-place.place - 1) within c.record.result at _ _ (subst (λ n. Makes (drop n chain) c.loop-place.page) next (c.loop-place.invariant memory chain has stands)) c.apply-page.ensures.applies
+    next_makes chain (c.loop-place.place - 1) within c.record.result at _ _ (subst (λ n. Makes (drop n chain) c.loop-place.page) next (c.loop-place.invariant memory chain has stands)) c.apply.ensures.applies
 
 pub returns-clause-ruled : goal.returns-clause-ruled
 returns-clause-ruled g c =

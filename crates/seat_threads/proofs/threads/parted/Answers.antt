@@ -1,6 +1,6 @@
 use Rattle.std.proofs.Common.{◌∙◌, ap, arith, sym}
 use Rattle.bw_tree.specs.Seats.{Seat}
-use Rattle.seat_threads.specs.Works.{behind}
+use Rattle.seat_threads.specs.Works.{with_each_behind}
 use Rattle.seat_threads.proofs.Behind.{behind_none, behind_push}
 use Rattle.seat_threads.proofs.threads.parted.Goals as goal
 
@@ -14,8 +14,8 @@ loop-seat-preserved g c =
     let more = c.push_reserved-in-Some.ensures.len in
     let count = before.count in
     let works = before.all in record {
-      seats = ap (λ z. behind (λ one. one.0) z jobs) c.push_reserved.ensures.items ∙ sym (behind_push (λ one. one.0) c.loop-seat.seats.items jobs job) ∙ ap (λ z. behind (λ one. one.0) c.loop-seat.seats.items z) (sym c.in-Some.ensures.items) ∙ before.seats;
-      works = ap (λ z. behind (λ one. one.1) z jobs) c.push_reserved-in-Some.ensures.items ∙ sym (behind_push (λ one. one.1) c.loop-seat.works.items jobs job) ∙ ap (λ z. behind (λ one. one.1) c.loop-seat.works.items z) (sym c.in-Some.ensures.items) ∙ before.works;
+      seats = ap (λ z. with_each_behind (λ one. one.0) z jobs) c.push_reserved.ensures.items ∙ sym (behind_push (λ one. one.0) c.loop-seat.seats.items jobs job) ∙ ap (λ z. with_each_behind (λ one. one.0) c.loop-seat.seats.items z) (sym c.in-Some.ensures.items) ∙ before.seats;
+      works = ap (λ z. with_each_behind (λ one. one.1) z jobs) c.push_reserved-in-Some.ensures.items ∙ sym (behind_push (λ one. one.1) c.loop-seat.works.items jobs job) ∙ ap (λ z. with_each_behind (λ one. one.1) c.loop-seat.works.items z) (sym c.in-Some.ensures.items) ∙ before.works;
       count = omega (arith, fewer, longer, count);
       all = omega (arith, fewer, more, works);
       seats_room = rw c.push_reserved.ensures.capacity before.seats_room;

@@ -1,15 +1,15 @@
 use Rattle.std.proofs.Common.{◌≡◌, ◌≤◌, ◌+◌, All, length, vec_len}
 use Rattle.std.specs.Vec.{vec_capacity}
 use Rattle.bw_tree.specs.Trees.{AreSeatsOf, IsSeatOf}
-use Rattle.seat_threads.specs.Works.{behind}
+use Rattle.seat_threads.specs.Works.{with_each_behind}
 use Rattle.seat_threads.proofs.threads.seated.Given as goal
 
 abbrev pub invariant-loop-work : goal.invariant-loop-work
 invariant-loop-work g l = record {
   left : AreSeatsOf l.tree l.seats.items;
   own : All (λ job. IsSeatOf l.tree job.0) l.jobs.items;
-  seats : behind (λ job. job.0) l.seats.items l.jobs.items ≡ l.initial.seats.items;
-  works : behind (λ job. job.1) l.works.items l.jobs.items ≡ l.initial.works.items;
+  seats : with_each_behind (λ job. job.0) l.seats.items l.jobs.items ≡ l.initial.seats.items;
+  works : with_each_behind (λ job. job.1) l.works.items l.jobs.items ≡ l.initial.works.items;
   count : vec_len l.seats + vec_len l.jobs ≡ vec_len l.initial.seats;
   all : vec_len l.works + vec_len l.jobs ≡ vec_len l.initial.works;
   enough : vec_len l.initial.works ≤ vec_len l.initial.seats;

@@ -1,6 +1,6 @@
 use Rattle.std.proofs.Common.{◌∙◌, ap, arith, subst, sym}
 use Rattle.bw_tree.specs.Trees.{AreSeatsOf, IsSeatOf}
-use Rattle.seat_threads.specs.Works.{AreEachDone, behind}
+use Rattle.seat_threads.specs.Works.{AreEachDone, with_each_behind}
 use Rattle.seat_threads.proofs.Behind.{own_behind}
 use Rattle.seats.proofs.Pushed.{all_at, written}
 use Rattle.seat_threads.proofs.threads.work_in_threads.Goals as goal
@@ -14,7 +14,7 @@ returns-clause-own g c =
     let count = each.count in
     let long = c.seated-jobs.result.ok.0 in
     let same = written c.seated-jobs.result.len back jobs (omega (arith, count, long)) in
-    subst (AreSeatsOf c.args.tree.now) (sym (c.parted.ensures.seats ∙ ap (behind (λ job. job.0) c.seated-jobs.new.seats.items) same))
+    subst (AreSeatsOf c.args.tree.now) (sym (c.parted.ensures.seats ∙ ap (with_each_behind (λ job. job.0) c.seated-jobs.new.seats.items) same))
     (own_behind g.W.Work.does c.args.tree.now c.seated-jobs.new.seats.items jobs back c.seated-jobs.ensures.left (all_at (λ job. IsSeatOf c.args.tree.now job.0) jobs c.seated-jobs.ensures.own) each)
 
 pub returns-clause-done : goal.returns-clause-done
@@ -30,8 +30,8 @@ returns-clause-done g c =
       before = jobs;
       after = back;
       seats = sym c.seated-jobs.ensures.seats;
-      works = sym c.seated-jobs.ensures.works ∙ ap (λ z. behind (λ job. job.1) z jobs) c.seated-jobs.ensures.none;
-      seats_after = c.parted.ensures.seats ∙ ap (behind (λ job. job.0) c.seated-jobs.new.seats.items) same;
-      works_after = c.parted.ensures.works ∙ ap (behind (λ job. job.1) c.seated-jobs.new.works.items) same ∙ ap (λ z. behind (λ job. job.1) z back) c.seated-jobs.ensures.none;
+      works = sym c.seated-jobs.ensures.works ∙ ap (λ z. with_each_behind (λ job. job.1) z jobs) c.seated-jobs.ensures.none;
+      seats_after = c.parted.ensures.seats ∙ ap (with_each_behind (λ job. job.0) c.seated-jobs.new.seats.items) same;
+      works_after = c.parted.ensures.works ∙ ap (with_each_behind (λ job. job.1) c.seated-jobs.new.works.items) same ∙ ap (λ z. with_each_behind (λ job. job.1) z back) c.seated-jobs.ensures.none;
       each = each;
     }

@@ -2,7 +2,8 @@ use Rattle.std.proofs.Common.{◌≡◌, ◌∙◌, Some, ap, arith, length, ref
 use Rattle.std.specs.Prelude.{slice_get}
 use Rattle.bw_tree.specs.Notes.{HasHeeded, IsNoteOf, note_of}
 use Rattle.bw_tree.specs.Trees.{IsSeatOf}
-use Rattle.seats.proofs.Seeing.{at_index, below_of, heeded, seen_one_more, sees_on, sees_self, set_same}
+use Rattle.seats.proofs.Seeing.{at_index, heeded, seen_one_more, sees_on, sees_self, set_same}
+use Rattle.traces.proofs.Pushes.{slice_get_below}
 use Rattle.seats.proofs.gathered.see_all.Goals as goal
 
 pub loop-place-init : goal.loop-place-init
@@ -52,6 +53,6 @@ loop-place-preserved g c =
 pub returns-clause-seen : goal.returns-clause-seen
 returns-clause-seen g c =
     let end = c.loop-place-test.false in record {
-      each = λ n seat at. let within = below_of c.args.others.now n seat at in c.loop-place.invariant.seen n seat (omega (arith, end, within)) at;
+      each = λ n seat at. let within = slice_get_below c.args.others.now n seat at in c.loop-place.invariant.seen n seat (omega (arith, end, within)) at;
       history = c.saw_one_history.ensures;
     }

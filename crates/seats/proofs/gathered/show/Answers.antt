@@ -2,8 +2,9 @@ use Rattle.std.proofs.Common.{◌≡◌, ◌∙◌, Some, ap, arith, refl, slice
 use Rattle.std.specs.Prelude.{slice_get}
 use Rattle.bw_tree.specs.Notes.{HasHeeded, note_of}
 use Rattle.bw_tree.specs.Trees.{IsSeatOf}
-use Rattle.seats.proofs.Seeing.{at_index, below_of}
+use Rattle.seats.proofs.Seeing.{at_index}
 use Rattle.seats.proofs.Showing.{heeded_one_more, none_heeded}
+use Rattle.traces.proofs.Pushes.{slice_get_below}
 use Rattle.seats.proofs.gathered.show.Goals as goal
 
 pub loop-place-init : goal.loop-place-init
@@ -43,5 +44,5 @@ returns-clause-heeded g c =
     let shown = c.loop-place.invariant.shown in
     record {
       count = shown.count;
-      each = λ n before after at at_new. let within = below_of c.args.seats.now n before at in shown.each n before after (omega (arith, end, within)) at at_new;
+      each = λ n before after at at_new. let within = slice_get_below c.args.seats.now n before at in shown.each n before after (omega (arith, end, within)) at at_new;
     }

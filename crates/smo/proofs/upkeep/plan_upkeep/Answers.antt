@@ -1,4 +1,4 @@
-use Rattle.std.proofs.Common.{arith}
+use Rattle.std.proofs.Common.{arith, inr}
 use Rattle.traces.specs.chain.Fitted.{IsFitted}
 use Rattle.smo.specs.Sizes.{HasNoneHeld}
 use Rattle.smo.proofs.Places.{made}
@@ -21,5 +21,5 @@ returns-clause-plan g c =
     let few = c.if-item_count-gt-FEW_ITEMS.false in
     record {
       small = record { other = rw (← c.pid.ensures) c.if-pid-eq1.false; few = (page.items, makes.items, omega (arith, count, few)); unheld = unheld };
-      due = (c.in_default.ensures.plan, c.in_ok-hold.ensures.plan);
+      due = inr (record { hold = _; is = c.over-2.ensures; unheld = c.in_default.ensures.plan; due = c.in_ok-hold.ensures.plan });
     }

@@ -1,6 +1,6 @@
 use Rattle.std.proofs.Common.{arith, sym}
 use Rattle.workers.proofs.Looked.{one_looked, one_wrong}
-use Rattle.workers.proofs.Parting.{below_of}
+use Rattle.traces.proofs.Pushes.{slice_get_below}
 use Rattle.workers.proofs.check.are_results.Goals as goal
 
 pub returns-then-jobs-results : goal.returns-then-jobs-results
@@ -19,5 +19,5 @@ pub returns : goal.returns
 returns g c =
     let all = c.loop-place-test.false in record {
       count = sym c.if-jobs-results.false;
-      each = λ n job given at at_given. let below = below_of c.args.jobs.now n job at in c.loop-place.invariant n job given (omega (arith, below, all)) at at_given;
+      each = λ n job given at at_given. let below = slice_get_below c.args.jobs.now n job at in c.loop-place.invariant n job given (omega (arith, below, all)) at at_given;
     }

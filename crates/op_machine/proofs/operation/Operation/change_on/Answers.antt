@@ -2,6 +2,7 @@ use Rattle.std.proofs.Common.{◌≡◌, ap, refl}
 use Rattle.op_machine.specs.machine.Outcomes.{Changed, changed}
 use Rattle.op_machine.specs.machine.Places.{OpPlaces, ended_with}
 use Rattle.op_machine.proofs.Going.{follows, goes_on, told_change}
+use Rattle.op_machine.proofs.GoingLeft.{in_change}
 use Rattle.op_machine.proofs.operation.Operation.change_on.Goals as goal
 
 pub ended-requires-clause-told : goal.ended-requires-clause-told
@@ -15,7 +16,8 @@ returns-in-Some-clause-asks g c =
     let then_is : c.ended.new.places.then ≡ then = ap (λ (p : OpPlaces). p.then) c.ended.ensures.only in
     let ends = c.end_changing.ensures in
     rw (← c.self.view_is) (follows _ _ _ _ told.told_on _ _ c.ended.ensures.makes (Changed c.in-Some.end then) (ap (λ o. changed (ended_with then o)) c.in-Some.is) _
-    (record { stands = rw then_is at (ends.stands spares); few = λ k r faced. rw then_is at (ends.few spares r); asks = ends.asks spares; same = ends.same; sweep = refl }))
+    (record { stands = rw then_is at (ends.stands spares); few = λ k r faced. rw then_is at (ends.few spares r); asks = ends.asks spares; same = ends.same; sweep = refl })
+    (in_change _ _ _ _ (rw (← c.self.view_is) at c.requires.changing)))
 
 pub returns-in-Some-clause-keeps : goal.returns-in-Some-clause-keeps
 returns-in-Some-clause-keeps g c k r h f kept = rw (← c.self.view_is) (c.ended.ensures.keeps c.self.inside.task k r (rw (← c.self.view_is) at h) (rw (← c.self.view_is) at f) (rw (← c.self.view_is) at kept))
@@ -23,7 +25,8 @@ returns-in-Some-clause-keeps g c k r h f kept = rw (← c.self.view_is) (c.ended
 pub returns-in_default-clause-asks : goal.returns-in_default-clause-asks
 returns-in_default-clause-asks g c =
     let told = rw (← c.self.view_is) at c.requires.told in
-    rw (← c.self.view_is) (goes_on _ _ _ _ told.told_on _ _ c.ended.ensures.makes (ap (λ o. changed (ended_with c.self.inside.places.then o)) c.in_default.is))
+    rw (← c.self.view_is) (goes_on _ _ _ _ told.told_on _ _ c.ended.ensures.makes (ap (λ o. changed (ended_with c.self.inside.places.then o)) c.in_default.is)
+    (in_change _ _ _ _ (rw (← c.self.view_is) at c.requires.changing)))
 
 pub returns-in_default-clause-keeps : goal.returns-in_default-clause-keeps
 returns-in_default-clause-keeps g c k r h f kept = rw (← c.self.view_is) (c.ended.ensures.keeps c.self.inside.task k r (rw (← c.self.view_is) at h) (rw (← c.self.view_is) at f) (rw (← c.self.view_is) at kept))

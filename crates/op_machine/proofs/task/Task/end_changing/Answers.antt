@@ -1,8 +1,10 @@
-use Rattle.std.proofs.Common.{◌≡◌, ◌≤◌, inl, inr, refl, ap, sym, subst, ◌∙◌, arith}
+use Rattle.std.proofs.Common.{◌≡◌, ◌≤◌, inl, inr, refl, ap, subst, arith, rules}
 use Rattle.tree_limits.specs.declared.limits.Limits.{Limits}
 use Rattle.traces.specs.discipline.Discipline.{LacksRoom}
 use Rattle.traces.specs.discipline.Knowledge.{Knowledge}
 use Rattle.installs.specs.Taking.{AllFull}
+use Rattle.smo.specs.declared.after.After.TheVariants.{Errand}
+use Rattle.op_machine.specs.declared.then.Then.TheVariants.{After}
 use Rattle.installs.specs.declared.taking.Kind.{Kind}
 use Rattle.installs.specs.declared.taking.Kind.TheVariants.{Pid, Row}
 use Rattle.op_machine.specs.machine.Bounded.{left_at, one_round}
@@ -44,14 +46,15 @@ returns-in-Won-Reply-clause-have g c = rw c.leave.ensures (record { reader = c.r
 pub begin_round-requires : goal.begin_round-requires
 begin_round-requires g c = record { have = rw c.add_errand.ensures c.requires.have }
 
-pub returns-in-Won-Errand-clause-asks : goal.returns-in-Won-Errand-clause-asks
-returns-in-Won-Errand-clause-asks g c = c.begin_round.ensures.asks
+pub returns-in-Won-After-Errand-clause-asks : goal.returns-in-Won-After-Errand-clause-asks
+returns-in-Won-After-Errand-clause-asks g c = c.begin_round.ensures.asks
 
-pub returns-in-Won-Errand-clause-have : goal.returns-in-Won-Errand-clause-have
-returns-in-Won-Errand-clause-have g c = c.begin_round.ensures.have
+pub returns-in-Won-After-Errand-clause-have : goal.returns-in-Won-After-Errand-clause-have
+returns-in-Won-After-Errand-clause-have g c = c.begin_round.ensures.have
 
-pub returns-in-Won-Errand-clause-few : goal.returns-in-Won-Errand-clause-few
-returns-in-Won-Errand-clause-few g c spares r =
+pub returns-in-Won-After-Errand-clause-few : goal.returns-in-Won-After-Errand-clause-few
+returns-in-Won-After-Errand-clause-few g c spares r =
     let own : c.add_errand.new.self.limits ≡ c.args.self.now.limits = ap (λ (task : Task). task.limits) c.add_errand.ensures in
     let few = subst (λ (limits : Limits). left_at limits r spares (state_of c.begin_round.new.places) ≤ one_round limits) own (c.begin_round.ensures.few spares r) in
-    rw (c.add_errand.ensures, c.in-Won-Errand.is-0, sym c.then.ensures ∙ c.in-Won-Errand.is-1) (errand_more c.args.self.now.limits c.args.self.now.errands c.copied-separator.result _ few)
+    let is : c.args.places.now.then ≡ After (Errand c.in-Won-After-Errand.separator) = search rules in
+    rw (c.add_errand.ensures, c.in-Won-After-Errand.is-0, is) (errand_more c.args.self.now.limits c.args.self.now.errands c.copied-separator.result _ few)

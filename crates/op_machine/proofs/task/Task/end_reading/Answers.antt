@@ -1,4 +1,5 @@
-use Rattle.std.proofs.Common.{refl, arith}
+use Rattle.std.proofs.Common.{ap, refl, arith}
+use Rattle.op_machine.specs.machine.States.{Read}
 use Rattle.op_machine.proofs.ReadPages.{read_page}
 use Rattle.op_machine.proofs.task.Task.end_reading.Goals as goal
 
@@ -83,3 +84,17 @@ returns-in-Beside-clause-asks g c spares = rw c.leave-in-Beside.ensures refl
 
 pub returns-in-Beside-clause-have : goal.returns-in-Beside-clause-have
 returns-in-Beside-clause-have g c = rw c.leave-in-Beside.ensures (record { reader = c.requires.have.reader; writer = c.requires.have.writer })
+
+pub returns-in-Again-clause-goes : goal.returns-in-Again-clause-goes
+returns-in-Again-clause-goes g c =
+    let (spares, k, r, faced, there) = c.requires.faced in
+    rw c.in-Again.is (c.begin_round.ensures.reads faced.reader)
+
+pub returns-in-Removed-clause-goes : goal.returns-in-Removed-clause-goes
+returns-in-Removed-clause-goes g c = rw (c.in-Removed.is, c.read_left.ensures.stand) (ap Read c.read_left.ensures.round)
+
+pub returns-in-Leaf-clause-goes : goal.returns-in-Leaf-clause-goes
+returns-in-Leaf-clause-goes g c = rw (c.in-Leaf.is, c.leave.ensures) refl
+
+pub returns-in-Beside-clause-goes : goal.returns-in-Beside-clause-goes
+returns-in-Beside-clause-goes g c = rw (c.in-Beside.is, c.leave-in-Beside.ensures) refl

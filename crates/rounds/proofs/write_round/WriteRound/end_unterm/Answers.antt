@@ -1,4 +1,5 @@
-use Rattle.std.proofs.Common.{inr, subst}
+use Rattle.std.proofs.Common.{inr, refl, subst}
+use Rattle.descent.specs.WriteEnds as due
 use Rattle.smo.specs.Unterms.{CanUnterm}
 use Rattle.smo.specs.Versions.{Version}
 use Rattle.rounds.proofs.write_round.WriteRound.end_unterm.Goals as goal
@@ -7,7 +8,16 @@ pub returns-in-None-clause-treats : goal.returns-in-None-clause-treats
 returns-in-None-clause-treats g c =
     let self = c.args.self.now in
     let none : ¬ CanUnterm self.parent self.left self.page =
-    subst (λ (parent : Version). ¬ CanUnterm parent self.left self.page) c.parent.ensures
-    (subst (λ (left : Version). ¬ CanUnterm c.parent.result.now left self.page) c.left.ensures
-    (subst (λ (page : Version). ¬ CanUnterm c.parent.result.now c.left.result.now page) c.page.ensures c.in-None.ensures.plan)) in
+    subst (λ (parent : Version). ¬ CanUnterm parent self.left self.page) c.parent-parent.ensures
+    (subst (λ (left : Version). ¬ CanUnterm c.parent-parent.result.now left self.page) c.left.ensures
+    (subst (λ (page : Version). ¬ CanUnterm c.parent-parent.result.now c.left.result.now page) c.page-removed.ensures c.in-None.ensures.plan)) in
     inr (inr (record { parent = self.parent; left = self.left; goal = c.requires.unterms; none = none }))
+
+pub returns-in-Some-clause-treats : goal.returns-in-Some-clause-treats
+returns-in-Some-clause-treats g c =
+    let self = c.args.self.now in
+    record {
+      change = due.Unterm self.parent self.left self.page c.in-Some.unterm;
+      planned = (rw (c.pid.ensures, c.head.ensures, c.head-in-Some.ensures, c.parent-parent.ensures, c.page-removed.ensures) refl, record { unlinked = c.page-unlinked.result; is = refl; rows = rw c.page-removed.ensures at c.page-unlinked.ensures.rows; of = rw c.page-removed.ensures at c.page-unlinked.ensures.pid });
+      due = record { is = refl; goal = c.requires.unterms; plan = rw (c.parent-parent.ensures, c.left.ensures, c.page-removed.ensures) at c.in-Some.ensures.plan };
+    }

@@ -1,21 +1,26 @@
-use Rattle.std.proofs.Common.{refl}
 use Rattle.descent.specs.WriteRounds.{IsLong}
 use Rattle.smo.specs.Sizes.{HasManyItems}
 use Rattle.rounds.proofs.Turning.{denied, few_deltas}
 use Rattle.rounds.proofs.write_round.WriteRound.settle.Goals as goal
 
-pub returns-then-is_long-clause-treats : goal.returns-then-is_long-clause-treats
-returns-then-is_long-clause-treats g c = record { is = refl; here = c.requires.here; long = c.is_long.ensures.0 c.if-is_long.true }
+pub end_long-requires-clause-long : goal.end_long-requires-clause-long
+end_long-requires-clause-long g c = c.is_long.ensures.0 c.if-is_long.true
 
-pub due_split-requires-clause-can : goal.due_split-requires-clause-can
-due_split-requires-clause-can g c =
+pub returns-then-is_long-clause-treats : goal.returns-then-is_long-clause-treats
+returns-then-is_long-clause-treats g c = c.end_long.ensures.treats
+
+pub end_wide-requires-clause-short : goal.end_wide-requires-clause-short
+end_wide-requires-clause-short g c =
+    let old = c.args.self.now in
+    denied c.is_long.result (IsLong old.round.limits old.round.due old.page.chain) c.is_long.ensures.1 c.if-is_long.false
+
+pub end_wide-requires-clause-can : goal.end_wide-requires-clause-can
+end_wide-requires-clause-can g c =
     let old = c.args.self.now in
     record { alive = c.requires.here.alive; short = few_deltas old.round.limits old.round.due old.page.chain (denied c.is_long.result (IsLong old.round.limits old.round.due old.page.chain) c.is_long.ensures.1 c.if-is_long.false); wide = c.is_wide.ensures.wide.0 c.if-is_wide.true }
 
 pub returns-then-is_wide-clause-treats : goal.returns-then-is_wide-clause-treats
-returns-then-is_wide-clause-treats g c =
-    let old = c.args.self.now in
-    record { is = refl; here = c.requires.here; short = denied c.is_long.result (IsLong old.round.limits old.round.due old.page.chain) c.is_long.ensures.1 c.if-is_long.false; plan_due = c.due_split.ensures.plan }
+returns-then-is_wide-clause-treats g c = c.end_wide.ensures.treats
 
 pub go_on-requires-clause-fine : goal.go_on-requires-clause-fine
 go_on-requires-clause-fine g c =

@@ -19,16 +19,15 @@ loop-place-init g c =
           (Base base) place c.deltas-place.ensures);
     }
 
-pub apply-page-requires : goal.apply-page-requires
-apply-page-requires g c =
+pub change-requires-clause-fits : goal.change-requires-clause-fits
+change-requires-clause-fits g c =
     let records = c.args.self.now.records in
     let row = c.index-records-place.result in
     let place = c.loop-place.place in
     let within : place < length records = (let n = c.deltas-place.ensures in let p = c.loop-place.auto.place in omega (arith, n, p)) in
     let low : place - 1 < length records = omega (arith, within) in
-    subst (FitsOnPage c.loop-place.page) (sym c.record.ensures.record)
-    (fits_above records place c.loop-place.page row.content c.keeps_rules.ensures.fitted c.loop-place-test.true within c.loop-place.invariant.makes
-    (content_there c.as_read-records.result.now records (place - 1) row c.as_read-records.ensures.records c.index-records-place.is low))
+    fits_above records place c.loop-place.page row.content c.keeps_rules.ensures.fitted c.loop-place-test.true within c.loop-place.invariant.makes
+    (content_there c.as_read-records.result.now records (place - 1) row c.as_read-records.ensures.records c.index-records-place.is low)
 
 pub loop-place-preserved : goal.loop-place-preserved
 loop-place-preserved g c =
@@ -42,11 +41,9 @@ loop-place-preserved g c =
     let here : row.content ≡ get_or records (place - 1) row.content = content_there c.as_read-records.result.now records
     (place - 1) row c.as_read-records.ensures.records c.index-records-place.is low in
     let over : drop (place - 1) records ≡ row.content ∷ drop place records = drop-cons records (place - 1) row.content low ∙ (λ i. sym here i ∷ drop (next i) records) in
-    let applies : Applies c.loop-place.page row.content c.apply-page.result = subst
-    (λ (newest : Record). Applies c.loop-place.page newest c.apply-page.result) c.record.ensures.record c.apply-page.ensures.applies in
     record {
-      same = c.record.ensures.same ∙ v.same;
-      makes = subst (λ (rows : List Record). Makes rows c.apply-page.result) (sym over) (Makes-next (drop place records) row.content c.loop-place.page c.apply-page.result v.makes applies);
+      same = c.change.ensures.same ∙ v.same;
+      makes = subst (λ (rows : List Record). Makes rows c.change.new.page) (sym over) (Makes-next (drop place records) row.content c.loop-place.page c.change.new.page v.makes c.change.ensures.applies);
     }
 
 pub returns-clause-ruled : goal.returns-clause-ruled

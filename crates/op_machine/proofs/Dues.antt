@@ -1,0 +1,40 @@
+-- What is due where a writer's round has ended names no number that has no place, and a row can spell it.
+use Rattle.std.proofs.Common.{◌≡◌, Some, ap}
+use Rattle.deltas.specs.declared.record.Merge.{Merge}
+use Rattle.deltas.specs.declared.record.Record.TheVariants as kind
+use Rattle.deltas.specs.declared.record.Term.{Term}
+use Rattle.deltas.specs.declared.record.Unterm.{Unterm}
+use Rattle.traces.specs.discipline.Knowledge.{Knowledge}
+use Rattle.traces.specs.discipline.Recalled.{Recalled}
+use Rattle.descent.specs.WriteEnds as due
+use Rattle.descent.specs.WriteEnds.{DueChange, IsPlanned}
+use Rattle.descent.specs.WriteRounds.{IsDue, WriteRound}
+use Rattle.installs.specs.Changes.{IsSpellablePlan, IsTarget}
+use Rattle.smo.specs.declared.after.After.{After}
+use Rattle.smo.specs.declared.plan.Plan.{Plan}
+use Rattle.op_machine.proofs.Plans.{over_page, place_of, spells_base}
+use Rattle.op_machine.proofs.Tending.{plans_there}
+
+pub dues_there : (round : WriteRound) (k : Knowledge) (r : Recalled) (change : DueChange) (plan : Plan) (after : After) → IsPlanned change plan after → IsDue round k r change → IsTarget round.limits plan × IsSpellablePlan plan
+dues_there round k r (due.Consolidate page base) plan after p d = rw p.0 (place_of round.limits k r page (kind.Base base) d.page (λ next is. cc), spells_base base d.plan.fits)
+dues_there round k r (due.Split page split) plan after p d =
+    let has = d.plan_due in
+    rw p.0 (
+      record { page = page.is_pid.0; pid_below = d.page.in_hand.page; linked = rw has.over d.page.recalled.0; head_below = rw has.over d.page.in_hand.row; next_below = λ next is. cc },
+      (spells_base split.upper has.stands, λ right pid. (has.fits right pid).0.spellable),
+    )
+dues_there round k r (due.Term parent term) plan after p d = rw p.0 (over_page round.limits k r parent (kind.Term term) d.page (ap (λ (t : Term). Some t.next) d.plan.is), d.plan.fits.0.spellable)
+dues_there round k r (due.Root left root) plan after p d = rw p.0 ((left.is_pid.0, d.page.in_hand.page), spells_base root d.plan.fits)
+dues_there round k r (due.Tend parent page upkeep) plan after p d = rw p.0 (plans_there round.limits k r parent page upkeep d.page d.above.page d.due)
+dues_there round k r (due.Merge left removed merge) plan after p d = rw p.0 (over_page round.limits k r left (kind.Merge merge) d.page (ap (λ (m : Merge). Some m.next) d.plan.is), d.plan.fits.0.spellable)
+dues_there round k r (due.Unterm parent left removed unterm) plan after p d =
+    let child : unterm.child ≡ removed.pid = ap (λ (u : Unterm). u.child) d.plan.is in
+    rw p.0 (
+      (
+        over_page round.limits k r parent (kind.Unterm unterm) d.page (ap (λ (u : Unterm). Some u.next) d.plan.is),
+        (rw child removed.is_pid.0, rw child d.gone.in_hand.page),
+        removed.is_row.0,
+        d.gone.in_hand.row,
+      ),
+      d.plan.fits.0.spellable,
+    )

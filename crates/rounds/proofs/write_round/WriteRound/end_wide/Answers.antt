@@ -1,0 +1,15 @@
+use Rattle.std.proofs.Common.{refl, ap, ◌∙◌}
+use Rattle.descent.specs.WriteEnds as due
+use Rattle.smo.specs.declared.after.After.TheVariants.{Errand}
+use Rattle.smo.specs.declared.plan.Plan.TheVariants.{Split}
+use Rattle.rounds.proofs.write_round.WriteRound.end_wide.Goals as goal
+
+pub returns-clause-treats : goal.returns-clause-treats
+returns-clause-treats g c =
+    let page = c.args.self.now.page in
+    let plan = c.in-Some.plan in
+    record {
+      change = due.Split page plan;
+      planned = (rw (c.pid-pid.ensures, c.page-page.ensures) refl, ap Errand (c.copied-separator.ensures ∙ c.low.ensures));
+      due = record { is = refl; here = c.requires.here; short = c.requires.short; plan_due = rw c.page-page.ensures at c.in-Some.ensures.plan };
+    }

@@ -1,0 +1,39 @@
+use Rattle.std.proofs.Common.{◌≡◌, ◌<◌, ◌+◌, ◌*◌, ◌%◌, ℕ, List, [], get_or, take, drop, length, sym, subst, ◌∙◌}
+use Rattle.std.specs.Prelude.{false}
+use Rattle.base_page.specs.declared.item.Content.TheVariants.{Child}
+use Rattle.base_page.specs.declared.item.Item.{Item}
+use Rattle.record_slots.specs.Layout.{held_mark, text_size}
+use Rattle.record_slots.specs.Parts.{items_of}
+use Rattle.record_slots.specs.Spelling.{words_of}
+use Rattle.record_slots.specs.Texts.{IsText}
+use Rattle.row_search.proofs.Found.{found_one, unwrapped}
+use Rattle.row_search.proofs.ItemReads.{key_text, text_same}
+use Rattle.row_search.proofs.row_at.RowAt.item_key.Goals as goal
+
+none : Item
+none = record { key = []; content = Child 0 false }
+
+-- the text behind the marked count, as it was looked at
+looked : (text : List ℕ) (one other : ℕ) (ones others : List ℕ) → one ≡ other → ones ≡ others → IsText (other % held_mark) others text → IsText (one % held_mark) ones text
+looked text one other ones others e f h = subst (λ (z : ℕ × List ℕ). IsText (z.0 % held_mark) z.1 text) (λ i. (sym e i, sym f i)) h
+
+pub unwrap-requires : goal.unwrap-requires
+unwrap-requires g c =
+    let content = c.args.self.now.content in
+    let words = words_of content in
+    let at = c.item_at-at.result in
+    let key : List ℕ = (get_or (items_of content) c.args.place none).key in
+    found_one (λ (text : List ℕ). IsText (c.word-count.result % held_mark) c.text-words.result text) c.key_in.result key
+    (looked key c.word-count.result (get_or words at 0) c.text-words.result (take text_size (drop (at + 1) words)) c.word-count.ensures.word c.text-words.ensures.text
+    (key_text words content c.keeps_spelling.ensures c.args.place none c.requires.there at c.item_at-at.ensures.at)) c.key_in.ensures
+
+pub returns-clause-key : goal.returns-clause-key
+returns-clause-key g c d =
+    let content = c.args.self.now.content in
+    let words = words_of content in
+    let at = c.item_at-at.result in
+    let key : List ℕ = (get_or (items_of content) c.args.place d).key in
+    text_same (c.word-count.result % held_mark) c.text-words.result c.unwrap.result key
+    (unwrapped (λ (text : List ℕ). IsText (c.word-count.result % held_mark) c.text-words.result text) c.key_in.result c.unwrap.result c.unwrap.ensures c.key_in.ensures)
+    (looked key c.word-count.result (get_or words at 0) c.text-words.result (take text_size (drop (at + 1) words)) c.word-count.ensures.word c.text-words.ensures.text
+    (key_text words content c.keeps_spelling.ensures c.args.place d c.requires.there at c.item_at-at.ensures.at))

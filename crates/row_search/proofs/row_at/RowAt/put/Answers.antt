@@ -1,0 +1,31 @@
+use Rattle.std.proofs.Common.{◌≡◌, ◌<◌, ℕ, [], false, Some, length, get_or, refl, sym, ap, ◌∙◌, arith}
+use Rattle.std.specs.Prelude.{option_map}
+use Rattle.base_page.specs.declared.item.Content.TheVariants.{Child}
+use Rattle.base_page.specs.declared.item.Item.{Item}
+use Rattle.base_page.specs.Pages.{value_in}
+use Rattle.deltas.specs.declared.record.Record.{Record}
+use Rattle.record_slots.specs.Parts.{items_of, row_of}
+use Rattle.row_search.specs.Changes.{put_of}
+use Rattle.row_search.proofs.ChangeLaws.{no_put, put_is}
+use Rattle.row_search.proofs.row_at.RowAt.put.Goals as goal
+
+none : Item
+none = record { key = []; content = Child 0 false }
+
+pub item-requires-clause-there : goal.item-requires-clause-there
+item-requires-clause-there g c =
+    let content = c.args.self.now.content in
+    let is = put_is content (sym c.kind.ensures ∙ c.if-kind-eq2.true) in
+    let one : length (items_of content) ≡ 1 = ap (λ (r : Record). length (items_of r)) is.1 in
+    omega arith
+
+pub returns-then-kind-eq2-clause-put : goal.returns-then-kind-eq2-clause-put
+returns-then-kind-eq2-clause-put g c =
+    let content = c.args.self.now.content in
+    let is = put_is content (sym c.kind.ensures ∙ c.if-kind-eq2.true) in
+    let next : c.under-next.result ≡ is.0.next = c.under-next.ensures.under ∙ ap (λ (r : Record). (row_of r).next) is.1 in
+    let item = c.item.ensures.item none ∙ ap (λ (r : Record). get_or (items_of r) 0 none) is.1 in
+    c.put_from.ensures ∙ (λ i. option_map (λ value. record { next = next i; key = (item i).key; value = value }) (value_in (Some (item i).content))) ∙ sym (ap put_of is.1)
+
+pub returns-clause-put : goal.returns-clause-put
+returns-clause-put g c = no_put c.args.self.now.content (λ e. c.if-kind-eq2.false (c.kind.ensures ∙ e))

@@ -1,0 +1,132 @@
+//! The items that a record says are there, looked at where it lies: those that stand in it, and a term's one.
+ghost use Rattle.std.specs.Prelude.{◌≡◌, ◌≤◌, ◌<◌, ◌+◌, ◌%◌, Some, IfOk, IfErr, length, slice_index, slice_index_or, take, drop};
+ghost use Rattle.bw_model.specs.Bytes.{key_cmp};
+ghost use Rattle.base_page.specs.declared.item.Item.{Item};
+ghost use Rattle.base_page.specs.Pages.{AreItems, child_in};
+ghost use Rattle.base_page.specs.Places.{IsAt, IsGap};
+ghost use Rattle.record_slots.specs.Spelling.{words_of};
+ghost use Rattle.record_slots.specs.Texts.{IsText};
+ghost use Rattle.record_slots.specs.declared.layout.TheConstants.{HELD, ROW_WORDS, TEXT_WORDS};
+ghost use Rattle.row_search.specs.Items.{is_term, items_said, may_take, takes};
+
+use crate::{KeyWords, RowAt, Rows};
+use record_slots::{FIRST_KEY, HELD, ITEM_CONTENT};
+use std::cmp::Ordering;
+
+impl<R: Rows> RowAt<R> {
+    /// Whether it is a term, which may be held.
+    fn is_term(&self) -> bool
+        ensures { result ≡ is_term self.now.content }
+    {
+        let kind = self.kind();
+        if kind == 5 {
+            return true;
+        }
+        kind == 6
+    }
+
+    /// Where the key stands among the items that it says are there, or where it would stand.
+    pub fn place_said(&self, rows: &R, pass: &mut R::Pass, key: &KeyWords) -> Result<usize, usize>
+        requires read { R.has rows.now pass.old self.now.row self.now.content }
+        ensures same { pass.new ≡ pass.old }
+        ensures found { IfOk result (IsAt (items_said self.now.content) key.now) }
+        ensures absent { IfErr result (IsGap (items_said self.now.content) key.now) }
+        ensures items { AreItems (items_said self.now.content) }
+    {
+        if !self.is_term() {
+            return self.place_of(rows, pass, key);
+        }
+        match self.compare_first(rows, pass, key) {
+            Ordering::Less => Err(1),
+            Ordering::Equal => Ok(0),
+            Ordering::Greater => Err(0),
+        }
+    }
+
+    /// Where the key of the item stands that it says is there, with its length before it.
+    fn said_at(&self, place: usize) -> usize
+        requires there { place < length (items_said self.now.content) }
+        ensures room { result + 1 + TEXT_WORDS ≤ ROW_WORDS }
+        ensures text { (d : Item) → IsText
+            (slice_index (words_of self.now.content) result % HELD)
+            (take TEXT_WORDS (drop (result + 1) (words_of self.now.content)))
+            (slice_index_or (items_said self.now.content) place d).key }
+    {
+        self.keeps_spelling();
+        if self.is_term() {
+            return FIRST_KEY;
+        }
+        self.item_at(place)
+    }
+
+    /// How the key of the item that it says is there compares with the key, looked at where it stands.
+    pub fn compare_said(
+        &self,
+        rows: &R,
+        pass: &mut R::Pass,
+        place: usize,
+        key: &KeyWords,
+    ) -> Ordering
+        requires read { R.has rows.now pass.old self.now.row self.now.content }
+        requires there { place < length (items_said self.now.content) }
+        ensures same { pass.new ≡ pass.old }
+        ensures compared { (d : Item) → result ≡ key_cmp (slice_index_or (items_said self.now.content) place d).key key.now }
+    {
+        let at = self.said_at(place);
+        let count = self.word(rows, pass, at) % HELD;
+        key.compare_at(self, rows, pass, at + 1, count)
+    }
+
+    /// The key of the item that it says is there.
+    pub fn key_said(&self, rows: &R, pass: &mut R::Pass, place: usize) -> KeyWords
+        requires read { R.has rows.now pass.old self.now.row self.now.content }
+        requires there { place < length (items_said self.now.content) }
+        ensures same { pass.new ≡ pass.old }
+        ensures key { (d : Item) → result ≡ (slice_index_or (items_said self.now.content) place d).key }
+    {
+        let at = self.said_at(place);
+        let count = self.word(rows, pass, at) % HELD;
+        KeyWords::at(self, rows, pass, at + 1, count)
+    }
+
+    /// The child of the item that it says is there; a value is none.
+    pub fn child_at(&self, rows: &R, pass: &mut R::Pass, place: usize) -> Option<u32>
+        requires read { R.has rows.now pass.old self.now.row self.now.content }
+        requires there { place < length (items_said self.now.content) }
+        ensures same { pass.new ≡ pass.old }
+        ensures child { (d : Item) → result ≡ child_in (Some (slice_index_or (items_said self.now.content) place d).content) }
+    {
+        self.keeps_spelling();
+        if self.is_term() {
+            return Some(self.page(rows, pass));
+        }
+        if self.level() == 0 {
+            return None;
+        }
+        let at = self.item_at(place);
+        let page = self.word(rows, pass, at + ITEM_CONTENT) as u32;
+        Some(page)
+    }
+
+    /// Whether it may say that a key is absent which it names. Its kind says it: no word is looked at.
+    pub fn may_take(&self) -> bool
+        ensures { result ≡ may_take self.now.content }
+    {
+        if self.kind() == 2 {
+            return false;
+        }
+        !self.is_term()
+    }
+
+    /// Whether it names the key, and may say that the key is absent.
+    pub fn takes(&self, rows: &R, pass: &mut R::Pass, key: &KeyWords) -> bool
+        requires read { R.has rows.now pass.old self.now.row self.now.content }
+        ensures same { pass.new ≡ pass.old }
+        ensures takes { result ≡ takes self.now.content key.now }
+    {
+        if !self.may_take() {
+            return false;
+        }
+        self.names(rows, pass, key)
+    }
+}

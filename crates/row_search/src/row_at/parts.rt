@@ -1,0 +1,119 @@
+//! What a record has, decoded from where it lies.
+ghost use Rattle.std.specs.Prelude.{◌≡◌, ◌<◌, Some, length, option_map, slice_index_or};
+ghost use Rattle.base_page.specs.declared.item.Item.{Item};
+ghost use Rattle.base_page.specs.Pages.{value_in};
+ghost use Rattle.deltas.specs.declared.record.Record.TheVariants.{Base};
+ghost use Rattle.record_slots.specs.Parts.{items_of, row_of};
+ghost use Rattle.row_search.specs.Changes.{delete_of, put_of};
+
+use crate::{RowAt, Rows};
+use base_page::{Content, Item, Items, Page};
+use bw_model::Key;
+use deltas::{Delete, Put};
+use record_slots::{HELD, key_in};
+
+impl<R: Rows> RowAt<R> {
+    /// The put that it is; none of another record.
+    pub fn put(&self, rows: &R, pass: &mut R::Pass) -> Option<Put>
+        requires read { R.has rows.now pass.old self.now.row self.now.content }
+        ensures same { pass.new ≡ pass.old }
+        ensures put { result ≡ put_of self.now.content }
+    {
+        if self.kind() == 2 {
+            let next = self.under(rows, pass);
+            return put_from(next, self.item(rows, pass, 0));
+        }
+        None
+    }
+
+    /// The delete that it is; none of another record.
+    pub fn delete(&self, rows: &R, pass: &mut R::Pass) -> Option<Delete>
+        requires read { R.has rows.now pass.old self.now.row self.now.content }
+        ensures same { pass.new ≡ pass.old }
+        ensures delete { result ≡ delete_of self.now.content }
+    {
+        if self.kind() == 3 {
+            let next = self.under(rows, pass);
+            let key = self.first(rows, pass);
+            return Some(Delete { next, key });
+        }
+        None
+    }
+
+    /// The row under it, or 0.
+    fn under(&self, rows: &R, pass: &mut R::Pass) -> u32
+        requires read { R.has rows.now pass.old self.now.row self.now.content }
+        ensures same { pass.new ≡ pass.old }
+        ensures under { result ≡ (row_of self.now.content).next }
+    {
+        self.keeps_spelling();
+        self.word(rows, pass, 1) as u32
+    }
+
+    /// The page of a base.
+    #[inline(never)]
+    pub fn base(&self, rows: &R, pass: &mut R::Pass) -> Page
+        requires read { R.has rows.now pass.old self.now.row self.now.content }
+        requires base { (row_of self.now.content).kind ≡ 1 }
+        ensures same { pass.new ≡ pass.old }
+        ensures page { Base result ≡ self.now.content }
+    {
+        self.keeps_spelling();
+        let low = self.first(rows, pass);
+        let high = self.second(rows, pass);
+        let right = self.right(rows, pass);
+        Page::new(self.level(), low, high, right, self.items(rows, pass))
+    }
+
+    /// Its items.
+    fn items(&self, rows: &R, pass: &mut R::Pass) -> Items
+        requires read { R.has rows.now pass.old self.now.row self.now.content }
+        ensures same { pass.new ≡ pass.old }
+        ensures items { result ≡ items_of self.now.content }
+    {
+        self.keeps_spelling();
+        let mut items = Items::new();
+        for place in 0..self.item_count() {
+            items.push(self.item(rows, pass, place));
+        }
+        items
+    }
+
+    /// The item at the place.
+    fn item(&self, rows: &R, pass: &mut R::Pass, place: usize) -> Item
+        requires read { R.has rows.now pass.old self.now.row self.now.content }
+        requires there { place < length (items_of self.now.content) }
+        ensures same { pass.new ≡ pass.old }
+        ensures item { (d : Item) → result ≡ slice_index_or (items_of self.now.content) place d }
+    {
+        Item {
+            key: self.item_key(rows, pass, place),
+            content: self.content(rows, pass, place),
+        }
+    }
+
+    /// The key of the item at the place.
+    fn item_key(&self, rows: &R, pass: &mut R::Pass, place: usize) -> Key
+        requires read { R.has rows.now pass.old self.now.row self.now.content }
+        requires there { place < length (items_of self.now.content) }
+        ensures same { pass.new ≡ pass.old }
+        ensures key { (d : Item) → result ≡ (slice_index_or (items_of self.now.content) place d).key }
+    {
+        self.keeps_spelling();
+        let at = self.item_at(place);
+        let count = self.word(rows, pass, at) % HELD;
+        let words = self.text(rows, pass, at + 1);
+        key_in(count, &words).unwrap()
+    }
+}
+
+/// The put of a leaf's item; none of a term.
+fn put_from(next: u32, item: Item) -> Option<Put>
+    ensures { result ≡ option_map (λ value. record { next = next; key = item.key; value = value }) (value_in (Some item.content)) }
+{
+    let Item { key, content } = item;
+    match content {
+        Content::Value(value) => Some(Put { next, key, value }),
+        Content::Child { .. } => None,
+    }
+}
