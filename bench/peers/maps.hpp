@@ -20,17 +20,18 @@
 #include <rocksdb/options.h>
 #endif
 
-// The tree, a seat for each thread: at the greatest limits of a small tree, or for more keys as a large one.
+// The tree, a seat for each thread: as a large one, whose pages take two deltas, or at the greatest limits of a small one, whose pages take eight.
 struct Tree : Peer {
     bwtree tree = {};
     std::atomic<uint64_t> full{0};
-    explicit Tree(uint64_t keys) {
+    bool is_large;
+    Tree(uint64_t keys, bool is_large) : is_large(is_large) {
         bwtree_limits limits = {4, 4096, 16384, 1, 0};
-        if (keys > 20000) must(bwtree_limits_for_many_keys(4, keys, &limits) == BWTREE_OK, "no limits for so many keys");
+        if (is_large) must(bwtree_limits_for_many_keys(4, keys, &limits) == BWTREE_OK, "no limits for so many keys");
         must(bwtree_open(&limits, &tree) == BWTREE_OK, "the tree isn't opened");
     }
     ~Tree() override { bwtree_close(&tree); }
-    const char *name() const override { return "bwtree"; }
+    const char *name() const override { return is_large ? "bwtree, large" : "bwtree, small"; }
     void put(int thread, const Key &key, uint64_t value) override {
         bwtree_bytes old;
         uint32_t status = bwtree_upsert(&tree, uint32_t(thread), key.data(), key.size(), &value, 8, &old);

@@ -9,7 +9,7 @@ use rand_core::SeedableRng;
 use rand_core::utils::NextWord;
 use rand_pcg::Pcg32;
 use seat_threads::Work;
-use seats::{called, reply, resumed};
+use seats::{called, called_in, reply, resumed};
 
 /// More steps than an operation takes.
 const MOST_STEPS: u32 = 1 << 16;
@@ -69,6 +69,8 @@ pub(crate) struct Worker {
     drawn: Pcg32,
     /// Which of the threads it is.
     thread: u32,
+    /// The place of its replies.
+    last: Reply,
     /// How many operations succeeded, or how many steps they took.
     pub(crate) done: u64,
 }
@@ -80,6 +82,7 @@ impl Worker {
             scale,
             drawn: Pcg32::seed_from_u64(u64::from(thread)),
             thread,
+            last: Reply::None,
             done: 0,
         }
     }
@@ -142,7 +145,7 @@ impl Work for Worker {
             let done = match self.what {
                 What::Steps | What::Writes => steps(tree, seat, command),
                 What::Scans => u64::from(shows(tree, seat, command)),
-                _ => u64::from(succeeds(tree, seat, command)),
+                _ => u64::from(succeeds(tree, seat, command, &mut self.last)),
             };
             self.done = self.done.saturating_add(done);
         }
@@ -150,14 +153,16 @@ impl Work for Worker {
 }
 
 /// Whether a command finds what it is about: an insert no value, a lookup, an upsert or a deletion one.
-fn succeeds(tree: &Tree, seat: &mut BwSeat, command: Command) -> bool
+fn succeeds(tree: &Tree, seat: &mut BwSeat, command: Command, last: &mut Reply) -> bool
     requires own { IsSeatOf tree.now seat.old }
     ensures same { IsSame seat.old seat.new }
 {
-    match reply(tree, seat, command) {
-        Ok(Reply::Inserted | Reply::Value(_) | Reply::Replaced(_) | Reply::Deleted(_)) => true,
-        _ => false,
-    }
+    let found = called_in(tree, seat, command, MOST_STEPS, last) == Some(true);
+    found
+        && matches!(
+            last,
+            Reply::Inserted | Reply::Value(_) | Reply::Replaced(_) | Reply::Deleted(_)
+        )
 }
 
 /// Whether the pages from a command's on show 100 pairs, or all up to the end.

@@ -1,6 +1,6 @@
 //! What an actor asks of the map, and what it is answered.
 ghost use Rattle.std.specs.Prelude.{◌≡◌, is_some, option_copied};
-ghost use Rattle.bw_model.specs.Replies.{command_key, is_writer, reply_of, update_of};
+ghost use Rattle.bw_model.specs.Replies.{command_key, is_writer, update_of};
 
 use crate::{Key, Pairs, Update, Value};
 use std::alloc::AllocError;
@@ -83,33 +83,6 @@ impl Command {
             Command::Swap(_, _, _) => true,
             Command::Page(_) => false,
             Command::Tidy(_) => true,
-        }
-    }
-
-    /// The reply of the command where its key has the value `old`, or none; no reply of a cursor page or a tidying, which
-    /// go by more than one value.
-    pub fn reply(&self, old: Option<&Value>) -> Option<Reply>
-        ensures { result ≡ reply_of self.now (option_copied old.entry) }
-    {
-        match (self, old) {
-            (Command::Get(_), None) => Some(Reply::None),
-            (Command::Get(_), Some(value)) => Some(Reply::Value(value.copied())),
-            (Command::Insert(_, _), None) => Some(Reply::Inserted),
-            (Command::Insert(_, _), Some(value)) => Some(Reply::Exists(value.copied())),
-            (Command::Upsert(_, _), None) => Some(Reply::Set),
-            (Command::Upsert(_, _), Some(value)) => Some(Reply::Replaced(value.copied())),
-            (Command::Delete(_), None) => Some(Reply::Absent),
-            (Command::Delete(_), Some(value)) => Some(Reply::Deleted(value.copied())),
-            (Command::Swap(_, _, _), None) => Some(Reply::Absent),
-            (Command::Swap(_, expected, _), Some(value)) => {
-                if value == expected {
-                    Some(Reply::Swapped)
-                } else {
-                    Some(Reply::Differs(value.copied()))
-                }
-            }
-            (Command::Page(_), _) => None,
-            (Command::Tidy(_), _) => None,
         }
     }
 

@@ -1,6 +1,5 @@
 //! One line.
 
-ghost use Rattle.std.specs.Prelude.{◌≡◌};
 ghost use Rattle.shell_lines.specs.Request.{until_done};
 ghost use Rattle.bw_shell.specs.Turns.{seen};
 ghost use Rattle.bw_shell.specs.Weave.{AskedRuns, RequestRuns, DrawRuns, LineRuns};

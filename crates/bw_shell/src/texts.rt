@@ -1,6 +1,6 @@
 //! What is printed.
 
-ghost use Rattle.std.specs.Prelude.{◌≡◌, ◌+◌, ◌<◌, ◌≤◌, ◌++◌, ◌∷◌, [], length, decimal, codes, map, option_copied};
+ghost use Rattle.std.specs.Prelude.{◌+◌, ◌<◌, ◌≤◌, ◌++◌, ◌∷◌, length, decimal, codes, option_copied};
 ghost use Rattle.std.specs.List.{flat_map};
 ghost use Rattle.bw_model.specs.Bytes.{longest};
 ghost use Rattle.hex.specs.Hex.{encode_lower};

@@ -1,10 +1,8 @@
 -- A seat that goes on for several steps.
 use Rattle.std.proofs.Common.{◌≡◌, ◌<◌, ◌≤◌, ◌+◌, ◌-◌, ℕ, List, [], ◌∷◌, ◌++◌, length, refl, sym, ap, ◌∙◌, subst, arith, append_assoc, append-nil, eq-eqb, length-append}
 use Rattle.std.specs.Prelude.{Option, Some, None, IsSome}
-use Rattle.atomic_table.specs.Seated.{TableId}
 use Rattle.bw_model.specs.declared.command.Command.{Command}
 use Rattle.bw_model.specs.declared.command.Reply.{Reply}
-use Rattle.tree_limits.specs.declared.limits.Limits.{Limits}
 use Rattle.bw_model.specs.declared.step.Answer.{Answer}
 use Rattle.bw_model.specs.declared.step.Answer.TheVariants.{Done}
 use Rattle.bw_model.specs.declared.step.Step.{Step as StepOf}
@@ -13,7 +11,6 @@ use Rattle.deltas.specs.declared.record.Record.{Record}
 use Rattle.traces.specs.declared.trace.Entry.{Entry}
 use Rattle.traces.specs.declared.trace.Entry.TheVariants.{Begin, Step}
 use Rattle.traces.specs.discipline.Disciplined.{own_entries}
-use Rattle.slot_rule.specs.Views.{IsOf}
 use Rattle.bw_tree.specs.Calls.{Advances, HasBegun, EndsWith, IsDone, IsCalled, IsFinished, IsResumed, IsSpent, IsStill, answered_last, call_after, calls_along, calls_in, own_count}
 use Rattle.bw_tree.specs.Runs.{StartsWith}
 use Rattle.bw_tree.specs.declared.called.Called.{Called}
@@ -42,10 +39,6 @@ same_self s = record { table = refl; limits = refl; actor = refl }
 
 pub same_on : (s t u : Seat) → IsSame s t → IsSame t u → IsSame s u
 same_on s t u p q = record { table = q.table ∙ p.table; limits = q.limits ∙ p.limits; actor = q.actor ∙ p.actor }
-
--- what is asked of a seat and its table
-pub of_same : (key : Limits) (table : TableId) (s t : Seat) → IsSame s t → IsOf s.limits key table s.table → IsOf t.limits key table t.table
-of_same key table s t p h = record { same = p.table ∙ h.same; wide = rw p.limits h.wide; own = h.own ∙ sym p.limits }
 
 pub busy_still : (s t : Seat) (n : ℕ) → IsStill s n t → IsSome (unfinished_command s) → IsSome (unfinished_command t)
 busy_still s t n still busy = subst IsSome (sym still.busy) busy

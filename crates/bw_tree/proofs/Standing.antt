@@ -9,10 +9,10 @@ use Rattle.deltas.specs.declared.record.Record.{Record}
 use Rattle.deltas.specs.declared.record.Record.TheVariants.{Remove}
 use Rattle.descent.specs.Machines.{AreThere}
 use Rattle.record_slots.specs.Spelling.{words_of}
+use Rattle.record_slots.specs.Spells.{HasSpelling}
 use Rattle.traces.specs.declared.trace.Entry.{Entry}
 use Rattle.traces.specs.discipline.Knowledge.{knows}
 use Rattle.slot_rule.specs.declared.view.Reach.TheVariants.{Idle}
-use Rattle.slot_rule.specs.Running.{HasSpelling}
 use Rattle.slot_rule.specs.Steps.{ReadsFirst, Took}
 use Rattle.slot_rule.specs.Views.{Mine, SitsAt, seen_of}
 use Rattle.bw_tree.specs.Seats.{Seat}

@@ -1,5 +1,5 @@
 -- Calls on a seat, as the run that it has seen tells of them.
-use Rattle.std.specs.Prelude.{◌≡◌, ℕ, ◌+◌, ◌<◌, ◌≤◌, List, [], ◌∷◌, ◌++◌, Option, Some, None, IfSome, length}
+use Rattle.std.specs.Prelude.{◌≡◌, ℕ, ◌+◌, ◌<◌, ◌≤◌, Bool, true, false, List, [], ◌∷◌, ◌++◌, Option, Some, None, IfSome, length}
 use Rattle.op_machine.specs.machine.Actors.{command_left}
 use Rattle.bw_model.specs.declared.command.Command.{Command}
 use Rattle.bw_model.specs.declared.command.Reply.{Reply}
@@ -68,6 +68,11 @@ pub record IsSpent (old : Seat) (command : Command) (budget : ℕ) (new : Seat) 
 abbrev pub IsCalled : Seat → Command → ℕ → Called → Seat → Type 0
 IsCalled old command budget (Done reply) new = IsDone old command budget reply new
 IsCalled old command budget Spent new = IsSpent old command budget new
+
+-- what became of a call that is done or not, with the reply in its place
+abbrev pub called_if : Bool → Reply → Called
+called_if true reply = Done reply
+called_if false reply = Spent
 
 -- An operation that went on is done, after one own step at least, and at most so many: the call that was made last has the reply.
 pub record IsFinished (old : Seat) (budget : ℕ) (reply : Reply) (new : Seat) : Type 0 where

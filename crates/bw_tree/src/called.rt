@@ -1,4 +1,6 @@
 //! What calls answer.
+ghost use Rattle.std.specs.Prelude.{◌≡◌};
+ghost use Rattle.bw_tree.specs.Calls.{called_if};
 
 use crate::seat::BwSeat;
 use crate::tree::Tree;
@@ -13,6 +15,17 @@ pub enum Called {
     Done(Reply),
     /// The budget is spent. The operation stays in the seat: resume it.
     Spent,
+}
+
+/// What became of a call that is done or not, with the reply in its place.
+pub(crate) fn called_if(done: bool, reply: Reply) -> Called
+    ensures { result ≡ called_if done reply }
+{
+    if done {
+        Called::Done(reply)
+    } else {
+        Called::Spent
+    }
 }
 
 /// Why a tree wasn't closed.

@@ -1,24 +1,18 @@
 //! A seat of a running tree.
-ghost use Rattle.std.specs.Prelude.{◌≡◌, ◌∷◌, [], ℕ, None, Some, IsSome, is_none};
-ghost use Rattle.op_machine.specs.machine.Actors.{ActsOn, IsGoing, IsToldActor, running_command, wanted_by};
-ghost use Rattle.tree_limits.specs.declared.limits.Limits.{Limits as LimitsSeen};
-ghost use Rattle.bw_model.specs.declared.step.Answer.TheVariants.{Done};
-ghost use Rattle.bw_tree.specs.Calls.{Advances, HasBegun, IsResumed};
+ghost use Rattle.std.specs.Prelude.{◌≡◌, ◌∷◌, [], None, IsSome, is_none};
+ghost use Rattle.bw_tree.specs.Calls.{Advances, HasBegun, IsResumed, called_if};
 ghost use Rattle.bw_tree.specs.Runs.{IsOneHistory};
 ghost use Rattle.bw_tree.specs.Seats.{IsSame, unfinished_command};
 ghost use Rattle.bw_tree.specs.Told.{reply_if};
-ghost use Rattle.traces.specs.discipline.Knowledge.{Knowledge};
-ghost use Rattle.traces.specs.discipline.Recalled.{Recalled};
 ghost use Rattle.bw_tree.specs.Trees.{IsSeatOf};
 ghost use Rattle.slot_rule.specs.Views.{part};
 ghost use Rattle.slot_rule.specs.declared.view.Reach.TheVariants.{Idle};
 
-use crate::called::Called;
 use crate::desk::Desk;
 use crate::lawful_runs::{laws_of_runs, runs_are_one_history};
 use crate::taking::{Taken, take, take_leave};
 use crate::tree::Tree;
-use bw_model::{Command, Limits, Reply, Step};
+use bw_model::{Command, Limits, Reply};
 use op_machine::Actor;
 use row_search::RowAt;
 use slot_rule::{TableSeat, act};
@@ -105,20 +99,19 @@ impl<A: Allocator> BwSeat<A> {
         self.actor.go_on(told);
     }
 
-    /// Goes on with its operation for so many steps, or to its end.
-    pub(crate) fn go_on(&mut self, tree: &Tree<A>, budget: u32) -> Called
+    /// Goes on with its operation for so many steps, or to its end, and tells whether it is done, with the reply in its place.
+    pub(crate) fn go_on(&mut self, tree: &Tree<A>, budget: u32, reply: &mut Reply) -> bool
         requires own { IsSeatOf tree.now self.old }
         requires busy { IsSome (unfinished_command self.old) }
         ensures same { IsSame self.old self.new }
-        ensures goes { IsResumed self.old budget result self.new }
+        ensures goes { IsResumed self.old budget (called_if result reply.new) self.new }
     {
-        let mut reply = Reply::None;
         for _ in 0..budget {
-            if self.advance(tree, &mut reply) {
-                return Called::Done(reply);
+            if self.advance(tree, reply) {
+                return true;
             }
         }
-        Called::Spent
+        false
     }
 
     /// Takes the one step that its operation wants, and tells whether it is done, with the reply in its place.
@@ -139,7 +132,7 @@ impl<A: Allocator> BwSeat<A> {
         match taken {
             Taken::Leaving => {
                 // A leave answers nothing, so the reply is asked for before the store that ends the operation.
-                leave(&mut self.actor, reply);
+                self.actor.leave(reply);
                 take_leave(
                     &tree.table.shared,
                     &mut self.desk.place,
@@ -157,15 +150,4 @@ impl<A: Allocator> BwSeat<A> {
         }
         false
     }
-}
-
-/// Ends an actor's operation with its reply, which comes into its place. Not inlined: no other step needs room for one.
-#[inline(never)]
-fn leave<A: Allocator>(actor: &mut Actor<Tree<A>, A>, reply: &mut Reply)
-    requires told { IsToldActor actor.old Done }
-    requires leaves { wanted_by actor.old.running ≡ Some Step.Leave }
-    ensures goes { (limits : LimitsSeen) (number : ℕ) (k : Knowledge) (r : Recalled) (going : IsGoing limits number k r actor.old Done) → ActsOn limits number k r actor.old going.running.wanted Done (Some reply.new) actor.new }
-    ensures command { running_command actor.new ≡ None }
-{
-    *reply = actor.leave();
 }

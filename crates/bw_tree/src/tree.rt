@@ -1,15 +1,15 @@
 //! A running tree.
 ghost use Rattle.std.specs.Prelude.{◌≡◌, ◌≤◌, None, IsSome};
-ghost use Rattle.bw_tree.specs.Calls.{IsCalled, IsResumed};
+ghost use Rattle.bw_tree.specs.Calls.{IsCalled, IsResumed, called_if};
 ghost use Rattle.bw_tree.specs.Runs.{IsOneHistory};
 ghost use Rattle.bw_tree.specs.Seats.{IsSame, unfinished_command};
 ghost use Rattle.bw_tree.specs.Trees.{HaveMet, IsSeatOf};
 
-use crate::called::Called;
+use crate::called::{Called, called_if};
 use crate::lawful_runs::{TreeLaw, runs_are_one_history};
 use crate::seat::BwSeat;
 use atomic_table::Table;
-use bw_model::{Command, Limits};
+use bw_model::{Command, Limits, Reply};
 use slot_rule::{Rule, View, blank, cut, join, refresh};
 use std::alloc::{Allocator, Global};
 use std::marker::Model;
@@ -44,10 +44,31 @@ impl<A: Allocator> Tree<A> {
         ensures called { IsCalled seat.old command budget result seat.new }
         ensures history { IsOneHistory seat.new.limits seat.new.seen }
     {
+        let mut reply = Reply::None;
+        let done = self.call_in(seat, command, budget, &mut reply);
+        called_if(done, reply)
+    }
+
+    /// The same, where the reply comes into a place that the caller has, and the answer is whether the operation is done: a lookup then
+    /// moves no reply's room, 3.2 KB. Where it isn't done, any reply may lie there.
+    pub fn call_in(
+        &self,
+        seat: &mut BwSeat<A>,
+        command: Command,
+        budget: u32,
+        reply: &mut Reply,
+    ) -> bool
+        requires own { IsSeatOf self.now seat.old }
+        requires idle { unfinished_command seat.old ≡ None }
+        requires some { 1 ≤ budget }
+        ensures same { IsSame seat.old seat.new }
+        ensures called { IsCalled seat.old command budget (called_if result reply.new) seat.new }
+        ensures history { IsOneHistory seat.new.limits seat.new.seen }
+    {
         seat.begin(self, command);
-        let called = seat.go_on(self, budget - 1);
+        let done = seat.go_on(self, budget - 1, reply);
         seat.saw_one_history();
-        called
+        done
     }
 
     /// Goes on with the operation of a seat, for at most `budget` steps. `Spent` comes after exactly `budget` steps, so at once where it
@@ -59,9 +80,22 @@ impl<A: Allocator> Tree<A> {
         ensures resumed { IsResumed seat.old budget result seat.new }
         ensures history { IsOneHistory seat.new.limits seat.new.seen }
     {
-        let called = seat.go_on(self, budget);
+        let mut reply = Reply::None;
+        let done = self.resume_in(seat, budget, &mut reply);
+        called_if(done, reply)
+    }
+
+    /// The same, where the reply comes into a place that the caller has, and the answer is whether the operation is done.
+    pub fn resume_in(&self, seat: &mut BwSeat<A>, budget: u32, reply: &mut Reply) -> bool
+        requires own { IsSeatOf self.now seat.old }
+        requires busy { IsSome (unfinished_command seat.old) }
+        ensures same { IsSame seat.old seat.new }
+        ensures resumed { IsResumed seat.old budget (called_if result reply.new) seat.new }
+        ensures history { IsOneHistory seat.new.limits seat.new.seen }
+    {
+        let done = seat.go_on(self, budget, reply);
         seat.saw_one_history();
-        called
+        done
     }
 
     /// Two seats meet: afterwards both have seen one run, with all that either had seen. No step is taken.

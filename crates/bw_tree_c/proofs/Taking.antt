@@ -7,7 +7,7 @@ use Rattle.bw_tree.specs.Seats.{Seat, unfinished_command}
 use Rattle.bw_tree.specs.Trees.{AreClosed, AreSeatsOf, IsSeatOf, Tree}
 use Rattle.seats.specs.Idle.{AreIdle}
 use Rattle.seats.proofs.Pushed.{all_pushed, one_longer}
-use Rattle.bw_tree_c.specs.Left.{AreLeft, AreTaken, HaveGoneOn, HaveOneTree, OwnsFirst}
+use Rattle.bw_tree_c.specs.Left.{ArePairsLeft, AreTakenOut, HaveGoneOn, HaveOneTree, OwnsFirst}
 use Rattle.bw_tree_c.specs.Seats.{IsLater}
 
 pub one_tree : (tree : Tree) (limits : Limits) (seats : List Seat) → tree.limits ≡ limits → length seats ≡ tree.limits.actors → AreSeatsOf tree seats → HaveOneTree limits seats
@@ -27,7 +27,7 @@ is_last [] x = refl
 is_last (y ∷ xs) x = is_last xs x
 
 -- what holds of the seats before, and of each that goes on from one of a slot, holds of all
-taken_all : (P : Seat → Type 0) (firsts old new : List Seat) → AreTaken firsts old new → ((n : ℕ) (seat : Seat) → slice_get old n ≡ Some seat → P seat)
+taken_all : (P : Seat → Type 0) (firsts old new : List Seat) → AreTakenOut firsts old new → ((n : ℕ) (seat : Seat) → slice_get old n ≡ Some seat → P seat)
     → ((n : ℕ) (first : Seat) → slice_get firsts n ≡ Some first → (seat : Seat) → IsLater first seat → unfinished_command seat ≡ None → P seat)
     → (n : ℕ) (seat : Seat) → slice_get new n ≡ Some seat → P seat
 taken_all P [] old new t before each n seat e = before n seat (subst (λ xs. slice_get xs n ≡ Some seat) t e)
@@ -35,7 +35,7 @@ taken_all P (f ∷ fs) old new t before each n seat e =
     all_pushed P t.0 t.1 (taken_all P fs old t.0 t.2 before (λ m g at. each (suc m) g at)) (each 0 f refl t.1 t.3 t.4) n seat
     (subst (λ xs. slice_get xs n ≡ Some seat) t.5 e)
 
-gone_on : (firsts old new : List Seat) → AreTaken firsts old new → HaveGoneOn firsts new
+gone_on : (firsts old new : List Seat) → AreTakenOut firsts old new → HaveGoneOn firsts new
 gone_on [] old new t n f e = cc
 gone_on (f ∷ fs) old new t zero g e =
     (length t.0, t.1, subst (λ xs. slice_get xs (length t.0) ≡ Some t.1) (sym t.5) (is_last t.0 t.1), subst (λ h. IsLater h t.1) (same_Some f g e) t.3)
@@ -43,7 +43,7 @@ gone_on (f ∷ fs) old new t (suc n) g e =
     let it = gone_on fs old t.0 t.2 n g e in
     (it.0, it.1, subst (λ xs. slice_get xs it.0 ≡ Some it.1) (sym t.5) (stays t.0 (t.1 ∷ []) it.0 it.1 it.2), it.3)
 
-pub how_many : (firsts old new : List Seat) → AreTaken firsts old new → length new ≡ length old + length firsts
+pub how_many : (firsts old new : List Seat) → AreTakenOut firsts old new → length new ≡ length old + length firsts
 how_many [] old new t = let e = ap length t in omega (arith, e)
 how_many (f ∷ fs) old new t = let e = one_longer t.0 new t.1 t.5 in let h = how_many fs old t.0 t.2 in omega (arith, e, h)
 
@@ -61,7 +61,7 @@ none : (P : Seat → Type 0) (n : ℕ) (seat : Seat) → slice_get [] n ≡ Some
 none P n seat e = cc
 
 -- all seats of a handle were taken out
-module _ (limits : Limits) (firsts seats : List Seat) (tree : Tree) (one : HaveOneTree limits firsts) (taken : AreTaken firsts [] seats) (first : OwnsFirst firsts tree) where
+module _ (limits : Limits) (firsts seats : List Seat) (tree : Tree) (one : HaveOneTree limits firsts) (taken : AreTakenOut firsts [] seats) (first : OwnsFirst firsts tree) where
   pub limits_are : tree.limits ≡ limits
   limits_are = limits_of firsts tree limits one first
 
@@ -75,7 +75,7 @@ module _ (limits : Limits) (firsts seats : List Seat) (tree : Tree) (one : HaveO
   pub all : tree.limits.actors ≤ length seats
   all = subst (λ (l : Limits). l.actors ≤ length seats) (sym limits_are) (let e = how_many firsts [] seats taken in omega (arith, e, one.all))
 
-  pub are_left : (pairs : List (List ℕ × List ℕ)) → AreClosed tree.limits seats pairs → AreLeft firsts pairs
+  pub are_left : (pairs : List (List ℕ × List ℕ)) → AreClosed tree.limits seats pairs → ArePairsLeft firsts pairs
   are_left pairs closed = record {
     limits = limits;
     each = one.each;
@@ -86,9 +86,9 @@ module _ (limits : Limits) (firsts seats : List Seat) (tree : Tree) (one : HaveO
   }
 
 -- one slot more
-pub taken_one : (slots others : List Seat) (slot : Seat) (old mid new : List Seat) (seat : Seat) → slots ≡ slot ∷ others → AreTaken others old mid → IsLater slot seat
-    → unfinished_command seat ≡ None → new ≡ mid ++ seat ∷ [] → AreTaken slots old new
-taken_one slots others slot old mid new seat is rest later rests more = subst (λ xs. AreTaken xs old new) (sym is) (mid, seat, rest, later, rests, more)
+pub taken_one : (slots others : List Seat) (slot : Seat) (old mid new : List Seat) (seat : Seat) → slots ≡ slot ∷ others → AreTakenOut others old mid → IsLater slot seat
+    → unfinished_command seat ≡ None → new ≡ mid ++ seat ∷ [] → AreTakenOut slots old new
+taken_one slots others slot old mid new seat is rest later rests more = subst (λ xs. AreTakenOut xs old new) (sym is) (mid, seat, rest, later, rests, more)
 
 pub on_ok : {T E P : Type 0} (r : Result T E) → P → OnOk r P
 on_ok (Ok x) p = p
@@ -97,8 +97,8 @@ on_ok (Err e) p = tt
 pub some_of : {X : Type 0} (P : X → Type 0) (o : Option X) (x : X) → o ≡ Some x → IfSome o P → P x
 some_of P o x is h = subst (λ q. IfSome q P) is h
 
-pub from_none : (slots view start new : List Seat) → view ≡ slots → start ≡ [] → AreTaken view start new → AreTaken slots [] new
-from_none slots view start new is none t = subst (λ xs. AreTaken xs [] new) is (subst (λ ys. AreTaken view ys new) none t)
+pub from_none : (slots view start new : List Seat) → view ≡ slots → start ≡ [] → AreTakenOut view start new → AreTakenOut slots [] new
+from_none slots view start new is none t = subst (λ xs. AreTakenOut xs [] new) is (subst (λ ys. AreTakenOut view ys new) none t)
 
 pub first_of : (slots view : List Seat) (tree shared : Tree) → view ≡ slots → tree ≡ shared → OwnsFirst view shared → OwnsFirst slots tree
 first_of slots view tree shared is same first = subst (λ xs. OwnsFirst xs tree) is (subst (OwnsFirst view) (sym same) first)

@@ -22,7 +22,7 @@ HaveGoneOn firsts seats = (n : ℕ) (first : Seat) → slice_get firsts n ≡ So
 
 -- The pairs are those of a tree that was closed when nothing was under way: its seats, of which these are as they were when it was opened, had all gone
 -- on, and none had an operation.
-pub record AreLeft (firsts : List Seat) (pairs : List (List ℕ × List ℕ)) : Type 0 where
+pub record ArePairsLeft (firsts : List Seat) (pairs : List (List ℕ × List ℕ)) : Type 0 where
   pub limits : Limits
   pub each : AreOfLimits limits firsts
   pub seats : List Seat
@@ -31,9 +31,9 @@ pub record AreLeft (firsts : List Seat) (pairs : List (List ℕ × List ℕ)) : 
   pub closed : AreClosed limits seats pairs
 
 -- The seats that were taken out of slots, behind those before: each has gone on, and has no operation.
-abbrev pub AreTaken : List Seat → List Seat → List Seat → Type 0
-AreTaken [] old new = new ≡ old
-AreTaken (first ∷ firsts) old new = (others : List Seat) × (seat : Seat) × AreTaken firsts old others × IsLater first seat × (unfinished_command seat ≡ None) × (new ≡ others ++ seat ∷ [])
+abbrev pub AreTakenOut : List Seat → List Seat → List Seat → Type 0
+AreTakenOut [] old new = new ≡ old
+AreTakenOut (first ∷ firsts) old new = (others : List Seat) × (seat : Seat) × AreTakenOut firsts old others × IsLater first seat × (unfinished_command seat ≡ None) × (new ≡ others ++ seat ∷ [])
 
 -- The first seat is one of the tree.
 abbrev pub OwnsFirst : List Seat → Tree → Type 0

@@ -20,11 +20,11 @@ abbrev pub given_pair : Pair → List ℕ × List ℕ
 given_pair given = (shown given.key, shown given.value)
 
 -- The key and the value have at most 64 bytes.
-abbrev pub HasShortTexts : Pair → Type 0
-HasShortTexts given = (given.key.length ≤ MAX_LENGTH) × (given.value.length ≤ MAX_LENGTH)
+abbrev pub IsShortPair : Pair → Type 0
+IsShortPair given = (given.key.length ≤ MAX_LENGTH) × (given.value.length ≤ MAX_LENGTH)
 
 abbrev pub AreShort : List Pair → Type 0
-AreShort given = (n : ℕ) (pair : Pair) → slice_get given n ≡ Some pair → HasShortTexts pair
+AreShort given = (n : ℕ) (pair : Pair) → slice_get given n ≡ Some pair → IsShortPair pair
 
 -- The seats are those of one tree of these limits, which was opened with these pairs.
 pub record IsLoadedWith (asked : Limits) (pairs : List (List ℕ × List ℕ)) (seats : List Seat) : Type 0 where

@@ -1,11 +1,11 @@
 //! Replies as C reads them: a status, and the value that goes with it.
 ghost use Rattle.std.specs.Prelude.{◌≡◌};
+ghost use Rattle.bw_tree.specs.Calls.{called_if};
 ghost use Rattle.bw_tree_c.specs.Told.{TellsValue, ShowsPageOf, ShowsValueOf};
 ghost use Rattle.bw_tree_c.specs.Statuses.{status_of, status_of_called};
 
 use crate::bytes::{Bytes, Page};
 use bw_model::Reply;
-use bw_tree::Called;
 
 /// The operation is done: the key had a value, or got one, or lost it.
 pub(crate) const OK: u32 = 0;
@@ -83,13 +83,10 @@ fn status_of(reply: &Reply) -> u32
 }
 
 /// The status of what became of a call.
-pub(crate) fn status_of_called(called: &Called) -> u32
-    ensures { result ≡ status_of_called called.now }
+pub(crate) fn status_of_called(done: bool, reply: &Reply) -> u32
+    ensures { result ≡ status_of_called (called_if done reply.now) }
 {
-    match called {
-        Called::Done(reply) => status_of(reply),
-        Called::Spent => SPENT,
-    }
+    if done { status_of(reply) } else { SPENT }
 }
 
 /// Shows the value of a reply, if it has one.
@@ -107,23 +104,23 @@ fn show_value(reply: &Reply, old: &mut Bytes)
 }
 
 /// Tells what became of a call whose reply has a value, or none.
-pub(crate) fn tell_value(called: &Called, old: &mut Bytes) -> u32
-    ensures status { result ≡ status_of_called called.now }
-    ensures told { ShowsValueOf called.now old.old old.new }
+pub(crate) fn tell_value(done: bool, reply: &Reply, old: &mut Bytes) -> u32
+    ensures status { result ≡ status_of_called (called_if done reply.now) }
+    ensures told { ShowsValueOf (called_if done reply.now) old.old old.new }
 {
-    if let Called::Done(reply) = called {
+    if done {
         show_value(reply, old);
     }
-    status_of_called(called)
+    status_of_called(done, reply)
 }
 
 /// Tells what became of a call whose reply is a page.
-pub(crate) fn tell_page(called: &Called, page: &mut Page) -> u32
-    ensures status { result ≡ status_of_called called.now }
-    ensures told { ShowsPageOf called.now page.old page.new }
+pub(crate) fn tell_page(done: bool, reply: &Reply, page: &mut Page) -> u32
+    ensures status { result ≡ status_of_called (called_if done reply.now) }
+    ensures told { ShowsPageOf (called_if done reply.now) page.old page.new }
 {
-    if let Called::Done(Reply::Page { items, next }) = called {
+    if done && let Reply::Page { items, next } = reply {
         page.set(items, next);
     }
-    status_of_called(called)
+    status_of_called(done, reply)
 }

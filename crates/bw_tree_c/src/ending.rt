@@ -4,7 +4,7 @@ ghost use Rattle.std.specs.Arc.{arc_value};
 ghost use Rattle.std.specs.Vec.{vec_capacity};
 ghost use Rattle.bw_tree.specs.Trees.{AreClosed, AreSeatsOf, IsSeatOf};
 ghost use Rattle.seats.specs.Idle.{AreIdle};
-ghost use Rattle.bw_tree_c.specs.Left.{AreLeft, AreTaken, OwnsFirst};
+ghost use Rattle.bw_tree_c.specs.Left.{ArePairsLeft, AreTakenOut, OwnsFirst};
 ghost use Rattle.bw_tree_c.specs.Refused.{IsHindrance};
 
 use crate::left::LeftPairs;
@@ -21,7 +21,7 @@ impl Shared {
     /// Ends the tree, and lists its pairs; refused, with nothing changed, where a seat is away or has an unfinished operation, where the tree is closed, and
     /// for want of memory.
     pub(crate) fn end(&self, alloc: Global) -> Result<LeftPairs, Refusal>
-        ensures ok { IfOk result (λ left. AreLeft self.now.slots.items left.pairs.items) }
+        ensures ok { IfOk result (λ left. ArePairsLeft self.now.slots.items left.pairs.items) }
         ensures refused { IfErr result IsHindrance }
     {
         let Ok(mut seats) = Vec::with_capacity(alloc, self.slots.len()) else {
@@ -46,7 +46,7 @@ impl Shared {
 /// Takes all seats out of their slots for good, and tells a share of their tree; or none. The last slot's comes first.
 fn take_out(slots: &[Slot], seats: &mut Vec<BwSeat>) -> Result<Option<Arc<Tree>>, Refusal>
     requires room { vec_len seats.old + length slots.now ≤ vec_capacity seats.old }
-    ensures seats { OnOk result (AreTaken slots.now seats.old.items seats.new.items) }
+    ensures seats { OnOk result (AreTakenOut slots.now seats.old.items seats.new.items) }
     ensures count { OnOk result (vec_len seats.new ≡ vec_len seats.old + length slots.now) }
     ensures capacity { vec_capacity seats.new ≡ vec_capacity seats.old }
     ensures tree { IfOk result (λ share. IfSome share (λ tree. OwnsFirst slots.now (arc_value tree))) }
@@ -80,7 +80,11 @@ fn unpacked(place: Box<Place>, seats: &mut Vec<BwSeat>) -> Arc<Tree>
     ensures capacity { vec_capacity seats.new ≡ vec_capacity seats.old }
     ensures tree { IsSeatOf (arc_value result) place.value.seat }
 {
-    let Place { tree, seat } = Box::into_inner(place);
+    let Place {
+        tree,
+        seat,
+        reply: _,
+    } = Box::into_inner(place);
     seats.push_reserved(seat);
     tree
 }

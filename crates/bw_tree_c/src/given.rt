@@ -1,7 +1,7 @@
 //! What C gives: short lists of bytes, and pairs.
 ghost use Rattle.std.specs.Prelude.{◌≡◌, ◌<◌, ◌≤◌, ◌⊎◌, IfErr, IfOk, MatchOption, map};
 ghost use Rattle.bw_model.specs.declared.short_bytes.TheConstants.{MAX_LENGTH};
-ghost use Rattle.bw_tree_c.specs.Loaded.{AreShort, HasShortTexts, given_pair};
+ghost use Rattle.bw_tree_c.specs.Loaded.{AreShort, IsShortPair, given_pair};
 ghost use Rattle.bw_tree_c.specs.Shown.{shown};
 
 use crate::answers::{NO_MEMORY, TOO_LONG};
@@ -24,7 +24,7 @@ impl Bytes {
 impl Pair {
     /// The pair, if it is short.
     fn given(&self) -> Option<(Key, Value)>
-        ensures { MatchOption result (HasShortTexts self.now → ⊥) (λ pair. HasShortTexts self.now × (pair ≡ given_pair self.now)) }
+        ensures { MatchOption result (IsShortPair self.now → ⊥) (λ pair. IsShortPair self.now × (pair ≡ given_pair self.now)) }
     {
         let key = Key::from_slice(self.key.given()?).ok()?;
         let value = Value::from_slice(self.value.given()?).ok()?;

@@ -1,7 +1,7 @@
 //! A tree is closed, and its pairs are handed over.
 ghost use Rattle.std.specs.Prelude.{◌≡◌, ◌≢◌, ◌⊎◌, IfErr, IfOk, None, length};
 ghost use Rattle.bw_tree_c.specs.Closing.{HandsOver, HasMore};
-ghost use Rattle.bw_tree_c.specs.Left.{AreLeft};
+ghost use Rattle.bw_tree_c.specs.Left.{ArePairsLeft};
 ghost use Rattle.bw_tree_c.specs.Refused.{IsHindrance};
 
 use crate::answers::{BUSY, CLOSED, NO_MEMORY, NO_ROOM, OK, UNFINISHED};
@@ -48,7 +48,7 @@ pub extern "C" fn bwtree_raw_close_pairs(
 impl Shared {
     /// The pairs that a closed tree has left, or those of the tree, which ends. The slot for them stays away.
     fn left_pairs(&self, alloc: Global) -> Result<LeftPairs, Refusal>
-        ensures ok { IfOk result (λ left. AreLeft self.now.slots.items left.pairs.items) }
+        ensures ok { IfOk result (λ left. ArePairsLeft self.now.slots.items left.pairs.items) }
         ensures refused { IfErr result IsHindrance }
     {
         if let Some(left) = take_left(&self.left)? {

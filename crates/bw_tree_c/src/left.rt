@@ -1,7 +1,7 @@
 //! What a tree leaves that is closed with its pairs: they wait in a slot of the handle, where there isn't room for them.
 ghost use Rattle.std.specs.Prelude.{◌≡◌, ◌%◌, IfErr, IfOk, IfSome};
 ghost use Rattle.counted_slot.specs.Counting.{readers};
-ghost use Rattle.bw_tree_c.specs.Left.{AreLeft};
+ghost use Rattle.bw_tree_c.specs.Left.{ArePairsLeft};
 ghost use Rattle.bw_tree_c.specs.Refused.{IsPassing};
 
 use crate::refusal::Refusal;
@@ -28,7 +28,7 @@ impl Fits for LeftPairs {
     /// The seats of the tree as they were when it was opened.
     type Tag = Vec<BwSeat>;
 
-    ghost fits = { λ firsts left. AreLeft firsts.items left.pairs.items };
+    ghost fits = { λ firsts left. ArePairsLeft firsts.items left.pairs.items };
 }
 
 /// A slot for the pairs of a closed tree. In a clause it is the seats of that tree, as they were when it was opened.
@@ -48,7 +48,7 @@ pub(crate) fn is_nothing(left: &Left) -> bool {
 
 /// Takes out what is in the slot; refused where another call is inside it.
 pub(crate) fn take_left(left: &Left) -> Result<Option<LeftPairs>, Refusal>
-    ensures taken { IfOk result (λ pairs. IfSome pairs (λ taken. AreLeft left.now.items taken.pairs.items)) }
+    ensures taken { IfOk result (λ pairs. IfSome pairs (λ taken. ArePairsLeft left.now.items taken.pairs.items)) }
     ensures refused { IfErr result IsPassing }
 {
     if left.load() == KEPT {
@@ -61,7 +61,7 @@ pub(crate) fn take_left(left: &Left) -> Result<Option<LeftPairs>, Refusal>
 /// Takes out what is in the slot under this word.
 fn take_at(left: &Left, word: u64) -> Result<Option<LeftPairs>, Refusal>
     requires empty { word % 4 ≡ 0 }
-    ensures taken { IfOk result (λ pairs. IfSome pairs (λ taken. AreLeft left.now.items taken.pairs.items)) }
+    ensures taken { IfOk result (λ pairs. IfSome pairs (λ taken. ArePairsLeft left.now.items taken.pairs.items)) }
     ensures refused { IfErr result IsPassing }
 {
     let (found, claim) = left.turn(word, TAKEN);
@@ -74,7 +74,7 @@ fn take_at(left: &Left, word: u64) -> Result<Option<LeftPairs>, Refusal>
 
 /// Puts pairs into the slot, which this call is inside.
 pub(crate) fn put_left(left: &Left, pairs: LeftPairs)
-    requires { AreLeft left.now.items pairs.pairs.items }
+    requires { ArePairsLeft left.now.items pairs.pairs.items }
 {
     put_at(left, Some(pairs), KEPT);
 }
@@ -89,7 +89,7 @@ pub(crate) fn leave_left(left: &Left) {
 fn put_at(left: &Left, pairs: Option<LeftPairs>, word: u64)
     requires empty { word % 4 ≡ 0 }
     requires unread { readers word ≡ 0 }
-    requires left { IfSome pairs (λ given. AreLeft left.now.items given.pairs.items) }
+    requires left { IfSome pairs (λ given. ArePairsLeft left.now.items given.pairs.items) }
 {
     let (found, claim) = left.turn(AWAY, TAKEN);
     if found != AWAY {

@@ -8,7 +8,7 @@ use crate::answers::{IDLE, OK, UNFINISHED, status_of_called, tell_page, tell_val
 use crate::bytes::{Bytes, FreeRoom, Page};
 use crate::place::Place;
 use bw_model::{Command, Key};
-use seats::{BUDGET, called, resumed};
+use seats::{BUDGET, called_in, resumed_in};
 
 impl Place {
     /// Runs a command, if the seat is idle.
@@ -16,8 +16,8 @@ impl Place {
         ensures later { IsLater self.old.seat self.new.seat }
         ensures run { IsRunToValue self.old.seat command result old.old old.new self.new.seat }
     {
-        match called(&self.tree, &mut self.seat, command, BUDGET) {
-            Some(called) => tell_value(&called, old),
+        match called_in(&self.tree, &mut self.seat, command, BUDGET, &mut self.reply) {
+            Some(done) => tell_value(done, &self.reply, old),
             None => UNFINISHED,
         }
     }
@@ -27,8 +27,14 @@ impl Place {
         ensures later { IsLater self.old.seat self.new.seat }
         ensures run { IsTidied self.old.seat (command.Tidy key) result self.new.seat }
     {
-        match called(&self.tree, &mut self.seat, Command::Tidy(key), BUDGET) {
-            Some(called) => status_of_called(&called),
+        match called_in(
+            &self.tree,
+            &mut self.seat,
+            Command::Tidy(key),
+            BUDGET,
+            &mut self.reply,
+        ) {
+            Some(done) => status_of_called(done, &self.reply),
             None => UNFINISHED,
         }
     }
@@ -38,8 +44,14 @@ impl Place {
         ensures later { IsLater self.old.seat self.new.seat }
         ensures run { IsRunToPage self.old.seat (command.Page from) result page.old page.new self.new.seat }
     {
-        match called(&self.tree, &mut self.seat, Command::Page(from), BUDGET) {
-            Some(called) => tell_page(&called, page),
+        match called_in(
+            &self.tree,
+            &mut self.seat,
+            Command::Page(from),
+            BUDGET,
+            &mut self.reply,
+        ) {
+            Some(done) => tell_page(done, &self.reply, page),
             None => UNFINISHED,
         }
     }
@@ -49,10 +61,10 @@ impl Place {
         ensures later { IsLater self.old.seat self.new.seat }
         ensures run { IsRunFurther self.old.seat budget result old.old old.new page.old page.new self.new.seat }
     {
-        match resumed(&self.tree, &mut self.seat, budget) {
-            Some(called) => {
-                tell_page(&called, page);
-                tell_value(&called, old)
+        match resumed_in(&self.tree, &mut self.seat, budget, &mut self.reply) {
+            Some(done) => {
+                tell_page(done, &self.reply, page);
+                tell_value(done, &self.reply, old)
             }
             None => IDLE,
         }

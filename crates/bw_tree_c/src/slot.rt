@@ -9,6 +9,7 @@ ghost use Rattle.bw_tree_c.specs.Refused.{IsPassing};
 use crate::loose::Loose;
 use crate::place::Place;
 use crate::refusal::Refusal;
+use bw_model::Reply;
 use bw_tree::{BwSeat, Tree};
 use counted_slot::{Counted, Fits, TAKEN};
 use std::alloc::Global;
@@ -104,7 +105,8 @@ pub(crate) fn slot_of(alloc: Global, tree: &Arc<Tree>, seat: BwSeat) -> Option<S
     let Ok(tree) = Arc::try_clone(tree) else {
         return None;
     };
-    let Ok(place) = Box::new(alloc, Place { tree, seat }) else {
+    let reply = Reply::None;
+    let Ok(place) = Box::new(alloc, Place { tree, seat, reply }) else {
         return None;
     };
     put(&slot, HOME, place);

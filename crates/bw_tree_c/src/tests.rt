@@ -300,7 +300,11 @@ fn told_of_seats(alloc: Global, tree: &TreeHandle) -> Option<[u32; 13]> {
         bwtree_raw_close_pairs(alloc, tree, &mut [], &mut count),
         bwtree_raw_is_idle(tree, 1),
     ];
-    let Place { tree: of, seat } = &mut *place;
+    let Place {
+        tree: of,
+        seat,
+        reply: _,
+    } = &mut *place;
     called(of, seat, Command::Get(Key::default()), 1)?;
     give(slot, place);
     let [first, second, third, fourth, fifth] = inside;

@@ -1,6 +1,6 @@
 //! The readers and writers of std, as inputs and outputs.
 
-ghost use Rattle.std.specs.Prelude.{◌≡◌, ◌^◌, ◌≤◌, [], false, length};
+ghost use Rattle.std.specs.Prelude.{◌≡◌, ◌^◌, [], false};
 ghost use Rattle.byte_streams.specs.Output.{Writes};
 
 use crate::traits::{Failed, Input, Output};

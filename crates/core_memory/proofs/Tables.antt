@@ -14,7 +14,7 @@ use Rattle.deltas.specs.declared.record.Record.{Record}
 use Rattle.deltas.specs.declared.record.Record.TheVariants.{Base}
 use Rattle.deltas.specs.Memory.{opening, replaced_at}
 use Rattle.tree_limits.specs.Words.{is_among}
-use Rattle.core_memory.specs.Tables.{CoreTable, is_free, memory_in}
+use Rattle.core_memory.specs.Tables.{CoreTable, is_bit_set, memory_in}
 
 same_or_not : (a b : ℕ) → (a ≡ b) ⊎ (a ≢ b)
 same_or_not a b = elim (cases_lt a b) [
@@ -64,13 +64,13 @@ tested bits i = rw (and_pow bits i) (by_bit (bit_at bits i) (bit_at-lt bits i) (
 abbrev bit_of : ℕ → ℕ
 bit_of n = 1 * 2 ^ (n % 64) % 2 ^ 64
 
-pub tested_in : (words : List ℕ) (word n : ℕ) → word ≡ n / 64 → not (eqb (bit_and (slice_index words word) (bit_of n)) 0) ≡ is_free words n
+pub tested_in : (words : List ℕ) (word n : ℕ) → word ≡ n / 64 → not (eqb (bit_and (slice_index words word) (bit_of n)) 0) ≡ is_bit_set words n
 tested_in words word n is =
     let below : n % 64 < 64 = omega arith in
     rw (is, one_shl (n % 64) 64 below) (tested (slice_index words (n / 64)) (n % 64))
 
 -- one bit cleared
-pub taken : (words : List ℕ) (word n : ℕ) → word ≡ n / 64 → n < 64 * length words → is_free (set words word (bit_and (slice_index words word) (bit_not w64 (bit_of n)))) ≡ replaced_at n false (is_free words)
+pub taken : (words : List ℕ) (word n : ℕ) → word ≡ n / 64 → n < 64 * length words → is_bit_set (set words word (bit_and (slice_index words word) (bit_not w64 (bit_of n)))) ≡ replaced_at n false (is_bit_set words)
 taken words word n is within = λ d k. at k d
   where
     cleared : List ℕ
@@ -85,7 +85,7 @@ taken words word n is within = λ d k. at k d
     own : slice_index cleared word ≡ bit_and (slice_index words word) (bit_not w64 (bit_of n))
     own = get_or-set_same words word _ 0 lt
 
-    at : (k : ℕ) → is_free cleared k ≡ replaced_at n false (is_free words) k
+    at : (k : ℕ) → is_bit_set cleared k ≡ replaced_at n false (is_bit_set words) k
     at k = elim (same_or_not k n) [
       | inl same ↦ rw (same, eq-eqb n n refl, ← is, own, bit_at_clear_same w64 (slice_index words word) (n % 64) below) refl
       | inr other ↦ rw (ne_eqb k n other) (ap (λ b. eqb b 1) (elim (same_or_not (k / 64) word) [
@@ -98,7 +98,7 @@ taken words word n is within = λ d k. at k d
     ]
 
 -- bits of one word set
-pub freed : (words : List ℕ) (word more : ℕ) → word < length words → is_free (set words word (bit_or (slice_index words word) more)) ≡ (λ n. is_free words n || is_among word more n)
+pub freed : (words : List ℕ) (word more : ℕ) → word < length words → is_bit_set (set words word (bit_or (slice_index words word) more)) ≡ (λ n. is_bit_set words n || is_among word more n)
 freed words word more within = λ d k. at k d
   where
     set_in : List ℕ
@@ -111,14 +111,14 @@ freed words word more within = λ d k. at k d
     or_false true = refl
     or_false false = refl
 
-    at : (k : ℕ) → is_free set_in k ≡ (is_free words k || is_among word more k)
+    at : (k : ℕ) → is_bit_set set_in k ≡ (is_bit_set words k || is_among word more k)
     at k = elim (same_or_not (k / 64) word) [
       | inl same ↦ rw (same, get_or-set_same words word (bit_or (slice_index words word) more) 0 within, eq-eqb word word refl, bit_at_or (slice_index words word) more (k % 64)) (either _ _ (bit_at-lt (slice_index words word) (k % 64)) (bit_at-lt more (k % 64)))
       | inr other ↦ rw (get_or-set_other words word (k / 64) (bit_or (slice_index words word) more) 0 other, ne_eqb (k / 64) word other) (or_false (eqb (bit_at (slice_index words (k / 64)) (k % 64)) 1))
     ]
 
 -- all numbers from 2 on, up to the count, are free
-pub opened : (count : ℕ) (words : List ℕ) → words ≡ replicate (count / 64) 18446744073709551615 → count % 64 ≡ 0 → 64 ≤ count → is_free (set words 0 18446744073709551612) ≡ (λ n. nat_le 2 n && nat_lt n count)
+pub opened : (count : ℕ) (words : List ℕ) → words ≡ replicate (count / 64) 18446744073709551615 → count % 64 ≡ 0 → 64 ≤ count → is_bit_set (set words 0 18446744073709551612) ≡ (λ n. nat_le 2 n && nat_lt n count)
 opened count words all whole some = λ d n. at n d
   where
     long : length words ≡ count / 64
@@ -138,7 +138,7 @@ opened count words all whole some = λ d n. at n d
     and_false true = refl
     and_false false = refl
 
-    at : (n : ℕ) → is_free (set words 0 18446744073709551612) n ≡ (nat_le 2 n && nat_lt n count)
+    at : (n : ℕ) → is_bit_set (set words 0 18446744073709551612) n ≡ (nat_le 2 n && nat_lt n count)
     at n = elim (cases_lt n count) [
       | inl lt ↦ rw (lt_true n count lt) (inside n lt (same_or_not (n / 64) 0) ∙ and_true (nat_le 2 n))
       | inr ge ↦
@@ -146,7 +146,7 @@ opened count words all whole some = λ d n. at n d
           rw (lt_false n count ge, none, bit_at-zero (n % 64)) (and_false (nat_le 2 n))
     ]
       where
-        inside : (n : ℕ) → n < count → (n / 64 ≡ 0) ⊎ (n / 64 ≢ 0) → is_free (set words 0 18446744073709551612) n ≡ nat_le 2 n
+        inside : (n : ℕ) → n < count → (n / 64 ≡ 0) ⊎ (n / 64 ≢ 0) → is_bit_set (set words 0 18446744073709551612) n ≡ nat_le 2 n
         inside n lt (inl first) =
             let there : 0 < length words = rw long (omega arith) in
             let small : n < 64 = omega arith in
@@ -166,7 +166,7 @@ with_record limits slots rows pid_bits row_bits epoch announced place row conten
     rw is (ap (λ (f : ℕ → Option Record). record (memory_in (record { limits = limits; slots = slots; rows = rows; pid_bits = pid_bits; row_bits = row_bits; epoch = epoch; announced = announced })) { rows = f }) (put rows None row (Some content) within))
 
 -- other words of free bits
-module _ (limits : Limits) (slots : List ℕ) (rows : List (Option Record)) (epoch : ℕ) (announced words others : List ℕ) (free : ℕ → Bool) (is : is_free words ≡ free) where
+module _ (limits : Limits) (slots : List ℕ) (rows : List (Option Record)) (epoch : ℕ) (announced words others : List ℕ) (free : ℕ → Bool) (is : is_bit_set words ≡ free) where
   abbrev table_of : List ℕ → List ℕ → CoreTable
   table_of pid_bits row_bits = record { limits = limits; slots = slots; rows = rows; pid_bits = pid_bits; row_bits = row_bits; epoch = epoch; announced = announced }
 
@@ -178,7 +178,7 @@ module _ (limits : Limits) (slots : List ℕ) (rows : List (Option Record)) (epo
 
 -- The table that a memory opens with.
 pub opening_is : (limits : Limits) (slots : List ℕ) (rows : List (Option Record)) (pid_bits row_bits announced : List ℕ) → slots ≡ set (set (replicate limits.pids 0) 0 1) 1 1 → rows ≡ set (replicate limits.rows None) 1 (Some (Base empty_leaf))
-    → is_free pid_bits ≡ (λ n. nat_le 2 n && nat_lt n limits.pids) → is_free row_bits ≡ (λ n. nat_le 2 n && nat_lt n limits.rows) → announced ≡ replicate limits.actors 0
+    → is_bit_set pid_bits ≡ (λ n. nat_le 2 n && nat_lt n limits.pids) → is_bit_set row_bits ≡ (λ n. nat_le 2 n && nat_lt n limits.rows) → announced ≡ replicate limits.actors 0
     → memory_in (record { limits = limits; slots = slots; rows = rows; pid_bits = pid_bits; row_bits = row_bits; epoch = limits.epoch; announced = announced }) ≡ opening limits
 opening_is limits slots rows pid_bits row_bits announced linked placed pids frees outside =
     λ d. record { slots = λ pid. in_slot pid d; rows = λ row. in_row row d; free_pids = pids d; free_rows = frees d; epoch = limits.epoch; announced = λ actor. by_actor actor d }

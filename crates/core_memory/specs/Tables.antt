@@ -18,16 +18,16 @@ pub record CoreTable : Type 0 where
   pub announced : List ℕ
 
 -- number n is bit n % 64 of word n / 64
-abbrev pub is_free : List ℕ → ℕ → Bool
-is_free words n = bit_at (slice_index words (n / 64)) (n % 64) == 1
+abbrev pub is_bit_set : List ℕ → ℕ → Bool
+is_bit_set words n = bit_at (slice_index words (n / 64)) (n % 64) == 1
 
 -- the memory that the table has; what has no place is 0, or none
 abbrev pub memory_in : CoreTable → Memory
 memory_in table = record {
   slots = λ pid. slice_index table.slots pid;
   rows = λ row. slice_index_or table.rows row None;
-  free_pids = λ pid. is_free table.pid_bits pid;
-  free_rows = λ row. is_free table.row_bits row;
+  free_pids = λ pid. is_bit_set table.pid_bits pid;
+  free_rows = λ row. is_bit_set table.row_bits row;
   epoch = table.epoch;
   announced = λ actor. slice_index table.announced actor;
 }

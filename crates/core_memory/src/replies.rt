@@ -1,5 +1,5 @@
 //! Replies as entries keep them: the pairs of a cursor page stand out of line, so that an entry is short.
-ghost use Rattle.std.specs.Prelude.{◌≡◌, [], None, Some, IfOk, IsSome};
+ghost use Rattle.std.specs.Prelude.{◌≡◌, [], None, IfOk, IsSome};
 ghost use Rattle.core_memory.specs.Replies.{ShowsPairs};
 
 use bw_model::{Key, Pairs, Reply, Value};

@@ -2,7 +2,7 @@
 ghost use Rattle.std.specs.Prelude.{◌≡◌, IfOk, slice_index};
 ghost use Rattle.deltas.specs.Spellable.{IsSpellable};
 ghost use Rattle.record_slots.specs.Spelling.{words_of};
-ghost use Rattle.row_search.specs.Placed.{HasSpelling};
+ghost use Rattle.record_slots.specs.Spells.{HasSpelling};
 
 use crate::rows::{used, write_row};
 use deltas::Record;

@@ -6,7 +6,7 @@ ghost use Rattle.deltas.specs.declared.record.Record.{Record as RecordOf};
 ghost use Rattle.record_slots.specs.Spelling.{words_of};
 ghost use Rattle.tree_limits.specs.Words.{is_among};
 ghost use Rattle.traces.specs.trace.Steps.{IsAnswer, IsWordOf, MovesRecord, memory_after};
-ghost use Rattle.core_memory.specs.Tables.{IsWithinTable, is_free, memory_in};
+ghost use Rattle.core_memory.specs.Tables.{IsWithinTable, is_bit_set, memory_in};
 
 use crate::SharedRecord;
 use base_page::Page;
@@ -236,7 +236,7 @@ fn free_bits<A: Allocator>(alloc: A, count: u64) -> Result<Vec<u64, A>, AllocErr
     requires some { 64 ≤ count }
     requires whole { count % 64 ≡ 0 }
     ensures len { IfOk result (λ words. 64 * length words.items ≡ count) }
-    ensures free { IfOk result (λ words. is_free words.items ≡ (λ n. nat_le 2 n && nat_lt n count)) }
+    ensures free { IfOk result (λ words. is_bit_set words.items ≡ (λ n. nat_le 2 n && nat_lt n count)) }
 {
     let mut words = vec![in alloc; u64::MAX; (count / 64) as usize]?;
     words[0] = u64::MAX - 3;
@@ -258,7 +258,7 @@ fn place<A: Allocator>(
 /// A word of free bits.
 fn word_at(words: &[u64], word: u32) -> u64
     requires { word < length words.now }
-    ensures { IsWordOf (is_free words.now) word result }
+    ensures { IsWordOf (is_bit_set words.now) word result }
 {
     words[word as usize]
 }
@@ -266,7 +266,7 @@ fn word_at(words: &[u64], word: u32) -> u64
 /// Whether the bit of a number is set.
 fn is_set(words: &[u64], number: u32) -> bool
     requires { number < 64 * length words.now }
-    ensures { result ≡ is_free words.now number }
+    ensures { result ≡ is_bit_set words.now number }
 {
     words[(number / 64) as usize] & 1 << (number % 64) != 0
 }
@@ -274,7 +274,7 @@ fn is_set(words: &[u64], number: u32) -> bool
 /// Clears the bit of a number.
 fn clear_bit<A: Allocator>(words: &mut Vec<u64, A>, number: u32)
     requires { number < 64 * length words.old.items }
-    ensures taken { is_free words.new.items ≡ replaced_at number false (is_free words.old.items) }
+    ensures taken { is_bit_set words.new.items ≡ replaced_at number false (is_bit_set words.old.items) }
     ensures len { length words.new.items ≡ length words.old.items }
 {
     let word = (number / 64) as usize;
@@ -284,7 +284,7 @@ fn clear_bit<A: Allocator>(words: &mut Vec<u64, A>, number: u32)
 /// Sets bits of one word.
 fn set_bits<A: Allocator>(words: &mut Vec<u64, A>, word: u32, bits: u64)
     requires { word < length words.old.items }
-    ensures freed { is_free words.new.items ≡ (λ n. is_free words.old.items n || is_among word bits n) }
+    ensures freed { is_bit_set words.new.items ≡ (λ n. is_bit_set words.old.items n || is_among word bits n) }
     ensures len { length words.new.items ≡ length words.old.items }
 {
     words[word as usize] |= bits;

@@ -16,7 +16,7 @@ use Rattle.traces.specs.discipline.Recalled.{IsUnread, Recalled, is_lower, recal
 use Rattle.smo.specs.Readings.{IsAfter}
 use Rattle.smo.specs.Versions.{Version}
 use Rattle.descent.specs.Visits.{VisitState, Slot, Row, FindsHead, Completes, Continues, Visit, at, wanted}
-use Rattle.descent.specs.Walks.{HasArrived, IsAmong}
+use Rattle.descent.specs.Walks.{HasArrived, IsAmongPids}
 use Rattle.descent.specs.Courses.{WriteGoal, Seek, Left, Merge, Unterm}
 use Rattle.descent.specs.WriteRounds.{IsLosingTerm, IsMissing, KeepsToWrite, is_cutting, write_way, IsBased, IsLed, IsLeftOf, IsKept, VisitsToWrite, SeeksLeaf}
 use Rattle.descent.proofs.Holding.{before_slot, in_hand_row, in_hand_slot, slot_before}
@@ -25,7 +25,7 @@ use Rattle.descent.proofs.Seeking.{arrived, seeks_row, seeks_slot}
 use Rattle.descent.proofs.Visiting.{back, row_below, there}
 
 -- a page that is none of these isn't one that is among them
-pub differs : (page other : ℕ) (others : List ℕ) → IsUnread page others → IsAmong other others → other ≢ page
+pub differs : (page other : ℕ) (others : List ℕ) → IsUnread page others → IsAmongPids other others → other ≢ page
 differs page other [] new among e = among
 differs page other (first ∷ others) new among e = elim among [
   | inl here ↦ new.0 (sym e ∙ here)
@@ -33,7 +33,7 @@ differs page other (first ∷ others) new among e = elim among [
 ]
 
 -- what has a page among it isn't empty
-pub some_among : (other : ℕ) (others : List ℕ) → IsAmong other others → others ≡ [] → ⊥
+pub some_among : (other : ℕ) (others : List ℕ) → IsAmongPids other others → others ≡ [] → ⊥
 some_among other [] among e = among
 some_among other (first ∷ others) among e = cc
 

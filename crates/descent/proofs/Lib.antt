@@ -1,3 +1,4 @@
+pub mod SeenPages
 pub mod FrontLaws
 pub mod PageLaws
 pub mod WayLaws

@@ -1,5 +1,5 @@
 -- Why a round begins again, or is done, where nothing is due.
-use Rattle.std.proofs.Common.{◌≡◌, ℕ, Some, refl}
+use Rattle.std.proofs.Common.{Some, refl}
 use Rattle.bw_model.specs.declared.step.Answer.{Answer}
 use Rattle.deltas.specs.declared.record.Record.{Record}
 use Rattle.deltas.proofs.Replaced.{replaced_same}

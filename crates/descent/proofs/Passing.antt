@@ -18,7 +18,7 @@ use Rattle.descent.specs.ReadGoals.{ReadGoal, Seek, Left, Beyond}
 use Rattle.descent.specs.ReadLegs.{Leg, Down, Round, Past, below, has_met}
 use Rattle.descent.specs.Visits.{Slot, Row, FindsHead, Completes, Continues, Visit, at, to_page, wanted}
 use Rattle.descent.specs.Versions.{IsInHand}
-use Rattle.descent.specs.Walks.{HasArrived, IsUnder}
+use Rattle.descent.specs.Walks.{HasArrived, IsUnderRemoval}
 use Rattle.descent.specs.Ways.{LeadsDown, LeadsRight, NamesAt, reaches, precedes}
 use Rattle.descent.specs.ReadRounds.{BeginsToRead, IsAbove, IsGoneAt, IsOn, VisitsToRead, KeepsToRead, SaysAside, goes_beyond, read_way}
 use Rattle.descent.proofs.Holding.{before_slot, in_hand_row, in_hand_slot}
@@ -58,7 +58,7 @@ pub record IsOver (limits : Limits) (k now : Knowledge) (goal : ReadGoal) (pid l
 abbrev pub WasOn : Limits → Knowledge → Knowledge → Recalled → ReadGoal → Version → ℕ → List ℕ → Leg → Type 0
 WasOn limits k now r goal version level earlier (Down above) = (r.walk.passed ≡ false) × IfSome above (IsOver limits k now goal version.pid level earlier)
 WasOn limits k now r goal version level earlier (Round removed) = (r.walk.removed ≡ true) × (r.walk.passed ≡ true → level_in removed.chain ≤ r.walk.level)
-WasOn limits k now r goal version level earlier (Past above) = ((earlier ≢ []) × (r.walk.removed ≡ true) × (r.walk.passed ≡ true → IsUnder above level r.walk.level version.chain)) × IfSome above (IsOver limits k now goal version.pid level earlier)
+WasOn limits k now r goal version level earlier (Past above) = ((earlier ≢ []) × (r.walk.removed ≡ true) × (r.walk.passed ≡ true → IsUnderRemoval above level r.walk.level version.chain)) × IfSome above (IsOver limits k now goal version.pid level earlier)
 
 -- A page was read whole, on the way of the goal.
 pub record HasReached (limits : Limits) (key : List ℕ) (goal : ReadGoal) (leg : Leg) (k now : Knowledge) (r : Recalled) (version : Version) : Type 0 where

@@ -19,7 +19,7 @@ use Rattle.descent.specs.Machines.{IsTold}
 use Rattle.descent.specs.Versions.{IsInHand}
 use Rattle.descent.specs.Rounds.{CanSee, Follows, Responds, Sees, machine}
 use Rattle.descent.specs.Visits as page
-use Rattle.descent.specs.Walks.{IsReached, IsRoundLast, IsSeeking, IsUnderLast, left_at, left_in, with_walk}
+use Rattle.descent.specs.Walks.{IsReached, IsRoundLast, IsSeeking, IsUnderLast, reads_left_at, reads_left_in, with_walk}
 use Rattle.descent.specs.Ways.{EndsHere, StaysLeft, precedes, reaches}
 use Rattle.descent.proofs.Lost.{found_nothing}
 use Rattle.descent.proofs.Passing.{HasReached, IsOver, at_or_below, begins, goes_down, goes_right, keeps_next, passed_next, reached_next, visits_next}
@@ -194,7 +194,7 @@ module _ (old new : ReadRound) (told : Answer Record) (visit : page.Visit) where
     Lost goal = MissesRead reserve kept r (record here { goal = goal }) told goal
 
     -- what is reserved is left
-    missed_with : reserve < left_in old.limits reserve r visit → (goal : ReadGoal) → Lost goal
+    missed_with : reserve < reads_left_in old.limits reserve r visit → (goal : ReadGoal) → Lost goal
     missed_with more Seek = inr (omega (arith, more))
     missed_with more (Left removed) = inr (omega (arith, more))
     missed_with more Beyond = omega (arith, more)
@@ -222,16 +222,16 @@ module _ (old new : ReadRound) (told : Answer Record) (visit : page.Visit) where
           ∙ unpassed old.limits old.key old.goal old.leg above e k (learn k (page.wanted visit) told) (recall r (page.wanted visit) told) version
           (read_plain old.limits old.key old.goal k (learn k (page.wanted visit) told) (recall r (page.wanted visit) told) version old.leg (plain_above old.leg above e) (whole old.limits old.key old.goal k r visit told f old.leg h version b)) gone
 
-      less : is_removed version.chain ≡ false → left_at old.limits reserve (recall r (page.wanted visit) told).walk [] Slot < left_in old.limits reserve r visit
+      less : is_removed version.chain ≡ false → reads_left_at old.limits reserve (recall r (page.wanted visit) told).walk [] Slot < reads_left_in old.limits reserve r visit
       less = left_on reserve old.limits s.way s.beyond k r visit s.level s.low s.earlier told s.seeks f version b
 
-      more : is_removed version.chain ≡ false → (goal : ReadGoal) → old.goal ≡ goal → left_at old.limits reserve (recall r (page.wanted visit) told).walk [] Slot + read_round_kept kept goal < left_in old.limits reserve r visit + read_round_kept kept old.goal
+      more : is_removed version.chain ≡ false → (goal : ReadGoal) → old.goal ≡ goal → reads_left_at old.limits reserve (recall r (page.wanted visit) told).walk [] Slot + read_round_kept kept goal < reads_left_in old.limits reserve r visit + read_round_kept kept old.goal
       more alive goal e = let l = less alive in rw e (omega (arith, l))
 
-      gone_on : is_removed version.chain ≡ true → (above : Version) → above_of old.leg ≡ Some above → left_at old.limits reserve (recall r (page.wanted visit) told).walk [] Slot + read_round_kept kept old.goal < left_in old.limits reserve r visit + read_round_kept kept old.goal
+      gone_on : is_removed version.chain ≡ true → (above : Version) → above_of old.leg ≡ Some above → reads_left_at old.limits reserve (recall r (page.wanted visit) told).walk [] Slot + read_round_kept kept old.goal < reads_left_in old.limits reserve r visit + read_round_kept kept old.goal
       gone_on gone above e = let l = left_round reserve old.limits s.way s.beyond k r visit s.level s.low s.earlier told s.seeks f version b gone (unpassed_at gone above e) in omega (arith, l)
 
-      reserved : is_removed version.chain ≡ true → reserve < left_in old.limits reserve r visit
+      reserved : is_removed version.chain ≡ true → reserve < reads_left_in old.limits reserve r visit
       reserved = left_removed reserve old.limits s.way s.beyond k r visit s.level s.low s.earlier told s.seeks f version b
 
       by_result : (o : Option ReadEnd) → TreatsRead here version new o → Spends reserve kept r here told new o

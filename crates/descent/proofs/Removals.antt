@@ -12,7 +12,7 @@ use Rattle.traces.specs.chain.Fitted.{FitsOver, IsFitted}
 use Rattle.traces.specs.discipline.Recalled.{IsPaid, Recalled, Walk, is_lower, is_removal, note, recall, removal_level}
 use Rattle.smo.specs.Versions.{Version}
 use Rattle.descent.specs.Visits.{Slot, Row}
-use Rattle.descent.specs.Walks.{AreRemovalsAbove, HasRemovalAt, IsRoundLast, IsUnder, IsUnderLast}
+use Rattle.descent.specs.Walks.{AreRemovalsAbove, HasRemovalAt, IsRoundLast, IsUnderRemoval, IsUnderLast}
 
 -- booleans
 
@@ -175,7 +175,7 @@ all_push : (level : ℕ) (part : List Record) (content : Record) → AreRemovals
 all_push level [] content h last = (last, tt)
 all_push level (first ∷ part) content h last = (h.0, all_push level part content h.1 last)
 
-under_push : (above : Option Version) (level last : ℕ) (part : List Record) (content : Record) → (is_removal content ≡ true → last ≤ removal_level content) → IsUnder above level last part → IsUnder above level last (part ++ content ∷ [])
+under_push : (above : Option Version) (level last : ℕ) (part : List Record) (content : Record) → (is_removal content ≡ true → last ≤ removal_level content) → IsUnderRemoval above level last part → IsUnderRemoval above level last (part ++ content ∷ [])
 under_push None level last part content most h = h
 under_push (Some above) level last part content most h = (h.0, all_push level part content h.1 (λ gone. let low = h.0 in let high = most gone in omega (arith, low, high)))
 

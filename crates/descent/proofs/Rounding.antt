@@ -15,7 +15,7 @@ use Rattle.descent.specs.ReadGoals.{ReadGoal, Seek, Left, Beyond}
 use Rattle.descent.specs.ReadLegs.{Leg, Down, Round, Past, above_of, has_met, level_on}
 use Rattle.descent.specs.ReadRounds.{IsAbove, IsAliveLeaf, IsBesideLeaf, IsGoingRound, IsOn, VisitsToRead, KeepsToRead, goes_beyond, left_of, read_way}
 use Rattle.descent.specs.Visits.{to_page}
-use Rattle.descent.specs.Walks.{AreRemovalsAbove, IsUnder}
+use Rattle.descent.specs.Walks.{AreRemovalsAbove, IsUnderRemoval}
 use Rattle.descent.specs.Ways.{LeadsDown, LeadsOn, LeadsRight, NamesAt, StaysLeft, reaches}
 use Rattle.descent.proofs.Beside.{IsBesideGone, beside_on, says, says_before, within}
 use Rattle.descent.proofs.Passing.{HasReached, IsBy, IsOver, Passed, WasOn, above_here, at_or_below, before_on, goes_right, is_on_way, keeps_on, met_none, met_still, most_under, of_level}
@@ -296,7 +296,7 @@ module _ (limits : Limits) (key : List ℕ) (goal : ReadGoal) (removed : Version
 
   -- the round goes on from the page, as the removed one was merged
   module _ (same : level_in there ≡ level_in removed.chain) where
-    goes_named : (to : Option Version) (pid level : ℕ) (low : List ℕ) → NamesAt there pid level low → IsTrue (read_way goal key low) → IsUnder to level r.walk.level [] → IfSome to (IsAbove limits now goal pid level (version.pid ∷ h.earlier))
+    goes_named : (to : Option Version) (pid level : ℕ) (low : List ℕ) → NamesAt there pid level low → IsTrue (read_way goal key low) → IsUnderRemoval to level r.walk.level [] → IfSome to (IsAbove limits now goal pid level (version.pid ∷ h.earlier))
         → VisitsToRead limits key goal (Past to) now r (to_page limits pid)
     goes_named to pid level low names passing under above = record {
       level = level;

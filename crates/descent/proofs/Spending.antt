@@ -15,7 +15,7 @@ use Rattle.traces.specs.discipline.Knowledge.{Knowledge}
 use Rattle.traces.specs.discipline.Recalled.{AnyNames, IsPaid, IsSpentWith, IsUnread, Recalled, Walk, is_lower, is_removal, recall, trail}
 use Rattle.smo.specs.Versions.{Version}
 use Rattle.descent.specs.Visits.{VisitState, Slot, Row, FindsHead, Completes, Continues, FindsEmpty, Visit, at, wanted}
-use Rattle.descent.specs.Walks.{IsSeeking, left_at, left_in, with_walk}
+use Rattle.descent.specs.Walks.{IsSeeking, reads_left_at, reads_left_in, with_walk}
 use Rattle.descent.proofs.Meeting.{few_pages, removed_push}
 use Rattle.descent.proofs.Removals.{base_is_none, lower_first, paid_lower}
 use Rattle.descent.proofs.Seeking.{arrived}
@@ -30,7 +30,7 @@ module _ (reserve : ℕ) (limits : Limits) (way : List ℕ → Bool) (beyond : B
   recall_walk zero n some = absurd (omega (arith, some))
   recall_walk (suc pid) n some = refl
 
-  spent_slot : (row : ℕ) → Seeks Slot → left_in limits reserve (recall r (step.Slot visit.pid) (answer.Number row)) (record visit { part = []; state = Row row row }) < left_in limits reserve r (at visit Slot)
+  spent_slot : (row : ℕ) → Seeks Slot → reads_left_in limits reserve (recall r (step.Slot visit.pid) (answer.Number row)) (record visit { part = []; state = Row row row }) < reads_left_in limits reserve r (at visit Slot)
   spent_slot row h =
       let few = few_pages limits (visit.pid ∷ earlier) h.on_way.distinct in
       rw (recall_walk visit.pid row h.on_way.shows.page, h.on_way.visited) (omega (arith, few))
@@ -54,7 +54,7 @@ module _ (reserve : ℕ) (limits : Limits) (way : List ℕ → Bool) (beyond : B
   at_most false = omega arith
 
   spent_row : (head row : ℕ) (content : Record) (under : ℕ) → FitsRow limits k row content → Seeks (Row head row)
-      → IsSpentWith (1 + full) r (step.Row row) (answer.Content content) (left_in limits reserve r (at visit (Row head row))) (left_in limits reserve (recall r (step.Row row) (answer.Content content)) (record visit { part = visit.part ++ content ∷ []; state = Row head under }))
+      → IsSpentWith (1 + full) r (step.Row row) (answer.Content content) (reads_left_in limits reserve r (at visit (Row head row))) (reads_left_in limits reserve (recall r (step.Row row) (answer.Content content)) (record visit { part = visit.part ++ content ∷ []; state = Row head under }))
   spent_row head row content under fits h = by_tests (is_lower content r.walk) r.walk.passed refl refl
     where
       few : length visit.part < 13
@@ -109,9 +109,9 @@ module _ (reserve : ℕ) (limits : Limits) (way : List ℕ → Bool) (beyond : B
     abbrev FitsAt : Visit → Answer Record → Type 0
     FitsAt v x = Fits limits k (wanted v) x
 
-    pub spent_on : (new : Visit) → FindsHead visit told new ⊎ Continues visit told new → IsSpentWith (1 + full) r (wanted visit) told (left_in limits reserve r visit) (left_in limits reserve (recall r (wanted visit) told) new)
+    pub spent_on : (new : Visit) → FindsHead visit told new ⊎ Continues visit told new → IsSpentWith (1 + full) r (wanted visit) told (reads_left_in limits reserve r visit) (reads_left_in limits reserve (recall r (wanted visit) told) new)
     spent_on new moves =
-        let P : Visit → Answer Record → Type 0 = λ v x. IsSpentWith (1 + full) r (wanted v) x (left_in limits reserve r v) (left_in limits reserve (recall r (wanted v) x) new) in
+        let P : Visit → Answer Record → Type 0 = λ v x. IsSpentWith (1 + full) r (wanted v) x (reads_left_in limits reserve r v) (reads_left_in limits reserve (recall r (wanted v) x) new) in
         elim moves [
           | inl b ↦ back visit P Slot (answer.Number b.row) told b.asked b.is (rw b.goes (inl (spent_slot b.row (seeks_at Slot b.asked))))
           | inr b ↦ back visit P (Row b.head b.row) (answer.Content b.content) told b.asked b.is (rw b.goes (spent_row b.head b.row b.content b.under (there visit FitsAt (Row b.head b.row) (answer.Content b.content) told b.asked b.is f) (seeks_at (Row b.head b.row) b.asked)))
@@ -121,19 +121,19 @@ module _ (reserve : ℕ) (limits : Limits) (way : List ℕ → Bool) (beyond : B
     spent_empty here b = back visit (λ v x. IsPaid r (wanted v) x) Slot (answer.Number 0) told b.asked b.is (empty here (seeks_at Slot b.asked) (there visit FitsAt Slot (answer.Number 0) told b.asked b.is f))
 
     -- there are pages that weren't visited
-    pub left_empty : FindsEmpty visit told → 0 < left_in limits reserve r visit
+    pub left_empty : FindsEmpty visit told → 0 < reads_left_in limits reserve r visit
     left_empty b =
         let seeks = seeks_at Slot b.asked in
         let few = few_pages limits (visit.pid ∷ earlier) seeks.on_way.distinct in
-        back visit (λ v x. 0 < left_in limits reserve r v) Slot (answer.Number 0) told b.asked b.is (rw seeks.on_way.visited (omega (arith, few)))
+        back visit (λ v x. 0 < reads_left_in limits reserve r v) Slot (answer.Number 0) told b.asked b.is (rw seeks.on_way.visited (omega (arith, few)))
 
     -- so it is once the round has gone on from a removed page, beside what is reserved
-    pub left_gone : FindsEmpty visit told → r.walk.removed ≡ true → reserve < left_in limits reserve r visit
+    pub left_gone : FindsEmpty visit told → r.walk.removed ≡ true → reserve < reads_left_in limits reserve r visit
     left_gone b gone =
         let seeks = seeks_at Slot b.asked in
         let few = few_pages limits (visit.pid ∷ earlier) seeks.on_way.distinct in
         let same : (if r.walk.removed then reserve else 0) ≡ reserve = rw gone refl in
-        back visit (λ v x. reserve < left_in limits reserve r v) Slot (answer.Number 0) told b.asked b.is (rw seeks.on_way.visited (omega (arith, few, same)))
+        back visit (λ v x. reserve < reads_left_in limits reserve r v) Slot (answer.Number 0) told b.asked b.is (rw seeks.on_way.visited (omega (arith, few, same)))
 
     -- a page was read whole
     module _ (version : Version) (b : Completes visit told version) where
@@ -151,12 +151,12 @@ module _ (reserve : ℕ) (limits : Limits) (way : List ℕ → Bool) (beyond : B
       kept = if r.walk.passed then reserve else (if is_removed visit.part then full else 0)
 
       -- what was left is more than what is left for the other pages
-      pub more_left : 14 * (limits.pids - length r.walk.visited) + kept < left_in limits reserve r visit
+      pub more_left : 14 * (limits.pids - length r.walk.visited) + kept < reads_left_in limits reserve r visit
       more_left =
-          let here : 14 * (limits.pids - length r.walk.visited) + kept < left_in limits reserve r (at visit (Row version.head b.row)) = omega (arith, few) in
-          back visit (λ v x. 14 * (limits.pids - length r.walk.visited) + kept < left_in limits reserve r v) (Row version.head b.row) (answer.Content b.content) told b.asked b.is here
+          let here : 14 * (limits.pids - length r.walk.visited) + kept < reads_left_in limits reserve r (at visit (Row version.head b.row)) = omega (arith, few) in
+          back visit (λ v x. 14 * (limits.pids - length r.walk.visited) + kept < reads_left_in limits reserve r v) (Row version.head b.row) (answer.Content b.content) told b.asked b.is here
 
-      pub left_some : 0 < left_in limits reserve r visit
+      pub left_some : 0 < reads_left_in limits reserve r visit
       left_some = let more = more_left in omega (arith, more)
 
       -- the base is no removal
@@ -164,17 +164,17 @@ module _ (reserve : ℕ) (limits : Limits) (way : List ℕ → Bool) (beyond : B
       base_passed = back visit (λ v x. (recall r (wanted v) x).walk.passed ≡ r.walk.passed) (Row version.head b.row) (answer.Content b.content) told b.asked b.is (rw (base_is_none b.content r.walk b.last) refl)
 
       -- once a removed page was met, what is reserved is left
-      pub left_kept : r.walk.removed ≡ true → reserve < left_in limits reserve r visit
+      pub left_kept : r.walk.removed ≡ true → reserve < reads_left_in limits reserve r visit
       left_kept gone = by_tests r.walk.passed (is_removed visit.part) refl refl (sym seeks.on_way.removed ∙ gone)
         where
-          by_tests : (p t : Bool) → r.walk.passed ≡ p → is_removed visit.part ≡ t → (r.walk.passed || is_removed visit.part) ≡ true → reserve < left_in limits reserve r visit
+          by_tests : (p t : Bool) → r.walk.passed ≡ p → is_removed visit.part ≡ t → (r.walk.passed || is_removed visit.part) ≡ true → reserve < reads_left_in limits reserve r visit
           by_tests true t e f g = let same : kept ≡ reserve = rw e refl in let more = more_left in omega (arith, more, same)
           by_tests false true e f g = let same : kept ≡ full = rw (e, f) refl in let more = more_left in omega (arith, more, same)
           by_tests false false e f g = let clash : false ≡ true = rw (e, f) at g in absurd cc
 
       -- the round goes on from a page that isn't removed
-      pub left_on : is_removed version.chain ≡ false → left_at limits reserve (recall r (wanted visit) told).walk [] Slot < left_in limits reserve r visit
-      left_on alive = back visit (λ v x. left_at limits reserve (recall r (wanted v) x).walk [] Slot < left_in limits reserve r visit) (Row version.head b.row) (answer.Content b.content) told b.asked b.is (by_passed r.walk.passed refl)
+      pub left_on : is_removed version.chain ≡ false → reads_left_at limits reserve (recall r (wanted visit) told).walk [] Slot < reads_left_in limits reserve r visit
+      left_on alive = back visit (λ v x. reads_left_at limits reserve (recall r (wanted v) x).walk [] Slot < reads_left_in limits reserve r visit) (Row version.head b.row) (answer.Content b.content) told b.asked b.is (by_passed r.walk.passed refl)
         where
           now : Walk
           now = (recall r (step.Row b.row) (answer.Content b.content)).walk
@@ -191,7 +191,7 @@ module _ (reserve : ℕ) (limits : Limits) (way : List ℕ → Bool) (beyond : B
           all : trail now ≡ r.walk.visited
           all = trail_on now version.chain told_now alive
 
-          by_passed : (p : Bool) → r.walk.passed ≡ p → left_at limits reserve now [] Slot < left_in limits reserve r visit
+          by_passed : (p : Bool) → r.walk.passed ≡ p → reads_left_at limits reserve now [] Slot < reads_left_in limits reserve r visit
           by_passed true e =
               let gone : now.removed ≡ true = rw e at tells in
               let same : kept ≡ (if now.removed then reserve else 0) = rw (gone, e) refl in
@@ -220,16 +220,16 @@ module _ (reserve : ℕ) (limits : Limits) (way : List ℕ → Bool) (beyond : B
           no_removal (kind.Merge merge) e = refl
           no_removal (kind.Unterm unterm) e = refl
 
-      pub left_removed : is_removed version.chain ≡ true → reserve < left_in limits reserve r visit
+      pub left_removed : is_removed version.chain ≡ true → reserve < reads_left_in limits reserve r visit
       left_removed gone = by_passed r.walk.passed refl
         where
-          by_passed : (p : Bool) → r.walk.passed ≡ p → reserve < left_in limits reserve r visit
+          by_passed : (p : Bool) → r.walk.passed ≡ p → reserve < reads_left_in limits reserve r visit
           by_passed true e = let same : kept ≡ reserve = rw e refl in let more = more_left in omega (arith, more, same)
           by_passed false e = let is = part_removed gone in let same : kept ≡ full = rw (e, is) refl in let more = more_left in omega (arith, more, same)
 
       -- the round goes round a removed page, whose removal was a cause: the pages that it has read don't count any more
-      pub left_round : is_removed version.chain ≡ true → r.walk.passed ≡ false → left_at limits reserve (recall r (wanted visit) told).walk [] Slot < left_in limits reserve r visit
-      left_round gone first = back visit (λ v x. left_at limits reserve (recall r (wanted v) x).walk [] Slot < left_in limits reserve r visit) (Row version.head b.row) (answer.Content b.content) told b.asked b.is here
+      pub left_round : is_removed version.chain ≡ true → r.walk.passed ≡ false → reads_left_at limits reserve (recall r (wanted visit) told).walk [] Slot < reads_left_in limits reserve r visit
+      left_round gone first = back visit (λ v x. reads_left_at limits reserve (recall r (wanted v) x).walk [] Slot < reads_left_in limits reserve r visit) (Row version.head b.row) (answer.Content b.content) told b.asked b.is here
         where
           now : Walk
           now = (recall r (step.Row b.row) (answer.Content b.content)).walk
@@ -240,7 +240,7 @@ module _ (reserve : ℕ) (limits : Limits) (way : List ℕ → Bool) (beyond : B
           met : now.removed ≡ true
           met = (arrived limits way beyond k r visit level low earlier b.row b.content fits_row version b.pid b.chain b.last seeks).removed ∙ rw (same_passed, gone) refl
 
-          here : left_at limits reserve now [] Slot < left_in limits reserve r visit
+          here : reads_left_at limits reserve now [] Slot < reads_left_in limits reserve r visit
           here =
               let is = part_removed gone in
               let same : kept ≡ full = rw (first, is) refl in

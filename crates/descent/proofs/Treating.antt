@@ -26,7 +26,7 @@ use Rattle.descent.specs.WriteEnds as end
 use Rattle.descent.specs.Versions.{IsAlive, IsInHand}
 use Rattle.descent.specs.Visits as page
 use Rattle.descent.specs.Ways.{LeadsDown, LeadsRight, NamesAt, StaysLeft, reaches}
-use Rattle.descent.specs.WriteRounds.{IsCleanEnd, IsUncutEnd, IsUnmergedEnd, IsLosingTerm, IsMergeEnd, IsMissing, IsUntermEnd, KeepsToWrite, SeeksLeaf, is_cutting, write_way, EndsWrite, IsBased, IsLeftOf, IsKept, IsLeafEnd, IsLong, IsRootEnd, IsTermEnd, VisitsToWrite, Shows, WriteRound, goes_left, IsTendEnd, IsDue}
+use Rattle.descent.specs.WriteRounds.{IsCleanEnd, IsUncutEnd, IsUnmergedEnd, IsLosingTerm, IsMergeEnd, IsMissing, IsUntermEnd, KeepsToWrite, SeeksLeaf, is_cutting, write_way, EndsWrite, IsBased, IsLeftOf, IsKept, IsLeafEnd, IsLong, IsRootEnd, IsTermEnd, VisitsToWrite, Shows, WriteRound, goes_left, IsTendEnd, IsDueBy}
 use Rattle.descent.specs.WriteResponses.{EndsClean, EndsUncut, EndsUnmerged, EndsCut, EndsFine, EndsMerged, EndsSmall, EndsUnposted, EndsUnrooted, IsFine, IsHere, IsSplitFinished, TreatsWrite, EndsBy}
 use Rattle.descent.proofs.Keeping.{HasReached, LiesAbove, Passed, differs}
 use Rattle.descent.proofs.Leading.{led_aside, termed}
@@ -311,7 +311,7 @@ module _ (old : WriteRound) (k now : Knowledge) (r : Recalled) (version : Versio
       let cut : IsLosingTerm old.limits now h.earlier t.parent t.left = subst (λ (g : WriteGoal). Passed old.limits old.key old.floor k now version.pid h.earlier g) t.goal h.passed in
       record { parent = t.parent; left = t.left; goal = t.goal; above = alive_of t.parent cut.above; aside = alive_of t.left cut.aside; version = version; page = hand_here; none = t.none }
 
-  due_end : (change : DueChange) → EndsBy old version change → IsDue old now r change
+  due_end : (change : DueChange) → EndsBy old version change → IsDueBy old now r change
   due_end (end.Consolidate page base) t = rw t.is (record { page = alive_here t.here.alive; long = t.long; plan = t.plan })
   due_end (end.Split page plan) t = rw t.is (record { page = alive_here t.here.alive; plan_due = t.plan_due })
   due_end (end.Term parent term) t = term_end parent term t

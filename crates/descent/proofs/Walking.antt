@@ -24,7 +24,7 @@ use Rattle.traces.specs.discipline.Recalled.{IsUnread, Recalled, Walk, is_lower,
 use Rattle.smo.specs.Versions.{Version}
 use Rattle.descent.specs.Visits.{Slot, Row, Arrives, MayVisit, Visit, at, to_page}
 use Rattle.descent.specs.Versions.{NamesPages}
-use Rattle.descent.specs.Walks.{AreRecalled, HasArrived, IsAmong, IsExpected, IsNamedAt, IsOnWay, IsPast, IsPastAt}
+use Rattle.descent.specs.Walks.{AreRecalled, HasArrived, IsAmongPids, IsExpected, IsNamedAt, IsOnWay, IsPast, IsPastAt}
 use Rattle.descent.specs.Ways.{NamesAt}
 use Rattle.descent.proofs.Holding.{named_row, named_slot, next_read, next_slot, past_row, past_slot, read_more}
 use Rattle.descent.proofs.Meeting.{kept_push, removed_push}
@@ -291,7 +291,7 @@ module _ (limits : Limits) (k now : Knowledge) (r : Recalled) (version : Version
   }
 
 -- what was read in this round is recalled as it is known
-pub recalled_head : (k : Knowledge) (r : Recalled) (pages : List ℕ) (page row : ℕ) → AreRecalled k r pages → IsAmong page pages → k.read.heads page ≡ Some row → r.heads page ≡ Some row
+pub recalled_head : (k : Knowledge) (r : Recalled) (pages : List ℕ) (page row : ℕ) → AreRecalled k r pages → IsAmongPids page pages → k.read.heads page ≡ Some row → r.heads page ≡ Some row
 recalled_head k r [] page row h among e = absurd among
 recalled_head k r (other ∷ pages) page row h among e = elim among [
   | inl here ↦ rw here (h.0 ∙ sym (ap k.read.heads here) ∙ e)

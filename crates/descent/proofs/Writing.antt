@@ -19,7 +19,7 @@ use Rattle.descent.specs.WriteEnds as end
 use Rattle.descent.specs.Descents.{WayState, Root, Page, Finds, Shows as WayShows}
 use Rattle.descent.specs.Visits.{Sight, Slot, Empty, Whole}
 use Rattle.descent.specs.Visits as page
-use Rattle.descent.specs.Walks.{IsSeeking, left_at, left_in, with_walk}
+use Rattle.descent.specs.Walks.{IsSeeking, reads_left_at, reads_left_in, with_walk}
 use Rattle.descent.specs.Ways.{precedes, reaches}
 use Rattle.descent.specs.WriteRounds.{BeginsToWrite, IsMissing, KeepsToWrite, MissesWrite, is_cutting, write_round_kept, write_way, VisitsToWrite, Shows, Spends, WriteRound, at, wanted}
 use Rattle.descent.specs.Machines.{IsTold}
@@ -67,16 +67,16 @@ module _ (old new : WriteRound) (told : Answer Record) (visit : page.Visit) wher
       abbrev way_here : List ℕ → Bool
       way_here = write_way old.goal old.key
 
-      less : is_removed version.chain ≡ false → left_at old.limits reserve (recall r (page.wanted visit) told).walk [] Slot < left_in old.limits reserve r visit
+      less : is_removed version.chain ≡ false → reads_left_at old.limits reserve (recall r (page.wanted visit) told).walk [] Slot < reads_left_in old.limits reserve r visit
       less = left_on reserve old.limits way_here (is_cutting old.goal) k r visit h.level h.low h.earlier told h.seeks f version b
 
-      more : is_removed version.chain ≡ false → (goal : WriteGoal) → old.goal ≡ goal → left_at old.limits reserve (recall r (page.wanted visit) told).walk [] Slot + write_round_kept kept goal < left_in old.limits reserve r visit + write_round_kept kept old.goal
+      more : is_removed version.chain ≡ false → (goal : WriteGoal) → old.goal ≡ goal → reads_left_at old.limits reserve (recall r (page.wanted visit) told).walk [] Slot + write_round_kept kept goal < reads_left_in old.limits reserve r visit + write_round_kept kept old.goal
       more alive goal e = let l = less alive in rw e (omega (arith, l))
 
-      some_left : write_round_kept kept old.goal < left_in old.limits reserve r visit + write_round_kept kept old.goal
+      some_left : write_round_kept kept old.goal < reads_left_in old.limits reserve r visit + write_round_kept kept old.goal
       some_left = let some = left_some reserve old.limits way_here (is_cutting old.goal) k r visit h.level h.low h.earlier told h.seeks f version b in omega (arith, some)
 
-      keeps : (goal : WriteGoal) → old.goal ≡ goal → write_round_kept kept goal ≡ kept → kept < left_in old.limits reserve r visit + write_round_kept kept old.goal
+      keeps : (goal : WriteGoal) → old.goal ≡ goal → write_round_kept kept goal ≡ kept → kept < reads_left_in old.limits reserve r visit + write_round_kept kept old.goal
       keeps goal e is = let some = left_some reserve old.limits way_here (is_cutting old.goal) k r visit h.level h.low h.earlier told h.seeks f version b in rw e (rw is (omega (arith, some)))
 
       by_result : (o : Option WriteEnd) → TreatsWrite here version new o → Spends reserve kept r here told new o

@@ -10,7 +10,7 @@ use Rattle.traces.specs.discipline.Knowledge.{Knowledge}
 use Rattle.traces.specs.discipline.Recalled.{Recalled}
 use Rattle.descent.specs.Machines.{Machine}
 use Rattle.descent.specs.Visits as page
-use Rattle.descent.specs.Walks.{few_reads, left_in}
+use Rattle.descent.specs.Walks.{few_reads, reads_left_in}
 use Rattle.descent.specs.Visits.{Sight}
 
 -- where a descent stands: each state is named by what it reads
@@ -82,7 +82,7 @@ Responds old told new (Some sight) = Finds old told sight
 -- how many reads a round takes at most from a state on, with those that are reserved once a removal was read
 abbrev pub left_from : Limits → ℕ → Recalled → WayState → ℕ
 left_from limits reserve r Root = few_reads limits
-left_from limits reserve r (Page visit) = left_in limits reserve r visit
+left_from limits reserve r (Page visit) = reads_left_in limits reserve r visit
 
 -- The slot of the page to which a descent had gone was read last as 0.
 pub record FoundNothing (state : WayState) (r : Recalled) : Type 0 where

@@ -16,7 +16,7 @@ use Rattle.descent.specs.Versions.{IsAlive, IsGone, IsInHand, NamesPages}
 use Rattle.descent.specs.Descents.{FoundNothing, left_from, wanted_at, WayState, Root, Page}
 use Rattle.descent.specs.Rounds.{Rounds}
 use Rattle.descent.specs.Visits as page
-use Rattle.descent.specs.Walks.{HasMetNone, IsAhead, IsAmong, IsReached, IsRoundLast, IsSeeking, IsUnderLast, with_walk}
+use Rattle.descent.specs.Walks.{HasMetNone, IsAhead, IsAmongPids, IsReached, IsRoundLast, IsSeeking, IsUnderLast, with_walk}
 use Rattle.descent.specs.Ways.{EndsHere, LeadsDown, LeadsOn, LeadsRight, StaysLeft, precedes, reaches}
 use Rattle.descent.specs.ReadGoals.{ReadGoal, Seek, Left, Beyond}
 use Rattle.descent.specs.ReadLegs.{Leg, Down, Round, Past, IsPlain, above_of, below, has_met, level_on}
@@ -103,7 +103,7 @@ SaysAside Beyond chain = ⊤
 pub record IsAbove (limits : Limits) (k : Knowledge) (goal : ReadGoal) (pid level : ℕ) (earlier : List ℕ) (above : Version) : Type 0 where
   pub in_hand : IsInHand limits k above
   pub alive : is_removed above.chain ≡ false
-  pub among : IsAmong above.pid earlier
+  pub among : IsAmongPids above.pid earlier
   pub up : level_in above.chain ≡ suc level
   pub apart : above.pid ≢ pid
   pub says : SaysAside goal above.chain
@@ -407,6 +407,6 @@ Spends reserve kept r old told new (Some (Leaf leaf)) = read_round_kept kept old
 Spends reserve kept r old told new (Some (Beside left removed)) = kept < read_round_left reserve kept r old
 
 -- The limits and the key stay.
-pub record IsSame (old new : ReadRound) : Type 0 where
+pub record AsksTheSame (old new : ReadRound) : Type 0 where
   pub limits : new.limits ≡ old.limits
   pub key : new.key ≡ old.key

@@ -90,14 +90,14 @@ AreRemovalsAbove level part = AllByRecursion (λ content. is_removal content ≡
 
 -- A page is of the level of the last removal that was a cause at most; below a page above, which was read after that one, it is of a
 -- lower one, and none of its records is a removal that was one, either.
-abbrev pub IsUnder : Option Version → ℕ → ℕ → List Record → Type 0
-IsUnder None level last part = level ≤ last
-IsUnder (Some above) level last part = (level < last) × AreRemovalsAbove level part
+abbrev pub IsUnderRemoval : Option Version → ℕ → ℕ → List Record → Type 0
+IsUnderRemoval None level last part = level ≤ last
+IsUnderRemoval (Some above) level last part = (level < last) × AreRemovalsAbove level part
 
 -- A removed page was met before the visited one, which is under it, unless a further removal was read that is a cause.
 abbrev pub IsUnderLast : Option Version → ℕ → List ℕ → Walk → List Record → VisitState → Type 0
-IsUnderLast above level earlier walk part Slot = (earlier ≢ []) × (walk.removed ≡ true) × IsUnder above level walk.level []
-IsUnderLast above level earlier walk part (Row head row) = (earlier ≢ []) × (walk.removed ≡ true) × (walk.passed ≡ true → IsUnder above level walk.level part)
+IsUnderLast above level earlier walk part Slot = (earlier ≢ []) × (walk.removed ≡ true) × IsUnderRemoval above level walk.level []
+IsUnderLast above level earlier walk part (Row head row) = (earlier ≢ []) × (walk.removed ≡ true) × (walk.passed ≡ true → IsUnderRemoval above level walk.level part)
 
 -- The removed page was met before the visited one, and is of the level of the last removal at most, unless a further one was read that is
 -- a cause.
@@ -169,9 +169,9 @@ pub record IsReached (limits : Limits) (way : List ℕ → Bool) (version : Vers
   pub names : IsFalse (is_removed version.chain) → NamesPages limits version.chain
 
 -- the page is one of these
-abbrev pub IsAmong : ℕ → List ℕ → Type 0
-IsAmong page [] = ⊥
-IsAmong page (other ∷ others) = (page ≡ other) ⊎ IsAmong page others
+abbrev pub IsAmongPids : ℕ → List ℕ → Type 0
+IsAmongPids page [] = ⊥
+IsAmongPids page (other ∷ others) = (page ≡ other) ⊎ IsAmongPids page others
 
 -- how many reads a round takes at most: slot 0, and of each page the slot and 13 records
 abbrev pub few_reads : Limits → ℕ
@@ -183,9 +183,9 @@ with_walk limits reserve = 14 * limits.pids + reserve
 
 -- how many reads a round takes at most from a visit on, with the one that it has asked for, and with those that are reserved
 -- once a removal was read
-abbrev pub left_at : Limits → ℕ → Walk → List Record → VisitState → ℕ
-left_at limits reserve walk part Slot = 14 * (limits.pids - length (trail walk)) + (if walk.removed then reserve else 0)
-left_at limits reserve walk part (Row head row) = 14 * (limits.pids - length walk.visited) + (13 - length part) + (if walk.passed then reserve else (if is_removed part then with_walk limits reserve else 0))
+abbrev pub reads_left_at : Limits → ℕ → Walk → List Record → VisitState → ℕ
+reads_left_at limits reserve walk part Slot = 14 * (limits.pids - length (trail walk)) + (if walk.removed then reserve else 0)
+reads_left_at limits reserve walk part (Row head row) = 14 * (limits.pids - length walk.visited) + (13 - length part) + (if walk.passed then reserve else (if is_removed part then with_walk limits reserve else 0))
 
-abbrev pub left_in : Limits → ℕ → Recalled → Visit → ℕ
-left_in limits reserve r visit = left_at limits reserve r.walk visit.part visit.state
+abbrev pub reads_left_in : Limits → ℕ → Recalled → Visit → ℕ
+reads_left_in limits reserve r visit = reads_left_at limits reserve r.walk visit.part visit.state

@@ -32,7 +32,7 @@ use Rattle.descent.specs.Versions.{IsAlive, IsGone, IsInHand}
 use Rattle.descent.specs.Courses.{WriteGoal, Seek, Left, Merge, Unterm, removed_of}
 use Rattle.descent.specs.Descents.{FoundNothing, left_from, wanted_at, WayState, Root, Page}
 use Rattle.descent.specs.Visits as page
-use Rattle.descent.specs.Walks.{IsAhead, IsAmong, IsSeeking, with_walk}
+use Rattle.descent.specs.Walks.{IsAhead, IsAmongPids, IsSeeking, with_walk}
 use Rattle.descent.specs.Ways.{StaysLeft, passes}
 use Rattle.descent.specs.WriteEnds.{DueChange, IsPlanned, WriteEnd}
 use Rattle.descent.specs.WriteEnds as end
@@ -112,7 +112,7 @@ pub record IsMissing (limits : Limits) (k : Knowledge) (key : List ℕ) (floor :
 pub record IsKept (limits : Limits) (k : Knowledge) (other : Version) (earlier : List ℕ) : Type 0 where
   pub in_hand : IsInHand limits k other
   pub alive : is_removed other.chain ≡ false
-  pub among : IsAmong other.pid earlier
+  pub among : IsAmongPids other.pid earlier
 
 -- The parent in hand is one level up, and the page's slot is read after it.
 pub record IsParent (limits : Limits) (k : Knowledge) (pid : ℕ) (state : page.VisitState) (level : ℕ) (earlier : List ℕ) (parent : Version) : Type 0 where
@@ -324,20 +324,20 @@ pub record IsUncutEnd (round : WriteRound) (k : Knowledge) (r : Recalled) : Type
   pub none : ¬ CanUnterm parent left version
 
 -- what is due by a change
-abbrev pub IsDue : WriteRound → Knowledge → Recalled → DueChange → Type 0
-IsDue round k r (end.Consolidate version base) = IsLongEnd round k r version base
-IsDue round k r (end.Split version plan) = IsSplitEnd round k r version plan
-IsDue round k r (end.Term parent term) = IsTermEnd round k r parent term
-IsDue round k r (end.Root left root) = IsRootEnd round k r left root
-IsDue round k r (end.Tend parent page upkeep) = IsTendEnd round k r parent page upkeep
-IsDue round k r (end.Merge left removed merge) = IsMergeEnd round k r left removed merge
-IsDue round k r (end.Unterm parent left removed unterm) = IsUntermEnd round k r parent left removed unterm
+abbrev pub IsDueBy : WriteRound → Knowledge → Recalled → DueChange → Type 0
+IsDueBy round k r (end.Consolidate version base) = IsLongEnd round k r version base
+IsDueBy round k r (end.Split version plan) = IsSplitEnd round k r version plan
+IsDueBy round k r (end.Term parent term) = IsTermEnd round k r parent term
+IsDueBy round k r (end.Root left root) = IsRootEnd round k r left root
+IsDueBy round k r (end.Tend parent page upkeep) = IsTendEnd round k r parent page upkeep
+IsDueBy round k r (end.Merge left removed merge) = IsMergeEnd round k r left removed merge
+IsDueBy round k r (end.Unterm parent left removed unterm) = IsUntermEnd round k r parent left removed unterm
 
 -- The plan makes a change that is due, and this comes once it has won.
 pub record IsDueEnd (round : WriteRound) (k : Knowledge) (r : Recalled) (plan : Plan) (after : After) : Type 0 where
   pub change : DueChange
   pub planned : IsPlanned change plan after
-  pub due : IsDue round k r change
+  pub due : IsDueBy round k r change
 
 -- what an end says
 abbrev pub EndsWrite : WriteRound → Knowledge → Recalled → WriteEnd → Type 0
@@ -375,7 +375,7 @@ Spends reserve kept r old told new (Some end.Done) = kept < write_round_left res
 Spends reserve kept r old told new (Some other) = write_round_kept kept old.goal < write_round_left reserve kept r old
 
 -- So does the goal where it is the leaf of the key.
-pub record IsSame (old new : WriteRound) : Type 0 where
+pub record AsksTheSame (old new : WriteRound) : Type 0 where
   pub limits : new.limits ≡ old.limits
   pub key : new.key ≡ old.key
   pub due : new.due ≡ old.due

@@ -6,7 +6,7 @@ use Rattle.bw_model.specs.declared.step.Answer.TheVariants as answer
 use Rattle.deltas.specs.declared.record.Record.{Record}
 use Rattle.traces.specs.discipline.Fitting.{Fits}
 use Rattle.traces.specs.discipline.Knowledge.{Knowledge, learn}
-use Rattle.installs.specs.Changes.{Change, Follows, IsSame, IsSoundChange, IsTarget, Shows, linked_number, wanted, wanted_at}
+use Rattle.installs.specs.Changes.{Change, Follows, HasNewState, IsSoundChange, IsTarget, Shows, linked_number, wanted, wanted_at}
 use Rattle.smo.specs.Plans.{head_of, needs_pid, slot_of}
 use Rattle.installs.specs.Moves.{Moved, decided_by, moved, whether_in}
 use Rattle.installs.specs.Spares.{Spares}
@@ -51,7 +51,7 @@ module _ (actor : ℕ) (limits : Limits) (k : Knowledge) (plan : Plan) (spares :
   follows_at state.Clear told sound target h fits = cleared_so actor limits k spares plan told sound.state target h fits
 
 -- the same of a change that has gone on so
-module _ (old new : Change) (had has : Spares) (told : Answer Record) (end : Option End) (is : moved old.limits old.plan had old.state told ≡ record { state = new.state; spares = has; end = end }) (same : IsSame old new) where
+module _ (old new : Change) (had has : Spares) (told : Answer Record) (end : Option End) (is : moved old.limits old.plan had old.state told ≡ record { state = new.state; spares = has; end = end }) (same : HasNewState old new) where
   pub only_state : bare new ≡ bare (record old { state = new.state })
   only_state = λ i. bare_at (same.limits i) (same.plan i) new.state
 

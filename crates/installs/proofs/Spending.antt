@@ -11,8 +11,8 @@ use Rattle.deltas.specs.declared.record.Record.{Record}
 use Rattle.traces.specs.discipline.Fitting.{Fits, FitsWord}
 use Rattle.traces.specs.discipline.Knowledge.{Knowledge}
 use Rattle.traces.specs.discipline.Recalled.{Recalled, WasFree, WasHead, recall}
-use Rattle.installs.specs.Bounded.{IsApart, RecallsAt, Spends, SpendsTo, few_steps, left_at, numbers_missing, pid_taken, pids_missing}
-use Rattle.installs.specs.Changes.{AreEnough, Change, IsNeededNext, IsSame, IsSoundChange, linked_number, wanted, wanted_at}
+use Rattle.installs.specs.Bounded.{IsApart, RecallsAt, Spends, SpendsTo, few_steps, steps_left_at, numbers_missing, pid_taken, pids_missing}
+use Rattle.installs.specs.Changes.{AreEnough, Change, IsNeededNext, HasNewState, IsSoundChange, linked_number, wanted, wanted_at}
 use Rattle.smo.specs.Plans.{clears, head_of, needs_pid, rows_needed, slot_of}
 use Rattle.installs.specs.Moves.{Moved, after_ready, after_taking, decided_by, first_state, moved, moved_by, unused, whether_in, with_number}
 use Rattle.installs.specs.Spares.{HaveRoom, Spares, pid_of}
@@ -88,7 +88,7 @@ few_missing plan spares = let one = one_pid (needs_pid plan) spares.pid in let t
     two_rows (Unlink pid head unterm removal) = omega arith
 
 -- how many steps a change takes at most from its first state on
-pub left_first : (limits : Limits) (after : ℕ) (plan : Plan) (spares : Spares) → left_at limits after plan spares (first_state limits plan spares) ≤ most_reads limits * numbers_missing plan spares + 5
+pub left_first : (limits : Limits) (after : ℕ) (plan : Plan) (spares : Spares) → steps_left_at limits after plan spares (first_state limits plan spares) ≤ most_reads limits * numbers_missing plan spares + 5
 left_first limits after plan spares = at_first (needs_pid plan && not (is_some spares.pid)) refl (ltb (length spares.rows) (rows_needed plan)) refl
   where
     some_missing : (needs : Bool) (pid : Option ℕ) → (needs && not (is_some pid)) ≡ true → pids_missing needs pid ≡ 1
@@ -96,19 +96,19 @@ left_first limits after plan spares = at_first (needs_pid plan && not (is_some s
     some_missing true None e = refl
     some_missing true (Some pid) e = cc
 
-    at_place : (plan : Plan) → left_at limits after plan spares (after_taking plan) ≤ 4
+    at_place : (plan : Plan) → steps_left_at limits after plan spares (after_taking plan) ≤ 4
     at_place (Install pid head content) = omega arith
     at_place (Split pid plan) = omega arith
     at_place (Root left root) = omega arith
     at_place (Unlink pid head unterm removal) = omega arith
 
     at_first : (pid : Bool) → (needs_pid plan && not (is_some spares.pid)) ≡ pid → (row : Bool) → ltb (length spares.rows) (rows_needed plan) ≡ row
-        → left_at limits after plan spares (if pid then state.Taking (begun_at limits Pid (head_of plan)) else if row then state.Taking (begun_at limits Row (head_of plan)) else after_taking plan) ≤ most_reads limits * numbers_missing plan spares + 5
+        → steps_left_at limits after plan spares (if pid then state.Taking (begun_at limits Pid (head_of plan)) else if row then state.Taking (begun_at limits Row (head_of plan)) else after_taking plan) ≤ most_reads limits * numbers_missing plan spares + 5
     at_first true pid row e = let one = some_missing (needs_pid plan) spares.pid pid in let few = few_left limits (first_word limits Pid (head_of plan)) (first_word limits Pid (head_of plan) == 0) in let more = reads_more limits (numbers_missing plan spares) (omega (arith, one)) in omega (arith, one, few, more)
     at_first false pid true e = let some = ltb-true (length spares.rows) (rows_needed plan) e in let few = few_left limits (first_word limits Row (head_of plan)) (first_word limits Row (head_of plan) == 0) in let more = reads_more limits (numbers_missing plan spares) (omega (arith, some)) in omega (arith, some, few, more)
     at_first false pid false e = let few = at_place plan in omega (arith, few)
 
-pub few_first : (limits : Limits) (after : ℕ) (plan : Plan) (spares : Spares) → left_at limits after plan spares (first_state limits plan spares) ≤ few_steps limits
+pub few_first : (limits : Limits) (after : ℕ) (plan : Plan) (spares : Spares) → steps_left_at limits after plan spares (first_state limits plan spares) ≤ few_steps limits
 few_first limits after plan spares =
     let first = left_first limits after plan spares in
     let three = mul-le-mul_left (most_reads limits) (few_missing plan spares) in
@@ -168,7 +168,7 @@ module _ (limits : Limits) (plan : Plan) (spares : Spares) (after : ℕ) (r : Re
       let lowest = in_word (count_of limits kind) word bits fits in
       (record { at = (word_head kind word whole (suc bits) h, free_then kind word whole (suc bits) (64 * word + trailing_zeros w64 (suc bits)) lowest.0 lowest.1); apart = apart }, inl (more_left whole few))
     where
-      more_left : (all : Bool) → word < most_words limits → left_at limits after plan spares (state.Taking (Take kind (64 * word + trailing_zeros w64 (suc bits)) all)) < left_at limits after plan spares (state.Taking (Bits kind word all))
+      more_left : (all : Bool) → word < most_words limits → steps_left_at limits after plan spares (state.Taking (Take kind (64 * word + trailing_zeros w64 (suc bits)) all)) < steps_left_at limits after plan spares (state.Taking (Bits kind word all))
       more_left true few = omega (arith, few)
       more_left false few = let are = reads_are limits in omega (arith, few, are)
 
@@ -235,7 +235,7 @@ module _ (limits : Limits) (plan : Plan) (spares : Spares) (after : ℕ) (r : Re
       at_next (Root left root) h = h
       at_next (Unlink pid head unterm removal) h = h
 
-      less : (other : Plan) → left_at limits after plan spares (after_ready other) < 3
+      less : (other : Plan) → steps_left_at limits after plan spares (after_ready other) < 3
       less (Install pid head content) = omega arith
       less (Split pid plan) = omega arith
       less (Root left root) = omega arith
@@ -262,7 +262,7 @@ module _ (limits : Limits) (plan : Plan) (spares : Spares) (after : ℕ) (r : Re
   spends_at state.Undo told k fits sound h far = inr (omega arith)
   spends_at state.Clear told k fits sound h far = inr (sound.state, omega arith)
 
-module _ (old new : Change) (had has : Spares) (told : Answer Record) (end : Option End) (is : moved old.limits old.plan had old.state told ≡ record { state = new.state; spares = has; end = end }) (same : IsSame old new) where
+module _ (old new : Change) (had has : Spares) (told : Answer Record) (end : Option End) (is : moved old.limits old.plan had old.state told ≡ record { state = new.state; spares = has; end = end }) (same : HasNewState old new) where
   pub spends : (k : Knowledge) → Fits old.limits k (wanted old had) told → IsSoundChange old had → Spends old had told new has end
   spends k fits sound = λ after r h far.
       let at_state = spends_at old.limits old.plan had after r h.apart old.state told k fits (sound_bare old had sound) h.at far in

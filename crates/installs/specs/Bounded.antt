@@ -30,17 +30,17 @@ numbers_missing plan spares = pids_missing (needs_pid plan) spares.pid + (rows_n
 
 -- How many steps a change takes at most from a state on, with the one that it has asked for: after a lost change that is undone,
 -- and after a page is cleared, so many are to be left.
-abbrev pub left_at : Limits → ℕ → Plan → Spares → State → ℕ
-left_at limits after plan spares (Taking taking) = number_left limits taking + (most_reads limits * (numbers_missing plan spares - 1) + 5)
-left_at limits after plan spares Base = 4
-left_at limits after plan spares Ready = 3
-left_at limits after plan spares Place = 2
-left_at limits after plan spares Link = 1
-left_at limits after plan spares Undo = suc after
-left_at limits after plan spares Clear = suc after
+abbrev pub steps_left_at : Limits → ℕ → Plan → Spares → State → ℕ
+steps_left_at limits after plan spares (Taking taking) = number_left limits taking + (most_reads limits * (numbers_missing plan spares - 1) + 5)
+steps_left_at limits after plan spares Base = 4
+steps_left_at limits after plan spares Ready = 3
+steps_left_at limits after plan spares Place = 2
+steps_left_at limits after plan spares Link = 1
+steps_left_at limits after plan spares Undo = suc after
+steps_left_at limits after plan spares Clear = suc after
 
 abbrev pub steps_left : ℕ → Change → Spares → ℕ
-steps_left after change spares = left_at change.limits after change.plan spares change.state
+steps_left after change spares = steps_left_at change.limits after change.plan spares change.state
 
 -- how many steps a change takes at most
 abbrev pub few_steps : Limits → ℕ

@@ -1,5 +1,5 @@
 -- A change of the tree: the step that it wants, what its actor knows meanwhile, and how it ends.
-use Rattle.std.specs.Prelude.{◌≡◌, ◌<◌, ◌≤◌, ◌⊎◌, ℕ, length, Option, Some, None, Bool, true, false, is_some, ⊤}
+use Rattle.std.specs.Prelude.{◌≡◌, ◌<◌, ◌≤◌, ◌⊎◌, ℕ, length, Option, Some, None, true, false, is_some, ⊤}
 use Rattle.std.specs.Option.{ForSome}
 use Rattle.tree_limits.specs.declared.limits.Limits.{Limits}
 use Rattle.bw_model.specs.declared.step.Step.{Step as StepOf}
@@ -256,6 +256,6 @@ Follows actor k now old told new has None = ChangesOn actor k now new has
 Follows actor k now old told new has (Some end) = ChangeIsOver k now old told has end
 
 -- Only the state has changed.
-pub record IsSame (old new : Change) : Type 0 where
+pub record HasNewState (old new : Change) : Type 0 where
   pub limits : new.limits ≡ old.limits
   pub plan : new.plan ≡ old.plan

@@ -9,7 +9,7 @@ ghost use Rattle.traces.specs.discipline.Fitting.{Fits};
 ghost use Rattle.traces.specs.discipline.Knowledge.{Knowledge, learn};
 ghost use Rattle.traces.specs.discipline.Recalled.{Recalled, WasHead};
 ghost use Rattle.installs.specs.Bounded.{IsApart, IsPidFrom, Recalls, Spends, few_steps, pid_taken, steps_left};
-ghost use Rattle.installs.specs.Changes.{Follows, IsMade, IsMadeAt, IsOfChange, IsSame, IsSoundChange, IsSpellablePlan, IsTarget, FitsChange, KeepsSpare, MayChange, Shows, at, base_row, linked_number, placed_in, wanted};
+ghost use Rattle.installs.specs.Changes.{Follows, IsMade, IsMadeAt, IsOfChange, HasNewState, IsSoundChange, IsSpellablePlan, IsTarget, FitsChange, KeepsSpare, MayChange, Shows, at, base_row, linked_number, placed_in, wanted};
 ghost use Rattle.smo.specs.Plans.{head_of, slot_of};
 ghost use Rattle.installs.specs.Moves.{after_ready, decided_by, first_state, moved, moved_by};
 ghost use Rattle.installs.specs.Outs.{TakesFresh, limbo_after};
@@ -143,7 +143,7 @@ impl Change {
         ensures sound { IfNone result (IsSoundChange self.new spares.new) }
         ensures made { IsMade self.new spares.new }
         ensures room { HaveRoom self.old.limits spares.new }
-        ensures same { IsSame self.old self.new }
+        ensures same { HasNewState self.old self.new }
         ensures pid { IsPidFrom spares.old.pid (pid_taken (wanted self.old spares.old) (answer_of told)) spares.new.pid }
         ensures spends { Spends self.old spares.old (answer_of told) self.new spares.new result }
         ensures lowest { (kind : Kind) (word bits : ℕ) (whole : Bool) → self.old.state ≡ State.Taking (Taking.Bits kind word whole) → told ≡ Told.Number bits → 0 < bits → self.new.state ≡ State.Taking (Taking.Take kind (64 * word + trailing_zeros w64 bits) whole) }
@@ -158,7 +158,7 @@ impl Change {
         requires sound { IsSoundChange self.old spares.old }
         requires told { FitsChange self.old spares.old (answer_of told) }
         ensures moved { moved self.old.limits self.old.plan spares.old self.old.state (answer_of told) ≡ record { state = self.new.state; spares = spares.new; end = result } }
-        ensures same { IsSame self.old self.new }
+        ensures same { HasNewState self.old self.new }
         ensures made { IsMade self.new spares.new }
     {
         let end = self.follow(spares, told);
@@ -169,7 +169,7 @@ impl Change {
     /// Makes the record that is to be placed next, where the plan hasn't it as such.
     fn make(&mut self, spares: &Spares)
         ensures made { IsMade self.new spares.now }
-        ensures same { IsSame self.old self.new }
+        ensures same { HasNewState self.old self.new }
         ensures state { self.new.state ≡ self.old.state }
     {
         if let Plan::Install { .. } = &self.plan {
@@ -184,7 +184,7 @@ impl Change {
     #[inline(never)]
     fn make_now(&mut self, spares: &Spares)
         ensures made { IsMade self.new spares.now }
-        ensures same { IsSame self.old self.new }
+        ensures same { HasNewState self.old self.new }
         ensures state { self.new.state ≡ self.old.state }
     {
         self.made = made_for(&self.plan, self.state, spares);
@@ -195,7 +195,7 @@ impl Change {
         requires sound { IsSoundChange self.old spares.old }
         requires told { FitsChange self.old spares.old (answer_of told) }
         ensures moved { moved self.old.limits self.old.plan spares.old self.old.state (answer_of told) ≡ record { state = self.new.state; spares = spares.new; end = result } }
-        ensures same { IsSame self.old self.new }
+        ensures same { HasNewState self.old self.new }
     {
         match self.state {
             State::Taking(taking) => self.go_on_taking(spares, taking, told),
@@ -217,7 +217,7 @@ impl Change {
         requires sound { IsSoundChange self.old spares.old }
         requires told { FitsChange self.old spares.old (answer_of told) }
         ensures moved { moved_by self.old.limits self.old.plan spares.old self.old.state (found_after self.old.limits taking (answer_of told)) ≡ record { state = self.new.state; spares = spares.new; end = result } }
-        ensures same { IsSame self.old self.new }
+        ensures same { HasNewState self.old self.new }
     {
         match taking.next(&self.limits, told) {
             Found::Not(taking) => self.go(State::Taking(taking)),
@@ -244,7 +244,7 @@ impl Change {
     fn decide(&mut self, spares: &mut Spares, won: bool) -> Option<End>
         requires state { self.old.state ≡ State.Link }
         ensures decided { decided_by self.old.plan spares.old won ≡ record { state = self.new.state; spares = spares.new; end = result } }
-        ensures same { IsSame self.old self.new }
+        ensures same { HasNewState self.old self.new }
     {
         if won {
             spares.release(&self.plan);

@@ -9,7 +9,7 @@ use Rattle.deltas.specs.declared.record.Record.{Record}
 use Rattle.traces.specs.chain.Chains.{IsChainFrom, IsFront, chain_rows}
 use Rattle.traces.specs.chain.Fitted.{IsFitted}
 use Rattle.smo.specs.Versions.{Version}
-use Rattle.layer_tests.specs.Held.{Pages, Stands, found_in, record_in}
+use Rattle.layer_tests.specs.Held.{ThreePages, HasRowsOf, found_in, page_record}
 use Rattle.layer_tests.proofs.Apart.{within_head}
 
 module _ (seen : ℕ → Option Record) where
@@ -50,7 +50,7 @@ module _ (seen : ℕ → Option Record) where
       deeper (Some below) f is = f below is
 
 -- the record of a place, in its row
-pub stands_at : (page : Version) (row place : ℕ) (content : Record) → row + place ≡ page.head → place < length page.chain → content ≡ get_or page.chain place content → record_in page row ≡ Some content
+pub stands_at : (page : Version) (row place : ℕ) (content : Record) → row + place ≡ page.head → place < length page.chain → content ≡ get_or page.chain place content → page_record page row ≡ Some content
 stands_at page row place content at within is =
     within_head page row (omega (arith, at))
     ∙ ap (slice_get page.chain) (let same : page.head - row ≡ place = omega (arith, at) in same)
@@ -76,10 +76,10 @@ module _ (page : Version) (row place : ℕ) (w : Record) (items : List Record) (
   more = let next : place + 1 ≡ suc place = omega arith in
       ap (λ n. take n page.chain) next ∙ take-suc page.chain place w inside ∙ ap (λ (newest : Record). take place page.chain ++ newest ∷ []) (sym record_is)
 
-  pub here : row + place ≡ page.head → record_in page row ≡ Some w
+  pub here : row + place ≡ page.head → page_record page row ≡ Some w
   here at = stands_at page row place w at inside record_is
 
-  pub content_is : (pages : Pages) (d : Record) → Stands pages page → row + place ≡ page.head → unwrap_or (found_in pages row) d ≡ w
+  pub content_is : (pages : ThreePages) (d : Record) → HasRowsOf pages page → row + place ≡ page.head → unwrap_or (found_in pages row) d ≡ w
   content_is pages d stands at = ap (λ (o : Option Record). unwrap_or o d) (stands row w (here at))
 
   pub spelt : IsFitted page.chain → IsSpellable w

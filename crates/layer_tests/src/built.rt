@@ -3,7 +3,7 @@ ghost use Rattle.std.specs.Prelude.{◌≡◌, ◌≤◌, ◌+◌, ◌∷◌, []
 ghost use Rattle.deltas.specs.Spellable.{IsPid, IsRow};
 ghost use Rattle.deltas.specs.declared.record.Record.TheVariants.{Base};
 ghost use Rattle.traces.specs.chain.Fitted.{FitsOver, IsPageChain};
-ghost use Rattle.layer_tests.specs.Held.{record_in};
+ghost use Rattle.layer_tests.specs.Held.{page_record};
 
 mod asked;
 mod planned;
@@ -61,7 +61,7 @@ impl Held {
 
     /// The page's record in the row.
     fn record_in(&self, row: u32) -> Option<&Record>
-        ensures { option_copied result ≡ record_in self.now row }
+        ensures { option_copied result ≡ page_record self.now row }
     {
         if row > self.name.head {
             return None;

@@ -1,7 +1,6 @@
 //! Thousands of rows in limbo, which another actor may hold at first: how many of them each sweep frees then.
 ghost use Rattle.std.specs.Prelude.{◌<◌};
 ghost use Rattle.sweep.specs.Kept.{IsLimboOf};
-ghost use Rattle.sweep.specs.Sweeps.{IsOfSweep};
 
 use crate::sweeps::told;
 use bw_model::{Limits, Step};

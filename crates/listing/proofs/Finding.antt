@@ -18,7 +18,7 @@ use Rattle.traces.specs.discipline.Discipline.{value_of}
 use Rattle.tree_law.specs.Keys.{IsUnder, IsUpTo, Key}
 use Rattle.tree_law.specs.Leaves.{HasLeafPages, IsLeafPage}
 use Rattle.tree_law.proofs.shape.KeyOrder.{covers_to, empty_lowest}
-use Rattle.listing.specs.Listed.{IsAmong, IsFoundAt, IsPageFrom, IsPassed, StandsAt}
+use Rattle.listing.specs.Listed.{IsAmong, IsFoundAt, IsPageFrom, IsBeyondEnd, StandsAt}
 use Rattle.listing.proofs.Ranges.{whole_at}
 
 -- The leaf with this PID isn't behind the key, and so many leaves at least are to its left.
@@ -94,7 +94,7 @@ module _ (limits : Limits) (memory : Memory) (leaves : HasLeafPages limits memor
       way_found under = record { front = at.front; page = at.page; later = at.later; whole = at.whole; next = at.next; has = record { low = at.low; high = subst (IsUnder from) is.high under } }
 
       -- it is to the right
-      pub way_on : (right : ℕ) → made.right ≡ Some right → IsPassed from made.high → IsOnWay memory leaves.pages from (count + 1) right
+      pub way_on : (right : ℕ) → made.right ≡ Some right → IsBeyondEnd from made.high → IsOnWay memory leaves.pages from (count + 1) right
       way_on right e (high, ends, passed) = go at.later at.whole follows after
         where
           follows : IsSideChainFrom memory right at.later

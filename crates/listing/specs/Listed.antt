@@ -70,8 +70,8 @@ pub record IsFoundAt (memory : Memory) (pages : List LivePage) (key : List ℕ) 
   pub has : Covers page.chain key
 
 -- The range ends at or below the key.
-abbrev pub IsPassed : List ℕ → Option (List ℕ) → Type 0
-IsPassed key end = (high : List ℕ) × (end ≡ Some high) × IsUpTo high key
+abbrev pub IsBeyondEnd : List ℕ → Option (List ℕ) → Type 0
+IsBeyondEnd key end = (high : List ℕ) × (end ≡ Some high) × IsUpTo high key
 
 -- The pairs are those from the key on of that one of the pages which has the key, and the page ends there.
 pub record IsPageFrom (pages : List LivePage) (from : List ℕ) (pairs : List (List ℕ × List ℕ)) (next : Option (List ℕ)) : Type 0 where

@@ -1,13 +1,12 @@
 //! A page of the leaves' pairs, from a key on.
-ghost use Rattle.std.specs.Prelude.{◌≡◌, ◌<◌, ◌≤◌, ◌⊎◌, IfSome, List, None, Some, false, length, option_copied};
-ghost use Rattle.bw_model.specs.Bytes.{is_below};
+ghost use Rattle.std.specs.Prelude.{◌≡◌, ◌<◌, ◌≤◌, ◌⊎◌, IfSome, List, None, Some, length};
 ghost use Rattle.bw_model.specs.Pairs.{ArePairsOf};
 ghost use Rattle.bw_model.specs.declared.pairs.TheConstants.{MAX_PAIRS};
 ghost use Rattle.base_page.specs.Pages.{IsAscending, content_at};
 ghost use Rattle.base_page.specs.Rules.{IsRuled};
 ghost use Rattle.deltas.specs.Memory.{Memory};
 ghost use Rattle.deltas.specs.declared.record.Record.{Record};
-ghost use Rattle.listing.specs.Listed.{IsAmong, IsFoundAt, IsPageFrom, IsPassed, StandsAt};
+ghost use Rattle.listing.specs.Listed.{IsAmong, IsFoundAt, IsPageFrom, IsBeyondEnd, StandsAt};
 ghost use Rattle.traces.specs.chain.Chains.{low_in};
 ghost use Rattle.traces.specs.discipline.Discipline.{value_of};
 ghost use Rattle.tree_law.specs.Keys.{IsUnder, IsUpTo};
@@ -84,7 +83,7 @@ fn first_of<M: Rows>(limits: &Limits, rows: &M, near: u32, from: &Key) -> u32
 fn right_of(leaf: &Page, from: &Key) -> Option<u32>
     requires ruled { IsRuled leaf.now }
     ensures there { result ≡ None → IsUnder from.now leaf.now.high }
-    ensures right { IfSome result (λ right. (leaf.now.right ≡ Some right) × IsPassed from.now leaf.now.high) }
+    ensures right { IfSome result (λ right. (leaf.now.right ≡ Some right) × IsBeyondEnd from.now leaf.now.high) }
 {
     match leaf.high() {
         Some(high) if !from.cmp(high).is_lt() => leaf.right(),

@@ -3,7 +3,7 @@ ghost use Rattle.std.specs.Prelude.{◌≡◌, IfOk, if◌then◌else◌, option
 ghost use Rattle.std.specs.BTreeMap.{IsOrdered, get};
 ghost use Rattle.std.specs.Ordering.{is_eq};
 ghost use Rattle.bw_model.specs.Bytes.{key_cmp, is_in_range};
-ghost use Rattle.bw_model.specs.Log.{logged_value, updated_key, updated_value};
+ghost use Rattle.bw_model.specs.Log.{updated_key, updated_value};
 ghost use Rattle.bw_model.specs.Pairs.{IsPairsOf};
 
 use bw_model::{Key, Update, Value};

@@ -8,14 +8,14 @@ use Rattle.traces.specs.discipline.Knowledge.{Knowledge}
 use Rattle.traces.specs.discipline.Recalled.{Recalled}
 use Rattle.descent.specs.WriteEnds as due
 use Rattle.descent.specs.WriteEnds.{DueChange, IsPlanned}
-use Rattle.descent.specs.WriteRounds.{IsDue, WriteRound}
+use Rattle.descent.specs.WriteRounds.{IsDueBy, WriteRound}
 use Rattle.installs.specs.Changes.{IsSpellablePlan, IsTarget}
 use Rattle.smo.specs.declared.after.After.{After}
 use Rattle.smo.specs.declared.plan.Plan.{Plan}
 use Rattle.op_machine.proofs.Plans.{over_page, place_of, spells_base}
 use Rattle.op_machine.proofs.Tending.{plans_there}
 
-pub dues_there : (round : WriteRound) (k : Knowledge) (r : Recalled) (change : DueChange) (plan : Plan) (after : After) → IsPlanned change plan after → IsDue round k r change → IsTarget round.limits plan × IsSpellablePlan plan
+pub dues_there : (round : WriteRound) (k : Knowledge) (r : Recalled) (change : DueChange) (plan : Plan) (after : After) → IsPlanned change plan after → IsDueBy round k r change → IsTarget round.limits plan × IsSpellablePlan plan
 dues_there round k r (due.Consolidate page base) plan after p d = rw p.0 (place_of round.limits k r page (kind.Base base) d.page (λ next is. cc), spells_base base d.plan.fits)
 dues_there round k r (due.Split page split) plan after p d =
     let has = d.plan_due in

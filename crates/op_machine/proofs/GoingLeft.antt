@@ -14,7 +14,7 @@ use Rattle.descent.specs.Descents.{Descent, Finds, Page, Responds as Moves, Root
 use Rattle.descent.specs.ReadEnds.{ReadEnd}
 use Rattle.descent.specs.ReadEnds as read_end
 use Rattle.descent.specs.ReadLegs.{IsPlain, Leg, Round, above_of}
-use Rattle.descent.specs.ReadRounds.{IsSame, ReadRound, TreatsRead, reading}
+use Rattle.descent.specs.ReadRounds.{AsksTheSame, ReadRound, TreatsRead, reading}
 use Rattle.descent.specs.Rounds.{Sees}
 use Rattle.descent.specs.Visits.{Row, Sight, Slot, Empty, Visit, VisitState, Whole}
 use Rattle.descent.specs.WriteEnds.{DueChange, WriteEnd}
@@ -91,7 +91,7 @@ module _ (old : Descent) (told : Answer Record) (version : Version) (whole : Fin
 kept_and_gone : (b : Bool) → b ≡ true → b ≡ false → ⊥
 kept_and_gone b gone alive = let clash : true ≡ false = sym gone ∙ alive in cc
 
-module _ (task : Task) (old next : ReadRound) (removed : Version) (gone : is_removed removed.chain ≡ true) (same : IsSame old next) (new : State) where
+module _ (task : Task) (old next : ReadRound) (removed : Version) (gone : is_removed removed.chain ≡ true) (same : AsksTheSame old next) (new : State) where
   abbrev stays : is_removed removed.chain ≡ false → TurnsLeft task old removed new
   stays alive = absurd (kept_and_gone (is_removed removed.chain) gone alive)
 

@@ -14,7 +14,7 @@ use Rattle.descent.specs.ReadRounds.{read_round_kept}
 use Rattle.descent.specs.Visits.{VisitState, Slot, Row}
 use Rattle.descent.specs.Courses as write
 use Rattle.descent.specs.Courses.{WriteGoal}
-use Rattle.descent.specs.Walks.{left_at, with_walk}
+use Rattle.descent.specs.Walks.{reads_left_at, with_walk}
 use Rattle.descent.specs.WriteRounds.{write_round_kept}
 use Rattle.epochs.specs.declared.item.Reuse.{Reuse}
 use Rattle.epochs.specs.declared.item.Reuse.TheVariants.{Rows, Pids}
@@ -98,7 +98,7 @@ rows_few (Unlink pid head unterm removal) = omega arith
 missing_few : (plan : Plan) (spares : Spares) → numbers_missing plan spares - 1 ≤ 2
 missing_few plan spares = let pids = pids_few (needs_pid plan) spares.pid in let rows = rows_few plan in omega (arith, pids, rows)
 
-change_few : (limits : Limits) (after : ℕ) (plan : Plan) (spares : Spares) (state : ChangeState) → change.left_at limits after plan spares state ≤ few_steps limits + after
+change_few : (limits : Limits) (after : ℕ) (plan : Plan) (spares : Spares) (state : ChangeState) → change.steps_left_at limits after plan spares state ≤ few_steps limits + after
 change_few limits after plan spares (changing.Taking taking) =
     let number = number_few limits taking in
     let most : most_reads limits * (numbers_missing plan spares - 1) ≤ most_reads limits * 2 = mul-le-mul_left (most_reads limits) (missing_few plan spares) in
@@ -119,7 +119,7 @@ either_few : (t u : Bool) (m n : ℕ) → m ≤ n → (if t then m else (if u th
 either_few true u m n le = le
 either_few false u m n le = if_few u n
 
-visit_few : (limits : Limits) (reserve : ℕ) (walk : Walk) (part : List Record) (state : VisitState) → left_at limits reserve walk part state ≤ 28 * limits.pids + 13 + reserve
+visit_few : (limits : Limits) (reserve : ℕ) (walk : Walk) (part : List Record) (state : VisitState) → reads_left_at limits reserve walk part state ≤ 28 * limits.pids + 13 + reserve
 visit_few limits reserve walk part Slot = let most = if_few walk.removed reserve in omega (arith, most)
 visit_few limits reserve walk part (Row head row) = let most = either_few walk.passed (is_removed part) reserve (with_walk limits reserve) (omega arith) in omega (arith, most)
 
@@ -154,8 +154,8 @@ state_few task spares k r (Write round) shows =
     let kept = write_kept (one_round task.limits) round.goal in
     omega (arith, way, kept)
 state_few task spares k r (Change now next) shows =
-    let some : change.left_at now.limits (one_round task.limits) now.plan spares now.state ≤ few_steps task.limits + one_round task.limits =
-    subst (λ l. change.left_at now.limits (one_round task.limits) now.plan spares now.state ≤ few_steps l + one_round task.limits) shows.limits (change_few now.limits (one_round task.limits) now.plan spares now.state) in
+    let some : change.steps_left_at now.limits (one_round task.limits) now.plan spares now.state ≤ few_steps task.limits + one_round task.limits =
+    subst (λ l. change.steps_left_at now.limits (one_round task.limits) now.plan spares now.state ≤ few_steps l + one_round task.limits) shows.limits (change_few now.limits (one_round task.limits) now.plan spares now.state) in
     omega (arith, some)
 state_few task spares k r (Leave reply lacks) shows = omega arith
 

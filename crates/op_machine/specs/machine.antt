@@ -2,6 +2,7 @@ pub mod Tasks
 pub mod Errands
 pub mod Brings
 pub mod States
+pub mod ShortReplies
 pub mod Wants
 pub mod Lacks
 pub mod Shows

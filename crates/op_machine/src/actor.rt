@@ -178,16 +178,17 @@ impl<R: Rows, A: Allocator> Actor<R, A> {
         let _ = self.operation.errands();
     }
 
-    /// Takes the leave that its operation wants, and answers the reply: the operation is done.
+    /// Takes the leave that its operation wants, and tells the reply in its place: the operation is done. A lookup's value over another
+    /// lookup's costs a copy of the value; any other reply is made anew, in 3.2 KB.
     #[inline]
-    pub fn leave(&mut self) -> Reply
+    pub fn leave(&mut self, reply: &mut Reply)
         requires told { IsToldActor self.old Done }
         requires leaves { wanted_by self.old.running ≡ Some Step.Leave }
-        ensures goes { (limits : LimitsSeen) (number : ℕ) (k : Knowledge) (r : Recalled) (going : IsGoing limits number k r self.old Done) → ActsOn limits number k r self.old going.running.wanted Done (Some result) self.new }
+        ensures goes { (limits : LimitsSeen) (number : ℕ) (k : Knowledge) (r : Recalled) (going : IsGoing limits number k r self.old Done) → ActsOn limits number k r self.old going.running.wanted Done (Some reply.new) self.new }
         ensures command { running_command self.new ≡ None }
     {
         self.is_running = false;
         self.lacks = self.operation.lacks();
-        self.operation.leave()
+        self.operation.leave(reply);
     }
 }

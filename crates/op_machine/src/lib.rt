@@ -17,6 +17,7 @@ mod log_laws;
 mod operation;
 mod places;
 mod read_ends;
+mod short_reply;
 mod task;
 mod then;
 mod write_ends;

@@ -129,15 +129,15 @@ impl<R: Rows, A: Allocator> Operation<R, A> {
         }
     }
 
-    /// The reply of an operation that has left.
+    /// Tells the reply of an operation that has left, in its place.
     #[inline]
-    pub fn leave(&self) -> Reply
+    pub fn leave(&self, reply: &mut Reply)
         requires leaving { is_leaving self.now.state ≡ true }
-        ensures reply { self.now.state ≡ State.Leave result (lacks_at self.now.state) }
-        ensures obeys { (hand : HandSeen) (told : AnswerOf RecordOf) → Obeys self.now hand told self.now hand (Want.Done result) }
-        ensures ends { (hand : HandSeen) (told : AnswerOf RecordOf) → IsToldOp self.now hand told → EndsAtLeave self.now hand (Want.Done result) }
+        ensures reply { self.now.state ≡ State.Leave reply.new (lacks_at self.now.state) }
+        ensures obeys { (hand : HandSeen) (told : AnswerOf RecordOf) → Obeys self.now hand told self.now hand (Want.Done reply.new) }
+        ensures ends { (hand : HandSeen) (told : AnswerOf RecordOf) → IsToldOp self.now hand told → EndsAtLeave self.now hand (Want.Done reply.new) }
     {
-        self.places.reply()
+        self.places.tell_reply(reply);
     }
 
     /// The kind that ran out, where it has left with `Full`.

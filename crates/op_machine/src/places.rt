@@ -1,13 +1,17 @@
 //! The places of an operation: what is under way stands in one of them, and what isn't lies there until it is needed again.
-ghost use Rattle.std.specs.Prelude.{◌≡◌, ◌<◌, ◌≤◌, ◌+◌, IfOk, IsSome, None, Some, true};
+ghost use Rattle.std.specs.Prelude.{◌≡◌, ◌<◌, ◌≤◌, ◌+◌, ℕ, List, IfOk, IsSome, None, Some, true};
 ghost use Rattle.std.specs.Option.{option_map};
 ghost use Rattle.bw_model.specs.Answers.{answer_of};
 ghost use Rattle.bw_model.specs.Lent.{lent};
+ghost use Rattle.bw_model.specs.Pairs.{ArePairsOf};
 ghost use Rattle.bw_model.specs.declared.command.Reply.TheVariants as Reply;
 ghost use Rattle.bw_model.specs.declared.step.Answer.TheVariants.{Content, Number};
 ghost use Rattle.bw_model.specs.declared.step.Step.TheVariants.{Row};
+ghost use Rattle.traces.specs.chain.Chains.{high_in};
+ghost use Rattle.traces.specs.discipline.Discipline.{found};
 ghost use Rattle.traces.specs.discipline.Knowledge.{Knowledge};
 ghost use Rattle.traces.specs.discipline.Recalled.{Recalled};
+ghost use Rattle.row_chain.specs.Placed.{IsReadChain};
 ghost use Rattle.descent.specs.Courses as course;
 ghost use Rattle.descent.specs.Machines.{IsTold, IsToldThere};
 ghost use Rattle.descent.specs.ReadLegs.{Down};
@@ -21,7 +25,7 @@ ghost use Rattle.installs.specs.Changes.{IsSpellablePlan, IsTarget};
 ghost use Rattle.installs.specs.Spares.{HaveRoom};
 ghost use Rattle.op_machine.specs.machine.Bounded.{few_changes, left_at};
 ghost use Rattle.op_machine.specs.machine.Outcomes.{IsToldAt, UnlinksAfter, changed, has_begun, is_changing, lacks_at};
-ghost use Rattle.op_machine.specs.machine.Places.{HaveLimits, ReadsOn, WritesOn, ended_with, left_round_of, state_of};
+ghost use Rattle.op_machine.specs.machine.Places.{HaveLimits, ReadsOn, WritesOn, ended_with, leaf_read, left_round_of, state_of};
 ghost use Rattle.op_machine.specs.machine.Shows.{FitsLast, MayBegin, MayStep, ShowsState, learn_last, wanted_at};
 ghost use Rattle.op_machine.specs.machine.Tasks.{Task as TaskSeen};
 ghost use Rattle.op_machine.specs.machine.Works.{TurnsInto};
@@ -30,8 +34,9 @@ ghost use Rattle.rounds.specs.Descents.{asked_step};
 ghost use Rattle.rounds.specs.ReadRounds as reads;
 ghost use Rattle.rounds.specs.WriteRounds as writes;
 ghost use Rattle.rounds.specs.WriteRounds.{again_if};
-ghost use Rattle.smo.specs.Reads.{IsReadPage};
+ghost use Rattle.smo.specs.Reads.{IsReadPage, chain_of};
 
+use crate::short_reply::{ReplyPlace, ShortReply, Which};
 use crate::task::Task;
 use crate::then::Then;
 use bw_model::{Key, Limits, Reply, Step, Told};
@@ -39,7 +44,7 @@ use deltas::{Record, Remove};
 use installs::{Change, End, Kind, Spares};
 use rounds::{Asked, ReadEnded, ReadRound, WriteEnded, WriteRound};
 use row_search::{RowAt, Rows};
-use smo::{After, Plan};
+use smo::{After, PageInHand, Plan};
 use std::alloc::{AllocError, Allocator, Global};
 use std::marker::Model;
 
@@ -63,7 +68,7 @@ pub(crate) struct Places<R: Rows, A: Allocator = Global> {
     writer: WriteRound<R, A>,
     change: Change,
     then: Then,
-    reply: Reply,
+    reply: ReplyPlace,
     lacks: Option<Kind>,
 }
 
@@ -102,7 +107,7 @@ impl<R: Rows, A: Allocator + Copy> Places<R, A> {
             writer: WriteRound::<R, A>::new(alloc, limits)?,
             change: no_change(limits),
             then: Then::After(After::Round),
-            reply: Reply::None,
+            reply: ReplyPlace::new(),
             lacks: None,
         })
     }
@@ -208,10 +213,42 @@ impl<R: Rows, A: Allocator> Places<R, A> {
     }
 
     /// The operation is to leave with the reply, which isn't `Full`.
-    pub(crate) fn leave(&mut self, reply: Reply)
+    pub(crate) fn leave(&mut self, reply: ShortReply)
         ensures { self.new ≡ record self.old { stand = Stand.Leave; reply = reply; lacks = None } }
     {
-        self.reply = reply;
+        self.reply.put(reply);
+        self.lacks = None;
+        self.stand = Stand::Leave;
+    }
+
+    /// The leaf in the hand of the reader's round, or the removed one beside it.
+    pub(crate) fn leaf_read(&self, is_beside: bool) -> &PageInHand<R, A>
+        ensures { result.now ≡ leaf_read is_beside self.now.reader }
+    {
+        if is_beside {
+            self.reader.aside()
+        } else {
+            self.reader.page()
+        }
+    }
+
+    /// The operation is to leave with the pairs of the leaf that was read, from a key on, and where the next page goes on. Not inlined: no
+    /// other reply needs room for pairs.
+    #[inline(never)]
+    pub(crate) fn leave_with_page(
+        &mut self,
+        is_beside: bool,
+        from: &Key,
+        rows: &R,
+        pass: &mut R::Pass,
+    )
+        requires read { IsReadChain (R.has rows.now pass.old) (chain_of (leaf_read is_beside self.old.reader)) }
+        ensures looks { pass.new ≡ pass.old }
+        ensures page { (pairs : List (List ℕ × List ℕ)) × ArePairsOf (found (leaf_read is_beside self.old.reader).chain) from.now (high_in (leaf_read is_beside self.old.reader).chain) pairs × (self.new ≡ record self.old { stand = Stand.Leave; reply = Reply.Page pairs (high_in (leaf_read is_beside self.old.reader).chain); lacks = None }) }
+    {
+        let leaf = self.leaf_read(is_beside).chain();
+        let (pairs, next) = (leaf.pairs_from(rows, pass, from), leaf.high(rows, pass));
+        self.reply.put_page(pairs, next);
         self.lacks = None;
         self.stand = Stand::Leave;
     }
@@ -220,9 +257,17 @@ impl<R: Rows, A: Allocator> Places<R, A> {
     pub(crate) fn give_up(&mut self, kind: Kind)
         ensures { self.new ≡ record self.old { stand = Stand.Leave; reply = Reply.Full; lacks = Some kind } }
     {
-        self.reply = Reply::Full;
+        self.reply.put(ShortReply::bare(Which::Full));
         self.lacks = Some(kind);
         self.stand = Stand::Leave;
+    }
+
+    /// The change that is due where the writer's round has ended with one, and what comes once it has won.
+    pub(crate) fn take_due(&mut self) -> (Plan, After)
+        ensures due { result ≡ (self.old.writer.plan, self.old.writer.after) }
+        ensures only { self.new ≡ record self.old { writer = record self.old.writer { plan = self.new.writer.plan; after = self.new.writer.after } } }
+    {
+        self.writer.take_due()
     }
 
     /// A change begins.
@@ -261,12 +306,12 @@ impl<R: Rows, A: Allocator> Places<R, A> {
         }
     }
 
-    /// The reply with which the operation leaves.
-    pub(crate) fn reply(&self) -> Reply
+    /// Tells the reply with which the operation leaves.
+    pub(crate) fn tell_reply(&self, reply: &mut Reply)
         requires leaving { self.now.stand ≡ Stand.Leave }
-        ensures { result ≡ self.now.reply }
+        ensures { reply.new ≡ self.now.reply }
     {
-        self.reply.copied()
+        self.reply.tell(reply);
     }
 
     /// The kind that ran out, where it is to leave for want of it.

@@ -1,5 +1,5 @@
 //! What an operation makes of the end of a reader's round, where its pages stand.
-ghost use Rattle.std.specs.Prelude.{◌≡◌, ◌≢◌, ◌≤◌, ℕ, IsSome, Some, false, true};
+ghost use Rattle.std.specs.Prelude.{◌≡◌, ◌≢◌, ◌≤◌, ℕ, IsSome, None, Some, false, true};
 ghost use Rattle.bw_model.specs.Replies.{command_key, is_writer};
 ghost use Rattle.bw_model.specs.declared.command.Reply.TheVariants as reply;
 ghost use Rattle.row_chain.specs.Placed.{IsReadChain};
@@ -12,19 +12,20 @@ ghost use Rattle.op_machine.specs.machine.Bounded.{left_at, left_for, one_round}
 ghost use Rattle.op_machine.specs.machine.GoesLeft.{first_read, first_write};
 ghost use Rattle.op_machine.specs.machine.Outcomes as Outcome;
 ghost use Rattle.op_machine.specs.machine.Outcomes.{FacesRead, StandsForReader};
-ghost use Rattle.op_machine.specs.machine.Places.{HaveLimits, state_of};
+ghost use Rattle.op_machine.specs.declared.places.Stand.TheVariants as Stand;
+ghost use Rattle.op_machine.specs.machine.Places.{HaveLimits, leaf_read, state_of};
 ghost use Rattle.op_machine.specs.machine.RoundSteps.{AfterReading};
 ghost use Rattle.op_machine.specs.machine.Shows.{ShowsState, wanted_at};
 ghost use Rattle.op_machine.specs.machine.States as State;
 ghost use Rattle.op_machine.specs.machine.Tasks.{IsBetweenChanges, Seeks};
 ghost use Rattle.rounds.specs.ReadRounds.{ended_read};
+ghost use Rattle.smo.specs.Reads.{chain_of};
 
 use crate::places::Places;
-use crate::task::{Task, cursor_page};
-use bw_model::Reply;
+use crate::short_reply::ShortReply;
+use crate::task::Task;
 use descent::read_leaves_stood;
 use rounds::ReadEnded;
-use row_chain::Chain;
 use row_search::{KeyWords, Rows};
 use std::alloc::Allocator;
 
@@ -70,34 +71,31 @@ impl Task {
         match ended {
             ReadEnded::Again => self.begin_round(places),
             ReadEnded::Removed => places.read_left(),
-            ReadEnded::Leaf => {
-                let reply = self.reply_over(places.reader().page().chain(), rows, pass);
-                places.leave(reply);
-            }
-            ReadEnded::Beside => {
-                let reply = self.reply_over(places.reader().aside().chain(), rows, pass);
-                places.leave(reply);
-            }
+            ReadEnded::Leaf => self.leave_over(false, places, rows, pass),
+            ReadEnded::Beside => self.leave_over(true, places, rows, pass),
         }
     }
 
-    /// A reader's reply over the chain of a leaf that stood.
-    fn reply_over<R: Rows, A: Allocator>(
+    /// A reader is to leave with its reply over a leaf that stood: the one in its hand, or the removed one beside it.
+    fn leave_over<R: Rows, A: Allocator>(
         &self,
-        leaf: &Chain<R, A>,
+        is_beside: bool,
+        places: &mut Places<R, A>,
         rows: &R,
         pass: &mut R::Pass,
-    ) -> Reply
-        requires read { IsReadChain (R.has rows.now pass.old) leaf.now }
+    )
+        requires read { IsReadChain (R.has rows.now pass.old) (chain_of (leaf_read is_beside places.old.reader)) }
         ensures looks { pass.new ≡ pass.old }
-        ensures may { (spares : Spares) (k : Knowledge) (head : ℕ) → StandsForReader self.now spares k head leaf.now.records → IsBetweenChanges self.now spares k × MayReply self.now.limits self.now.actor k result }
-        ensures answers { result ≢ reply.Full }
+        ensures leaves { places.new ≡ record places.old { stand = Stand.Leave; reply = places.new.reply; lacks = None } }
+        ensures may { (spares : Spares) (k : Knowledge) (head : ℕ) → StandsForReader self.now spares k head (leaf_read is_beside places.old.reader).chain → IsBetweenChanges self.now spares k × MayReply self.now.limits self.now.actor k places.new.reply }
+        ensures answers { places.new.reply ≢ reply.Full }
     {
         let key = self.command().key();
+        let leaf = places.leaf_read(is_beside).chain();
         let found = leaf.find(rows, pass, &KeyWords::of(key));
-        match self.command().reply(found.as_ref()) {
-            Some(reply) => reply,
-            None => cursor_page(leaf, rows, pass, key),
+        match ShortReply::of(self.command(), found.as_ref()) {
+            Some(reply) => places.leave(reply),
+            None => places.leave_with_page(is_beside, key, rows, pass),
         }
     }
 }

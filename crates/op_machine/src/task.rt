@@ -1,12 +1,7 @@
 //! What an operation was asked, and what it makes of what it has come to.
 ghost use Rattle.std.specs.Prelude.{◌≡◌, ◌≤◌, ◌+◌, ◌<◌, ◌-◌, ℕ, List, [], Option, Some, IfSome, IsSome, MatchOption, is_some, length, option_copied, slice_get, take, true};
-ghost use Rattle.traces.specs.chain.Chains.{high_in};
-ghost use Rattle.traces.specs.discipline.Discipline.{found};
 ghost use Rattle.traces.specs.discipline.Knowledge.{Knowledge};
-ghost use Rattle.bw_model.specs.Pairs.{ArePairsOf};
 ghost use Rattle.bw_model.specs.Replies.{is_writer, update_of};
-ghost use Rattle.bw_model.specs.declared.command.Reply.TheVariants as reply;
-ghost use Rattle.row_chain.specs.Placed.{IsReadChain};
 ghost use Rattle.op_machine.specs.machine.Brings.{update_over};
 ghost use Rattle.op_machine.specs.machine.Errands.{due_of, tends_of, way_key, with_errand};
 ghost use Rattle.sweep.specs.Bounded.{most_steps, steps_left as steps_of};
@@ -16,11 +11,9 @@ ghost use Rattle.sweep.specs.Sweeps.{IsSoundSweep, IsKeptOutside, Shows as Shows
 
 use crate::errands::Errands;
 use base_page::Page;
-use bw_model::{Command, Key, Limits, Reply};
+use bw_model::{Command, Key, Limits};
 use deltas::{Delete, Put, Record};
 use epochs::Limbo;
-use row_chain::Chain;
-use row_search::Rows;
 use smo::many_deltas;
 use std::alloc::Allocator;
 use std::marker::Model;
@@ -180,23 +173,5 @@ impl Task {
                 key: key.copied(),
             }),
         }
-    }
-}
-
-/// The pairs of a leaf from a key on, and where the next page goes on.
-#[inline(never)]
-pub(crate) fn cursor_page<R: Rows, A: Allocator>(
-    leaf: &Chain<R, A>,
-    rows: &R,
-    pass: &mut R::Pass,
-    from: &Key,
-) -> Reply
-    requires read { IsReadChain (R.has rows.now pass.old) leaf.now }
-    ensures looks { pass.new ≡ pass.old }
-    ensures page { (pairs : List (List ℕ × List ℕ)) × ArePairsOf (found leaf.now.records) from.now (high_in leaf.now.records) pairs × (result ≡ reply.Page pairs (high_in leaf.now.records)) }
-{
-    Reply::Page {
-        items: leaf.pairs_from(rows, pass, from),
-        next: leaf.high(rows, pass),
     }
 }

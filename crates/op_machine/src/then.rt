@@ -1,6 +1,6 @@
 //! What comes after a change.
 
-use bw_model::Reply;
+use crate::short_reply::ShortReply;
 use smo::After;
 
 /// What comes once a change has won.
@@ -9,5 +9,5 @@ pub(crate) enum Then {
     /// What follows a change of the tree's structure.
     After(After),
     /// The reply.
-    Reply(Reply),
+    Reply(ShortReply),
 }

@@ -19,9 +19,10 @@ ghost use Rattle.smo.specs.Reads.{IsReadPage};
 ghost use Rattle.smo.specs.Versions.{Version};
 
 use crate::places::Places;
+use crate::short_reply::{ShortReply, Which};
 use crate::task::Task;
 use crate::then::Then;
-use bw_model::{Command, Reply};
+use bw_model::Command;
 use installs::{End, Spares, plans_may_be_linked};
 use rounds::{WriteEnded, WriteRound};
 use row_search::{KeyWords, Rows};
@@ -52,7 +53,7 @@ impl Task {
         match ended {
             WriteEnded::Again | WriteEnded::Done => self.begin_round(places),
             WriteEnded::Removed => places.write_left(rows, pass),
-            WriteEnded::Due(plan, after) => self.begin_due(spares, plan, after, places),
+            WriteEnded::Due => self.begin_due(spares, places),
             WriteEnded::Leaf => self.end_at_sought_leaf(spares, places, rows, pass),
         }
     }
@@ -153,8 +154,8 @@ impl Task {
         let leaf = places.writer().page();
         let key = KeyWords::of(self.command().key());
         let old = leaf.chain().find(rows, pass, &key);
-        let Some(reply) = self.command().reply(old.as_ref()) else {
-            return places.leave(Reply::Tidied);
+        let Some(reply) = ShortReply::of(self.command(), old.as_ref()) else {
+            return places.leave(ShortReply::bare(Which::Tidied));
         };
         if !self.command().changes(old.as_ref()) {
             return places.leave(reply);
@@ -169,21 +170,16 @@ impl Task {
 
     /// A change begins that is due where the round ended.
     #[inline(never)]
-    fn begin_due<R: Rows, A: Allocator>(
-        &self,
-        spares: &Spares,
-        plan: Plan,
-        after: After,
-        places: &mut Places<R, A>,
-    )
+    fn begin_due<R: Rows, A: Allocator>(&self, spares: &Spares, places: &mut Places<R, A>)
         requires have { HaveLimits self.now.limits places.old }
-        requires faced { (k : Knowledge) × (r : Recalled) × FacesWritten self.now spares.now k r (end.Due plan after) }
-        ensures stands { (k : Knowledge) (r : Recalled) → FacesWritten self.now spares.now k r (end.Due plan after) → ShowsState self.now spares.now k r (state_of places.new) }
+        requires faced { (k : Knowledge) × (r : Recalled) × FacesWritten self.now spares.now k r (end.Due places.old.writer.plan places.old.writer.after) }
+        ensures stands { (k : Knowledge) (r : Recalled) → FacesWritten self.now spares.now k r (end.Due places.old.writer.plan places.old.writer.after) → ShowsState self.now spares.now k r (state_of places.new) }
         ensures few { (r : Recalled) → left_at self.now.limits r spares.now (state_of places.new) ≤ few_changes self.now.limits + 1 }
         ensures asks { IsSome (wanted_at spares.now (state_of places.new)) }
         ensures have { HaveLimits self.now.limits places.new }
     {
         plans_may_be_linked();
+        let (plan, after) = places.take_due();
         places.begin_change(self, spares, plan, Then::After(after))
     }
 

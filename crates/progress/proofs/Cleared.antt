@@ -9,7 +9,7 @@ use Rattle.traces.specs.declared.trace.Entry.{Entry}
 use Rattle.traces.specs.trace.Trace.{Happens}
 use Rattle.op_machine.specs.theorem.Links.{Installs}
 use Rattle.op_machine.specs.theorem.Phases.{Phase, MovesPhase, MovesAt, IsInPhase, KeepsPhases, first_phase, free, indexed, owned, removed, merged, cleared}
-use Rattle.op_machine.specs.theorem.Phases.{takes, holds, removes, merges, unterms, reuses}
+use Rattle.op_machine.specs.theorem.Phases.{takes, removes, merges, unterms, reuses}
 
 -- the phase in which a move to each one started, where it was one alone; and what removed a page
 abbrev pub CameBy : Memory → Entry → ℕ → Phase → Phase → Type 0

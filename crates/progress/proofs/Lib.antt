@@ -13,4 +13,6 @@ mod Hindering
 mod Later
 mod Alone
 mod Together
+mod rounds
+mod RoundRuns
 mod SmallRuns

@@ -1,2 +1,7 @@
+pub mod ReaderRuns
+pub mod RoundsIn
+pub mod RoundsEnd
+pub mod RoundExample
+pub mod ReadersAmong
 pub mod Readers
 pub mod Unhindered

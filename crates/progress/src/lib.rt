@@ -4,14 +4,20 @@
 //! and at `runs_make_progress`, which says then of all operations what hinders them, that each ends where it runs alone, and that all together take
 //! few steps. No function here does anything: each one's contract is proved of all traces, and a body that calls it has that at hand.
 //!
-//! Called by `step_core` and `bw_tree`, which say these two of their runs; the others are there for who concludes them. It knows what
-//! the theorem says of a trace (`op_machine`, specs/theorem), and neither the invariant of the law nor any operation.
+//! Then look at `readers_end_among_changes`: beside removals, too, a reader takes few steps but for changes of the tree, since in one
+//! memory its rounds come to an end, wherever they stand (`readers_end_alone`, `rounds_end`).
+//!
+//! Called by `step_core` and `bw_tree`, which say the first two of their runs; the others are there for who concludes them. It knows what
+//! the theorem says of a trace (`op_machine`, specs/theorem), and, for readers beside removals, the invariant of the law and what a reader's rounds
+//! make of an answer.
 #![tactic(auto)]
 
 mod examples;
+mod one_memory;
 mod readers;
 mod unhindered;
 
-pub use examples::{fills_hinder_nobody, removals_are_seen};
+pub use examples::{changes_are_told, fills_hinder_nobody, lookups_go_left, removals_are_seen};
+pub use one_memory::{readers_end_alone, readers_end_among_changes, rounds_end};
 pub use readers::readers_read_at_once;
 pub use unhindered::runs_make_progress;

@@ -9,7 +9,7 @@ use Rattle.record_slots.specs.declared.row.Header.{Header}
 use Rattle.record_slots.specs.declared.row.Row.{Row}
 use Rattle.record_slots.specs.Layout.{field_size, first_at, item_size, items_at, row_size, second_at}
 use Rattle.record_slots.specs.Spelling.{field_words, bound_words, items_words, row_words, words_left}
-use Rattle.record_slots.specs.Parts.{are_zeros, first_word, IsHeaderIn, IsRowOfParts, IsRowIn}
+use Rattle.record_slots.specs.Parts.{are_zeros, header_word, IsHeaderIn, IsRowOfParts, IsRowIn}
 use Rattle.record_slots.proofs.ItemLaws.{items_length}
 use Rattle.record_slots.proofs.Flags.{left, right}
 use Rattle.record_slots.proofs.WordLaws.{or_zeros}
@@ -53,7 +53,7 @@ module _ (words : List ℕ) (row : Row) (items : List Item) (is : IsRowOfParts r
   tail = items_words items ++ replicate (words_left (length items)) 0
 
   abbrev head : ℕ
-  head = first_word row.kind row.level (length items)
+  head = header_word row.kind row.level (length items)
 
   behind_bound : drop items_at words ≡ tail
   behind_bound = ap (drop items_at) (sym are) ∙ rest_there head row.next row.page row.first tail row.second
@@ -66,7 +66,7 @@ module _ (words : List ℕ) (row : Row) (items : List Item) (is : IsRowOfParts r
   pub row_there : IsRowIn words row
   row_there = record {
     is = is;
-    header = ap (λ n. first_word row.kind row.level n) (sym counts) ∙ ap (λ ws. get_or ws 0 0) are;
+    header = ap (λ n. header_word row.kind row.level n) (sym counts) ∙ ap (λ ws. get_or ws 0 0) are;
     next = ap (λ ws. get_or ws 1 0) are;
     page = ap (λ ws. get_or ws 2 0) are;
     first = ap (λ ws. take field_size (drop first_at ws)) are;
@@ -93,7 +93,7 @@ whole_row (a ∷ b ∷ c ∷ words) row items long is counts are =
     let n : ℕ = item_size * row.count in
     let rest : drop (field_size + field_size + n) words ≡ replicate (words_left (length items)) 0 =
     let three : items_at + n ≡ suc (suc (suc (field_size + field_size + n))) = omega arith in ap (λ k. drop k (a ∷ b ∷ c ∷ words)) (sym three) ∙ is.rest ∙ ap (λ k. replicate (words_left k) 0) (sym counts) in
-    let head : first_word row.kind row.level (length items) ≡ a = ap (λ k. first_word row.kind row.level k) counts ∙ is.header in
+    let head : header_word row.kind row.level (length items) ≡ a = ap (λ k. header_word row.kind row.level k) counts ∙ is.header in
     (λ i. head i ∷ is.next i ∷ is.page i ∷ (is.first i ++ (is.second i ++ (are i ++ sym rest i)))) ∙ ap (λ ws. a ∷ b ∷ c ∷ ws) (cut_twice field_size n words)
 
 -- the numbers of a first word are one

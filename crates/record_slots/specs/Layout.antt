@@ -1,5 +1,5 @@
 -- The numbers of a row's layout, each in one place.
-use Rattle.std.specs.Prelude.{ℕ, suc, ◌+◌, ◌*◌, ◌-◌}
+use Rattle.std.specs.Prelude.{ℕ}
 
 -- A form of rows: its number, how many words of eight bytes a key or a value takes, and how many words a row has.
 pub record Form : Type 0 where

@@ -54,15 +54,15 @@ pub record IsNumberIn (word limit number : ℕ) : Type 0 where
   pub are : number ≡ word
 
 -- the first word of a row of today's form
-abbrev pub first_word : ℕ → ℕ → ℕ → ℕ
-first_word kind level count = kind + level_unit * level + count_unit * count + form_unit * this_form.number
+abbrev pub header_word : ℕ → ℕ → ℕ → ℕ
+header_word kind level count = kind + level_unit * level + count_unit * count + form_unit * this_form.number
 
 -- what stands in the first word
 pub record IsHeaderIn (word : ℕ) (header : Header) : Type 0 where
   pub kind : header.kind < 256
   pub level : header.level ≤ 15
   pub few : header.count ≤ 24
-  pub are : first_word header.kind header.level header.count ≡ word
+  pub are : header_word header.kind header.level header.count ≡ word
 
 -- The numbers are in their ranges, and the texts are short.
 pub record IsRowOfParts (row : Row) : Type 0 where
@@ -77,7 +77,7 @@ pub record IsRowOfParts (row : Row) : Type 0 where
 -- Such parts stand in the words before the items, and nothing behind the items.
 pub record IsRowIn (words : List ℕ) (row : Row) : Type 0 where
   pub is : IsRowOfParts row
-  pub header : first_word row.kind row.level row.count ≡ get_or words 0 0
+  pub header : header_word row.kind row.level row.count ≡ get_or words 0 0
   pub next : row.next ≡ get_or words 1 0
   pub page : row.page ≡ get_or words 2 0
   pub first : field_words row.first ≡ take field_size (drop first_at words)

@@ -46,6 +46,10 @@ pub record IsSpelling (content : Record) (words : List ℕ) : Type 0 where
   pub short : HasShortTexts content
   pub are : words_of content ≡ words
 
+-- A row of words can spell the record.
+abbrev pub HasSpelling : Record → Type 0
+HasSpelling content = IsSpelling content (words_of content)
+
 -- A search among values for one that has the property: what is found has it, and a refusal says that none has.
 abbrev pub FindsOne : {A E : Type 0} → (A → Type 0) → Result A E → Type 0
 FindsOne {A} has result = MatchResult result has (λ fault. (a : A) → has a → ⊥)

@@ -1,7 +1,7 @@
 //! Whether the parts of a page keep the rules of a tree's page.
 ghost use Rattle.std.specs.Prelude.{◌≡◌, ◌≤◌, ◌<◌, ◌↔◌, IsTrue, false, length, is_some};
 ghost use Rattle.std.specs.List.{All};
-ghost use Rattle.bw_model.specs.Bytes.{is_under, is_in_range};
+ghost use Rattle.bw_model.specs.Bytes.{is_under};
 ghost use Rattle.base_page.specs.Pages.{AreItems, IsOfLevel};
 ghost use Rattle.base_page.specs.Rules.{IsRuled, held_count, is_held};
 ghost use Rattle.record_slots.specs.Rules.{are_within, are_apart_after, are_terms, starts_at};

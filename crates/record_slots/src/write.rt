@@ -5,8 +5,8 @@ ghost use Rattle.bw_model.specs.Bytes.{IsShort, longest};
 ghost use Rattle.deltas.specs.Spellable.{IsSpellable};
 ghost use Rattle.deltas.specs.declared.record.Record.TheVariants as variant;
 ghost use Rattle.record_slots.specs.Layout.{field_size, item_size, row_size, text_size};
-ghost use Rattle.record_slots.specs.Parts.{first_word};
-ghost use Rattle.record_slots.specs.Spelling.{bound_words, content_words, field_words, item_words, items_words, packed, row_words, text_words, words_of};
+ghost use Rattle.record_slots.specs.Parts.{header_word};
+ghost use Rattle.record_slots.specs.Spelling.{bound_words, field_words, item_words, items_words, packed, row_words, text_words, words_of};
 ghost use Rattle.record_slots.specs.Spells.{HasShortTexts, IsShortItem, IsSpelling};
 
 use crate::layout::{
@@ -103,7 +103,7 @@ fn row_words(
     ensures items { All IsShortItem items.now }
 {
     let mut words = ArrayVec::new();
-    words.push(first_word(kind, level, items.len()));
+    words.push(header_word(kind, level, items.len()));
     words.push(u64::from(next));
     words.push(u64::from(page));
     push_field(&mut words, key_bytes(first));
@@ -115,9 +115,9 @@ fn row_words(
 }
 
 /// A row's first word.
-fn first_word(kind: u8, level: u8, count: usize) -> u64
+fn header_word(kind: u8, level: u8, count: usize) -> u64
     requires { count ≤ 24 }
-    ensures { result ≡ first_word kind level count }
+    ensures { result ≡ header_word kind level count }
 {
     u64::from(kind) + LEVEL_UNIT * u64::from(level) + ITEM_UNIT * count as u64 + FORM_UNIT * FORM
 }

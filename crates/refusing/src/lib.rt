@@ -2,7 +2,7 @@
 //!
 //! Look first at `Refusing`, its one type: it passes calls on to another allocator until so many have come, and refuses the next one.
 //!
-//! Called by the crates of tests, to show what want of memory leaves as it was. The one place with code that is `unsafe`. It knows
+//! Called by the crates of tests, to show what want of memory leaves as it was. Its impl is `unsafe`, as each of `Allocator`. It knows
 //! nothing of trees.
 #![tactic(auto)]
 

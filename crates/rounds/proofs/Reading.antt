@@ -21,9 +21,9 @@ use Rattle.descent.specs.Visits.{Whole}
 use Rattle.descent.specs.Walks.{HasArrived}
 use Rattle.descent.proofs.Passing.{IsOver, Passed}
 use Rattle.descent.proofs.Reading.{HasRead, whole}
+use Rattle.descent.proofs.SeenPages.{seen_is_read}
 use Rattle.descent.proofs.Seeking.{hand}
 use Rattle.rounds.specs.ReadRounds.{AreReadFor, IsReadGoal, IsReadLeg}
-use Rattle.rounds.proofs.WriteReading.{seen_is_read}
 
 module _ (is_there : ℕ → Record → Type 0) where
   module _ (limits : Limits) (key : List ℕ) (k now : Knowledge) (r : Recalled) (version : Version) (there : AreThere is_there now) where

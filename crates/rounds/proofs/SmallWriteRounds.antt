@@ -14,10 +14,10 @@ use Rattle.rounds.specs.WriteRounds.{AreReadToWrite, PlacedWrite, again_if, ende
 use Rattle.rounds.specs.declared.course.Aim.TheVariants as aim
 use Rattle.rounds.specs.declared.write_ended.WriteEnded.TheVariants.{Removed, Due, Leaf}
 
-module _ (round : writer.WriteRound) (first second third : Version) where
-  -- the first page is in hand, the second stands in the parent's place, the third in the left one's
+module _ (round : writer.WriteRound) (first second third : Version) (plan : Plan) (after : After) where
+  -- the first page is in hand, the second stands in the parent's place, the third in the left one's, and a change in the place of one
   abbrev stands : PlacedWrite
-  stands = record { round = round; page = first; parent = second; left = third }
+  stands = record { round = round; page = first; parent = second; left = third; plan = plan; after = after }
 
   is_removed : ended_write stands Removed ≡ end.Removed first
   is_removed = refl
@@ -25,8 +25,8 @@ module _ (round : writer.WriteRound) (first second third : Version) where
   is_leaf : ended_write (record stands { round = record round { parent = Some second } }) Leaf ≡ end.Leaf (Some second) first
   is_leaf = refl
 
-  is_due : (plan : Plan) (after : After) → ended_write stands (Due plan after) ≡ end.Due plan after
-  is_due plan after = refl
+  is_due : ended_write stands Due ≡ end.Due plan after
+  is_due = refl
 
   goes_on : option_map (ended_write stands) None ≡ None
   goes_on = refl

@@ -10,8 +10,6 @@ use Rattle.deltas.specs.declared.record.Record.{Record}
 use Rattle.traces.specs.discipline.Fitting.{Fits}
 use Rattle.traces.specs.discipline.Knowledge.{Knowledge, learn}
 use Rattle.traces.specs.discipline.Recalled.{recall}
-use Rattle.smo.specs.Reads.{IsReadPage}
-use Rattle.smo.specs.Readings.{HasSeen}
 use Rattle.smo.specs.Versions.{Version}
 use Rattle.descent.specs.Courses.{WriteGoal, Seek, Left, Merge, Unterm}
 use Rattle.descent.specs.Descents.{Finds, WayState}
@@ -22,6 +20,7 @@ use Rattle.descent.specs.Visits.{Whole}
 use Rattle.descent.specs.WriteResponses.{writing}
 use Rattle.descent.specs.WriteRounds.{Shows, VisitsToWrite, WriteRound, at, wanted}
 use Rattle.descent.proofs.Keeping.{Passed, reached_next}
+use Rattle.descent.proofs.SeenPages.{seen_is_read}
 use Rattle.descent.proofs.Seeking.{hand}
 use Rattle.rounds.specs.Descents.{PlacedDescent}
 use Rattle.rounds.specs.WriteRounds.{AreReadToWrite, IsGoalRead, PlacedWrite}
@@ -29,10 +28,6 @@ use Rattle.rounds.specs.declared.descents.Seen.TheVariants as seen
 use Rattle.rounds.proofs.WriteSeeing.{Moved, after}
 
 module _ (is_there : ℕ → Record → Type 0) where
-  -- a page that was seen was read
-  pub seen_is_read : (k : Knowledge) (version : Version) → HasSeen k version → AreThere is_there k → IsReadPage is_there version
-  seen_is_read k version seen there = record { seen = k.read.seen; leads = seen.read; stand = there }
-
   module _ {At : Type 0} (machine : Machine At) (at : At) where
     pub is_told : (told : Answer Record) → IsToldThere is_there machine at told → IsTold machine at told
     is_told told t = record { k = t.k; r = t.r; shows = t.shows; fits = t.fits }
@@ -48,8 +43,8 @@ module _ (is_there : ℕ → Record → Type 0) where
     goal_is_read : (k now : Knowledge) (earlier : List ℕ) (goal : WriteGoal) → AreThere is_there now → Passed old.limits old.key old.floor k now version.pid earlier goal → IsGoalRead is_there goal
     goal_is_read k now earlier Seek there passed = tt
     goal_is_read k now earlier (Left pid) there passed = tt
-    goal_is_read k now earlier (Merge left) there passed = seen_is_read now left passed.in_hand.seen there
-    goal_is_read k now earlier (Unterm parent left) there passed = (seen_is_read now parent passed.above.in_hand.seen there, seen_is_read now left passed.aside.in_hand.seen there)
+    goal_is_read k now earlier (Merge left) there passed = seen_is_read is_there now left passed.in_hand.seen there
+    goal_is_read k now earlier (Unterm parent left) there passed = (seen_is_read is_there now parent passed.above.in_hand.seen there, seen_is_read is_there now left passed.aside.in_hand.seen there)
 
     pub are_read : Finds (writing.way old) told (Whole version) → IsToldThere is_there (machine writing) old told → AreReadToWrite is_there (at old other) version
     are_read b t =
@@ -60,9 +55,9 @@ module _ (is_there : ℕ → Record → Type 0) where
         let there : AreThere is_there now = subst (λ (s : WayState). AreThere is_there (learn t.k (wanted (at old s)) told)) b.asked t.there in
         let d = reached_next old.limits old.key old.floor old.goal old.parent old.left t.k t.r visit told h f version b.responds in
         record {
-          page = seen_is_read now version (hand old.limits t.k now (recall t.r (page.wanted visit) told) version d.level d.low d.earlier d.arrives).seen there;
-          parent = IfSome_then old.parent d.above (λ other i. seen_is_read now other i.kept.in_hand.seen there);
-          left = IfSome_then old.left d.aside (λ other i. seen_is_read now other i.kept.in_hand.seen there);
+          page = seen_is_read is_there now version (hand old.limits t.k now (recall t.r (page.wanted visit) told) version d.level d.low d.earlier d.arrives).seen there;
+          parent = IfSome_then old.parent d.above (λ other i. seen_is_read is_there now other i.kept.in_hand.seen there);
+          left = IfSome_then old.left d.aside (λ other i. seen_is_read is_there now other i.kept.in_hand.seen there);
           goal = goal_is_read t.k now d.earlier old.goal there d.passed;
         }
 

@@ -3,6 +3,8 @@ use Rattle.std.proofs.Common.{◌≡◌, inl, inr, ℕ, List, Bool, Option, None
 use Rattle.std.specs.Option.{option_map}
 use Rattle.tree_limits.specs.declared.limits.Limits.{Limits}
 use Rattle.bw_model.specs.declared.step.Answer.{Answer}
+use Rattle.smo.specs.declared.after.After.{After}
+use Rattle.smo.specs.declared.plan.Plan.{Plan}
 use Rattle.deltas.specs.declared.record.Record.{Record}
 use Rattle.descent.specs.Descents as from_root
 use Rattle.descent.specs.Machines.{IsTold}
@@ -58,10 +60,12 @@ module _ (was : PlacedWrite) (now : PlacedDescent) (told : Answer Record) where
       inr (record { sight = sight.Whole now.page; finds = b; sees = treats_as was.round new.round was.round.state now.way.state now.page (option_map (ended_write new) result) there })
 
 -- the round whose fields these are
-abbrev pub placed : List ℕ → ℕ → Bool → ℕ → PlacedCourse → PlacedDescent → PlacedWrite
-placed key due tends floor course descent = record {
+abbrev pub placed : List ℕ → ℕ → Bool → ℕ → PlacedCourse → PlacedDescent → Plan → After → PlacedWrite
+placed key due tends floor course descent plan after = record {
   round = record { limits = descent.way.limits; key = key; due = due; tends = tends; floor = floor; goal = course.course.goal; parent = course.course.parent; left = course.course.left; state = descent.way.state };
   page = descent.page;
   parent = course.parent;
   left = course.left;
+  plan = plan;
+  after = after;
 }

@@ -1,6 +1,8 @@
 -- A writer's round in its place: its pages stand in it, and an end names them there.
 use Rattle.std.specs.Prelude.{ℕ, Bool, true, false, Option, Some, None, IfSome, ⊤}
 use Rattle.deltas.specs.declared.record.Record.{Record}
+use Rattle.smo.specs.declared.after.After.{After}
+use Rattle.smo.specs.declared.plan.Plan.{Plan}
 use Rattle.smo.specs.Reads.{IsReadPage}
 use Rattle.smo.specs.Versions.{Version}
 use Rattle.descent.specs.Courses.{WriteGoal, Seek, Left}
@@ -11,18 +13,21 @@ use Rattle.descent.specs.WriteEnds as end
 use Rattle.rounds.specs.declared.write_ended.WriteEnded.{WriteEnded}
 use Rattle.rounds.specs.declared.write_ended.WriteEnded.TheVariants.{Again, Removed, Due, Leaf, Done}
 
--- The round, the page in hand, which was read whole last, and the pages that stand in the places of the parent and of the left page.
+-- The round, the page in hand, which was read whole last, the pages that stand in the places of the parent and of the left page, and the change
+-- in the place of one that is due, with what comes once it has won.
 pub record PlacedWrite : Type 0 where
   pub round : rounds.WriteRound
   pub page : Version
   pub parent : Version
   pub left : Version
+  pub plan : Plan
+  pub after : After
 
--- an end with the pages that it is about, as they stand in the round
+-- an end with the pages that it is about and the change that is due, as they stand in the round
 abbrev pub ended_write : PlacedWrite → WriteEnded → WriteEnd
 ended_write round Again = end.Again
 ended_write round Removed = end.Removed round.page
-ended_write round (Due plan after) = end.Due plan after
+ended_write round Due = end.Due round.plan round.after
 ended_write round Leaf = end.Leaf round.round.parent round.page
 ended_write round Done = end.Done
 

@@ -12,7 +12,7 @@ ghost use Rattle.descent.specs.Machines.{IsTold, IsToldThere};
 ghost use Rattle.descent.specs.Rounds.{Responds, machine};
 ghost use Rattle.descent.specs.Visits.{ReadsWithin, reads_on};
 ghost use Rattle.descent.specs.WriteResponses.{CanTreatWrite, IsFine, IsHere, IsIdleOnWay, IsAtLeft, IsSplitFinished, TreatsWrite, writing};
-ghost use Rattle.descent.specs.WriteRounds.{IsSame, SeeksLeaf, Shows, ends_at, goes_left, wanted, write_way};
+ghost use Rattle.descent.specs.WriteRounds.{AsksTheSame, SeeksLeaf, Shows, ends_at, goes_left, wanted, write_way};
 ghost use Rattle.descent.specs.Ways.{LeadsDown, LeadsRight, StaysLeft};
 ghost use Rattle.descent.specs.Descents.{Root};
 ghost use Rattle.rounds.specs.Descents.{asked_step};
@@ -21,12 +21,13 @@ ghost use Rattle.smo.specs.Reads.{IsReadPage};
 
 mod due;
 
+use self::due::no_plan;
 use crate::course::{Aim, Course};
 use crate::way::{child_on_way, right_on_way};
 use crate::{Asked, Descent, Seen, WriteEnded};
 use bw_model::{Key, Limits};
 use row_search::{KeyWords, RowAt, Rows};
-use smo::{After, MANY_DELTAS, PageInHand};
+use smo::{After, MANY_DELTAS, PageInHand, Plan};
 use std::alloc::{AllocError, Allocator, Global};
 use std::marker::Model;
 
@@ -38,6 +39,8 @@ pub struct WriteRound<R: Rows, A: Allocator = Global> {
     floor: u8,
     course: Course<R, A>,
     descent: Descent<R, A>,
+    plan: Plan,
+    after: After,
 }
 
 impl<R: Rows, A: Allocator> Drop for WriteRound<R, A> {
@@ -49,6 +52,8 @@ impl<R: Rows, A: Allocator> Drop for WriteRound<R, A> {
             floor: _,
             course: _,
             descent: _,
+            plan: _,
+            after: _,
         } = self;
     }
 }
@@ -58,7 +63,7 @@ impl<R: Rows, A: Allocator> Model for WriteRound<R, A> {
 
     ghost Value = { PlacedWrite };
 
-    ghost view = { λ r. record { round = record { limits = r.descent.way.limits; key = r.key; due = r.due; tends = r.tends; floor = r.floor; goal = r.course.course.goal; parent = r.course.course.parent; left = r.course.course.left; state = r.descent.way.state }; page = r.descent.page; parent = r.course.parent; left = r.course.left } };
+    ghost view = { λ r. record { round = record { limits = r.descent.way.limits; key = r.key; due = r.due; tends = r.tends; floor = r.floor; goal = r.course.course.goal; parent = r.course.course.parent; left = r.course.course.left; state = r.descent.way.state }; page = r.descent.page; parent = r.course.parent; left = r.course.left; plan = r.plan; after = r.after } };
 }
 
 impl<R: Rows, A: Allocator + Copy> WriteRound<R, A> {
@@ -74,6 +79,8 @@ impl<R: Rows, A: Allocator + Copy> WriteRound<R, A> {
             floor: 0,
             course: Course::<R, A>::new(alloc)?,
             descent: Descent::<R, A>::new(alloc, limits)?,
+            plan: no_plan(),
+            after: After::Round,
         })
     }
 }
@@ -143,7 +150,7 @@ impl<R: Rows, A: Allocator> WriteRound<R, A> {
     pub fn told(&mut self, number: u64) -> bool
         requires told { IsTold (machine writing) self.old.round (Number number) }
         ensures responds { Responds writing self.old.round (Number number) self.new.round (again_if result) }
-        ensures same { IsSame self.old.round self.new.round }
+        ensures same { AsksTheSame self.old.round self.new.round }
     {
         match self.descent.told(number) {
             Seen::On => false,
@@ -159,7 +166,7 @@ impl<R: Rows, A: Allocator> WriteRound<R, A> {
         requires on { reads_on (Content found.content) ≡ true }
         ensures looks { pass.new ≡ pass.old }
         ensures responds { Responds writing self.old.round (Content found.content) self.new.round None }
-        ensures same { IsSame self.old.round self.new.round }
+        ensures same { AsksTheSame self.old.round self.new.round }
     {
         self.descent.take_record(found, rows, pass);
     }
@@ -176,7 +183,7 @@ impl<R: Rows, A: Allocator> WriteRound<R, A> {
         requires told { IsToldThere (R.has rows.now pass.old) (machine writing) self.old.round (Content found.content) }
         ensures looks { pass.new ≡ pass.old }
         ensures responds { Responds writing self.old.round (Content found.content) self.new.round (option_map (ended_write self.new) result) }
-        ensures same { IsSame self.old.round self.new.round }
+        ensures same { AsksTheSame self.old.round self.new.round }
     {
         match self.descent.take_record(found, rows, pass) {
             Seen::On => None,
@@ -191,7 +198,7 @@ impl<R: Rows, A: Allocator> WriteRound<R, A> {
         requires can { CanTreatWrite self.old.round self.old.page }
         ensures looks { pass.new ≡ pass.old }
         ensures treats { TreatsWrite self.old.round self.old.page self.new.round (option_map (ended_write self.new) result) }
-        ensures same { IsSame self.old.round self.new.round }
+        ensures same { AsksTheSame self.old.round self.new.round }
     {
         if self.course.seeks_leaf() {
             return self.meet(rows, pass);
@@ -201,12 +208,13 @@ impl<R: Rows, A: Allocator> WriteRound<R, A> {
 
     /// Ends at the removed page, which was read again.
     #[inline(never)]
-    fn end_again(&self, rows: &R, pass: &mut R::Pass) -> WriteEnded
-        requires read { AreReadToWrite (R.has rows.now pass.old) self.now.round self.now.page }
-        requires can { CanTreatWrite self.now.round self.now.page }
-        requires again { ¬ SeeksLeaf self.now.round.goal }
+    fn end_again(&mut self, rows: &R, pass: &mut R::Pass) -> WriteEnded
+        requires read { AreReadToWrite (R.has rows.now pass.old) self.old.round self.old.page }
+        requires can { CanTreatWrite self.old.round self.old.page }
+        requires again { ¬ SeeksLeaf self.old.round.goal }
         ensures looks { pass.new ≡ pass.old }
-        ensures treats { TreatsWrite self.now.round self.now.page self.now.round (Some (ended_write self.now result)) }
+        ensures treats { TreatsWrite self.old.round self.old.page self.new.round (Some (ended_write self.new result)) }
+        ensures round { self.new.round ≡ self.old.round }
     {
         match self.course.aim() {
             Aim::Seek | Aim::Left(_) => unreachable!(),
@@ -222,7 +230,7 @@ impl<R: Rows, A: Allocator> WriteRound<R, A> {
         requires seeks { SeeksLeaf self.old.round.goal }
         ensures looks { pass.new ≡ pass.old }
         ensures treats { TreatsWrite self.old.round self.old.page self.new.round (option_map (ended_write self.new) result) }
-        ensures same { IsSame self.old.round self.new.round }
+        ensures same { AsksTheSame self.old.round self.new.round }
     {
         self.page().chain().was_read(rows, pass);
         if self.page().chain().is_removed() {
@@ -244,10 +252,10 @@ impl<R: Rows, A: Allocator> WriteRound<R, A> {
         requires left { self.old.round.left ≡ Some self.old.left }
         ensures looks { pass.new ≡ pass.old }
         ensures treats { TreatsWrite self.old.round self.old.page self.new.round (option_map (ended_write self.new) result) }
-        ensures same { IsSame self.old.round self.new.round }
+        ensures same { AsksTheSame self.old.round self.new.round }
     {
         match self.due_aside(rows, pass) {
-            Some(plan) => Some(WriteEnded::Due(plan, After::Round)),
+            Some(plan) => Some(self.ends_due(plan, After::Round)),
             None => self.decide(rows, pass),
         }
     }
@@ -261,7 +269,7 @@ impl<R: Rows, A: Allocator> WriteRound<R, A> {
         requires finished { IsSplitFinished self.old.round.parent self.old.round.left self.old.page }
         ensures looks { pass.new ≡ pass.old }
         ensures treats { TreatsWrite self.old.round self.old.page self.new.round (option_map (ended_write self.new) result) }
-        ensures same { IsSame self.old.round self.new.round }
+        ensures same { AsksTheSame self.old.round self.new.round }
     {
         match self.next_aside(rows, pass) {
             None => self.settle(rows, pass),
@@ -289,7 +297,7 @@ impl<R: Rows, A: Allocator> WriteRound<R, A> {
         requires here { IsHere self.old.round self.old.page }
         ensures looks { pass.new ≡ pass.old }
         ensures treats { TreatsWrite self.old.round self.old.page self.new.round (option_map (ended_write self.new) result) }
-        ensures same { IsSame self.old.round self.new.round }
+        ensures same { AsksTheSame self.old.round self.new.round }
     {
         if self.is_long(rows, pass) {
             return Some(self.end_long(rows, pass));
@@ -308,7 +316,7 @@ impl<R: Rows, A: Allocator> WriteRound<R, A> {
         requires fine { IsFine self.old.round.limits self.old.round.due self.old.page }
         ensures looks { pass.new ≡ pass.old }
         ensures treats { TreatsWrite self.old.round self.old.page self.new.round (option_map (ended_write self.new) result) }
-        ensures same { IsSame self.old.round self.new.round }
+        ensures same { AsksTheSame self.old.round self.new.round }
     {
         self.page().chain().was_read(rows, pass);
         let level = self.page().chain().level();
@@ -337,10 +345,10 @@ impl<R: Rows, A: Allocator> WriteRound<R, A> {
         requires tends { self.old.round.tends ≡ true }
         ensures looks { pass.new ≡ pass.old }
         ensures treats { TreatsWrite self.old.round self.old.page self.new.round (option_map (ended_write self.new) result) }
-        ensures same { IsSame self.old.round self.new.round }
+        ensures same { AsksTheSame self.old.round self.new.round }
     {
         match self.due_upkeep(rows, pass) {
-            Some(upkeep) => Some(WriteEnded::Due(upkeep, After::Round)),
+            Some(upkeep) => Some(self.ends_due(upkeep, After::Round)),
             None => {
                 self.go_below(rows, pass);
                 None
@@ -358,7 +366,7 @@ impl<R: Rows, A: Allocator> WriteRound<R, A> {
         requires idle { IsIdleOnWay self.old.round self.old.page }
         ensures looks { pass.new ≡ pass.old }
         ensures treats { TreatsWrite self.old.round self.old.page self.new.round None }
-        ensures same { IsSame self.old.round self.new.round }
+        ensures same { AsksTheSame self.old.round self.new.round }
     {
         let child = self.next_below(rows, pass);
         self.course.go_below(&mut self.descent);
@@ -386,7 +394,7 @@ impl<R: Rows, A: Allocator> WriteRound<R, A> {
         requires level { level_in self.old.page.chain ≡ ends_at self.old.round.goal self.old.round.floor }
         ensures looks { pass.new ≡ pass.old }
         ensures treats { TreatsWrite self.old.round self.old.page self.new.round (option_map (ended_write self.new) result) }
-        ensures same { IsSame self.old.round self.new.round }
+        ensures same { AsksTheSame self.old.round self.new.round }
     {
         match self.course.removed() {
             Some(pid) => self.end_left(rows, pass, pid),
@@ -403,7 +411,7 @@ impl<R: Rows, A: Allocator> WriteRound<R, A> {
         requires left { IsAtLeft self.old.round self.old.page pid }
         ensures looks { pass.new ≡ pass.old }
         ensures treats { TreatsWrite self.old.round self.old.page self.new.round (option_map (ended_write self.new) result) }
-        ensures same { IsSame self.old.round self.new.round }
+        ensures same { AsksTheSame self.old.round self.new.round }
     {
         if self.page().chain().right(rows, pass) == Some(pid) {
             self.course.go_to_merge(&mut self.descent);

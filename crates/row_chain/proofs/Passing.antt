@@ -1,5 +1,5 @@
 -- Which of ascending items are left of a bound.
-use Rattle.std.proofs.Common.{◌≡◌, ◌≤◌, ◌+◌, ◌-◌, ℕ, List, [], ◌∷◌, ◌++◌, length, get_or, take, drop, add-one, Bool, true, false, sym, ap, subst, ◌∙◌, arith}
+use Rattle.std.proofs.Common.{◌≡◌, ◌≤◌, ◌+◌, ◌-◌, ℕ, List, [], ◌∷◌, ◌++◌, length, get_or, take, drop, Bool, true, false, sym, ap, subst, ◌∙◌, arith}
 use Rattle.std.specs.Prelude.{IsTrue, not}
 use Rattle.std.specs.List.{AllByRecursion}
 use Rattle.std.specs.Ordering.{is_lt}
@@ -14,7 +14,7 @@ use Rattle.base_page.proofs.KeyLaws.{above, itself}
 use Rattle.base_page.proofs.PlaceLaws.{above_place, below_place, IsCut-at, IsCut-gap}
 use Rattle.row_search.specs.Placed.{PlacedRecord}
 use Rattle.row_chain.specs.Placed.{contents}
-use Rattle.row_chain.specs.Walks.{is_left, IsPassed}
+use Rattle.row_chain.specs.Walks.{is_left, PassesUpTo}
 
 not_above : (bound : List ℕ) (item : Item) → key_cmp item.key bound ≡ Less → IsTrue (not (is_below bound item.key))
 not_above bound item less = ap (λ o. not (is_lt o)) (above item.key bound less)
@@ -22,7 +22,7 @@ not_above bound item less = ap (λ o. not (is_lt o)) (above item.key bound less)
 past : (bound : List ℕ) (item : Item) → key_cmp bound item.key ≡ Less → not (is_below bound item.key) ≡ false
 past bound item more = ap (λ o. not (is_lt o)) more
 
-cut_passes : (items : List Item) (bound : List ℕ) (place : ℕ) → IsCut items bound place → IsPassed items (is_left true bound) place
+cut_passes : (items : List Item) (bound : List ℕ) (place : ℕ) → IsCut items bound place → PassesUpTo items (is_left true bound) place
 cut_passes items bound place cut = record {
   within = cut.within;
   front = all-weaker _ _ (λ (item : Item) less. ap is_lt less) (take place items) cut.below;
@@ -30,7 +30,7 @@ cut_passes items bound place cut = record {
 }
 
 -- Where the bound is no item's key, the same items pass whether or not they have to be below it.
-pub gap_passes : (items : List Item) (below : Bool) (bound : List ℕ) (place : ℕ) → IsGap items bound place → IsPassed items (is_left below bound) place
+pub gap_passes : (items : List Item) (below : Bool) (bound : List ℕ) (place : ℕ) → IsGap items bound place → PassesUpTo items (is_left below bound) place
 gap_passes items true bound place gap = cut_passes items bound place (IsCut-gap items bound place gap)
 gap_passes items false bound place gap = record {
   within = gap.within;
@@ -40,11 +40,11 @@ gap_passes items false bound place gap = record {
 
 -- where it is an item's key, that item passes too, unless it has to be below it
 module _ (items : List Item) (are : AreItems items) (bound : List ℕ) (place : ℕ) (d : Item) (at : IsAt items bound place) where
-  pub below_passes : (below : Bool) → below ≡ true → IsPassed items (is_left below bound) place
+  pub below_passes : (below : Bool) → below ≡ true → PassesUpTo items (is_left below bound) place
   below_passes true e = cut_passes items bound place (IsCut-at items are bound place d at)
   below_passes false e = cc
 
-  upto : IsPassed items (is_left false bound) (place + 1)
+  upto : PassesUpTo items (is_left false bound) (place + 1)
   upto = record {
     within = let within = at.within in omega (arith, within);
     front = subst (AllByRecursion (λ (item : Item). IsTrue (is_left false bound item.key))) (sym (take_more items place d at.within))
@@ -54,7 +54,7 @@ module _ (items : List Item) (are : AreItems items) (bound : List ℕ) (place : 
     rest = all-weaker _ _ (λ (item : Item) more. past bound item more) (drop (place + 1) items) (above_place items are bound place d at);
   }
 
-  pub at_passes : (below : Bool) → below ≡ false → IsPassed items (is_left below bound) (place + 1)
+  pub at_passes : (below : Bool) → below ≡ false → PassesUpTo items (is_left below bound) (place + 1)
   at_passes true e = cc
   at_passes false e = upto
 

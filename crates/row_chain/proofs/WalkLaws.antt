@@ -2,7 +2,7 @@
 use Rattle.std.proofs.Common.{◌≡◌, ℕ, ◌+◌, ◌-◌, ◌<◌, ◌≤◌, List, [], ◌∷◌, ◌++◌, length, get_or, take, drop, map, Bool, true, false, Option, Some, None, refl, sym, ap, subst, ◌∙◌, arith}
 use Rattle.std.specs.Prelude.{ltb, if◌then◌else◌, is_some, IsTrue, IsSome, not, ◌&&◌}
 use Rattle.std.specs.List.{AllWithin}
-use Rattle.std.specs.Ordering.{is_lt, is_eq}
+use Rattle.std.specs.Ordering.{is_lt}
 use Rattle.std.specs.declared.cmp.Ordering.TheVariants.{Less}
 use Rattle.std.proofs.Math.Bool.{and-false}
 use Rattle.std.proofs.lemmas.Bool.{ltb-true, ltb-false}
@@ -23,7 +23,7 @@ use Rattle.deltas.specs.declared.record.Record.TheVariants.{Base, Put, Delete, S
 use Rattle.deltas.specs.Records.{names, content_said}
 use Rattle.row_search.specs.Items.{may_take}
 use Rattle.traces.specs.chain.Chains.{content_in}
-use Rattle.row_chain.specs.Walks.{is_above, is_named, is_open, is_taken, IsGreatestKey, IsPassed}
+use Rattle.row_chain.specs.Walks.{is_above, is_named, is_open, is_taken, IsGreatestKey, PassesUpTo}
 
 pub none_there : {G : Type 0} (o : Option Content) → o ≡ None → IsSome o → G
 none_there None e h = cc
@@ -209,7 +209,7 @@ one_more P items place count some all here k d low high = by (ltb k place) refl
     by false e = all k d (ltb-false k place e) high
 
 -- The last item that passes and is open, where each one after it isn't.
-module _ (items : List Item) (are : AreItems items) (newer : List Record) (passes : List ℕ → Bool) (count : ℕ) (cut : IsPassed items passes count) (place : ℕ)
+module _ (items : List Item) (are : AreItems items) (newer : List Record) (passes : List ℕ → Bool) (count : ℕ) (cut : PassesUpTo items passes count) (place : ℕ)
     (named : AllWithin (λ (item : Item). is_named newer item.key ≡ true) items place count) where
   abbrev Passes : List ℕ → Bool
   Passes key = is_open newer passes key

@@ -10,11 +10,11 @@ use Rattle.deltas.specs.declared.record.Record.{Record}
 use Rattle.deltas.specs.Spellable.{IsSpellable}
 use Rattle.row_search.specs.Items.{items_said}
 use Rattle.traces.specs.chain.Chains.{content_in}
-use Rattle.row_chain.specs.Walks.{is_above, is_named, is_open, is_taken, IsGreatestKey, IsPassed}
+use Rattle.row_chain.specs.Walks.{is_above, is_named, is_open, is_taken, IsGreatestKey, PassesUpTo}
 use Rattle.row_chain.proofs.Offers.{by_items}
 use Rattle.row_chain.proofs.WalkLaws.{down, last_open, none_open, none_there, not_there, offers_item, offers_none, outdoes, stays, under, untaken, upto_there}
 
-module _ (row : Record) (newer : List Record) (spellable : IsSpellable row) (passes : List ℕ → Bool) (are : AreItems (items_said row)) (count : ℕ) (cut : IsPassed (items_said row) passes count) (best : Option (List ℕ))
+module _ (row : Record) (newer : List Record) (spellable : IsSpellable row) (passes : List ℕ → Bool) (are : AreItems (items_said row)) (count : ℕ) (cut : PassesUpTo (items_said row) passes count) (best : Option (List ℕ))
     (g : IsGreatestKey (content_in newer) passes best) (place : ℕ) (named : AllWithin (λ (item : Item). is_named newer item.key ≡ true) (items_said row) place count) where
   -- each of them is named
   pub none_left : place ≡ 0 → IsGreatestKey (content_in (newer ++ row ∷ [])) passes best

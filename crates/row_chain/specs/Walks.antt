@@ -30,7 +30,7 @@ abbrev pub is_open : List Record → (List ℕ → Bool) → List ℕ → Bool
 is_open newer passes key = passes key && not (is_named newer key)
 
 -- The items before the place pass, and those from it on do not.
-pub record IsPassed (items : List Item) (passes : List ℕ → Bool) (place : ℕ) : Type 0 where
+pub record PassesUpTo (items : List Item) (passes : List ℕ → Bool) (place : ℕ) : Type 0 where
   pub within : place ≤ length items
   pub front : AllByRecursion (λ item. IsTrue (passes item.key)) (take place items)
   pub rest : AllByRecursion (λ item. passes item.key ≡ false) (drop place items)

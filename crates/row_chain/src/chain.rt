@@ -5,7 +5,7 @@ ghost use Rattle.bw_model.specs.Bytes.{is_under};
 ghost use Rattle.record_slots.specs.Parts.{row_of};
 ghost use Rattle.traces.specs.chain.Chains.{covers, high_in, is_removed, level_in, low_in, right_in};
 ghost use Rattle.traces.specs.chain.Fitted.{IsPageChain};
-ghost use Rattle.row_chain.specs.Placed.{AreFrom, IsReadChain, contents};
+ghost use Rattle.row_chain.specs.Placed.{IsReadChain, contents};
 
 mod count;
 mod pages;

@@ -1,6 +1,6 @@
 -- Records by what they are: a base, a put, a delete.
-use Rattle.std.proofs.Common.{◌≡◌, refl, sym, arith}
-use Rattle.std.specs.Prelude.{Option, Some, None}
+use Rattle.std.proofs.Common.{◌≡◌, refl, arith}
+use Rattle.std.specs.Prelude.{Some, None}
 use Rattle.base_page.specs.Pages.{Page}
 use Rattle.deltas.specs.declared.record.Delete.{Delete}
 use Rattle.deltas.specs.declared.record.Put.{Put}

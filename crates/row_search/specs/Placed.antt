@@ -2,15 +2,10 @@
 use Rattle.std.specs.Prelude.{ℕ, List}
 use Rattle.deltas.specs.declared.record.Record.{Record}
 use Rattle.record_slots.specs.Spelling.{words_of}
-use Rattle.record_slots.specs.Spells.{IsSpelling}
 
 pub record PlacedRecord : Type 0 where
   pub row : ℕ
   pub content : Record
-
--- A row of words can spell the record.
-abbrev pub HasSpelling : Record → Type 0
-HasSpelling content = IsSpelling content (words_of content)
 
 -- the words of the record
 abbrev pub row_words_of : PlacedRecord → List ℕ

@@ -1,5 +1,5 @@
 //! Keys as words.
-ghost use Rattle.std.specs.Prelude.{◌≡◌, ◌≤◌, ◌+◌, List, ℕ, Some, take, drop};
+ghost use Rattle.std.specs.Prelude.{◌≡◌, ◌≤◌, ◌+◌, List, ℕ, take, drop};
 ghost use Rattle.bw_model.specs.Bytes.{key_cmp};
 ghost use Rattle.record_slots.specs.Spelling.{text_words};
 ghost use Rattle.record_slots.specs.Texts.{IsText};

@@ -4,8 +4,8 @@ ghost use Rattle.base_page.specs.declared.items.TheConstants.{MAX_ITEMS};
 ghost use Rattle.deltas.specs.Records.{next_row, removed_after};
 ghost use Rattle.record_slots.specs.Parts.{items_of, row_of};
 ghost use Rattle.record_slots.specs.Spelling.{words_of};
+ghost use Rattle.record_slots.specs.Spells.{HasSpelling};
 ghost use Rattle.record_slots.specs.declared.layout.TheConstants.{ROW_WORDS, TEXT_WORDS};
-ghost use Rattle.row_search.specs.Placed.{HasSpelling};
 
 mod bounds;
 mod items;
@@ -34,7 +34,8 @@ pub struct RowAt<R: Rows> {
 impl<R: Rows> Model for RowAt<R> {
     ghost use Rattle.std.specs.Prelude.{◌≡◌, slice_index};
     ghost use Rattle.record_slots.specs.Spelling.{words_of};
-    ghost use Rattle.row_search.specs.Placed.{HasSpelling, PlacedRecord};
+    ghost use Rattle.record_slots.specs.Spells.{HasSpelling};
+    ghost use Rattle.row_search.specs.Placed.{PlacedRecord};
 
     ghost Value = { PlacedRecord };
 

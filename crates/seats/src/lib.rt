@@ -12,4 +12,4 @@ mod replies;
 
 pub use gathered::gather;
 pub use lists::{are_idle, give_seat, opened, opened_from, take_seat};
-pub use replies::{BUDGET, NoReply, called, reply, resumed};
+pub use replies::{BUDGET, NoReply, called, called_in, reply, resumed, resumed_in};

@@ -1,6 +1,6 @@
 //! Commands that run to their end.
 ghost use Rattle.std.specs.Prelude.{◌≡◌, ◌≤◌, IfErr, IfOk, IfSome, IsSome, IsTrue, None};
-ghost use Rattle.bw_tree.specs.Calls.{IsCalled, IsDone, IsResumed};
+ghost use Rattle.bw_tree.specs.Calls.{IsCalled, IsDone, IsResumed, called_if};
 ghost use Rattle.bw_tree.specs.Runs.{IsOneHistory};
 ghost use Rattle.bw_tree.specs.Seats.{IsSame, unfinished_command};
 ghost use Rattle.bw_tree.specs.Trees.{IsSeatOf};
@@ -81,4 +81,47 @@ pub fn called(tree: &Tree, seat: &mut BwSeat, command: Command, budget: u32) -> 
     }
     seats_replies_fit();
     Some(tree.call(seat, command, budget))
+}
+
+/// Begins a command as `called` does, where the reply comes into a place that the caller has, and the answer is whether the operation is done. A
+/// lookup then moves no reply's room.
+pub fn called_in(
+    tree: &Tree,
+    seat: &mut BwSeat,
+    command: Command,
+    budget: u32,
+    reply: &mut Reply,
+) -> Option<bool>
+    requires own { IsSeatOf tree.now seat.old }
+    ensures own { IsSeatOf tree.now seat.new }
+    ensures same { IsSame seat.old seat.new }
+    ensures called { IfSome result (λ done. IsCalled seat.old command budget (called_if done reply.new) seat.new) }
+    ensures fits { IfSome result (λ done. CameFitting command (called_if done reply.new)) }
+    ensures some { IsSome result → (unfinished_command seat.old ≡ None) × (1 ≤ budget) }
+    ensures history { IsSome result → IsOneHistory seat.new.limits seat.new.seen }
+    ensures none { result ≡ None → CantBegin seat.old budget × (seat.new ≡ seat.old) × (reply.new ≡ reply.old) }
+{
+    if !seat.is_idle() || budget == 0 {
+        return None;
+    }
+    seats_replies_fit();
+    Some(tree.call_in(seat, command, budget, reply))
+}
+
+/// Goes on as `resumed` does, where the reply comes into a place that the caller has, and the answer is whether the operation is done.
+pub fn resumed_in(tree: &Tree, seat: &mut BwSeat, budget: u32, reply: &mut Reply) -> Option<bool>
+    requires own { IsSeatOf tree.now seat.old }
+    ensures own { IsSeatOf tree.now seat.new }
+    ensures same { IsSame seat.old seat.new }
+    ensures resumed { IfSome result (λ done. IsResumed seat.old budget (called_if done reply.new) seat.new) }
+    ensures fits { IfSome result (λ done. IfSome (unfinished_command seat.old) (λ command. CameFitting command (called_if done reply.new))) }
+    ensures some { IsSome result → IsSome (unfinished_command seat.old) }
+    ensures history { IsSome result → IsOneHistory seat.new.limits seat.new.seen }
+    ensures none { result ≡ None → (unfinished_command seat.old ≡ None) × (seat.new ≡ seat.old) × (reply.new ≡ reply.old) }
+{
+    if seat.is_idle() {
+        return None;
+    }
+    seats_replies_fit();
+    Some(tree.resume_in(seat, budget, reply))
 }

@@ -118,14 +118,14 @@ asked Script fields = script_in fields
 asked Weave fields = woven_in fields
 
 -- no key or value of a pair is too long
-abbrev pub IsShortPair : List ℕ × List ℕ → Type 0
-IsShortPair pair = (length pair.0 ≤ longest) × (length pair.1 ≤ longest)
+abbrev pub HasNoLongText : List ℕ × List ℕ → Type 0
+HasNoLongText pair = (length pair.0 ≤ longest) × (length pair.1 ≤ longest)
 
 -- what is answered, given what the fields request for
 abbrev pub GivesPair : Result (List ℕ × List ℕ) LineError → Option (List ℕ × List ℕ) → Type 0
-GivesPair (Ok pair) found = (found ≡ Some pair) × IsShortPair pair
+GivesPair (Ok pair) found = (found ≡ Some pair) × HasNoLongText pair
 GivesPair (Err Malformed) found = found ≡ None
-GivesPair (Err TooLong) found = (pair : List ℕ × List ℕ) × (found ≡ Some pair) × (IsShortPair pair → ⊥)
+GivesPair (Err TooLong) found = (pair : List ℕ × List ℕ) × (found ≡ Some pair) × (HasNoLongText pair → ⊥)
 
 abbrev pub GivesCommand : Result Command LineError → Option Command → Type 0
 GivesCommand (Ok command) found = (found ≡ Some command) × IsShortCommand command

@@ -1,8 +1,8 @@
 //! Lines of a race: commands of numbered jobs.
 
-ghost use Rattle.std.specs.Prelude.{◌≡◌, ◌≤◌, ℕ, List, IfOk, IsErrOf, length};
-ghost use Rattle.std.specs.Option.{option_and_then, option_copied};
-ghost use Rattle.shell_lines.specs.Fields.{fields_in, fields_of};
+ghost use Rattle.std.specs.Prelude.{◌≡◌, ℕ, List, IfOk, IsErrOf};
+ghost use Rattle.std.specs.Option.{option_and_then};
+ghost use Rattle.shell_lines.specs.Fields.{fields_of};
 ghost use Rattle.shell_lines.specs.Number.{number_of};
 ghost use Rattle.shell_lines.specs.RaceLine.{GivesJobCommand, SaysOfJob, job_command_in, job_number};
 ghost use Rattle.shell_lines.specs.Request.{IsShortCommand};

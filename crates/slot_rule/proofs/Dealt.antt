@@ -19,7 +19,8 @@ use Rattle.deltas.specs.Spellable.{IsSpellablePage}
 use Rattle.traces.specs.declared.trace.Entry.{Entry}
 use Rattle.tree_words.specs.Words.{AreWordsOf}
 use Rattle.slot_rule.specs.declared.view.Part.{Part}
-use Rattle.slot_rule.specs.Running.{Each, HasSpelling, IsSpelledRow, IsSettled, times, PartFits, Running}
+use Rattle.record_slots.specs.Spells.{HasSpelling}
+use Rattle.slot_rule.specs.Running.{Each, IsSpelledRow, IsSettled, times, PartFits, Running}
 use Rattle.slot_rule.specs.Views.{dealt, dealt_from}
 use Rattle.slot_rule.proofs.Parts.{mark, spells_views}
 use Rattle.traces.proofs.OwnEntries.{extends_self}

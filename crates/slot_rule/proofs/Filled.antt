@@ -22,13 +22,13 @@ use Rattle.traces.specs.discipline.Knowledge.{knows}
 use Rattle.traces.specs.trace.Trace.{memory_of}
 use Rattle.record_slots.specs.Layout.{last_at, row_size}
 use Rattle.record_slots.specs.Spelling.{words_of}
-use Rattle.record_slots.specs.Spells.{IsSpelling}
+use Rattle.record_slots.specs.Spells.{HasSpelling, IsSpelling}
 use Rattle.tree_words.specs.Layout.{row_at}
 use Rattle.tree_words.specs.Words.{words_in}
 use Rattle.slot_rule.specs.declared.view.Reach.{Reach}
 use Rattle.slot_rule.specs.declared.view.Reach.TheVariants.{Idle, Writing, Noted}
 use Rattle.slot_rule.specs.declared.view.Part.{Part}
-use Rattle.slot_rule.specs.Running.{IsPartWritten, IsSettled, KnowsPlaceable, KeepsRowsApart, HasSpelling}
+use Rattle.slot_rule.specs.Running.{IsPartWritten, IsSettled, KnowsPlaceable, KeepsRowsApart}
 use Rattle.slot_rule.specs.Steps.{IsLawfulStep, Took, Fills, Places, tail_from, used_by, used_by_either, written_over}
 use Rattle.slot_rule.specs.Views.{alone, Mine, seen_of, SitsAt}
 use Rattle.slot_rule.proofs.ByWord.{spells_row}

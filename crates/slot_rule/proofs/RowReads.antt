@@ -14,12 +14,13 @@ use Rattle.traces.specs.discipline.Knowledge.{knows}
 use Rattle.traces.specs.trace.Trace.{memory_of}
 use Rattle.record_slots.specs.Layout.{row_size}
 use Rattle.record_slots.specs.Spelling.{words_of}
+use Rattle.record_slots.specs.Spells.{HasSpelling}
 use Rattle.tree_words.specs.Layout.{row_at}
 use Rattle.tree_words.specs.Words.{words_in}
 use Rattle.slot_rule.specs.declared.view.Reach.TheVariants.{Idle, Writing, Noted}
 use Rattle.slot_rule.specs.declared.view.Reach.{Reach}
 use Rattle.slot_rule.specs.declared.view.Part.{Part}
-use Rattle.slot_rule.specs.Running.{Each, HasSpelling, IsSettled, KnowsPlaceable, KnowsReadable, KeepsRowsApart, LeavesRow, PartFits, ReachFits}
+use Rattle.slot_rule.specs.Running.{Each, IsSettled, KnowsPlaceable, KnowsReadable, KeepsRowsApart, LeavesRow, PartFits, ReachFits}
 use Rattle.slot_rule.specs.Steps.{IsLawfulStep, Looks, ReadsRow, ReadsFirst}
 use Rattle.slot_rule.specs.Views.{alone, Mine, seen_of, SitsAt}
 use Rattle.slot_rule.proofs.Turns.{TableState, Rule, extends_now, knows_now, turn, event_telling, same_actor, same_limits, spares_quiet, spells_quiet}

@@ -8,10 +8,9 @@ use Rattle.deltas.specs.declared.record.Record.{Record}
 use Rattle.record_slots.specs.Layout.{item_size, items_at, row_size}
 use Rattle.record_slots.specs.Parts.{row_of}
 use Rattle.record_slots.specs.Spelling.{words_left, words_of}
-use Rattle.record_slots.specs.Spells.{IsSpelling}
+use Rattle.record_slots.specs.Spells.{HasSpelling, IsSpelling}
 use Rattle.record_slots.proofs.SpellingLaws.{row_spelled}
 use Rattle.tree_words.specs.Words.{words_in}
-use Rattle.slot_rule.specs.Running.{HasSpelling}
 use Rattle.slot_rule.specs.Steps.{used_by, used_by_either}
 
 zeros_are : (n j : ℕ) → ◌≡◌ {A = ℕ} (get_or (replicate n 0) j 0) 0

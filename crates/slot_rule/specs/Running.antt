@@ -12,8 +12,7 @@ use Rattle.traces.specs.discipline.Disciplined.{Extends}
 use Rattle.traces.specs.discipline.Knowledge.{Knowledge, knows}
 use Rattle.traces.specs.trace.Trace.{memory_of}
 use Rattle.record_slots.specs.Layout.{row_size}
-use Rattle.record_slots.specs.Spelling.{words_of}
-use Rattle.record_slots.specs.Spells.{IsSpelling}
+use Rattle.record_slots.specs.Spells.{HasSpelling}
 use Rattle.tree_words.specs.Layout.{row_at, width}
 use Rattle.tree_words.specs.Words.{words_in, SpellsWhere}
 use Rattle.slot_rule.specs.declared.view.Reach.{Reach}
@@ -90,10 +89,6 @@ abbrev pub ExtendsFor : Reach → ℕ → List Entry → List Entry → Type 0
 ExtendsFor Idle actor seen run = Extends actor seen run
 ExtendsFor (Writing row first words) actor seen run = Extends actor seen run
 ExtendsFor Noted actor seen run = StartsWith run seen
-
--- A row of words can spell the record.
-abbrev pub HasSpelling : Record → Type 0
-HasSpelling content = IsSpelling content (words_of content)
 
 -- There is the row, and a row of words can spell the record that stands there.
 pub record IsSpelledRow (limits : Limits) (row : ℕ) (content : Record) : Type 0 where

@@ -17,12 +17,13 @@ use Rattle.traces.specs.trace.Steps.{IsAnswer}
 use Rattle.traces.specs.trace.Trace.{memory_of}
 use Rattle.record_slots.specs.Layout.{count_unit, item_size, items_at, part_limit, row_size}
 use Rattle.record_slots.specs.Spelling.{words_of}
+use Rattle.record_slots.specs.Spells.{HasSpelling}
 use Rattle.tree_words.specs.Changes.{HasWord, changed_word, operation_of, told}
 use Rattle.tree_words.specs.declared.operations.Operation.TheVariants.{Load}
 use Rattle.tree_words.specs.Layout.{row_at}
 use Rattle.slot_rule.specs.declared.view.Reach.{Reach}
 use Rattle.slot_rule.specs.declared.view.Reach.TheVariants.{Idle, Writing}
-use Rattle.slot_rule.specs.Running.{BeginWithSteps, HasSpelling, KnowsReadable}
+use Rattle.slot_rule.specs.Running.{BeginWithSteps, KnowsReadable}
 use Rattle.slot_rule.specs.Views.{SitsAt, Mine, seen_of}
 
 -- the begin that stands before a step with which an operation begins

@@ -31,7 +31,7 @@ use Rattle.tree_law.specs.Direct.{IsDirectState, StaysDirect}
 use Rattle.tree_law.specs.Own.{RowsAreApart}
 use Rattle.tree_law.specs.State.{IsState}
 use Rattle.tree_law.specs.TraceLaws.{AnswersFit, BeginsKeep, Grows, Steps}
-use Rattle.traces.specs.discipline.Recalled.{Recalled, blank, cause_worth, recall, recalls, recalls_after}
+use Rattle.traces.specs.discipline.Recalled.{Recalled, blank, recall, recalls, recalls_after}
 use Rattle.op_machine.specs.machine.Actors.{Actor, IsActor, IsActorShown, command_left, idle_actor, knows_then, running_command, wanted_by}
 use Rattle.op_machine.specs.machine.UnderWay.{steps_due}
 use Rattle.step_core.specs.Actors.{IsReady, IsServedAt, IsWithinAt, wanted_in}

@@ -10,7 +10,7 @@ ghost use Rattle.step_core.specs.Actors.{IsReady, IsWithinAt, NeedsRoom};
 ghost use Rattle.step_core.specs.Turns.{KeepsMore, link_told};
 
 use crate::link::exchange_link;
-use bw_model::{Answer, Command, Link, Step, Told};
+use bw_model::{Answer, Command, Link, Reply, Step, Told};
 use core_memory::{
     BoxedPairs, BoxedReply, CoreRows, CoreTable, SharedRecord, shared_step, step_again,
 };
@@ -167,5 +167,7 @@ pub(crate) fn leave<A: Allocator>(
     ensures command { running_command actor.new ≡ None }
 {
     memory.take(number, Step::Leave);
-    BoxedReply::<A>::new(actor.leave(), room)
+    let mut reply = Reply::None;
+    actor.leave(&mut reply);
+    BoxedReply::<A>::new(reply, room)
 }

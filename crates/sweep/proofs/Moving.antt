@@ -24,7 +24,7 @@ use Rattle.sweep.specs.declared.sweep.State.TheVariants as state
 use Rattle.sweep.specs.Kept.{Agrees, AreKept, IsLimboOf}
 use Rattle.sweep.specs.declared.sweep.TheConstants.{MOST_COMPARED}
 use Rattle.sweep.specs.Moves.{BeginsSweep, Compares, Frees, Moves, Stamps, compared, has_unstamped, state_if}
-use Rattle.sweep.specs.Sweeps.{AreTold, Follows, IsSame, Shows, ShowsState, ShowsThen, Sweep, Told, other_at, wanted, wanted_at}
+use Rattle.sweep.specs.Sweeps.{AreTold, LearnsOfLimbo, HasNewState, Shows, ShowsState, ShowsThen, Sweep, Told, other_at, wanted, wanted_at}
 use Rattle.sweep.proofs.Agreeing.{announced_agrees, announced_told, compared_agrees, may_free, stamped_agrees, stamped_told}
 use Rattle.sweep.proofs.Stages.{first_stage, kept_stage, no_item, no_stage, passed_stage, restaged_stage}
 
@@ -195,8 +195,8 @@ shown_then : (goes : Bool) (limits : Limits) (actor : ℕ) (next : State) (limbo
 shown_then true limits actor next limbo k outside h = record { outside = outside; stands = h }
 shown_then false limits actor next limbo k outside h = record { outside = outside; kept = h }
 
-pub follows : (old new : Sweep) (limbo after : Limbo) (told : Answer Record) (goes : Bool) → old.actor < old.limits.actors → IsSame old new → Moves old.limits old.state limbo told (state_if goes new.state) after
-    → (k : Knowledge) → Shows old limbo k → Fits old.limits k (wanted old) told → Follows k (learn k (wanted old) told) new after goes
+pub follows : (old new : Sweep) (limbo after : Limbo) (told : Answer Record) (goes : Bool) → old.actor < old.limits.actors → HasNewState old new → Moves old.limits old.state limbo told (state_if goes new.state) after
+    → (k : Knowledge) → Shows old limbo k → Fits old.limits k (wanted old) told → LearnsOfLimbo k (learn k (wanted old) told) new after goes
 follows old new limbo after told goes inside same moves k shows fits = record {
   only = only_limbo old.limits old.actor k old.state told fits;
   shows = rw (same.limits, same.actor) (shown_then goes old.limits old.actor new.state after (learn k (wanted old) told) (let only = only_limbo old.limits old.actor k old.state told fits in ap (λ (k : Knowledge). k.inside) only ∙ shows.outside) (moves_show old.limits old.actor k old.state told limbo after (state_if goes new.state) inside fits shows.stands moves));

@@ -13,7 +13,7 @@ use Rattle.deltas.specs.declared.record.Record.{Record}
 use Rattle.traces.specs.chain.Chains.{IsChainFrom, chain_rows}
 use Rattle.traces.specs.discipline.Fitting.{AreOutOfLimbo}
 use Rattle.traces.specs.discipline.Knowledge as known
-use Rattle.traces.specs.discipline.Knowledge.{Knowledge, Limbos, is_on_walk, next_seen, taken_out}
+use Rattle.traces.specs.discipline.Knowledge.{Knowledge, is_on_walk, taken_out}
 use Rattle.epochs.specs.declared.entry.Entry.{Entry}
 use Rattle.epochs.specs.declared.entry.Stage.{Stage}
 use Rattle.epochs.specs.declared.entry.Stage.TheVariants.{Unstamped, Stamped, Passed}

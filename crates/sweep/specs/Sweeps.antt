@@ -128,11 +128,11 @@ ShowsThen true sweep limbo k = Shows sweep limbo k
 ShowsThen false sweep limbo k = IsKeptOutside sweep.limits sweep.actor limbo k
 
 -- What follows from an answer. Nothing is learnt but of the limbo.
-pub record Follows (k now : Knowledge) (sweep : Sweep) (limbo : Limbo) (goes : Bool) : Type 0 where
+pub record LearnsOfLimbo (k now : Knowledge) (sweep : Sweep) (limbo : Limbo) (goes : Bool) : Type 0 where
   pub only : now ≡ record k { limbo = now.limbo }
   pub shows : ShowsThen goes sweep limbo now
 
 -- Only the state has changed.
-pub record IsSame (old new : Sweep) : Type 0 where
+pub record HasNewState (old new : Sweep) : Type 0 where
   pub limits : new.limits ≡ old.limits
   pub actor : new.actor ≡ old.actor

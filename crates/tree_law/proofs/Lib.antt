@@ -1,3 +1,4 @@
+pub mod WholeTrees
 pub mod Words
 pub mod answering
 pub mod epochs

@@ -87,8 +87,8 @@ pub use Rattle.op_machine.specs.theorem.Updates.{UpdatesAtLinks, IsUpdateLink, L
 pub use Rattle.tree_law.specs.AllLinks.{split_a, term_b, item_a, base_b, unterm_a, split_b, upper_a, deletion_a, merge_a, all_links, insert_a}
 pub use Rattle.tree_law.specs.CursorPages.{right_term}
 pub use Rattle.tree_law.specs.Direct.{Accounts, IsLast, Affords, IsDirectState, Recollects, Walks, StaysDirect}
-pub use Rattle.tree_law.specs.Example.{takes, root_a, a, hold_a, remove_a, places, enters}
-pub use Rattle.tree_law.specs.Fitness.{AreFitted, IsAdded}
+pub use Rattle.tree_law.specs.Example.{takes_rows, root_a, a, hold_a, remove_a, places, enters}
+pub use Rattle.tree_law.specs.Fitness.{AreFitted, AreUnheld, IsAdded}
 pub use Rattle.tree_law.specs.HelpedSplit.{other_put, helped_term, helped_split}
 pub use Rattle.tree_law.specs.Indexed.{IsFirst, HasMark, IsIndexed}
 pub use Rattle.tree_law.specs.Keys.{Key, IsBelow, IsUpTo, Covers, IsUnder, put_key}

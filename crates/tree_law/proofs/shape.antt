@@ -19,7 +19,7 @@ pub mod Terms
 pub use Chains.{chain_unique, front_of}
 pub use Exactness.{is_indexed, below_top, root_indexed}
 pub use Firsts.{first_stays, grows}
-pub use Fitness.{opening_fitted, fitted_after}
+pub use Fitness.{opening_fitted, opening_unheld, fitted_after, unheld_after}
 pub use Frames.{chain_stands, chain_decides, RowChange, row_own, row_same, PageChange, page_same, page_stage, page_link, page_gone, Change, kept_change, closed_kept, name_more, page_own, read_linked}
 pub use Frames.{row_free, page_free}
 pub use Kept.{placed_reached, reached_placed, chain_kept}

@@ -14,7 +14,7 @@ use Rattle.traces.specs.discipline.Discipline.{base_from}
 use Rattle.traces.specs.declared.trace.Entry.{Entry}
 use Rattle.traces.specs.declared.trace.Entry.TheVariants.{Begin, Step}
 use Rattle.op_machine.specs.theorem.Examples.{opening_leaf, put_a}
-use Rattle.tree_law.specs.Example.{a, root_a, hold_a, remove_a, enters, takes, places, roots}
+use Rattle.tree_law.specs.Example.{a, root_a, hold_a, remove_a, enters, takes_rows, places, roots}
 
 abbrev pub insert_a : Command
 insert_a = Insert a (codes "1")
@@ -76,7 +76,7 @@ placed = put_a
 -- consolidation, and a page that is made ready and taken back, in one operation; then one that deletes the key again.
 abbrev pub all_links : List Entry
 all_links = enters 0 insert_a
-    ++ takes 13 2
+    ++ takes_rows 13 2
     ++ places 2 placed
     ++ Step 0 (Slot 0) (Number 1) None
     ∷ Step 0 (Slot 1) (Number 1) None

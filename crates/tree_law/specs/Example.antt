@@ -30,9 +30,9 @@ abbrev pub enters : ℕ → Command → List Entry
 enters actor command = Begin actor command ∷ Step actor Epoch (Number 1) None ∷ Step actor (Enter 1) Done None ∷ []
 
 -- the first actor takes n rows, from this one on
-abbrev pub takes : ℕ → ℕ → List Entry
-takes zero first = []
-takes (suc n) first = Step 0 (TakeRow first) (Whether true) None ∷ takes n (suc first)
+abbrev pub takes_rows : ℕ → ℕ → List Entry
+takes_rows zero first = []
+takes_rows (suc n) first = Step 0 (TakeRow first) (Whether true) None ∷ takes_rows n (suc first)
 
 -- and places these records in rows, from this one on
 abbrev pub places : ℕ → List Record → List Entry

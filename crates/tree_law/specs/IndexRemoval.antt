@@ -10,7 +10,7 @@ use Rattle.deltas.specs.declared.record.Record.TheVariants as delta
 use Rattle.traces.specs.discipline.Discipline.{base_from, root_over}
 use Rattle.traces.specs.declared.trace.Entry.{Entry}
 use Rattle.traces.specs.declared.trace.Entry.TheVariants.{Begin, Step}
-use Rattle.tree_law.specs.Example.{a, get_a, root_a, takes, places}
+use Rattle.tree_law.specs.Example.{a, get_a, root_a, takes_rows, places}
 use Rattle.tree_law.specs.TwoSplits.{two_splits, upper_b, second_split}
 
 abbrev pub upper_term : Item
@@ -35,7 +35,7 @@ index_remove = delta.Remove (record { level = 1; next = 7 })
 
 -- the first actor splits the root, and puts a root over both halves
 abbrev pub splits_root : List Entry
-splits_root = takes 5 7
+splits_root = takes_rows 5 7
     ++ places 7 (upper_index ∷ index_split ∷ higher_root ∷ index_hold ∷ index_remove ∷ [])
     ++ Step 0 (TakePid 5) (Whether true) None
     ∷ Step 0 (Exchange 5 0 7) (Whether true) None

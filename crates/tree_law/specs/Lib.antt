@@ -13,6 +13,7 @@ pub mod Leaves
 pub mod LevelPages
 pub mod Limbos
 pub mod Next
+pub mod OneMemory
 pub mod Own
 pub mod NoRoom
 pub mod Owners

@@ -6,11 +6,11 @@ use Rattle.bw_model.specs.declared.step.Answer.TheVariants.{Number, Done}
 use Rattle.traces.specs.declared.trace.Entry.{Entry}
 use Rattle.traces.specs.declared.trace.Entry.TheVariants.{Step}
 use Rattle.tree_law.specs.AllLinks.{insert_a}
-use Rattle.tree_law.specs.Example.{enters, takes}
+use Rattle.tree_law.specs.Example.{enters, takes_rows}
 
 abbrev pub gives_up : List Entry
 gives_up = Step 0 (RowBits 0) (Number 0) None ∷ Step 0 Leave Done (Some reply.Full) ∷ []
 
 -- Rows 2 to 63 are free.
 abbrev pub no_room : List Entry
-no_room = enters 0 insert_a ++ takes 62 2 ++ gives_up
+no_room = enters 0 insert_a ++ takes_rows 62 2 ++ gives_up

@@ -8,7 +8,7 @@ use Rattle.bw_model.specs.declared.step.Answer.TheVariants.{Number, Content, Whe
 use Rattle.traces.specs.declared.trace.Entry.{Entry}
 use Rattle.traces.specs.declared.trace.Entry.TheVariants.{Begin, Step}
 use Rattle.op_machine.specs.theorem.Examples.{opening_leaf}
-use Rattle.tree_law.specs.Example.{get_a, root_a, hold_a, remove_a, takes, places}
+use Rattle.tree_law.specs.Example.{get_a, root_a, hold_a, remove_a, takes_rows, places}
 use Rattle.tree_law.specs.TwoSplits.{b, two_splits, upper_b, first_split, upper_c, second_split}
 
 abbrev pub get_b : Command
@@ -16,7 +16,7 @@ get_b = Get b
 
 -- the first actor holds the upper leaf's term, and removes the leaf
 abbrev pub removes : List Entry
-removes = takes 2 7
+removes = takes_rows 2 7
     ++ places 7 (hold_a ∷ remove_a ∷ [])
     ++ Step 0 (Exchange 3 5 7) (Whether true) None
     ∷ Step 0 (Slot 3) (Number 7) None

@@ -25,7 +25,7 @@ use Rattle.op_machine.specs.theorem.Phases as phase
 use Rattle.op_machine.specs.theorem.Phases.{Phase, IsInPhase, KeepsPhases}
 use Rattle.op_machine.specs.theorem.Updates.{UpdatesAtLinks}
 use Rattle.op_machine.specs.theorem.Reuse.{HandsPid, HandsRow, UnlinksPid, UnlinksRow, IsFreedByRule}
-use Rattle.tree_law.specs.Fitness.{AreFitted}
+use Rattle.tree_law.specs.Fitness.{AreFitted, AreUnheld}
 use Rattle.tree_law.specs.Indexed.{IsFirst, IsIndexedAlong}
 use Rattle.tree_law.specs.Limbos.{IsInLimbo}
 use Rattle.traces.specs.discipline.Knowledge.{Ready, Knowledge, knows}
@@ -132,6 +132,7 @@ pub record IsState (limits : Limits) (entries : List Entry) : Type 0 where
   pub logs : ℕ → List (List Update)
   pub is_tree : IsTree (shared (memory_of limits entries)) (log_of entries points) owners (knows entries) point logs
   pub fitted : AreFitted owners (memory_of limits entries).rows
+  pub unheld : AreUnheld owners (memory_of limits entries).rows
   pub named : IsNamed limits entries owners (memory_of limits entries) (knows entries)
   pub tells : (actor : ℕ) (asked : Command) → command_of entries actor ≡ Some asked → Tells entries points actor asked (point actor) (logs actor)
   pub searches : (operation : Operation) → IsOperation entries operation → IsUnended entries operation.start operation.actor → command_of entries operation.actor ≡ Some operation.command

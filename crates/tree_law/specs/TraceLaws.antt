@@ -25,6 +25,7 @@ use Rattle.op_machine.specs.theorem.Quiet.{HasMapOf}
 use Rattle.op_machine.specs.theorem.Reuse.{IsFreedByRule}
 use Rattle.tree_law.specs.Leaves.{HasLeafPages}
 use Rattle.tree_law.specs.LevelPages.{HasAllLevels}
+use Rattle.tree_law.specs.OneMemory.{HasWholeTree}
 use Rattle.tree_law.specs.State.{IsState}
 
 -- The entry changes the memory, the commands under way, and what actors know and recall, each by what it was before.
@@ -91,6 +92,10 @@ LeavesStand = (limits : Limits) (entries : List Entry) → IsState limits entrie
 -- all levels of a state stand
 abbrev pub LevelsStand : Type 0
 LevelsStand = (limits : Limits) (entries : List Entry) → IsState limits entries → HasAllLevels limits (memory_of limits entries)
+
+-- the memory of a state has a whole tree
+abbrev pub StatesHaveWholeTrees : Type 0
+StatesHaveWholeTrees = (limits : Limits) (entries : List Entry) → IsState limits entries → HasWholeTree limits (memory_of limits entries)
 
 -- by whatever points a trace is linearized, the leaves have the map of their log
 abbrev pub LeavesHaveMap : Type 0

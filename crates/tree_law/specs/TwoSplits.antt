@@ -10,7 +10,7 @@ use Rattle.traces.specs.discipline.Discipline.{base_from}
 use Rattle.traces.specs.declared.trace.Entry.{Entry}
 use Rattle.traces.specs.declared.trace.Entry.TheVariants.{Step}
 use Rattle.op_machine.specs.theorem.Examples.{opening_leaf}
-use Rattle.tree_law.specs.Example.{a, root_a, enters, takes, places, roots}
+use Rattle.tree_law.specs.Example.{a, root_a, enters, takes_rows, places, roots}
 use Rattle.tree_law.specs.Keys.{Key}
 
 abbrev pub b : Key
@@ -43,7 +43,7 @@ two_splits = enters 0 insert_b
     ++ Step 0 (Slot 0) (Number 1) None
     ∷ Step 0 (Slot 1) (Number 1) None
     ∷ Step 0 (Row 1) (Content opening_leaf) None
-    ∷ takes 5 2
+    ∷ takes_rows 5 2
     ++ places 2 split_up
     ++ Step 0 (TakePid 2) (Whether true) None
     ∷ Step 0 (Exchange 2 0 2) (Whether true) None

@@ -14,6 +14,7 @@ mod changes;
 mod direct;
 mod examples;
 mod invariant;
+mod memory;
 mod own;
 mod run_laws;
 
@@ -27,6 +28,7 @@ pub use invariant::{
     key_order, levels_are_indexed, one_begin_keeps, one_step_keeps, opening_is_tree,
     reply_is_by_a_log,
 };
+pub use memory::whole_trees;
 pub use own::{own_lasts, rows_are_apart};
 pub use run_laws::{
     answers, begins, disciplined_runs, entries_grow, frees_by_rule, index_is_exact, is_one_map,

@@ -7,7 +7,7 @@ use Rattle.tree_picture.specs.declared.shape.Mark.TheVariants.{Held}
 use Rattle.tree_picture.specs.declared.shape.PageBox.{PageBox}
 use Rattle.tree_picture.specs.declared.shape.Rectangle.{Rectangle}
 use Rattle.tree_picture.specs.declared.shape.Shape.TheVariants.{Page, Box}
-use Rattle.tree_picture.specs.Layout.{IsBefore, IsWithin}
+use Rattle.tree_picture.specs.Layout.{IsBefore, IsOnSheet}
 use Rattle.tree_picture.specs.Pages.{boxes_of}
 use Rattle.tree_picture.specs.Texts.{EndInBox}
 use Rattle.tree_picture.specs.Sizes.{level_height, levels_height, page_height}
@@ -57,14 +57,14 @@ not_back : IsBefore right left → ⊥
 not_back (inl (same, beside)) = omega (arith, beside)
 not_back (inr under) = omega (arith, under)
 
-inside : IsWithin 542 217 left
+inside : IsOnSheet 542 217 left
 inside = record { wide = omega arith; high = omega arith; right = omega arith; bottom = omega arith }
 
 -- the sheet is a pixel too narrow, or the mark begins where the box ends
-not_narrow : IsWithin 265 217 left → ⊥
+not_narrow : IsOnSheet 265 217 left → ⊥
 not_narrow within = let right = within.right in omega (arith, right)
 
-not_without_room : IsWithin 542 217 (box 30 118 166 99) → ⊥
+not_without_room : IsOnSheet 542 217 (box 30 118 166 99) → ⊥
 not_without_room within = let wide = within.wide in omega (arith, wide)
 
 -- an empty base under a put; one with two items under a split, and under five deltas

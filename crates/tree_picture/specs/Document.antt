@@ -37,17 +37,17 @@ abbrev pub element_text : Element → List ℕ
 element_text element = open_text element.name element.attributes ++ escaped element.content ++ close_text element.name
 
 -- a small letter
-abbrev pub is_small : ℕ → Bool
-is_small b = nat_le 97 b && nat_le b 122
+abbrev pub is_lower_case : ℕ → Bool
+is_lower_case b = nat_le 97 b && nat_le b 122
 
 -- a letter, a digit or a hyphen
 abbrev pub is_name_byte : ℕ → Bool
-is_name_byte b = is_small b || (nat_le 65 b && nat_le b 90) || (nat_le 48 b && nat_le b 57) || b == 45
+is_name_byte b = is_lower_case b || (nat_le 65 b && nat_le b 90) || (nat_le 48 b && nat_le b 57) || b == 45
 
 -- A name begins with a small letter.
 abbrev pub is_name : List ℕ → Bool
 is_name [] = false
-is_name (b ∷ bytes) = is_small b && list_all is_name_byte bytes
+is_name (b ∷ bytes) = is_lower_case b && list_all is_name_byte bytes
 
 -- Each attribute has a name, and no two have the same one.
 abbrev pub are_attributes : List Attribute → Bool

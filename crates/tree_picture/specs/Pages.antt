@@ -7,18 +7,18 @@ use Rattle.tree_picture.specs.declared.shape.Shape.{Shape}
 use Rattle.tree_picture.specs.declared.shape.Shape.TheVariants.{Page, Box, Line, Text}
 
 -- the PIDs, the boxes, the words of the ranges and the marks of some pages, all in the pages' order
-pub record Pages : Type 0 where
+pub record DrawnPages : Type 0 where
   pub pids : List ℕ
   pub boxes : List Rectangle
   pub ranges : List (List ℕ)
   pub marks : List Mark
 
 -- one page before some others
-abbrev pub on_front : PageBox → Pages → Pages
+abbrev pub on_front : PageBox → DrawnPages → DrawnPages
 on_front page pages = record { pids = page.pid ∷ pages.pids; boxes = page.rectangle ∷ pages.boxes; ranges = page.range ∷ pages.ranges; marks = page.mark ∷ pages.marks }
 
 -- the pages among the shapes
-abbrev pub pages_in : List Shape → Pages
+abbrev pub pages_in : List Shape → DrawnPages
 pages_in [] = record { pids = []; boxes = []; ranges = []; marks = [] }
 pages_in (Page page ∷ shapes) = on_front page (pages_in shapes)
 pages_in (Box r ∷ shapes) = pages_in shapes
@@ -38,5 +38,5 @@ abbrev pub marks_of : List Shape → List Mark
 marks_of shapes = (pages_in shapes).marks
 
 -- one page more
-abbrev pub with_page : Pages → PageBox → Pages
+abbrev pub with_page : DrawnPages → PageBox → DrawnPages
 with_page pages page = record { pids = pages.pids ++ page.pid ∷ []; boxes = pages.boxes ++ page.rectangle ∷ []; ranges = pages.ranges ++ page.range ∷ []; marks = pages.marks ++ page.mark ∷ [] }

@@ -24,9 +24,9 @@ pub(crate) struct Sheet {
 }
 
 impl Model for Sheet {
-    ghost use Rattle.tree_picture.specs.Pages.{Pages, pages_in};
+    ghost use Rattle.tree_picture.specs.Pages.{DrawnPages, pages_in};
 
-    ghost Value = { Pages };
+    ghost Value = { DrawnPages };
 
     ghost view = { λ s. pages_in s.shapes.items };
 }

@@ -1,6 +1,6 @@
 //! Words for numbers, keys and records.
 
-ghost use Rattle.std.specs.Prelude.{◌≡◌, ◌≤◌, ◌++◌, codes, length, option_copied, take};
+ghost use Rattle.std.specs.Prelude.{◌≡◌, ◌≤◌, ◌++◌, length, option_copied, take};
 ghost use Rattle.hex.specs.Hex.{encode_lower};
 ghost use Rattle.tree_picture.specs.Adding.{Adds};
 ghost use Rattle.tree_picture.specs.Ranges.{dots, range_text, short_token};

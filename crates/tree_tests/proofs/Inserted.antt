@@ -1,5 +1,5 @@
 -- A list with one element more before the others.
-use Rattle.std.proofs.Common.{◌≡◌, ℕ, zero, suc, List, ◌∷◌, Some, subst}
+use Rattle.std.proofs.Common.{◌≡◌, ℕ, zero, suc, List, Some, subst}
 use Rattle.std.specs.Prelude.{Bool, true, false, if◌then◌else◌, slice_get}
 use Rattle.std.specs.List.{insert}
 use Rattle.std.proofs.lemmas.Option.{same_Some}

@@ -1,5 +1,4 @@
 //! Trees that aren't closed at once: where a seat is missing, where one isn't idle, and where memory is refused.
-ghost use Rattle.std.specs.Prelude.{true};
 ghost use Rattle.bw_tree.specs.Trees.{AreSeatsOf};
 
 use crate::loading::first_pairs;

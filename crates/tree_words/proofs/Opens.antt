@@ -12,7 +12,7 @@ use Rattle.deltas.specs.declared.record.Record.TheVariants.{Base}
 use Rattle.deltas.specs.Memory.{opening}
 use Rattle.traces.specs.trace.Steps.{IsWordOf}
 use Rattle.record_slots.specs.Layout.{no_bound, row_size, second_at, text_size}
-use Rattle.record_slots.specs.Parts.{first_word}
+use Rattle.record_slots.specs.Parts.{header_word}
 use Rattle.record_slots.specs.Spelling.{words_left, words_of}
 use Rattle.tree_words.specs.Layout.{slot_at, pid_bits_at, row_bits_at, epoch_at, announced_at, row_at, width}
 use Rattle.tree_words.specs.Opening.{with_ones, with_free, opening_words}
@@ -109,7 +109,7 @@ module _ (limits : Limits) where
   L5 = set L4 epoch_at limits.epoch
 
   abbrev L6 : List ℕ
-  L6 = set L5 (row_at 1 0) (first_word 1 0 0)
+  L6 = set L5 (row_at 1 0) (header_word 1 0 0)
 
   some_pids : 64 ≤ limits.pids
   some_pids = limits.allowed.some_pids
@@ -142,11 +142,11 @@ module _ (limits : Limits) where
   l5 = length-set L4 epoch_at limits.epoch ∙ l4
 
   l6 : length L6 ≡ width limits
-  l6 = length-set L5 (row_at 1 0) (first_word 1 0 0) ∙ l5
+  l6 = length-set L5 (row_at 1 0) (header_word 1 0 0) ∙ l5
 
   -- but for five words
   else_where : (i : ℕ) → i ≢ slot_at limits 0 → i ≢ slot_at limits 1 → i ≢ epoch_at → i ≢ row_at 1 0 → i ≢ row_at 1 second_at → get_or (opening_words limits) i 0 ≡ get_or L2 i 0
-  else_where i a b c d e = get_or-set_other L6 (row_at 1 second_at) i no_bound 0 e ∙ get_or-set_other L5 (row_at 1 0) i (first_word 1 0 0) 0 d ∙ get_or-set_other L4 epoch_at i limits.epoch 0 c ∙ get_or-set_other L3 (slot_at limits 1) i 1 0 b ∙ get_or-set_other L2 (slot_at limits 0) i 1 0 a
+  else_where i a b c d e = get_or-set_other L6 (row_at 1 second_at) i no_bound 0 e ∙ get_or-set_other L5 (row_at 1 0) i (header_word 1 0 0) 0 d ∙ get_or-set_other L4 epoch_at i limits.epoch 0 c ∙ get_or-set_other L3 (slot_at limits 1) i 1 0 b ∙ get_or-set_other L2 (slot_at limits 0) i 1 0 a
 
   zero_at : (i : ℕ) → i < width limits → get_or L0 i 0 ≡ 0
   zero_at i h = get_or-replicate (width limits) i 0 0 h
@@ -160,9 +160,9 @@ module _ (limits : Limits) where
 
   slot_word : (pid : ℕ) → pid < limits.pids → get_or (opening_words limits) (slot_at limits pid) 0 ≡ (opening limits).slots pid
   slot_word pid lt = let sp = some_pids in let sr = some_rows in elim (same_or_not pid 0) [
-    | inl zero_is ↦ rw zero_is (get_or-set_other L6 (row_at 1 second_at) (slot_at limits 0) no_bound 0 (λ e. absurd (omega arith)) ∙ get_or-set_other L5 (row_at 1 0) (slot_at limits 0) (first_word 1 0 0) 0 (λ e. absurd (omega arith)) ∙ get_or-set_other L4 epoch_at (slot_at limits 0) limits.epoch 0 (λ e. absurd (omega arith)) ∙ get_or-set_other L3 (slot_at limits 1) (slot_at limits 0) 1 0 (λ e. absurd (omega arith)) ∙ get_or-set_same L2 (slot_at limits 0) 1 0 (let l = l2 in omega arith))
+    | inl zero_is ↦ rw zero_is (get_or-set_other L6 (row_at 1 second_at) (slot_at limits 0) no_bound 0 (λ e. absurd (omega arith)) ∙ get_or-set_other L5 (row_at 1 0) (slot_at limits 0) (header_word 1 0 0) 0 (λ e. absurd (omega arith)) ∙ get_or-set_other L4 epoch_at (slot_at limits 0) limits.epoch 0 (λ e. absurd (omega arith)) ∙ get_or-set_other L3 (slot_at limits 1) (slot_at limits 0) 1 0 (λ e. absurd (omega arith)) ∙ get_or-set_same L2 (slot_at limits 0) 1 0 (let l = l2 in omega arith))
     | inr some ↦ elim (same_or_not pid 1) [
-      | inl one_is ↦ rw one_is (get_or-set_other L6 (row_at 1 second_at) (slot_at limits 1) no_bound 0 (λ e. absurd (omega arith)) ∙ get_or-set_other L5 (row_at 1 0) (slot_at limits 1) (first_word 1 0 0) 0 (λ e. absurd (omega arith)) ∙ get_or-set_other L4 epoch_at (slot_at limits 1) limits.epoch 0 (λ e. absurd (omega arith)) ∙ get_or-set_same L3 (slot_at limits 1) 1 0 (let l = l3 in omega arith))
+      | inl one_is ↦ rw one_is (get_or-set_other L6 (row_at 1 second_at) (slot_at limits 1) no_bound 0 (λ e. absurd (omega arith)) ∙ get_or-set_other L5 (row_at 1 0) (slot_at limits 1) (header_word 1 0 0) 0 (λ e. absurd (omega arith)) ∙ get_or-set_other L4 epoch_at (slot_at limits 1) limits.epoch 0 (λ e. absurd (omega arith)) ∙ get_or-set_same L3 (slot_at limits 1) 1 0 (let l = l3 in omega arith))
       | inr more ↦ rw (lt-leb pid 1 (omega arith)) (nowhere (slot_at limits pid) (omega arith) (λ e. some (omega arith)) (λ e. more (omega arith)) (λ e. absurd (omega arith)) (λ e. absurd (omega arith)) (λ e. absurd (omega arith)) (λ k h e. absurd (omega arith)) (λ k h e. absurd (omega arith)))
     ]
   ]
@@ -183,7 +183,7 @@ module _ (limits : Limits) where
   record_word : (row j : ℕ) → row < limits.rows → j < row_size → get_or (opening_words limits) (row_at row j) 0 ≡ get_or (words_in ((opening limits).rows row)) j 0
   record_word row j rl jl = elim (same_or_not row 1) [
     | inl one ↦ subst (λ r. get_or (opening_words limits) (row_at r j) 0 ≡ get_or (words_in ((opening limits).rows r)) j 0) (sym one) (elim (same_or_not j 0) [
-      | inl none ↦ subst (λ k. get_or (opening_words limits) (row_at 1 k) 0 ≡ get_or (words_of (Base empty_leaf)) k 0) (sym none) (get_or-set_other L6 (row_at 1 second_at) (row_at 1 0) no_bound 0 (λ e. absurd (omega arith)) ∙ get_or-set_same L5 (row_at 1 0) (first_word 1 0 0) 0 (let l = l5 in let s = some_rows in omega arith))
+      | inl none ↦ subst (λ k. get_or (opening_words limits) (row_at 1 k) 0 ≡ get_or (words_of (Base empty_leaf)) k 0) (sym none) (get_or-set_other L6 (row_at 1 second_at) (row_at 1 0) no_bound 0 (λ e. absurd (omega arith)) ∙ get_or-set_same L5 (row_at 1 0) (header_word 1 0 0) 0 (let l = l5 in let s = some_rows in omega arith))
       | inr some ↦ elim (same_or_not j second_at) [
         | inl bound ↦ subst (λ k. get_or (opening_words limits) (row_at 1 k) 0 ≡ get_or (words_of (Base empty_leaf)) k 0) (sym bound) (get_or-set_same L6 (row_at 1 second_at) no_bound 0 (let l = l6 in let s = some_rows in omega arith))
         | inr other ↦ nowhere (row_at 1 j) (let s = some_rows in omega arith) (λ e. absurd (omega arith)) (λ e. absurd (omega arith)) (λ e. absurd (omega arith)) (λ e. some (omega arith)) (λ e. other (omega arith)) (λ k h e. absurd (omega arith)) (λ k h e. absurd (omega arith)) ∙ sym (base_word j some other)
@@ -200,7 +200,7 @@ module _ (limits : Limits) where
       slots = slot_word;
       pid_bits = pid_word;
       row_bits = row_word;
-      epoch = get_or-set_other L6 (row_at 1 second_at) epoch_at no_bound 0 (λ e. absurd (omega arith)) ∙ get_or-set_other L5 (row_at 1 0) epoch_at (first_word 1 0 0) 0 (λ e. absurd (omega arith)) ∙ get_or-set_same L4 epoch_at limits.epoch 0 (let l = l4 in omega arith);
+      epoch = get_or-set_other L6 (row_at 1 second_at) epoch_at no_bound 0 (λ e. absurd (omega arith)) ∙ get_or-set_other L5 (row_at 1 0) epoch_at (header_word 1 0 0) 0 (λ e. absurd (omega arith)) ∙ get_or-set_same L4 epoch_at limits.epoch 0 (let l = l4 in omega arith);
       announced = λ a al. nowhere (announced_at a) (omega arith) (λ e. absurd (omega arith)) (λ e. absurd (omega arith)) (λ e. absurd (omega arith)) (λ e. absurd (omega arith)) (λ e. absurd (omega arith)) (λ k h e. absurd (omega arith)) (λ k h e. absurd (omega arith));
       pads = λ i pad. let low = pad.0 in let high = pad.1 in nowhere i (omega arith) (λ e. absurd (omega arith)) (λ e. absurd (omega arith)) (λ e. absurd (omega arith)) (λ e. absurd (omega arith)) (λ e. absurd (omega arith)) (λ k h e. absurd (omega arith)) (λ k h e. absurd (omega arith));
       rows = λ r j rl jl _. record_word r j rl jl;

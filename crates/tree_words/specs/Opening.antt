@@ -2,7 +2,7 @@
 use Rattle.std.specs.Prelude.{ℕ, zero, suc, ◌+◌, ◌/◌, List, replicate, slice_set}
 use Rattle.tree_limits.specs.declared.limits.Limits.{Limits}
 use Rattle.record_slots.specs.Layout.{no_bound, second_at}
-use Rattle.record_slots.specs.Parts.{first_word}
+use Rattle.record_slots.specs.Parts.{header_word}
 use Rattle.tree_words.specs.Layout.{slot_at, pid_bits_at, row_bits_at, epoch_at, row_at, width}
 
 -- n words in which all bits are set
@@ -18,4 +18,4 @@ with_free from n words = slice_set (with_ones from n words) from 184467440737095
 abbrev pub opening_words : Limits → List ℕ
 opening_words limits =
     slice_set (slice_set (slice_set (slice_set (slice_set (with_free (row_bits_at limits 0) (limits.rows / 64) (with_free (pid_bits_at limits 0) (limits.pids / 64) (replicate (width limits) 0)))
-    (slot_at limits 0) 1) (slot_at limits 1) 1) epoch_at limits.epoch) (row_at 1 0) (first_word 1 0 0)) (row_at 1 second_at) no_bound
+    (slot_at limits 0) 1) (slot_at limits 1) 1) epoch_at limits.epoch) (row_at 1 0) (header_word 1 0 0)) (row_at 1 second_at) no_bound

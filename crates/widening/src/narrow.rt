@@ -1,5 +1,5 @@
 //! Records whose keys and values have few bytes, as in the first form.
-ghost use Rattle.std.specs.Prelude.{◌≡◌, ◌↔◌, IfSome, IsTrue, option_copied};
+ghost use Rattle.std.specs.Prelude.{◌↔◌, IfSome, IsTrue, option_copied};
 ghost use Rattle.std.specs.List.{All};
 ghost use Rattle.record_slots.specs.Spells.{HasItemTexts, HasTextIn, HasTexts};
 ghost use Rattle.widening.specs.FirstForm.{IsFew};

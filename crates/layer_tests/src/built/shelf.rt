@@ -1,7 +1,7 @@
 //! Pages by hand where their records lie.
 ghost use Rattle.std.specs.Prelude.{◌≡◌, [], IfSome, IsTrue, Some, option_copied};
 ghost use Rattle.deltas.specs.declared.record.Record.{Record};
-ghost use Rattle.layer_tests.specs.Held.{AreApart, Stands, found_in, record_in};
+ghost use Rattle.layer_tests.specs.Held.{ShareNoRow, HasRowsOf, found_in, page_record};
 ghost use Rattle.smo.specs.Reads.{IsReadPage, chain_of};
 ghost use Rattle.traces.specs.chain.Chains.{IsChainFrom};
 
@@ -23,9 +23,9 @@ pub(crate) struct Shelf<'a> {
 }
 
 impl<'a> Model for Shelf<'a> {
-    ghost use Rattle.layer_tests.specs.Held.{Pages};
+    ghost use Rattle.layer_tests.specs.Held.{ThreePages};
 
-    ghost Value = { Pages };
+    ghost Value = { ThreePages };
 
     ghost view = { λ s. record { one = s.one.now; other = s.other.now; third = s.third.now } };
 }
@@ -65,7 +65,7 @@ impl<'a> Rows for HeldRows<'a> {
 impl<'a> Shelf<'a> {
     /// One page alone.
     pub(crate) fn of_one(page: &'a Held) -> Shelf<'a>
-        ensures { Stands result page.now }
+        ensures { HasRowsOf result page.now }
     {
         Shelf {
             one: page,
@@ -76,7 +76,7 @@ impl<'a> Shelf<'a> {
 
     /// Two pages; none where a row is one of both.
     pub(crate) fn of_two(one: &'a Held, other: &'a Held) -> Option<Shelf<'a>>
-        ensures { IfSome result (λ shelf. Stands shelf one.now × Stands shelf other.now) }
+        ensures { IfSome result (λ shelf. HasRowsOf shelf one.now × HasRowsOf shelf other.now) }
     {
         if !are_apart(one, other) {
             return None;
@@ -90,7 +90,7 @@ impl<'a> Shelf<'a> {
 
     /// Three pages; none where a row is one of two.
     pub(crate) fn of_three(one: &'a Held, other: &'a Held, third: &'a Held) -> Option<Shelf<'a>>
-        ensures { IfSome result (λ shelf. Stands shelf one.now × Stands shelf other.now × Stands shelf third.now) }
+        ensures { IfSome result (λ shelf. HasRowsOf shelf one.now × HasRowsOf shelf other.now × HasRowsOf shelf third.now) }
     {
         if !are_apart(one, other) || !are_apart(one, third) || !are_apart(other, third) {
             return None;
@@ -117,7 +117,7 @@ impl<'a> Shelf<'a> {
         rt: &R,
         page: &Held,
     ) -> PageInHand<HeldRows<'a>>
-        requires { Stands self.now page.now }
+        requires { HasRowsOf self.now page.now }
         ensures chain { chain_of result ≡ chain_of page.now }
         ensures read { IsReadPage (λ row content. found_in self.now row ≡ Some content) result }
     {
@@ -126,7 +126,7 @@ impl<'a> Shelf<'a> {
 
     /// The same; none where its records don't name the rows in which they stand.
     fn tried<R: Abort + AllocGlobal>(&self, rt: &R, page: &Held) -> Option<PageInHand<HeldRows<'a>>>
-        requires { Stands self.now page.now }
+        requires { HasRowsOf self.now page.now }
         ensures { IfSome result (λ read. (chain_of read ≡ chain_of page.now) × IsReadPage (λ row content. found_in self.now row ≡ Some content) read) }
     {
         page.keeps_rules();
@@ -142,10 +142,10 @@ impl<'a> Shelf<'a> {
 
     /// The part gets the page's records, up to one that doesn't name the row before its own; whether all came.
     fn fill(&self, page: &Held, part: &mut ChainPart<HeldRows<'a>>) -> bool
-        requires stands { Stands self.now page.now }
+        requires stands { HasRowsOf self.now page.now }
         requires none { part.old ≡ record { head = page.now.head; records = [] } }
         ensures part { IsTrue result → part.new ≡ chain_of page.now }
-        ensures read { IsTrue result → IsChainFrom (record_in page.now) page.now.head page.now.chain }
+        ensures read { IsTrue result → IsChainFrom (page_record page.now) page.now.head page.now.chain }
     {
         let mut row = page.head();
         let mut whole = false;
@@ -170,7 +170,7 @@ impl<'a> Shelf<'a> {
 
 /// Whether no row is one of both pages.
 fn are_apart(one: &Held, other: &Held) -> bool
-    ensures { IsTrue result → AreApart one.now other.now }
+    ensures { IsTrue result → ShareNoRow one.now other.now }
 {
     let ends_before = one.head() as usize + other.records.len() <= other.head() as usize;
     let begins_after = other.head() as usize + one.records.len() <= one.head() as usize;

@@ -15,29 +15,29 @@ use Rattle.descent.specs.WriteEnds.{WriteEnd, Again}
 use Rattle.descent.specs.WriteResponses.{writing}
 use Rattle.descent.specs.WriteRounds.{WriteRound}
 use Rattle.op_machine.specs.machine.GoesLeft.{GoesLeft, MeetsReading, MeetsWriting, first_read, first_write}
-use Rattle.op_machine.specs.machine.Meeting.{before_base, before_slot, inserting, looking, reading_down, reading_left, removed_leaf, writing_down, writing_left}
+use Rattle.op_machine.specs.machine.Meeting.{before_base, before_slot, inserting, looking, reading_down, reading_left, removed_version, writing_down, writing_left}
 use Rattle.op_machine.specs.machine.RoundSteps.{AfterWriting, StepsInRound}
 use Rattle.op_machine.specs.machine.States.{State, Begun, Epoch, Enter, Read, Write, Change, Leave}
 use Rattle.op_machine.specs.theorem.Examples.{new_leaf, small}
 
-insert_meets : MeetsWriting (writing_down before_base) (Content new_leaf) removed_leaf
+insert_meets : MeetsWriting (writing_down before_base) (Content new_leaf) removed_version
 insert_meets = record {
   whole = record { visit = _; next = to_page small 2; asked = refl; responds = record { row = 2; content = new_leaf; asked = refl; is = refl; last = refl; pid = refl; chain = refl } };
   seeks = tt;
   gone = refl;
 }
 
-lookup_meets : MeetsReading (reading_down before_base) (Content new_leaf) removed_leaf
+lookup_meets : MeetsReading (reading_down before_base) (Content new_leaf) removed_version
 lookup_meets = record {
   whole = record { visit = _; next = to_page small 2; asked = refl; responds = record { row = 2; content = new_leaf; asked = refl; is = refl; last = refl; pid = refl; chain = refl } };
   gone = refl;
 }
 
 pub insert_turns : (new : State) → GoesLeft inserting (Write (writing_down before_base)) (Content new_leaf) new → new ≡ Write writing_left
-insert_turns new left = left removed_leaf insert_meets
+insert_turns new left = left removed_version insert_meets
 
 pub lookup_turns : (new : State) → GoesLeft looking (Read (reading_down before_base)) (Content new_leaf) new → new ≡ Read reading_left
-lookup_turns new left = (left removed_leaf lookup_meets).leaf tt refl
+lookup_turns new left = (left removed_version lookup_meets).leaf tt refl
 
 -- where a state's round goes
 abbrev write_goal : State → WriteGoal
@@ -52,7 +52,7 @@ pub insert_not_anew : GoesLeft inserting (Write (writing_down before_base)) (Con
 insert_not_anew left = let clash : goal.Seek ≡ goal.Left 2 = ap write_goal (insert_turns _ left) in cc
 
 pub lookup_not_anew : GoesLeft looking (Read (reading_down before_base)) (Content new_leaf) (Read (first_read looking)) → ⊥
-lookup_not_anew left = let clash : read_goal.Seek ≡ read_goal.Left removed_leaf = ap read_goal_of (lookup_turns _ left) in cc
+lookup_not_anew left = let clash : read_goal.Seek ≡ read_goal.Left removed_version = ap read_goal_of (lookup_turns _ left) in cc
 
 -- an empty slot ends the round
 abbrev number_of : Answer Record → ℕ

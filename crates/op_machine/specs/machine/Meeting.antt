@@ -17,8 +17,8 @@ use Rattle.op_machine.specs.theorem.Examples.{hold_leaf, new_leaf, remove_leaf, 
 abbrev pub held_above : Version
 held_above = record { pid = 3; head = 5; chain = hold_leaf ∷ root ∷ []; is_pid = (lit≤ tt, lit≤ tt); is_row = (lit≤ tt, lit≤ tt) }
 
-abbrev pub removed_leaf : Version
-removed_leaf = record { pid = 2; head = 6; chain = remove_leaf ∷ new_leaf ∷ []; is_pid = (lit≤ tt, lit≤ tt); is_row = (lit≤ tt, lit≤ tt) }
+abbrev pub removed_version : Version
+removed_version = record { pid = 2; head = 6; chain = remove_leaf ∷ new_leaf ∷ []; is_pid = (lit≤ tt, lit≤ tt); is_row = (lit≤ tt, lit≤ tt) }
 
 -- the visit of page 2, whose slot is to be read, and whose removal was read
 abbrev pub before_slot : WayState
@@ -45,4 +45,4 @@ abbrev pub writing_left : WriteRound
 writing_left = record { limits = small; key = codes "m"; due = 8; tends = false; floor = 0; goal = goal.Left 2; parent = None; left = None; state = Root }
 
 abbrev pub reading_left : ReadRound
-reading_left = record { limits = small; key = codes "p"; goal = read_goal.Left removed_leaf; leg = Down None; state = Root }
+reading_left = record { limits = small; key = codes "p"; goal = read_goal.Left removed_version; leg = Down None; state = Root }

@@ -1,10 +1,11 @@
 -- The places of an operation: the state that they are, by where the operation stands.
-use Rattle.std.specs.Prelude.{◌≡◌, false, Option, Some, None}
+use Rattle.std.specs.Prelude.{◌≡◌, Bool, false, true, Option, Some, None}
 use Rattle.bw_model.specs.declared.command.Reply.{Reply as ReplyOf}
 use Rattle.tree_limits.specs.declared.limits.Limits.{Limits}
 use Rattle.bw_model.specs.declared.step.Answer.{Answer}
 use Rattle.deltas.specs.declared.record.Record.{Record}
 use Rattle.traces.specs.chain.Chains.{level_in, low_in}
+use Rattle.smo.specs.Versions.{Version}
 use Rattle.descent.specs.Courses as course
 use Rattle.descent.specs.ReadRounds as read
 use Rattle.descent.specs.Rounds.{Responds}
@@ -52,6 +53,11 @@ pub record HaveLimits (limits : Limits) (places : OpPlaces) : Type 0 where
   pub reader : places.reader.round.limits ≡ limits
   pub writer : places.writer.round.limits ≡ limits
 
+-- the leaf in the hand of a reader's round, or the removed one beside it
+abbrev pub leaf_read : Bool → PlacedRead → Version
+leaf_read true reader = reader.aside
+leaf_read false reader = reader.page
+
 -- a writer's round to the left of the page in the hand of one
 abbrev pub left_round_of : PlacedWrite → write.WriteRound
 left_round_of writer = record {
@@ -69,13 +75,13 @@ left_round_of writer = record {
 -- The reader's round has taken the answer, and nothing else has changed.
 pub record ReadsOn (old : OpPlaces) (told : Answer Record) (new : OpPlaces) (result : Option ReadEnd) : Type 0 where
   pub responds : Responds read.reading old.reader.round told new.reader.round result
-  pub same : read.IsSame old.reader.round new.reader.round
+  pub same : read.AsksTheSame old.reader.round new.reader.round
   pub only : new ≡ record old { reader = new.reader }
 
 -- The same of the writer's round.
 pub record WritesOn (old : OpPlaces) (told : Answer Record) (new : OpPlaces) (result : Option WriteEnd) : Type 0 where
   pub responds : Responds response.writing old.writer.round told new.writer.round result
-  pub same : write.IsSame old.writer.round new.writer.round
+  pub same : write.AsksTheSame old.writer.round new.writer.round
   pub only : new ≡ record old { writer = new.writer }
 
 -- the end of a change, with what comes then

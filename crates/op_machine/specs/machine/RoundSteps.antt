@@ -4,7 +4,7 @@ use Rattle.bw_model.specs.declared.step.Answer.{Answer}
 use Rattle.deltas.specs.declared.record.Record.{Record}
 use Rattle.descent.specs.ReadEnds.{ReadEnd}
 use Rattle.descent.specs.ReadEnds as read_end
-use Rattle.descent.specs.ReadRounds.{IsSame, ReadRound, reading}
+use Rattle.descent.specs.ReadRounds.{AsksTheSame, ReadRound, reading}
 use Rattle.descent.specs.Rounds.{Responds}
 use Rattle.descent.specs.WriteEnds.{WriteEnd}
 use Rattle.descent.specs.WriteEnds as write_end
@@ -37,7 +37,7 @@ pub record StepsReading (task : Task) (round : ReadRound) (told : Answer Record)
   pub next : ReadRound
   pub end : Option ReadEnd
   pub responds : Responds reading round told next end
-  pub same : IsSame round next
+  pub same : AsksTheSame round next
   pub goes : AfterReading task next end new
 
 pub record StepsWriting (task : Task) (round : WriteRound) (told : Answer Record) (new : State) : Type 0 where

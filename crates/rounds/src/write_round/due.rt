@@ -5,6 +5,7 @@ ghost use Rattle.base_page.specs.declared.item.Content.TheVariants.{Child};
 ghost use Rattle.traces.specs.chain.Chains.{content_in, level_in};
 ghost use Rattle.descent.specs.Courses as goal;
 ghost use Rattle.descent.specs.WriteResponses.{CanTreatWrite, EndsDue, IsHere, IsIdleOnWay, IsSplitFinished, IsTended, TreatsWrite};
+ghost use Rattle.descent.specs.WriteEnds as end;
 ghost use Rattle.descent.specs.WriteRounds.{IsLong, SeeksLeaf};
 ghost use Rattle.row_chain.specs.Placed.{IsReadChain};
 ghost use Rattle.rounds.specs.WriteRounds.{AreReadToWrite, ended_write};
@@ -24,8 +25,29 @@ use smo::{
     plan_split, plan_term, plan_unterm, plan_upkeep,
 };
 use std::alloc::Allocator;
+use std::mem;
 
 impl<R: Rows, A: Allocator> WriteRound<R, A> {
+    /// The change that is due where the round has ended with one, and what comes once it has won.
+    pub fn take_due(&mut self) -> (Plan, After)
+        ensures due { result ≡ (self.old.plan, self.old.after) }
+        ensures only { self.new ≡ record self.old { plan = self.new.plan; after = self.new.after } }
+    {
+        let plan = mem::replace(&mut self.plan, no_plan());
+        let after = mem::replace(&mut self.after, After::Round);
+        (plan, after)
+    }
+
+    /// The round ends with this change, which is due, and with what comes once it has won.
+    pub(super) fn ends_due(&mut self, plan: Plan, after: After) -> WriteEnded
+        ensures ends { ended_write self.new result ≡ end.Due plan after }
+        ensures round { self.new.round ≡ self.old.round }
+    {
+        self.plan = plan;
+        self.after = after;
+        WriteEnded::Due
+    }
+
     /// Whether the page has many deltas, or is a leaf with those that are due.
     pub(super) fn is_long(&self, rows: &R, pass: &R::Pass) -> bool
         requires read { IsReadPage (R.has rows.now pass.now) self.now.page }
@@ -51,37 +73,39 @@ impl<R: Rows, A: Allocator> WriteRound<R, A> {
 
     /// Ends at a page that is to be consolidated.
     #[inline(never)]
-    pub(super) fn end_long(&self, rows: &R, pass: &mut R::Pass) -> WriteEnded
-        requires read { IsReadPage (R.has rows.now pass.old) self.now.page }
-        requires here { IsHere self.now.round self.now.page }
-        requires long { IsLong self.now.round.limits self.now.round.due self.now.page.chain }
+    pub(super) fn end_long(&mut self, rows: &R, pass: &mut R::Pass) -> WriteEnded
+        requires read { IsReadPage (R.has rows.now pass.old) self.old.page }
+        requires here { IsHere self.old.round self.old.page }
+        requires long { IsLong self.old.round.limits self.old.round.due self.old.page.chain }
         ensures looks { pass.new ≡ pass.old }
-        ensures treats { TreatsWrite self.now.round self.now.page self.now.round (Some (ended_write self.now result)) }
+        ensures treats { TreatsWrite self.old.round self.old.page self.new.round (Some (ended_write self.new result)) }
+        ensures round { self.new.round ≡ self.old.round }
     {
         let page = self.page();
         page.chain().was_read(rows, pass);
         let base = plan_base(page, rows, pass);
         let plan = Plan::over(page, Record::Base(base));
         let unlinked = Unlinked::chain(page);
-        WriteEnded::Due(plan, After::Limbo(unlinked))
+        self.ends_due(plan, After::Limbo(unlinked))
     }
 
     /// Ends at a page that has few deltas and many items: it is to be split.
     #[inline(never)]
-    pub(super) fn end_wide(&self, rows: &R, pass: &mut R::Pass) -> WriteEnded
-        requires read { IsReadPage (R.has rows.now pass.old) self.now.page }
-        requires here { IsHere self.now.round self.now.page }
-        requires short { ¬ IsLong self.now.round.limits self.now.round.due self.now.page.chain }
-        requires can { CanSplit self.now.page }
+    pub(super) fn end_wide(&mut self, rows: &R, pass: &mut R::Pass) -> WriteEnded
+        requires read { IsReadPage (R.has rows.now pass.old) self.old.page }
+        requires here { IsHere self.old.round self.old.page }
+        requires short { ¬ IsLong self.old.round.limits self.old.round.due self.old.page.chain }
+        requires can { CanSplit self.old.page }
         ensures looks { pass.new ≡ pass.old }
-        ensures treats { TreatsWrite self.now.round self.now.page self.now.round (Some (ended_write self.now result)) }
+        ensures treats { TreatsWrite self.old.round self.old.page self.new.round (Some (ended_write self.new result)) }
+        ensures round { self.new.round ≡ self.old.round }
     {
         let page = self.page();
         match plan_split(page, rows, pass) {
             Some(plan) => {
                 let separator = plan.upper.low().copied();
                 let pid = page.pid();
-                WriteEnded::Due(Plan::Split { pid, plan }, After::Errand(separator))
+                self.ends_due(Plan::Split { pid, plan }, After::Errand(separator))
             }
             None => unreachable!(),
         }
@@ -130,33 +154,35 @@ impl<R: Rows, A: Allocator> WriteRound<R, A> {
 
     /// Ends where the removed page may come into its left page.
     #[inline(never)]
-    pub(super) fn end_merge(&self, rows: &R, pass: &mut R::Pass) -> WriteEnded
-        requires left { IsReadPage (R.has rows.now pass.old) self.now.left }
-        requires read { IsReadPage (R.has rows.now pass.old) self.now.page }
-        requires merges { self.now.round.goal ≡ goal.Merge self.now.left }
+    pub(super) fn end_merge(&mut self, rows: &R, pass: &mut R::Pass) -> WriteEnded
+        requires left { IsReadPage (R.has rows.now pass.old) self.old.left }
+        requires read { IsReadPage (R.has rows.now pass.old) self.old.page }
+        requires merges { self.old.round.goal ≡ goal.Merge self.old.left }
         ensures looks { pass.new ≡ pass.old }
-        ensures treats { TreatsWrite self.now.round self.now.page self.now.round (Some (ended_write self.now result)) }
+        ensures treats { TreatsWrite self.old.round self.old.page self.new.round (Some (ended_write self.new result)) }
+        ensures round { self.new.round ≡ self.old.round }
     {
         let left = self.left();
         match plan_merge(left, self.page(), rows, pass) {
             None => WriteEnded::Done,
             Some(merge) => {
                 let plan = Plan::over(left, Record::Merge(merge));
-                WriteEnded::Due(plan, After::Round)
+                self.ends_due(plan, After::Round)
             }
         }
     }
 
     /// Ends where the parent may lose the removed page's term.
     #[inline(never)]
-    pub(super) fn end_unterm(&self, rows: &R, pass: &mut R::Pass) -> WriteEnded
-        requires parent { IsReadPage (R.has rows.now pass.old) self.now.parent }
-        requires left { IsReadPage (R.has rows.now pass.old) self.now.left }
-        requires read { IsReadPage (R.has rows.now pass.old) self.now.page }
-        requires can { CanTreatWrite self.now.round self.now.page }
-        requires unterms { self.now.round.goal ≡ goal.Unterm self.now.parent self.now.left }
+    pub(super) fn end_unterm(&mut self, rows: &R, pass: &mut R::Pass) -> WriteEnded
+        requires parent { IsReadPage (R.has rows.now pass.old) self.old.parent }
+        requires left { IsReadPage (R.has rows.now pass.old) self.old.left }
+        requires read { IsReadPage (R.has rows.now pass.old) self.old.page }
+        requires can { CanTreatWrite self.old.round self.old.page }
+        requires unterms { self.old.round.goal ≡ goal.Unterm self.old.parent self.old.left }
         ensures looks { pass.new ≡ pass.old }
-        ensures treats { TreatsWrite self.now.round self.now.page self.now.round (Some (ended_write self.now result)) }
+        ensures treats { TreatsWrite self.old.round self.old.page self.new.round (Some (ended_write self.new result)) }
+        ensures round { self.new.round ≡ self.old.round }
     {
         let parent = self.parent();
         let removed = self.page();
@@ -171,7 +197,7 @@ impl<R: Rows, A: Allocator> WriteRound<R, A> {
                     removal: removed.head(),
                 };
                 let unlinked = Unlinked::page(removed);
-                WriteEnded::Due(plan, After::Limbo(unlinked))
+                self.ends_due(plan, After::Limbo(unlinked))
             }
         }
     }
@@ -219,5 +245,14 @@ fn holds_term<R: Rows, A: Allocator>(
     match chain.content(rows, pass, key) {
         Some(Content::Child { page, held }) => page == pid && held,
         _ => false,
+    }
+}
+
+/// What stands in the place of a change before one was due.
+pub(super) fn no_plan() -> Plan {
+    Plan::Install {
+        pid: 1,
+        head: 1,
+        content: Record::default(),
     }
 }

@@ -6,7 +6,7 @@ ghost use Rattle.base_page.specs.Pages.{AreItems};
 ghost use Rattle.base_page.specs.Places.{IsAt, IsGreatest, IsGreatestChild, HasNoChild};
 ghost use Rattle.traces.specs.chain.Chains.{content_in};
 ghost use Rattle.row_search.specs.Items.{items_said};
-ghost use Rattle.row_chain.specs.Walks.{is_above, is_left, is_taken, IsGreatestKey, IsPassed};
+ghost use Rattle.row_chain.specs.Walks.{is_above, is_left, is_taken, IsGreatestKey, PassesUpTo};
 ghost use Rattle.row_chain.specs.Placed.{IsReadChain, contents};
 
 use crate::Chain;
@@ -66,7 +66,7 @@ fn passing<R: Rows>(
 ) -> (usize, bool)
     requires here { R.has rows.now pass.old row.now.row row.now.content }
     ensures same { pass.new ≡ pass.old }
-    ensures passed { IsPassed (items_said row.now.content) (is_left below bound.now) result.0 }
+    ensures passed { PassesUpTo (items_said row.now.content) (is_left below bound.now) result.0 }
     ensures items { AreItems (items_said row.now.content) }
     ensures at_bound { IsTrue result.1 → IsFalse below × IsAt (items_said row.now.content) bound.now (result.0 - 1) }
 {
@@ -109,7 +109,7 @@ fn winner<R: Rows>(
     ensures there { MatchOption result ⊤ (λ place. place < count) }
     ensures wins { (passes : List ℕ → Bool)
         → AreItems (items_said row.now.content)
-        → IsPassed (items_said row.now.content) passes count
+        → PassesUpTo (items_said row.now.content) passes count
         → IsGreatestKey (content_in (contents newer.now)) passes (option_copied best.entry)
         → MatchOption result
         (IsGreatestKey (content_in (contents newer.now ++ row.now.content ∷ [])) passes (option_copied best.entry))

@@ -2,7 +2,7 @@
 ghost use Rattle.std.specs.Prelude.{◌≡◌, ◌<◌, Some, length, slice_index_or};
 ghost use Rattle.base_page.specs.declared.item.Item.{Item};
 ghost use Rattle.base_page.specs.declared.item.Content.TheVariants.{Child};
-ghost use Rattle.base_page.specs.Pages.{child_in, content_at, value_in};
+ghost use Rattle.base_page.specs.Pages.{content_at, value_in};
 ghost use Rattle.deltas.specs.Records.{content_said};
 ghost use Rattle.record_slots.specs.Parts.{items_of, row_of};
 
@@ -45,18 +45,6 @@ impl<R: Rows> RowAt<R> {
     {
         match self.content_said(rows, pass, key) {
             Some(Content::Value(value)) => Some(value),
-            _ => None,
-        }
-    }
-
-    /// The child that it says a key has that it names.
-    pub fn child_said(&self, rows: &R, pass: &mut R::Pass, key: &KeyWords) -> Option<u32>
-        requires read { R.has rows.now pass.old self.now.row self.now.content }
-        ensures same { pass.new ≡ pass.old }
-        ensures said { result ≡ child_in (content_said self.now.content key.now) }
-    {
-        match self.content_said(rows, pass, key) {
-            Some(Content::Child { page, .. }) => Some(page),
             _ => None,
         }
     }

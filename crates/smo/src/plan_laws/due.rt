@@ -1,5 +1,5 @@
 //! What the discipline asks of a link, each plan gives.
-ghost use Rattle.std.specs.Prelude.{◌≡◌, ℕ, suc, [], ◌∷◌, false};
+ghost use Rattle.std.specs.Prelude.{◌≡◌, ℕ, suc, false};
 ghost use Rattle.base_page.specs.Pages.{Page};
 ghost use Rattle.deltas.specs.declared.record.Record.TheVariants as kind;
 ghost use Rattle.deltas.specs.declared.record.Term.{Term};

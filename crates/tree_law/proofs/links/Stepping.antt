@@ -1,8 +1,8 @@
 -- Each allowed step with the memory's answer keeps the invariant.
 use Rattle.tree_law.proofs.Words.{false, ◌⊎◌, ap, refl, Option, suc, None, List, true, inl, inr, ◌∷◌, sym, ℕ, ◌≡◌, Bool, zero, ◌∙◌, Some, eqb, same_Some, IfSome, IsTrue, Update, set, unset}
 use Rattle.tree_law.proofs.Words.{Reply, Answer, Whether, Number, StepOf, ReuseRows, ReusePids, Leave, TakePid, Row, Place, TakeRow, Slot, Enter, Epoch, Exchange, Announce, Retire, Page, ContentOf}
-use Rattle.tree_law.proofs.Words.{Child, Memory, replaced_at, next_row, Record, Remove, Base, Hold, Split, Merge, Term, Unterm, low_in, level_in, May, root_over, MayExchange, FitsOn, MayLink, MayRoot}
-use Rattle.tree_law.proofs.Words.{base_from, HasRead, update_record, MayPost, IsMet, MayUpdate, MayUnterm, MayHold, MayMerge, MaySplit, MayConsolidate, MayRemove, IsFitted, Knowledge, finished, Ready}
+use Rattle.tree_law.proofs.Words.{Child, Memory, replaced_at, next_row, Record, Remove, RemoveOf, Base, Hold, Split, Merge, Term, Unterm, low_in, level_in, May, root_over, MayExchange, FitsOn, MayLink, MayRoot}
+use Rattle.tree_law.proofs.Words.{base_from, HasRead, update_record, MayPost, IsMet, MayUpdate, MayUnterm, MayHold, MayMerge, MaySplit, MayConsolidate, MayRemove, IsFitted, IsUnheld, Knowledge, finished, Ready}
 use Rattle.tree_law.proofs.Words.{learn, Empty, OwnPage, Gone, Written, filled, emptied, IsAnswer, memory_after, IsAdded, Key, put_key, IsReuse, IsMoved, Next, IsHomed, Linked, Owners, Spare}
 use Rattle.tree_law.proofs.Words.{PageFits, Placed, Indexed, PageOwner, Cleared, Keeps, Fresh, Removed, Held, Merged, Phased, LinkMoves, put, shared, slot_in, row_in, Shared, IsTree, []}
 use Rattle.tree_law.proofs.shape.{read_linked, chain_stands, by_equal, put_other, own_spare}
@@ -38,6 +38,10 @@ cleared_again free n h = λ d j. (let at : replaced_at n false free j ≡ free j
 record_next : (u : Update) (x : ℕ) → next_row (update_record u x) ≡ Some x
 record_next (set b k v) x = refl
 record_next (unset b k) x = refl
+
+not_removed : (u : Update) (x : ℕ) (chain : List Record) (remove : RemoveOf) → update_record u x ≡ Remove remove → IsUnheld chain
+not_removed (set b k v) x chain remove e = absurd (cc)
+not_removed (unset b k) x chain remove e = absurd (cc)
 
 links_same : (m : Shared) (a : ℕ) (u : Update) (x p : ℕ) (f : ℕ → PageOwner) → LinkMoves m a (update_record u x) p f f
 links_same m a (set b k v) x p f = refl
@@ -77,19 +81,20 @@ module _ (memory : Memory) {log : List Update} {o : Owners} {knows : ℕ → Kno
   linked_moved y spare row = by_equal row y (λ e t. rw t (inr (inr (ap o.row e ∙ spare, refl)))) (λ ne t. rw t (inl refl))
 
   -- a delta is linked over the chain that was read
-  adds : (p x y : ℕ) (w : Record) → (knows a).own.rows y ≡ Written w → next_row w ≡ Some x → (basis : HasRead (knows a) p x) → FitsOn basis.chain w → IsAdded o memory.rows y
-  adds p x y w placed next basis fits = record {
+  adds : (p x y : ℕ) (w : Record) → (knows a).own.rows y ≡ Written w → next_row w ≡ Some x → (basis : HasRead (knows a) p x) → FitsOn basis.chain w → ((remove : RemoveOf) → w ≡ Remove remove → IsUnheld basis.chain) → IsAdded o memory.rows y
+  adds p x y w placed next basis fits unheld = record {
     content = w;
     stands = placed_row g a y w placed;
     under = basis.chain;
     is_under = rw next (chain_stands o (shared memory) (knows a).read.seen (g.sound a).seen_fits basis.chain (Some x) basis.read);
     next = rw next (read_linked o (shared memory) (knows a).read.seen (g.sound a).seen_fits basis.chain x basis.read);
     fits = fits;
+    unheld = unheld;
   }
 
   -- a base is linked
   based : {page : Page} (y : ℕ) → (knows a).own.rows y ≡ Written (Base page) → IsFitted (Base page ∷ []) → IsAdded o memory.rows y
-  based {page} y placed fits = record { content = Base page; stands = placed_row g a y (Base page) placed; under = []; is_under = refl; next = tt; fits = fits }
+  based {page} y placed fits = record { content = Base page; stands = placed_row g a y (Base page) placed; under = []; is_under = refl; next = tt; fits = fits; unheld = λ remove is. absurd (cc) }
 
   linked_added : (y : ℕ) → IsAdded o memory.rows y → (row : ℕ) → put o.row y Linked row ≡ Linked → (o.row row ≡ Linked) ⊎ IsAdded o memory.rows row
   linked_added y h row l = by_equal row y (λ e t. inr (rw e h)) (λ ne t. let i = rw t at l in inl i)
@@ -158,10 +163,10 @@ module _ (memory : Memory) {log : List Update} {o : Owners} {knows : ℕ → Kno
     }
 
     -- the same of a delta over the old row
-    delta : (w : Record) → content ≡ w → next_row w ≡ Some (suc x) → (page : ℕ → PageOwner) (index : ℕ → Key → Option ContentOf) → LinkMoves (shared memory) a w (suc p) o.page page
+    delta : (w : Record) → content ≡ w → next_row w ≡ Some (suc x) → ((remove : RemoveOf) → w ≡ Remove remove → IsUnheld basis.chain) → (page : ℕ → PageOwner) (index : ℕ → Key → Option ContentOf) → LinkMoves (shared memory) a w (suc p) o.page page
         → IsTree (record (shared memory) { slots = put (slot_in memory.slots) (suc p) (Some (suc y)) }) log (record { row = put o.row (suc y) Linked; page = page; index = index }) (put knows a (finished (filled ((knows a).own.pages (suc p)) (suc p) (suc x) (suc y) (knows a)) r)) (put point a (point a)) (put logs a (log ∷ logs a))
         → Linking
-    delta w is next = one w (written ∙ ap Written is) (rw next) (adds (suc p) (suc x) (suc y) w (written ∙ ap Written is) next basis (rw is at fits))
+    delta w is next unheld = one w (written ∙ ap Written is) (rw next) (adds (suc p) (suc x) (suc y) w (written ∙ ap Written is) next basis (rw is at fits) unheld)
 
     by_update : MayUpdate a (knows a) (suc x) basis.chain content → Linking
     by_update h = let n = updates g a (suc p) (suc x) (suc y) s basis content written h r in record {
@@ -171,7 +176,7 @@ module _ (memory : Memory) {log : List Update} {o : Owners} {knows : ℕ → Kno
       owners = record o { row = put o.row (suc y) Linked };
       phased = (update_record h.update (suc x), placed_row g a (suc y) (update_record h.update (suc x)) (written ∙ ap Written h.is), links_same (shared memory) a h.update (suc x) (suc p) o.page);
       moved = linked_moved (suc y) (spare_of (suc y) (written ∙ ap Written h.is));
-      added = linked_added (suc y) (adds (suc p) (suc x) (suc y) (update_record h.update (suc x)) (written ∙ ap Written h.is) (record_next h.update (suc x)) basis (rw h.is at fits));
+      added = linked_added (suc y) (adds (suc p) (suc x) (suc y) (update_record h.update (suc x)) (written ∙ ap Written h.is) (record_next h.update (suc x)) basis (rw h.is at fits) (not_removed h.update (suc x) basis.chain));
       homed = linked_homed p (suc x) y (update_record h.update (suc x)) (written ∙ ap Written h.is) (rw (record_next h.update (suc x)) refl);
       kept = linked_rows (suc y);
       is_tree = n.0;
@@ -198,28 +203,28 @@ module _ (memory : Memory) {log : List Update} {o : Owners} {knows : ℕ → Kno
           (λ e t. rw t λ i. inr (inr (record { level = level_in basis.chain; next = suc x; separator = h.separator; page = h.right }, _, placed_row g a (suc y) (Split (record { level = level_in basis.chain; next = suc x; separator = h.separator; page = h.right })) (written ∙ ap Written h.is), ready_slot h.right h.row h.ready ∙ ap Some (sym e), ap memory.rows e ∙ placed_row g a h.row (base_from basis.chain h.separator h.items) h.base)))
           (λ ne t. rw t λ i. inl i)));
       added = λ row. by_equal row (suc y)
-          (λ e t. rw t λ i. inr (rw e (adds (suc p) (suc x) (suc y) (Split (record { level = level_in basis.chain; next = suc x; separator = h.separator; page = h.right })) (written ∙ ap Written h.is) refl basis (rw h.is at fits))))
+          (λ e t. rw t λ i. inr (rw e (adds (suc p) (suc x) (suc y) (Split (record { level = level_in basis.chain; next = suc x; separator = h.separator; page = h.right })) (written ∙ ap Written h.is) refl basis (rw h.is at fits) (λ remove is. absurd (cc)))))
           (λ ne t. rw t (linked_added h.row (based h.row h.base h.ruled) row));
       kept = λ row l. (by_equal row (suc y) (λ e t. rw t) (λ ne t. rw t (linked_rows h.row row l).0), refl);
       is_tree = n.0;
     }
 
     by_post : MayPost (knows a) (suc p) (suc x) basis.chain content → Linking
-    by_post h = let n = posts g a (suc p) (suc x) (suc y) s basis content written h r in delta _ h.is refl _ _ (level_in h.below.chain, n.1, refl) n.0
+    by_post h = let n = posts g a (suc p) (suc x) (suc y) s basis content written h r in delta _ h.is refl (λ remove is. absurd (cc)) _ _ (level_in h.below.chain, n.1, refl) n.0
 
     by_hold : MayHold (suc x) basis.chain content → Linking
-    by_hold h = let n = holds g a (suc p) (suc x) (suc y) s basis content written h r in delta _ h.is refl _ _ (h.level, n.1, refl) n.0
+    by_hold h = let n = holds g a (suc p) (suc x) (suc y) s basis content written h r in delta _ h.is refl (λ remove is. absurd (cc)) _ _ (h.level, n.1, refl) n.0
 
     by_remove : MayRemove (knows a) (suc p) (suc x) basis.chain content → Linking
-    by_remove h = let n = removes g a (suc p) (suc x) (suc y) s basis content written h r in delta _ h.is refl _ _ (level_in basis.chain, low_in basis.chain, n.1, refl, (suc x, basis.chain, s, chain_stands o (shared memory) (knows a).read.seen (g.sound a).seen_fits basis.chain (Some (suc x)) basis.read, h.unheld)) n.0
+    by_remove h = let n = removes g a (suc p) (suc x) (suc y) s basis content written h r in delta _ h.is refl (λ remove is. h.unheld) _ _ (level_in basis.chain, low_in basis.chain, n.1, refl, (suc x, basis.chain, s, chain_stands o (shared memory) (knows a).read.seen (g.sound a).seen_fits basis.chain (Some (suc x)) basis.read, h.unheld)) n.0
 
     by_merge : MayMerge (knows a) (suc x) basis.chain content → Linking
     by_merge h =
         let n = merges g a (suc p) (suc x) (suc y) s basis content written h r in
-        delta _ h.is refl _ _ (h.other, level_in basis.chain, n.1, refl, (suc x, basis.chain, s, chain_stands o (shared memory) (knows a).read.seen (g.sound a).seen_fits basis.chain (Some (suc x)) basis.read, h.right)) n.0
+        delta _ h.is refl (λ remove is. absurd (cc)) _ _ (h.other, level_in basis.chain, n.1, refl, (suc x, basis.chain, s, chain_stands o (shared memory) (knows a).read.seen (g.sound a).seen_fits basis.chain (Some (suc x)) basis.read, h.right)) n.0
 
     by_unterm : MayUnterm (knows a) (suc p) (suc x) basis.chain content → Linking
-    by_unterm h = let n = unterms g a (suc p) (suc x) (suc y) s basis content written h r in delta _ h.is refl _ _ (level_in h.below.chain, n.1, refl) n.0
+    by_unterm h = let n = unterms g a (suc p) (suc x) (suc y) s basis content written h r in delta _ h.is refl (λ remove is. absurd (cc)) _ _ (level_in h.below.chain, n.1, refl) n.0
 
   -- what is placed is linked, by its kind
   links : (p x y : ℕ) (r : Option Reply) (s : slot_in memory.slots (suc p) ≡ Some (suc x)) (basis : HasRead (knows a) (suc p) (suc x)) (content : Record) (written : (knows a).own.rows (suc y) ≡ Written content) (fits : FitsOn basis.chain content)

@@ -1,13 +1,13 @@
 -- Each step of the run without room is allowed.
 use Rattle.tree_law.proofs.Words.{[], refl, None, List, ◌++◌, inr, ◌∷◌, ℕ, ◌≡◌, Bool, arith, ◌+◌, ◌==◌, ◌*◌, lit<, eqb-true, bit_at, if◌then◌else◌, Number, RowBits, MayReply}
-use Rattle.tree_law.proofs.Words.{LacksRoom, IsDisciplined, knows, Knowledge, IsWordOf, memory_of, Entry, Step, all_below-at, small, insert_a, takes, enters}
+use Rattle.tree_law.proofs.Words.{LacksRoom, IsDisciplined, knows, Knowledge, IsWordOf, memory_of, Entry, Step, all_below-at, small, insert_a, takes_rows, enters}
 use Rattle.bw_model.specs.declared.command.Reply.TheVariants as reply
 use Rattle.tree_law.specs.NoRoom.{no_room}
 use Rattle.tree_law.proofs.runs.Standing.{◌▸◌, disciplined}
 
 -- what the actor knows before its last steps, and when it leaves
 abbrev before : List Entry
-before = enters 0 insert_a ++ takes 62 2
+before = enters 0 insert_a ++ takes_rows 62 2
 
 abbrev at_last : Knowledge
 at_last = knows (before ++ Step 0 (RowBits 0) (Number 0) None ∷ []) 0

@@ -62,7 +62,7 @@ apart_in o m lv mp (g ∷ gs) p low q high h = apart_after g.page (pids gs)
     (apart_in o m lv mp gs (right_in g.chain) (high_in g.chain) q high h.3)
 
 -- a page in the tree is not free
-not_free : (st : Stage) (l : ℕ) (s : Key) → phase_of (Placed st l s) ≡ phase.free → ⊥
+pub not_free : (st : Stage) (l : ℕ) (s : Key) → phase_of (Placed st l s) ≡ phase.free → ⊥
 not_free Fresh l s e = absurd (cc)
 not_free st l s e = absurd (cc)
 
@@ -93,7 +93,7 @@ module _ (limits : Limits) (entries : List Entry) (state : IsState limits entrie
       level_is = here.is_page.on_level;
     }
 
-    few : length level.side < limits.pids
+    pub few : length level.side < limits.pids
     few =
         let some : 64 ≤ limits.pids = limits.allowed.some_pids in
         let above : AllByRecursion (λ n. 0 ≢ n) (pids level.side) = of_pids (λ n. 0 ≢ n) level.side (each_page (λ g. 0 ≢ g.page) (λ g here e. let above = (in_range g here).0 in omega arith)) in

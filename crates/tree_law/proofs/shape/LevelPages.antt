@@ -24,7 +24,7 @@ first_child level low (item ∷ items) above kinds first = go item.content kinds
     go (Child page held) kind free e = (page, subst (λ (k : Key). content_at (item ∷ items) k ≡ Some (Child page false)) first.0 (found_first item items ∙ ap Some (e ∙ ap (λ h. Child page h) free)))
 
 -- a term that isn't held is that of an indexed page
-indexed_mark : (st : Stage) (q : ℕ) → mark st q ≡ Some (Child q false) → st ≡ Indexed
+pub indexed_mark : (st : Stage) (q : ℕ) → mark st q ≡ Some (Child q false) → st ≡ Indexed
 indexed_mark Indexed q e = refl
 indexed_mark other q e = absurd (cc)
 

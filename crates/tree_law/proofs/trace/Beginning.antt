@@ -11,7 +11,7 @@ use Rattle.tree_law.proofs.epochs.Limbos.{limbo_push, freed_push, pid_longer, ro
 use Rattle.tree_law.specs.TraceLaws.{BeginsKeep}
 use Rattle.tree_law.proofs.epochs.Timely.{calm_same, read_timed}
 use Rattle.tree_law.proofs.links.Keeping.{begins as tree_begins}
-use Rattle.tree_law.proofs.shape.{is_indexed, below_top, root_indexed, opening_fitted, indexed_first, indexed_push, map_of, by_equal, put_same, put_other}
+use Rattle.tree_law.proofs.shape.{is_indexed, below_top, root_indexed, opening_fitted, opening_unheld, indexed_first, indexed_push, map_of, by_equal, put_same, put_other}
 use Rattle.tree_law.proofs.trace.Ending.{ends_none, ends_push}
 use Rattle.tree_law.proofs.trace.Lives.{begins_in_phase, begins_phases, begins_only}
 use Rattle.tree_law.proofs.trace.Updates.{updates_push}
@@ -64,6 +64,7 @@ opens limits = record {
   logs = λ a. [];
   is_tree = opening_tree limits;
   fitted = opening_fitted limits;
+  unheld = opening_unheld limits;
   named = record {
     shown = λ a r h. absurd (not_shown a r h.0 h.1);
     known = λ a r e. absurd (cc);
@@ -144,6 +145,7 @@ begins limits entries a c state below idle =
       logs = put state.logs a [];
       is_tree = tree_after;
       fitted = rw (memory_of-push limits entries (Begin a c)) state.fitted;
+      unheld = rw (memory_of-push limits entries (Begin a c)) state.unheld;
       named = rw (memory_of-push limits entries (Begin a c), knows-push entries (Begin a c)) (named_begins limits entries state.owners (memory_of limits entries) (knows entries) a c state.named (command_of-push entries (Begin a c)));
       tells = λ b asked e. let now = rw (command_of-push entries (Begin a c)) at e in by_equal b a
           (λ i t. rw (t, i, same_Some asked c (sym (rw t at now))) (tells_new entries (state.points ++ false ∷ []) a c))

@@ -18,7 +18,7 @@ use Rattle.tree_law.proofs.epochs.Timewise.{timed_step}
 use Rattle.tree_law.proofs.epochs.Allowed.{after_of}
 use Rattle.tree_law.proofs.trace.Beginning.{knows-push}
 use Rattle.tree_law.proofs.trace.Ending.{ends_push, step_ends}
-use Rattle.tree_law.proofs.shape.{is_indexed, root_indexed, first_stays, grows, fitted_after, indexed_push, map_of, by_equal, put_same, put_other}
+use Rattle.tree_law.proofs.shape.{is_indexed, root_indexed, first_stays, grows, fitted_after, unheld_after, indexed_push, map_of, by_equal, put_same, put_other}
 use Rattle.tree_law.proofs.trace.Roots.{learns_root}
 use Rattle.tree_law.proofs.epochs.Handed.{rows_in_limbo, pids_in_limbo, freed_after}
 use Rattle.tree_law.proofs.trace.Lives.{only_after, pid_below_after, steps_in_phase, steps_phases}
@@ -204,6 +204,7 @@ module _ (limits : Limits) (entries : List Entry) (a : ℕ) (step : StepOf Recor
     logs = put state.logs a (log_of entries state.points ∷ state.logs a);
     is_tree = tree_after;
     fitted = rw (memory_of-push limits entries last) (fitted_after state.owners (shared (memory_of limits entries)) state.is_tree.closed state.fitted n.owners (memory_after a step (memory_of limits entries)).rows n.same n.added);
+    unheld = rw (memory_of-push limits entries last) (unheld_after state.owners (shared (memory_of limits entries)) state.is_tree.closed state.unheld n.owners (memory_after a step (memory_of limits entries)).rows n.same n.added);
     named = rw (memory_of-push limits entries last, knows-push entries last)
         (named_steps state.is_tree state.named a step answer r allowed.may is n.owners numbers (state.timed.holds a).learnt_inside (state.timed.epochs a)
         (pid_below_after limits state.owners.page n.owners.page is lives state.named.free_pid_below state.named.pid_below)

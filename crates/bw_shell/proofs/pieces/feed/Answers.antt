@@ -1,4 +1,4 @@
-use Rattle.std.proofs.Common.{◌≡◌, ℕ, ◌+◌, ◌-◌, ◌<◌, ◌≤◌, ◌^◌, [], ◌∷◌, ◌++◌, length, refl, sym, ap, ◌∙◌, arith, get_or, Fits, w64}
+use Rattle.std.proofs.Common.{ℕ, ◌+◌, ◌-◌, ◌<◌, ◌≤◌, ◌^◌, [], ◌∷◌, ◌++◌, length, refl, sym, ap, ◌∙◌, arith, get_or, Fits, w64}
 use Rattle.byte_streams.proofs.Showing.{no_text, shows_then}
 use Rattle.bw_shell.proofs.Feeding.{no_bytes, one_line, one_byte, stop_line, stop_long, stop_at, more_at, match_true, match_false}
 use Rattle.std.proofs.lemmas.List.{append-nil, take_all}

@@ -4,11 +4,11 @@ use Rattle.std.proofs.lemmas.Option.{get_or_from_slice_get, slice_get_within}
 use Rattle.std.proofs.lemmas.List.{append_assoc, drop_more}
 use mathlib.Core.Logic.{dite}
 use native.Mathlib.Decide.{ℕ_discrete}
-use Rattle.bw_tree_c.specs.Loaded.{AreShort, HasShortTexts, given_pair}
+use Rattle.bw_tree_c.specs.Loaded.{AreShort, IsShortPair, given_pair}
 use Rattle.bw_tree_c.specs.declared.bytes.Pair.{Pair}
 use Rattle.bw_tree_c.proofs.given.pairs_of.Goals as goal
 
-short_at : (given : List Pair) (n : ℕ) (none : Pair) → n < length given → AreShort given → HasShortTexts (get_or given n none)
+short_at : (given : List Pair) (n : ℕ) (none : Pair) → n < length given → AreShort given → IsShortPair (get_or given n none)
 short_at [] n none below short = absurd (omega (arith, below))
 short_at (one ∷ given) zero none below short = short 0 one refl
 short_at (one ∷ given) (suc n) none below short = short_at given n none (omega (arith, below)) (λ m pair at. short (suc m) pair at)
@@ -28,7 +28,7 @@ loop-one-preserved c = record {
   pairs = one_more c.args.given.now c.loop-one.one-index _ c.loop-one.pairs.items c.push.new.self.items c.in-Some.pair
       c.loop-one-test.true c.in-Some.ensures.1 c.in-Ok-push.ensures.items c.loop-one.invariant.pairs;
   short = λ n pair below at. dite (ℕ_discrete n c.loop-one.one-index)
-      (λ same. subst HasShortTexts (get_or_from_slice_get c.args.given.now c.loop-one.one-index pair _ (ap (slice_get c.args.given.now) (sym same) ∙ at)) c.in-Some.ensures.0)
+      (λ same. subst IsShortPair (get_or_from_slice_get c.args.given.now c.loop-one.one-index pair _ (ap (slice_get c.args.given.now) (sym same) ∙ at)) c.in-Some.ensures.0)
       (λ other. c.loop-one.invariant.short n pair (omega (arith, below, other)) at);
 }
 

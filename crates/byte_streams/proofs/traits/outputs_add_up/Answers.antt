@@ -1,6 +1,4 @@
-use Rattle.std.proofs.Common.{[], ◌++◌, sym}
 use Rattle.std.proofs.lemmas.List.{append-nil}
-use Rattle.byte_streams.specs.Output.{Prints}
 use Rattle.byte_streams.proofs.Showing.{no_text, shows_then}
 use Rattle.byte_streams.proofs.Showing.{writes_whole}
 use Rattle.byte_streams.proofs.traits.outputs_add_up.Goals as goal

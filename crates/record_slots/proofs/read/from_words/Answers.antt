@@ -1,5 +1,4 @@
 use Rattle.std.proofs.Common.{◌≡◌, ap}
-use Rattle.deltas.specs.declared.record.Record.{Record}
 use Rattle.record_slots.specs.Small.{is_small}
 use Rattle.record_slots.proofs.read.from_words.Goals as goal
 

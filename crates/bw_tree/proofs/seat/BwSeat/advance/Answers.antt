@@ -36,7 +36,7 @@ pub take_leave-requires-clause-may : goal.take_leave-requires-clause-may
 take_leave-requires-clause-may g c =
     let leaves : wanted_by c.self.inside.actor.running ≡ Some Leave = c.wanted.ensures ∙ ap Some (subst (λ t. HasTaken c.self.inside.limits c.self.inside.desk.number (seen_of c.self.inside.desk.place.me) (lent c.wanted.result) t (seen_of c.take-taken.new.place.me)) c.in-Leaving.is c.take-taken.ensures.took) in
     let saw : seen_of c.take-taken.new.place.me ≡ seen_of c.self.inside.desk.place.me = ap seen_of (c.take-taken.ensures.leaving c.in-Leaving.is) in
-    subst (λ seen. IsLawfulStep IsLawfulRun c.self.inside.limits c.self.inside.desk.number seen None Leave (Some c.leave.new.reply)) (sym saw) (leave_may c.laws_of_runs.ensures _ _ _ _ c.self.invariant.seated (busy_of _ _ c.self.view_is c.requires.busy) leaves (Some c.leave.new.reply) c.leave.new.actor c.leave.ensures.goes)
+    subst (λ seen. IsLawfulStep IsLawfulRun c.self.inside.limits c.self.inside.desk.number seen None Leave (Some c.leave.new.reply)) (sym saw) (leave_may c.laws_of_runs.ensures _ _ _ _ c.self.invariant.seated (busy_of _ _ c.self.view_is c.requires.busy) leaves (Some c.leave.new.reply) c.leave.new.self c.leave.ensures.goes)
 
 pub invariant_of-self : goal.invariant_of-self
 invariant_of-self g c =
@@ -48,7 +48,7 @@ invariant_of-self g c =
       there = c.self.invariant.there;
       place = c.take_leave.ensures.seat;
       begins = took.begins;
-      seated = leave_seated c.laws_of_runs.ensures _ _ _ _ c.self.invariant.seated (busy_of _ _ c.self.view_is c.requires.busy) leaves (Some c.leave.new.reply) c.leave.new.actor c.leave.ensures.goes Done (seen_of c.take_leave.new.place.me) took c.leave.ensures.command;
+      seated = leave_seated c.laws_of_runs.ensures _ _ _ _ c.self.invariant.seated (busy_of _ _ c.self.view_is c.requires.busy) leaves (Some c.leave.new.reply) c.leave.new.self c.leave.ensures.goes Done (seen_of c.take_leave.new.place.me) took c.leave.ensures.command;
     }
 
 pub returns-in-Leaving-clause-advances : goal.returns-in-Leaving-clause-advances
@@ -58,7 +58,7 @@ returns-in-Leaving-clause-advances g c =
     let took : Took IsLawfulRun c.self.inside.limits c.self.inside.desk.number (seen_of c.self.inside.desk.place.me) None Leave Done (Some c.leave.new.reply) (seen_of c.take_leave.new.place.me) =
     subst (λ seen. Took IsLawfulRun c.self.inside.limits c.self.inside.desk.number seen None Leave Done (Some c.leave.new.reply) (seen_of c.take_leave.new.place.me)) saw c.take_leave.ensures.took in
     advances_of _ _ _ _ c.self.view_is
-    (leave_advances c.laws_of_runs.ensures _ _ _ _ c.self.invariant.seated (busy_of _ _ c.self.view_is c.requires.busy) leaves (Some c.leave.new.reply) c.leave.new.actor c.leave.ensures.goes Done (seen_of c.take_leave.new.place.me) took c.self.inside.desk.place.table_id c.take_leave.new.place.table_id)
+    (leave_advances c.laws_of_runs.ensures _ _ _ _ c.self.invariant.seated (busy_of _ _ c.self.view_is c.requires.busy) leaves (Some c.leave.new.reply) c.leave.new.self c.leave.ensures.goes Done (seen_of c.take_leave.new.place.me) took c.self.inside.desk.place.table_id c.take_leave.new.place.table_id)
 
 pub take-taken-requires-clause-table : goal.take-taken-requires-clause-table
 take-taken-requires-clause-table g c = is_own _ _ _ _ _ _ _ _ _ c.tree.invariant c.tree.view_is c.self.view_is c.requires.own

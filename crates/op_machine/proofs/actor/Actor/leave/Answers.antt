@@ -9,4 +9,4 @@ leave-requires g c =
 
 pub returns-clause-goes : goal.returns-clause-goes
 returns-clause-goes g c =
-    rw (← c.self.view_is) (λ limits number k r going. done_here limits number k r c.self.inside.is_running c.self.inside.operation c.self.inside.hand c.self.inside.lacks Done going c.leave.result c.lacks-self-inside.result (rw c.lacks-self-inside.ensures c.leave.ensures.reply) c.leave.ensures.obeys)
+    rw (← c.self.view_is) (λ limits number k r going. done_here limits number k r c.self.inside.is_running c.self.inside.operation c.self.inside.hand c.self.inside.lacks Done going c.leave.new.reply c.lacks-self-inside.result (rw c.lacks-self-inside.ensures c.leave.ensures.reply) c.leave.ensures.obeys)

@@ -4,7 +4,7 @@ use Rattle.traces.specs.discipline.Recalled.{WasHead}
 use Rattle.traces.proofs.ChainLaws.{IsChainFrom-unique}
 use Rattle.descent.specs.WriteEnds as due
 use Rattle.descent.specs.WriteEnds.{DueChange, IsPlanned}
-use Rattle.descent.specs.WriteRounds.{IsDue}
+use Rattle.descent.specs.WriteRounds.{IsDueBy}
 use Rattle.installs.specs.Changes.{KeepsSpare, MayLinkAs}
 use Rattle.smo.specs.Plans.{head_of, slot_of}
 use Rattle.smo.specs.declared.after.After.{After}
@@ -23,17 +23,19 @@ use Rattle.op_machine.proofs.task.Task.begin_due.Goals as goal
 pub begin_change-requires : goal.begin_change-requires
 begin_change-requires g c =
     let (k, r, h) = c.requires.faced in
-    let there = rw h.round_of.limits at (dues_there h.round k r h.ends.change c.args.plan c.args.after h.ends.planned h.ends.due) in
-    record { target = there.0; spells = there.1; room = h.seeks.spare.room }
+    let writer = c.args.places.now.writer in
+    let there = rw h.round_of.limits at (dues_there h.round k r h.ends.change writer.plan writer.after h.ends.planned h.ends.due) in
+    rw c.take_due-plan.ensures.due (record { target = there.0; spells = there.1; room = h.seeks.spare.room })
 
 pub returns-clause-stands : goal.returns-clause-stands
-returns-clause-stands g c k r h = c.begin_change.ensures.stands k r (by_change h.ends.change h.ends.planned h.ends.due)
+returns-clause-stands g c k r h = c.begin_change.ensures.stands k r (rw c.take_due-plan.ensures.due (by_change h.ends.change h.ends.planned h.ends.due))
   where
     begins : (plan : Plan) (after : After) → MayLinkAs c.args.self.now.actor k plan → KeepsSpare plan c.args.spares.now.pid → Brings k c.args.self.now.command plan (then.After after) → IsUsefulPlan k plan → IsReadPlan k plan → WasHead r (slot_of plan) (head_of plan)
         → MayBegin c.args.self.now c.args.spares.now k r plan (then.After after)
     begins plan after links keeps brings useful split recalled = record { seeks = h.seeks; writer = h.writer; may = record { inside = h.seeks.inside; links = links }; keeps = keeps; brings = brings; useful = useful; split = split; recalled = recalled }
 
-    by_change : (change : DueChange) → IsPlanned change c.args.plan c.args.after → IsDue h.round k r change → MayBegin c.args.self.now c.args.spares.now k r c.args.plan (then.After c.args.after)
+    by_change : (change : DueChange) → IsPlanned change c.args.places.now.writer.plan c.args.places.now.writer.after → IsDueBy h.round k r change
+        → MayBegin c.args.self.now c.args.spares.now k r c.args.places.now.writer.plan (then.After c.args.places.now.writer.after)
     by_change (due.Consolidate page base) p d =
         let seen = d.page.in_hand.seen in
         rw (p.0, p.1.is) (begins _ _ (c.plans_may_be_linked.ensures.base c.args.self.now.actor k page base seen d.page.alive d.plan.may d.plan.fits) tt
@@ -64,4 +66,4 @@ pub returns-clause-asks : goal.returns-clause-asks
 returns-clause-asks g c = c.begin_change.ensures.asks
 
 pub returns-clause-have : goal.returns-clause-have
-returns-clause-have g c = record { reader = rw c.begin_change.ensures.reader c.requires.have.reader; writer = rw c.begin_change.ensures.writer c.requires.have.writer }
+returns-clause-have g c = record { reader = rw (c.begin_change.ensures.reader, c.take_due-plan.ensures.only) c.requires.have.reader; writer = rw (c.begin_change.ensures.writer, c.take_due-plan.ensures.only) c.requires.have.writer }

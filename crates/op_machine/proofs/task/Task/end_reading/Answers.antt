@@ -1,34 +1,34 @@
 use Rattle.std.proofs.Common.{ap, refl, arith}
 use Rattle.op_machine.specs.machine.States.{Read}
-use Rattle.op_machine.proofs.ReadPages.{read_page}
+use Rattle.descent.proofs.SeenPages.{seen_is_read}
 use Rattle.op_machine.proofs.task.Task.end_reading.Goals as goal
 
-pub reply_over-reply-requires : goal.reply_over-reply-requires
-reply_over-reply-requires g c =
+pub leave_over-requires : goal.leave_over-requires
+leave_over-requires g c =
     let (spares, k, r, faced, there) = c.requires.faced in
     let h = rw c.in-Leaf.is at faced in
-    rw (c.chain.ensures, c.page.ensures, c.reader.ensures) (record { read = read_page (g.R.Rows.has c.args.rows.now c.args.pass.now) k there c.args.places.now.reader.page h.ends.page.in_hand.seen })
+    record { read = seen_is_read (g.R.Rows.has c.args.rows.now c.args.pass.now) k c.args.places.now.reader.page h.ends.page.in_hand.seen there }
 
-pub reply_over-reply-requires-in-Beside : goal.reply_over-reply-requires-in-Beside
-reply_over-reply-requires-in-Beside g c =
+pub leave_over-requires-in-Beside : goal.leave_over-requires-in-Beside
+leave_over-requires-in-Beside g c =
     let (spares, k, r, faced, there) = c.requires.faced in
     let h = rw c.in-Beside.is at faced in
-    rw (c.chain-in-Beside.ensures, c.aside.ensures, c.reader-in-Beside.ensures) (record { read = read_page (g.R.Rows.has c.args.rows.now c.args.pass.now) k there c.args.places.now.reader.aside h.ends.page.in_hand.seen })
+    record { read = seen_is_read (g.R.Rows.has c.args.rows.now c.args.pass.now) k c.args.places.now.reader.aside h.ends.page.in_hand.seen there }
 
 pub returns-in-Leaf-clause-stands : goal.returns-in-Leaf-clause-stands
 returns-in-Leaf-clause-stands g c spares k r faced =
     let leaf = c.args.places.now.reader.page in
     let h = rw c.in-Leaf.is at faced in
     let ends = h.ends in
-    let may = c.reply_over-reply.ensures.may spares k leaf.head (rw (c.chain.ensures, c.page.ensures, c.reader.ensures) (record {
+    let may = c.leave_over.ensures.may spares k leaf.head (record {
       seeks = h.seeks;
       reader = h.reader;
       read = ends.page.in_hand.seen.read;
       level = ends.level;
       covered = rw h.key at ends.covered;
       standing = c.read_leaves_stood.ensures.leaf h.round.limits k r h.round.key leaf ends;
-    })) in
-    rw c.leave.ensures (may.0, may.1, c.reply_over-reply.ensures.answers)
+    }) in
+    rw c.leave_over.ensures.leaves (may.0, may.1, c.leave_over.ensures.answers)
 
 pub returns-in-Beside-clause-stands : goal.returns-in-Beside-clause-stands
 returns-in-Beside-clause-stands g c spares k r faced =
@@ -36,15 +36,15 @@ returns-in-Beside-clause-stands g c spares k r faced =
     let removed = reader.aside in
     let h = rw c.in-Beside.is at faced in
     let ends = h.ends in
-    let may = c.reply_over-reply-in-Beside.ensures.may spares k removed.head (rw (c.chain-in-Beside.ensures, c.aside.ensures, c.reader-in-Beside.ensures) (record {
+    let may = c.leave_over-in-Beside.ensures.may spares k removed.head (record {
       seeks = h.seeks;
       reader = h.reader;
       read = ends.page.in_hand.seen.read;
       level = ends.level;
       covered = rw h.key at ends.covered;
       standing = c.read_leaves_stood.ensures.beside h.round.limits k r h.round.key reader.page removed ends;
-    })) in
-    rw c.leave-in-Beside.ensures (may.0, may.1, c.reply_over-reply-in-Beside.ensures.answers)
+    }) in
+    rw c.leave_over-in-Beside.ensures.leaves (may.0, may.1, c.leave_over-in-Beside.ensures.answers)
 
 pub begin_round-requires : goal.begin_round-requires
 begin_round-requires g c = record { have = c.requires.have }
@@ -68,22 +68,22 @@ pub returns-in-Removed-clause-have : goal.returns-in-Removed-clause-have
 returns-in-Removed-clause-have g c = record { reader = rw c.read_left.ensures.round c.requires.have.reader; writer = rw c.read_left.ensures.writer c.requires.have.writer }
 
 pub returns-in-Leaf-clause-few : goal.returns-in-Leaf-clause-few
-returns-in-Leaf-clause-few g c spares r = rw (c.leave.ensures, c.in-Leaf.is) (omega arith)
+returns-in-Leaf-clause-few g c spares r = rw (c.leave_over.ensures.leaves, c.in-Leaf.is) (omega arith)
 
 pub returns-in-Leaf-clause-asks : goal.returns-in-Leaf-clause-asks
-returns-in-Leaf-clause-asks g c spares = rw c.leave.ensures refl
+returns-in-Leaf-clause-asks g c spares = rw c.leave_over.ensures.leaves refl
 
 pub returns-in-Leaf-clause-have : goal.returns-in-Leaf-clause-have
-returns-in-Leaf-clause-have g c = rw c.leave.ensures (record { reader = c.requires.have.reader; writer = c.requires.have.writer })
+returns-in-Leaf-clause-have g c = rw c.leave_over.ensures.leaves (record { reader = c.requires.have.reader; writer = c.requires.have.writer })
 
 pub returns-in-Beside-clause-few : goal.returns-in-Beside-clause-few
-returns-in-Beside-clause-few g c spares r = rw (c.leave-in-Beside.ensures, c.in-Beside.is) (omega arith)
+returns-in-Beside-clause-few g c spares r = rw (c.leave_over-in-Beside.ensures.leaves, c.in-Beside.is) (omega arith)
 
 pub returns-in-Beside-clause-asks : goal.returns-in-Beside-clause-asks
-returns-in-Beside-clause-asks g c spares = rw c.leave-in-Beside.ensures refl
+returns-in-Beside-clause-asks g c spares = rw c.leave_over-in-Beside.ensures.leaves refl
 
 pub returns-in-Beside-clause-have : goal.returns-in-Beside-clause-have
-returns-in-Beside-clause-have g c = rw c.leave-in-Beside.ensures (record { reader = c.requires.have.reader; writer = c.requires.have.writer })
+returns-in-Beside-clause-have g c = rw c.leave_over-in-Beside.ensures.leaves (record { reader = c.requires.have.reader; writer = c.requires.have.writer })
 
 pub returns-in-Again-clause-goes : goal.returns-in-Again-clause-goes
 returns-in-Again-clause-goes g c =
@@ -94,7 +94,7 @@ pub returns-in-Removed-clause-goes : goal.returns-in-Removed-clause-goes
 returns-in-Removed-clause-goes g c = rw (c.in-Removed.is, c.read_left.ensures.stand) (ap Read c.read_left.ensures.round)
 
 pub returns-in-Leaf-clause-goes : goal.returns-in-Leaf-clause-goes
-returns-in-Leaf-clause-goes g c = rw (c.in-Leaf.is, c.leave.ensures) refl
+returns-in-Leaf-clause-goes g c = rw (c.in-Leaf.is, c.leave_over.ensures.leaves) refl
 
 pub returns-in-Beside-clause-goes : goal.returns-in-Beside-clause-goes
-returns-in-Beside-clause-goes g c = rw (c.in-Beside.is, c.leave-in-Beside.ensures) refl
+returns-in-Beside-clause-goes g c = rw (c.in-Beside.is, c.leave_over-in-Beside.ensures.leaves) refl

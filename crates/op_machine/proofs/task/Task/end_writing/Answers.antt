@@ -2,7 +2,7 @@ use Rattle.std.proofs.Common.{ap, refl}
 use Rattle.op_machine.specs.machine.Places.{left_round_of}
 use Rattle.op_machine.specs.machine.States.{Write}
 use Rattle.op_machine.proofs.Plans.{at_sought_leaf, errands_same, left_is_of}
-use Rattle.op_machine.proofs.ReadPages.{read_page}
+use Rattle.descent.proofs.SeenPages.{seen_is_read}
 use Rattle.op_machine.proofs.task.Task.end_writing.Goals as goal
 
 pub returns-in-Again-clause-stands : goal.returns-in-Again-clause-stands
@@ -23,7 +23,7 @@ pub write_left-requires : goal.write_left-requires
 write_left-requires g c =
     let (k, r, faced, there) = c.requires.faced in
     let h = rw c.in-Removed.is at faced in
-    record { read = read_page (g.R.Rows.has c.args.rows.now c.args.pass.now) k there c.args.places.now.writer.page h.ends.in_hand.seen }
+    record { read = seen_is_read (g.R.Rows.has c.args.rows.now c.args.pass.now) k c.args.places.now.writer.page h.ends.in_hand.seen there }
 
 pub begin_round-requires : goal.begin_round-requires
 begin_round-requires g c = record { have = c.requires.have }

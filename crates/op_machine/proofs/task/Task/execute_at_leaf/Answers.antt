@@ -9,14 +9,14 @@ use Rattle.op_machine.specs.machine.Brings.{update_over}
 use Rattle.op_machine.proofs.Commands.{change_is, over_fits, over_kept, over_links, over_next, over_spells, over_useful, update_due, value_same}
 use Rattle.op_machine.proofs.Executing.{answers_there, within}
 use Rattle.op_machine.proofs.Plans.{over_page}
-use Rattle.op_machine.proofs.ReadPages.{read_page}
+use Rattle.descent.proofs.SeenPages.{seen_is_read}
 use Rattle.op_machine.proofs.Tidying.{may_call}
 use Rattle.op_machine.proofs.task.Task.execute_at_leaf.Goals as goal
 
 pub find-old-requires : goal.find-old-requires
 find-old-requires g c =
     let (k, r, h, there) = c.requires.faced in
-    rw (c.chain.ensures, c.page-leaf.ensures, c.writer.ensures) (record { read = read_page (g.R.Rows.has c.args.rows.now c.args.pass.now) k there c.args.places.now.writer.page h.page.in_hand.seen })
+    rw (c.chain.ensures, c.page-leaf.ensures, c.writer.ensures) (record { read = seen_is_read (g.R.Rows.has c.args.rows.now c.args.pass.now) k c.args.places.now.writer.page h.page.in_hand.seen there })
 
 pub update_over-requires : goal.update_over-requires
 update_over-requires g c = (c.find-old.result, rw (← c.as_ref-2.ensures.value, ← c.command-3.ensures, ← c.changes.ensures) c.if-not-changes.false)
@@ -44,7 +44,7 @@ returns-clause-stands g c parent k r below idle =
     let chain_is : c.chain.result.now ≡ chain_of leaf = c.chain.ensures ∙ ap chain_of leaf_is in
     let key_is : c.of-key.result ≡ key = c.of-key.ensures ∙ c.key.ensures ∙ ap command_key c.command.ensures in
     let old_is : c.find-old.result ≡ old = (rw (chain_is, key_is) at c.find-old.ensures.value) ∙ value_same (content_in leaf.chain key) in
-    let replies : reply_of task.command old ≡ Some c.in-Some.reply = rw (← old_is, ← c.as_ref.ensures.value, ← c.command-2.ensures) (sym c.reply.ensures ∙ c.in-Some.is) in
+    let replies : reply_of task.command old ≡ Some c.in-Some.reply = rw (← old_is, ← c.as_ref.ensures.value, ← c.command-2.ensures) (sym c.of.ensures ∙ c.in-Some.is) in
     let some : is_some (update_of 0 task.command old) ≡ true = rw (← old_is, ← c.as_ref-2.ensures.value, ← c.command-3.ensures, ← c.changes.ensures) c.if-not-changes.false in
     let made = c.chains_make_pages.ensures leaf.chain h.page.in_hand.sound.is_chain in
     let page = made.0 in
@@ -96,7 +96,7 @@ returns-then-not-changes-clause-stands g c parent k r below idle =
     let chain_is : c.chain.result.now ≡ chain_of leaf = c.chain.ensures ∙ ap chain_of leaf_is in
     let key_is : c.of-key.result ≡ key = c.of-key.ensures ∙ c.key.ensures ∙ ap command_key c.command.ensures in
     let old_is : c.find-old.result ≡ old = (rw (chain_is, key_is) at c.find-old.ensures.value) ∙ value_same (content_in leaf.chain key) in
-    let replies : reply_of task.command old ≡ Some c.in-Some.reply = rw (← old_is, ← c.as_ref.ensures.value, ← c.command-2.ensures) (sym c.reply.ensures ∙ c.in-Some.is) in
+    let replies : reply_of task.command old ≡ Some c.in-Some.reply = rw (← old_is, ← c.as_ref.ensures.value, ← c.command-2.ensures) (sym c.of.ensures ∙ c.in-Some.is) in
     let none : is_some (update_of 0 task.command old) ≡ false = rw (← old_is, ← c.as_ref-2.ensures.value, ← c.command-3.ensures, ← c.changes.ensures) c.if-not-changes.true in
     rw c.leave-then-not-changes.ensures (answers_there task c.args.spares.now k r leaf below.at c.requires.last c.in-Some.reply replies none)
 
@@ -105,9 +105,9 @@ returns-in_default-clause-stands g c parent k r below idle =
     let h = below.at in
     let task = c.args.self.now in
     let leaf = c.args.places.now.writer.page in
-    rw c.leave.ensures (
+    rw (c.leave.ensures, c.bare.ensures) (
       record { inside = h.seeks.inside; spare = h.seeks.spare; going = h.seeks.asked.going },
-      may_call task c.args.spares.now k r parent leaf c.find-old.result below idle c.requires.last (rw (← c.as_ref.ensures.value, ← c.command-2.ensures) (sym c.reply.ensures ∙ c.in_default.is)),
+      may_call task c.args.spares.now k r parent leaf c.find-old.result below idle c.requires.last (rw (← c.as_ref.ensures.value, ← c.command-2.ensures) (sym c.of.ensures ∙ c.in_default.is)),
       (λ is. cc),
     )
 

@@ -1,4 +1,5 @@
-use Rattle.op_machine.proofs.ReadPages.{read_above, read_page}
+use Rattle.descent.proofs.SeenPages.{seen_is_read}
+use Rattle.op_machine.proofs.ReadPages.{read_above}
 use Rattle.op_machine.proofs.Tending.{may_tend, plans_for}
 use Rattle.op_machine.proofs.task.Task.tend_leaf.Goals as goal
 
@@ -9,7 +10,7 @@ upkeep_at-requires g c =
     let writer = c.args.places.now.writer in
     rw c.writer.ensures (record {
       parent = read_above has k there c.args.self.now.limits r writer.page writer.round.parent h.above;
-      page = read_page has k there writer.page h.at.page.in_hand.seen;
+      page = seen_is_read has k writer.page h.at.page.in_hand.seen there;
     })
 
 pub begin_change-requires : goal.begin_change-requires

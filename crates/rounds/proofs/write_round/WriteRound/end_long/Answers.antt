@@ -9,8 +9,8 @@ pub returns-clause-treats : goal.returns-clause-treats
 returns-clause-treats g c =
     let page = c.args.self.now.page in
     let base = c.plan_base-base.result in
-    record {
+    rw c.ends_due.ensures.ends (record {
       change = due.Consolidate page base;
       planned = (c.over-plan.ensures ∙ ap (λ (page : Version). over page (kind.Base base)) c.page-page.ensures, record { unlinked = c.chain-unlinked.result; is = refl; rows = rw c.page-page.ensures at c.chain-unlinked.ensures.rows; of = c.chain-unlinked.ensures.pid });
       due = record { is = refl; here = c.requires.here; long = c.requires.long; plan = rw c.page-page.ensures at c.plan_base-base.ensures.plan };
-    }
+    })

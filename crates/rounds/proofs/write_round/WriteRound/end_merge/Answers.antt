@@ -15,8 +15,8 @@ returns-in-None-clause-treats g c =
 pub returns-in-Some-clause-treats : goal.returns-in-Some-clause-treats
 returns-in-Some-clause-treats g c =
     let self = c.args.self.now in
-    record {
+    rw c.ends_due.ensures.ends (record {
       change = due.Merge self.left self.page c.in-Some.merge;
       planned = (c.over-plan.ensures ∙ ap (λ (left : Version). over left (kind.Merge c.in-Some.merge)) c.left-left.ensures, refl);
       due = record { is = refl; goal = c.requires.merges; plan = rw (c.left-left.ensures, c.page.ensures) at c.in-Some.ensures.plan };
-    }
+    })

@@ -8,8 +8,8 @@ pub returns-clause-treats : goal.returns-clause-treats
 returns-clause-treats g c =
     let page = c.args.self.now.page in
     let plan = c.in-Some.plan in
-    record {
+    rw c.ends_due.ensures.ends (record {
       change = due.Split page plan;
       planned = (rw (c.pid-pid.ensures, c.page-page.ensures) refl, ap Errand (c.copied-separator.ensures ∙ c.low.ensures));
       due = record { is = refl; here = c.requires.here; short = c.requires.short; plan_due = rw c.page-page.ensures at c.in-Some.ensures.plan };
-    }
+    })

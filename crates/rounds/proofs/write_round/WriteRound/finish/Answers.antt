@@ -1,7 +1,7 @@
 use Rattle.rounds.proofs.write_round.WriteRound.finish.Goals as goal
 
 pub returns-in-Some-clause-treats : goal.returns-in-Some-clause-treats
-returns-in-Some-clause-treats g c = c.in-Some.ensures.plan
+returns-in-Some-clause-treats g c = rw c.ends_due.ensures.ends c.in-Some.ensures.plan
 
 pub returns-in-None-clause-treats : goal.returns-in-None-clause-treats
 returns-in-None-clause-treats g c = c.decide.ensures.treats

@@ -1,4 +1,4 @@
-use Rattle.std.proofs.Common.{◌≡◌, suc, length, get_or, ap, sym, ◌∙◌, arith}
+use Rattle.std.proofs.Common.{◌≡◌, suc, length, get_or, ap, ◌∙◌, arith}
 use Rattle.deltas.specs.declared.record.Record.{Record}
 use Rattle.record_slots.specs.Parts.{row_of}
 use Rattle.row_chain.proofs.Making.{base_at}

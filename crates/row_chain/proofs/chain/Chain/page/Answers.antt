@@ -1,8 +1,6 @@
 use Rattle.std.proofs.Common.{◌≡◌, ◌<◌, ◌-◌, suc, List, ◌∷◌, length, drop, drop-cons, get_or, refl, sym, subst, ◌∙◌, arith}
-use Rattle.deltas.specs.Applies.{Applies}
 use Rattle.deltas.specs.declared.record.Record.{Record}
 use Rattle.deltas.specs.declared.record.Record.TheVariants.{Base}
-use Rattle.deltas.specs.Fits.{FitsOnPage}
 use Rattle.traces.specs.chain.Fitted.{Makes}
 use Rattle.traces.proofs.FittedLaws.{Makes-next, ruled}
 use Rattle.row_chain.proofs.Making.{base_makes, fits_above}

@@ -1,4 +1,4 @@
-use Rattle.std.proofs.Common.{◌≡◌, ◌-◌, List, ℕ, [], true, get_or, sym, ◌∙◌, arith}
+use Rattle.std.proofs.Common.{◌≡◌, ◌-◌, [], true, get_or, sym, ◌∙◌, arith}
 use Rattle.std.specs.Prelude.{false, option_copied}
 use Rattle.base_page.specs.declared.item.Content.TheVariants.{Child}
 use Rattle.base_page.specs.declared.item.Item.{Item}

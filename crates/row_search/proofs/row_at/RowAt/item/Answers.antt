@@ -1,4 +1,3 @@
-use Rattle.std.proofs.Common.{◌≡◌}
 use Rattle.row_search.proofs.row_at.RowAt.item.Goals as goal
 
 pub returns-clause-item : goal.returns-clause-item

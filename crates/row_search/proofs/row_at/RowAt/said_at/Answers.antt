@@ -1,4 +1,4 @@
-use Rattle.std.proofs.Common.{◌≡◌, ◌<◌, ◌+◌, ◌%◌, ℕ, true, false, List, length, get_or, take, drop, sym, subst, ◌∙◌}
+use Rattle.std.proofs.Common.{◌≡◌, ◌<◌, ◌+◌, ◌%◌, true, false, List, length, get_or, take, drop, sym, subst, ◌∙◌}
 use Rattle.base_page.specs.declared.item.Item.{Item}
 use Rattle.record_slots.specs.Layout.{held_mark, text_size}
 use Rattle.record_slots.specs.Spelling.{words_of}

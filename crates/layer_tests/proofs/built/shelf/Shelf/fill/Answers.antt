@@ -3,11 +3,11 @@ use Rattle.std.specs.Prelude.{slice_index, unwrap_or}
 use Rattle.deltas.specs.declared.record.Record.{Record}
 use Rattle.deltas.specs.declared.record.Record.TheVariants.{Remove}
 use Rattle.record_slots.specs.Spelling.{words_of}
-use Rattle.row_search.specs.Placed.{HasSpelling}
+use Rattle.record_slots.specs.Spells.{HasSpelling}
 use Rattle.traces.specs.chain.Chains.{IsFront}
 use Rattle.traces.specs.chain.Fitted.{IsFitted}
 use Rattle.smo.specs.Versions.{Version}
-use Rattle.layer_tests.specs.Held.{found_in, record_in}
+use Rattle.layer_tests.specs.Held.{found_in, page_record}
 use Rattle.layer_tests.proofs.Reading as reading
 use Rattle.layer_tests.proofs.built.shelf.Shelf.fill.Goals as goal
 use Rattle.layer_tests.proofs.built.shelf.Shelf.fill.Goals.{in-None, in-Some+else-from}
@@ -35,7 +35,7 @@ pub push-requires-clause-next : goal.push-requires-clause-next
 push-requires-clause-next c =
     let front = (c.loop-record.invariant.1 c.if-whole.false).0 in
     rw (c.loop-record.invariant.0, c.of.ensures)
-    (reading.lies_behind (record_in c.args.page.now) (take c.loop-record.record-index c.args.page.now.chain) c.args.page.now.head c.loop-record.row (unwrap_or (found_in c.args.self.now c.loop-record.row) filler) front)
+    (reading.lies_behind (page_record c.args.page.now) (take c.loop-record.record-index c.args.page.now.chain) c.args.page.now.head c.loop-record.row (unwrap_or (found_in c.args.self.now c.loop-record.row) filler) front)
 
 pub loop-record-preserved : goal.loop-record-preserved
 loop-record-preserved c =
@@ -48,12 +48,12 @@ loop-record-preserved c =
     c.push.ensures ∙ rw (c.loop-record.invariant.0, c.of.ensures, content) refl in
     rw more
     (elim c.match-next.branch [
-      | in-None w ↦ (part, (λ not_whole. let bad : ⊥ = cc in absurd bad), λ whole. reading.ends (record_in c.args.page.now) (take c.loop-record.record-index c.args.page.now.chain) c.args.page.now.head c.loop-record.row c.record-item.result here (sym c.next.ensures ∙ w.in-None.is) front)
+      | in-None w ↦ (part, (λ not_whole. let bad : ⊥ = cc in absurd bad), λ whole. reading.ends (page_record c.args.page.now) (take c.loop-record.record-index c.args.page.now.chain) c.args.page.now.head c.loop-record.row c.record-item.result here (sym c.next.ensures ∙ w.in-None.is) front)
       | in-Some+else-from w ↦ (
         part,
         (λ not_whole. (
-          subst (IsFront (record_in c.args.page.now) c.args.page.now.head (take c.loop-record.record-index c.args.page.now.chain ++ c.record-item.result ∷ [])) (sym w.row-is)
-              (reading.leads_on (record_in c.args.page.now) (take c.loop-record.record-index c.args.page.now.chain) c.args.page.now.head c.loop-record.row c.record-item.result w.in-Some.next here (sym c.next.ensures ∙ w.in-Some.is) front),
+          subst (IsFront (page_record c.args.page.now) c.args.page.now.head (take c.loop-record.record-index c.args.page.now.chain ++ c.record-item.result ∷ [])) (sym w.row-is)
+              (reading.leads_on (page_record c.args.page.now) (take c.loop-record.record-index c.args.page.now.chain) c.args.page.now.head c.loop-record.row c.record-item.result w.in-Some.next here (sym c.next.ensures ∙ w.in-Some.is) front),
           let row = w.row-is in let one = w.from.ensures in let other = w.from-in-Some.ensures in let same = w.if-from.false in omega (arith, row, one, other, same, at),
         )),
         λ whole. let bad : ⊥ = cc in absurd bad,

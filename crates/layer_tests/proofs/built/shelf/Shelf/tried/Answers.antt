@@ -3,7 +3,7 @@ use Rattle.row_chain.specs.Placed.{PlacedChain}
 use Rattle.traces.specs.chain.Chains.{IsChainFrom}
 use Rattle.traces.specs.chain.Fitted.{IsPageChain}
 use Rattle.smo.specs.Reads.{chain_of}
-use Rattle.layer_tests.specs.Held.{record_in}
+use Rattle.layer_tests.specs.Held.{page_record}
 use Rattle.layer_tests.proofs.built.shelf.Shelf.tried.Goals as goal
 
 pub receive-requires-clause-chain : goal.receive-requires-clause-chain
@@ -15,8 +15,8 @@ returns g c =
     let same : chain_of c.receive.new.self ≡ chain_of page = c.receive.ensures.chain ∙ c.fill.ensures.part c.if-not-fill.false in (
       same,
       record {
-        seen = record_in page;
-        leads = subst (λ (p : PlacedChain). IsChainFrom (record_in page) p.head p.records) (sym same) (c.fill.ensures.read c.if-not-fill.false);
+        seen = page_record page;
+        leads = subst (λ (p : PlacedChain). IsChainFrom (page_record page) p.head p.records) (sym same) (c.fill.ensures.read c.if-not-fill.false);
         stand = c.requires;
       },
     )

@@ -1,0 +1,210 @@
+//! What an operation is to answer: a cursor page's pairs have a place of their own, so that no other reply moves their room.
+ghost use Rattle.std.specs.Prelude.{◌≡◌, [], option_copied};
+ghost use Rattle.bw_model.specs.Replies.{reply_of};
+ghost use Rattle.bw_model.specs.declared.command.Reply.TheVariants as replied;
+ghost use Rattle.op_machine.specs.machine.ShortReplies.{reply_with};
+
+use bw_model::{Command, Key, Pairs, Reply, Value};
+use std::marker::Model;
+
+/// Which reply it is, but for a cursor page.
+#[derive(Clone, Copy)]
+pub(crate) enum Which {
+    Value,
+    None,
+    Inserted,
+    Exists,
+    Set,
+    Replaced,
+    Deleted,
+    Absent,
+    Swapped,
+    Differs,
+    Tidied,
+    Full,
+}
+
+/// A reply but for a cursor page, in 66 bytes: which one it is, and the value that it tells, or any where it tells none.
+#[derive(Drop)]
+pub(crate) struct ShortReply {
+    which: Which,
+    value: Value,
+}
+
+impl Model for ShortReply {
+    ghost use Rattle.bw_model.specs.declared.command.Reply.{Reply};
+    ghost use Rattle.op_machine.specs.machine.ShortReplies.{reply_with};
+
+    ghost Value = { Reply };
+
+    ghost view = { λ r. reply_with r.which r.value };
+}
+
+impl ShortReply {
+    /// The reply of a command where its key has the value `old`, or none; no reply of a cursor page or a tidying, which go by more
+    /// than one value.
+    pub(crate) fn of(command: &Command, old: Option<&Value>) -> Option<ShortReply>
+        ensures { result ≡ reply_of command.now (option_copied old.entry) }
+    {
+        match (command, old) {
+            (Command::Get(_), None) => Some(ShortReply::bare(Which::None)),
+            (Command::Get(_), Some(value)) => Some(ShortReply::with(Which::Value, value)),
+            (Command::Insert(_, _), None) => Some(ShortReply::bare(Which::Inserted)),
+            (Command::Insert(_, _), Some(value)) => Some(ShortReply::with(Which::Exists, value)),
+            (Command::Upsert(_, _), None) => Some(ShortReply::bare(Which::Set)),
+            (Command::Upsert(_, _), Some(value)) => Some(ShortReply::with(Which::Replaced, value)),
+            (Command::Delete(_), None) => Some(ShortReply::bare(Which::Absent)),
+            (Command::Delete(_), Some(value)) => Some(ShortReply::with(Which::Deleted, value)),
+            (Command::Swap(_, _, _), None) => Some(ShortReply::bare(Which::Absent)),
+            (Command::Swap(_, expected, _), Some(value)) => {
+                if value == expected {
+                    Some(ShortReply::bare(Which::Swapped))
+                } else {
+                    Some(ShortReply::with(Which::Differs, value))
+                }
+            }
+            (Command::Page(_), _) => None,
+            (Command::Tidy(_), _) => None,
+        }
+    }
+
+    /// A reply that tells no value.
+    pub(crate) fn bare(which: Which) -> ShortReply
+        ensures { result ≡ reply_with which [] }
+    {
+        ShortReply {
+            which,
+            value: Value::default(),
+        }
+    }
+
+    /// A reply that tells a value.
+    pub(crate) fn with(which: Which, value: &Value) -> ShortReply
+        ensures { result ≡ reply_with which value.now }
+    {
+        ShortReply {
+            which,
+            value: value.copied(),
+        }
+    }
+
+    /// The same reply again.
+    pub(crate) fn copied(&self) -> ShortReply
+        ensures { result ≡ self.now }
+    {
+        ShortReply {
+            which: self.which,
+            value: self.value.copied(),
+        }
+    }
+
+    /// Tells the reply in its place: over the value that lies there, where that is of a lookup, as this one is.
+    fn tell(&self, reply: &mut Reply)
+        ensures { reply.new ≡ self.now }
+    {
+        if let (Which::Value, Reply::Value(value)) = (self.which, &mut *reply) {
+            *value = self.value.copied();
+            return;
+        }
+        self.tell_anew(reply);
+    }
+
+    /// The same, whatever lies there. Not inlined: a reply in the room of any is made first.
+    #[inline(never)]
+    fn tell_anew(&self, reply: &mut Reply)
+        ensures { reply.new ≡ self.now }
+    {
+        *reply = self.reply();
+    }
+
+    /// The reply in the room of any.
+    fn reply(&self) -> Reply
+        ensures { result ≡ self.now }
+    {
+        match self.which {
+            Which::Value => Reply::Value(self.value.copied()),
+            Which::None => Reply::None,
+            Which::Inserted => Reply::Inserted,
+            Which::Exists => Reply::Exists(self.value.copied()),
+            Which::Set => Reply::Set,
+            Which::Replaced => Reply::Replaced(self.value.copied()),
+            Which::Deleted => Reply::Deleted(self.value.copied()),
+            Which::Absent => Reply::Absent,
+            Which::Swapped => Reply::Swapped,
+            Which::Differs => Reply::Differs(self.value.copied()),
+            Which::Tidied => Reply::Tidied,
+            Which::Full => Reply::Full,
+        }
+    }
+}
+
+/// The place of the reply with which an operation leaves: a cursor page, or any other.
+#[derive(Drop)]
+pub(crate) struct ReplyPlace {
+    is_page: bool,
+    short: ShortReply,
+    pairs: Pairs,
+    next: Option<Key>,
+}
+
+impl Model for ReplyPlace {
+    ghost use Rattle.bw_model.specs.declared.command.Reply.{Reply};
+    ghost use Rattle.op_machine.specs.machine.ShortReplies.{reply_in};
+
+    ghost Value = { Reply };
+
+    ghost view = { λ p. reply_in p.is_page p.short p.pairs p.next };
+}
+
+impl ReplyPlace {
+    /// A place in which no reply was put yet.
+    pub(crate) fn new() -> ReplyPlace
+        ensures { result ≡ replied.None }
+    {
+        ReplyPlace {
+            is_page: false,
+            short: ShortReply::bare(Which::None),
+            pairs: Pairs::new(),
+            next: None,
+        }
+    }
+
+    /// Puts a reply there.
+    pub(crate) fn put(&mut self, reply: ShortReply)
+        ensures { self.new ≡ reply }
+    {
+        self.is_page = false;
+        self.short = reply;
+    }
+
+    /// Puts a cursor page there.
+    pub(crate) fn put_page(&mut self, pairs: Pairs, next: Option<Key>)
+        ensures { self.new ≡ replied.Page pairs next }
+    {
+        self.is_page = true;
+        self.pairs = pairs;
+        self.next = next;
+    }
+
+    /// Tells the reply that is there in another place.
+    pub(crate) fn tell(&self, reply: &mut Reply)
+        ensures { reply.new ≡ self.now }
+    {
+        if self.is_page {
+            tell_page(&self.pairs, &self.next, reply);
+            return;
+        }
+        self.short.tell(reply);
+    }
+}
+
+/// Tells a cursor page. Not inlined: no other reply needs room for its pairs.
+#[inline(never)]
+fn tell_page(pairs: &Pairs, next: &Option<Key>, reply: &mut Reply)
+    ensures { reply.new ≡ replied.Page pairs.now next.now }
+{
+    *reply = Reply::Page {
+        items: pairs.copied(),
+        next: next.as_ref().map(Key::copied),
+    };
+}

@@ -1,0 +1,4 @@
+pub mod Children
+pub mod Neighbours
+pub mod Pages
+pub mod Unheld
