@@ -3,7 +3,7 @@
 //! Look first at `Page`, then at `Items`. What a page has at each key, before and after a change, is in specs. A leaf has values, an
 //! index page has children (terms), some of which may be held. `MAX_ITEMS` is the room, not where a page is split.
 //!
-//! Called by `deltas`, whose records change pages, and by all that decodes a page: `record_slots`, `row_chain`, `smo`, `listing`. It
+//! Called by `deltas`, whose records change pages, and by all that decodes a page: `record_slots`, `row_chain`, `structure_changes`, `listing`. It
 //! knows no record, no row and no other page: its right is a number to it.
 #![tactic(auto)]
 

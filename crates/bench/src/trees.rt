@@ -1,11 +1,11 @@
 //! Trees that are loaded and worked on.
 ghost use Rattle.std.specs.Prelude.{IsSome};
-ghost use Rattle.bw_tree.specs.Trees.{AreSeatsOf};
+ghost use Rattle.running_tree.specs.Trees.{AreSeatsOf};
 
 use crate::amounts::{Done, Scale};
 use crate::worker::{What, Worker};
 use bw_model::{BadLimits, Limits};
-use bw_tree::{BwSeat, Tree};
+use running_tree::{BwSeat, Tree};
 use seat_threads::work_in_threads;
 use seats::opened;
 use std::alloc::{AllocError, Global};

@@ -1,13 +1,13 @@
 //! What a thread does with its seat.
-ghost use Rattle.bw_tree.specs.Seats.{IsSame};
-ghost use Rattle.bw_tree.specs.Trees.{IsSeatOf};
+ghost use Rattle.running_tree.specs.Seats.{IsSame};
+ghost use Rattle.running_tree.specs.Trees.{IsSeatOf};
 
 use crate::amounts::Scale;
 use bw_model::{Command, Key, MAX_LENGTH, Reply, Value};
-use bw_tree::{BwSeat, Called, Tree};
 use rand_core::SeedableRng;
 use rand_core::utils::NextWord;
 use rand_pcg::Pcg32;
+use running_tree::{BwSeat, Called, Tree};
 use seat_threads::Work;
 use seats::{called, called_in, reply, resumed};
 

@@ -1,6 +1,6 @@
 -- Calls on the seat of a handle.
 use Rattle.std.proofs.Common.{◌≡◌, ℕ, Option, inr, subst, sym}
-use Rattle.bw_tree.specs.Seats.{Seat}
+use Rattle.running_tree.specs.Seats.{Seat}
 use Rattle.bw_tree_c.specs.Handles.{HasSeat, OnSeat}
 use Rattle.bw_tree_c.specs.Seats.{IsLater}
 use Rattle.bw_tree_c.specs.declared.place.Place.{Place}

@@ -1,11 +1,11 @@
 -- Seats that see on.
 use Rattle.std.proofs.Common.{◌≡◌, ℕ, [], subst, sym}
 use Rattle.bw_model.specs.declared.command.Command.{Command}
-use Rattle.bw_tree.specs.Calls.{IsCalled, IsResumed}
-use Rattle.bw_tree.specs.Seats.{IsSame, Seat}
-use Rattle.bw_tree.specs.declared.called.Called.{Called}
-use Rattle.bw_tree.specs.declared.called.Called.TheVariants.{Done, Spent}
-use Rattle.bw_tree.proofs.Going.{same_on, same_self, starts_on}
+use Rattle.running_tree.specs.Calls.{IsCalled, IsResumed}
+use Rattle.running_tree.specs.Seats.{IsSame, Seat}
+use Rattle.running_tree.specs.declared.called.Called.{Called}
+use Rattle.running_tree.specs.declared.called.Called.TheVariants.{Done, Spent}
+use Rattle.running_tree.proofs.Going.{same_on, same_self, starts_on}
 use Rattle.std.proofs.lemmas.List.{append-nil}
 use Rattle.bw_tree_c.specs.Seats.{IsLater}
 

@@ -3,8 +3,8 @@ use Rattle.std.proofs.Common.{◌≡◌, ◌≤◌, ◌+◌, ◌++◌, ◌∷◌
 use Rattle.std.specs.Prelude.{Err, IfSome, Ok, OnOk, Option, Result, slice_get}
 use Rattle.std.proofs.lemmas.Option.{same_Some}
 use Rattle.tree_limits.specs.declared.limits.Limits.{Limits}
-use Rattle.bw_tree.specs.Seats.{Seat, unfinished_command}
-use Rattle.bw_tree.specs.Trees.{AreClosed, AreSeatsOf, IsSeatOf, Tree}
+use Rattle.running_tree.specs.Seats.{Seat, unfinished_command}
+use Rattle.running_tree.specs.Trees.{AreClosed, AreSeatsOf, IsSeatOf, Tree}
 use Rattle.seats.specs.Idle.{AreIdle}
 use Rattle.seats.proofs.Pushed.{all_pushed, one_longer}
 use Rattle.bw_tree_c.specs.Left.{ArePairsLeft, AreTakenOut, HaveGoneOn, HaveOneTree, OwnsFirst}

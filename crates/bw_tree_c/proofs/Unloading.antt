@@ -1,9 +1,9 @@
 -- What is told of a load that was called off.
 use Rattle.std.proofs.Common.{List, arith, map}
 use Rattle.bw_model.specs.declared.command.Reply.TheVariants as reply
-use Rattle.bw_tree.specs.Loaded.{IsStopped}
-use Rattle.bw_tree.specs.declared.called.Called.TheVariants as called
-use Rattle.bw_tree.specs.declared.filling.TheConstants.{LOAD_BUDGET}
+use Rattle.running_tree.specs.Loaded.{IsStopped}
+use Rattle.running_tree.specs.declared.called.Called.TheVariants as called
+use Rattle.running_tree.specs.declared.filling.TheConstants.{LOAD_BUDGET}
 use Rattle.bw_tree_c.specs.Loaded.{IsUnloaded, given_pair}
 use Rattle.bw_tree_c.specs.declared.answers.TheConstants.{FULL, SPENT}
 use Rattle.bw_tree_c.specs.declared.bytes.Pair.{Pair}

@@ -1,7 +1,7 @@
 -- What a call finds behind a handle. What a handle keeps is nothing before the tree is opened, and then a slot for each seat: a clause sees the seats
 -- as they were when the tree was opened.
 use Rattle.std.specs.Prelude.{◌≡◌, ◌⊎◌, ℕ, Option, Some, None, slice_get}
-use Rattle.bw_tree.specs.Seats.{Seat}
+use Rattle.running_tree.specs.Seats.{Seat}
 use Rattle.bw_tree_c.specs.Refused.{IsPassing}
 use Rattle.bw_tree_c.specs.Seats.{IsLater}
 use Rattle.bw_tree_c.specs.Statuses.{status_of_refusal}

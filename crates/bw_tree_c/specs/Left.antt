@@ -1,8 +1,8 @@
 -- What a tree leaves that is closed with its pairs.
 use Rattle.std.specs.Prelude.{◌≡◌, ◌≤◌, ◌++◌, ◌∷◌, [], ℕ, List, None, Some, length, slice_get}
 use Rattle.tree_limits.specs.declared.limits.Limits.{Limits}
-use Rattle.bw_tree.specs.Seats.{Seat, unfinished_command}
-use Rattle.bw_tree.specs.Trees.{AreClosed, IsSeatOf, Tree}
+use Rattle.running_tree.specs.Seats.{Seat, unfinished_command}
+use Rattle.running_tree.specs.Trees.{AreClosed, IsSeatOf, Tree}
 use Rattle.seats.specs.Idle.{AreIdle}
 use Rattle.bw_tree_c.specs.Seats.{IsLater}
 

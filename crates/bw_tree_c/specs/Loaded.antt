@@ -3,12 +3,12 @@ use Rattle.std.specs.Prelude.{◌≡◌, ◌≤◌, ◌⊎◌, ℕ, List, map, O
 use Rattle.tree_limits.specs.declared.limits.Limits.{Limits}
 use Rattle.bw_model.specs.declared.command.Reply.TheVariants as reply
 use Rattle.bw_model.specs.declared.short_bytes.TheConstants.{MAX_LENGTH}
-use Rattle.bw_tree.specs.declared.called.Called.{Called}
-use Rattle.bw_tree.specs.declared.called.Called.TheVariants as called
-use Rattle.bw_tree.specs.declared.filling.TheConstants.{LOAD_BUDGET}
-use Rattle.bw_tree.specs.Loaded.{AreLoaded, IsStopped, KeysAscend}
-use Rattle.bw_tree.specs.Seats.{Seat}
-use Rattle.bw_tree.specs.Trees.{Tree}
+use Rattle.running_tree.specs.declared.called.Called.{Called}
+use Rattle.running_tree.specs.declared.called.Called.TheVariants as called
+use Rattle.running_tree.specs.declared.filling.TheConstants.{LOAD_BUDGET}
+use Rattle.running_tree.specs.Loaded.{AreLoaded, IsStopped, KeysAscend}
+use Rattle.running_tree.specs.Seats.{Seat}
+use Rattle.running_tree.specs.Trees.{Tree}
 use Rattle.bw_tree_c.specs.Shown.{ShowsLimits, shown}
 use Rattle.bw_tree_c.specs.declared.answers.TheConstants.{BAD_LIMITS, BAD_ORDER, FULL, NO_MEMORY, OK, OPEN, SPENT, TOO_LONG}
 use Rattle.bw_tree_c.specs.declared.bytes.Pair.{Pair}

@@ -2,8 +2,8 @@
 use Rattle.std.specs.Prelude.{◌≡◌, ℕ, List, Option, Some, None}
 use Rattle.tree_limits.specs.declared.limits.Limits.{Limits}
 use Rattle.tree_limits.specs.Room.{large_pids_for, large_rows_for, pids_for, rows_for}
-use Rattle.bw_tree.specs.Seats.{Seat}
-use Rattle.bw_tree.specs.Trees.{AreFresh, Tree}
+use Rattle.running_tree.specs.Seats.{Seat}
+use Rattle.running_tree.specs.Trees.{AreFresh, Tree}
 use Rattle.bw_tree_c.specs.Shown.{ShowsLimits}
 use Rattle.bw_tree_c.specs.declared.bytes.TreeLimits.{TreeLimits}
 use Rattle.bw_tree_c.specs.declared.shared.Shared.{Shared}

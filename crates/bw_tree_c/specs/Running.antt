@@ -1,12 +1,12 @@
 -- What runs on a seat, and what C is told of it.
 use Rattle.std.specs.Prelude.{◌≡◌, ◌⊎◌, ℕ, None, IfSome, IsSome, ⊤}
 use Rattle.bw_model.specs.declared.command.Command.{Command}
-use Rattle.bw_tree.specs.Calls.{IsCalled, IsResumed}
-use Rattle.bw_tree.specs.Room.{HasSeenRoom}
-use Rattle.bw_tree.specs.Runs.{IsOneHistory}
-use Rattle.bw_tree.specs.Seats.{Seat, unfinished_command}
-use Rattle.bw_tree.specs.declared.called.Called.{Called}
-use Rattle.bw_tree.specs.declared.room.Room.{Room}
+use Rattle.running_tree.specs.Calls.{IsCalled, IsResumed}
+use Rattle.running_tree.specs.Room.{HasSeenRoom}
+use Rattle.running_tree.specs.Runs.{IsOneHistory}
+use Rattle.running_tree.specs.Seats.{Seat, unfinished_command}
+use Rattle.running_tree.specs.declared.called.Called.{Called}
+use Rattle.running_tree.specs.declared.room.Room.{Room}
 use Rattle.map_laws.specs.Fits.{CameFitting}
 use Rattle.seats.specs.Replies.{many}
 use Rattle.bw_tree_c.specs.Shown.{ShowsRoom}

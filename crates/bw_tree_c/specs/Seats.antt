@@ -1,6 +1,6 @@
 -- Seats that see on.
-use Rattle.bw_tree.specs.Runs.{StartsWith}
-use Rattle.bw_tree.specs.Seats.{IsSame, Seat}
+use Rattle.running_tree.specs.Runs.{StartsWith}
+use Rattle.running_tree.specs.Seats.{IsSame, Seat}
 
 -- The same seat, which may have seen more.
 pub record IsLater (old new : Seat) : Type 0 where

@@ -1,6 +1,6 @@
 -- What C reads.
 use Rattle.std.specs.Prelude.{slice_get, ◌<◌, ◌≡◌, ◌⊎◌, ℕ, List, Option, Some, None, take, length, if◌then◌else◌}
-use Rattle.bw_tree.specs.declared.room.Room.{Room}
+use Rattle.running_tree.specs.declared.room.Room.{Room}
 use Rattle.tree_limits.specs.Limits.{AreLargeLimits, AreLimits}
 use Rattle.tree_limits.specs.declared.limits.Limits.{Limits}
 use Rattle.bw_tree_c.specs.declared.bytes.Bytes.{Bytes}

@@ -2,8 +2,8 @@
 use Rattle.std.specs.Prelude.{◌≡◌, ℕ, List, Option, Some, None}
 use Rattle.bw_model.specs.declared.command.Reply.{Reply}
 use Rattle.bw_model.specs.declared.command.Reply.TheVariants as reply
-use Rattle.bw_tree.specs.declared.called.Called.{Called}
-use Rattle.bw_tree.specs.declared.called.Called.TheVariants.{Done, Spent}
+use Rattle.running_tree.specs.declared.called.Called.{Called}
+use Rattle.running_tree.specs.declared.called.Called.TheVariants.{Done, Spent}
 use Rattle.bw_tree_c.specs.declared.bytes.Bytes.{Bytes}
 use Rattle.bw_tree_c.specs.declared.bytes.Page.{Page}
 use Rattle.bw_tree_c.specs.Shown.{ShowsWholePage, shown}

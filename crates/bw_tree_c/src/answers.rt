@@ -1,6 +1,6 @@
 //! Replies as C reads them: a status, and the value that goes with it.
 ghost use Rattle.std.specs.Prelude.{◌≡◌};
-ghost use Rattle.bw_tree.specs.Calls.{called_if};
+ghost use Rattle.running_tree.specs.Calls.{called_if};
 ghost use Rattle.bw_tree_c.specs.Told.{TellsValue, ShowsPageOf, ShowsValueOf};
 ghost use Rattle.bw_tree_c.specs.Statuses.{status_of, status_of_called};
 

@@ -3,7 +3,7 @@ ghost use Rattle.std.specs.Prelude.{◌≡◌, ◌≤◌, MatchOption, length};
 ghost use Rattle.bw_tree_c.specs.Shown.{AreOpenable, ShowsLimits, ShowsNext, ShowsWholePage, ShowFirst, ShowsPair, ShowsRoom, shown};
 
 use bw_model::{Key, Limits, Pairs, Value};
-use bw_tree::Room;
+use running_tree::Room;
 
 /// At most 64 bytes: the first `length` of them count.
 #[repr(C)]

@@ -2,7 +2,7 @@
 ghost use Rattle.std.specs.Prelude.{◌≡◌, ◌≤◌, ◌+◌, ◌*◌, ◌++◌, ◌∷◌, [], IfErr, IfOk, IfSome, OnOk, length, vec_len};
 ghost use Rattle.std.specs.Arc.{arc_value};
 ghost use Rattle.std.specs.Vec.{vec_capacity};
-ghost use Rattle.bw_tree.specs.Trees.{AreClosed, AreSeatsOf, IsSeatOf};
+ghost use Rattle.running_tree.specs.Trees.{AreClosed, AreSeatsOf, IsSeatOf};
 ghost use Rattle.seats.specs.Idle.{AreIdle};
 ghost use Rattle.bw_tree_c.specs.Left.{ArePairsLeft, AreTakenOut, OwnsFirst};
 ghost use Rattle.bw_tree_c.specs.Refused.{IsHindrance};
@@ -13,7 +13,7 @@ use crate::refusal::Refusal;
 use crate::shared::Shared;
 use crate::slot::{Slot, close, give, take};
 use bw_model::{Key, Value};
-use bw_tree::{BwSeat, Tree};
+use running_tree::{BwSeat, Tree};
 use std::alloc::Global;
 use std::sync::Arc;
 

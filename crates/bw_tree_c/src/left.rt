@@ -6,8 +6,8 @@ ghost use Rattle.bw_tree_c.specs.Refused.{IsPassing};
 
 use crate::refusal::Refusal;
 use bw_model::{Key, Value};
-use bw_tree::BwSeat;
 use counted_slot::{Counted, Fits, TAKEN};
+use running_tree::BwSeat;
 
 /// The word of a slot with nothing in it.
 const NOTHING: u64 = 0;

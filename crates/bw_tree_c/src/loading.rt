@@ -1,7 +1,7 @@
 //! A tree is opened with pairs.
 ghost use Rattle.std.specs.Prelude.{◌≡◌, ◌↔◌, ◌⊎◌, IfErr, IfOk, IsSome, map};
 ghost use Rattle.bw_model.specs.declared.command.Reply.TheVariants as reply;
-ghost use Rattle.bw_tree.specs.Loaded.{KeysAscend};
+ghost use Rattle.running_tree.specs.Loaded.{KeysAscend};
 ghost use Rattle.bw_tree_c.specs.Loaded.{AreShort, HasOpenedWith, IsLoadedWith, IsUnloaded, StopsLoad, TellsUnloaded, given_pair};
 ghost use Rattle.bw_tree_c.specs.Shown.{AreOpenable};
 
@@ -12,7 +12,7 @@ use crate::handle::TreeHandle;
 use crate::opening::shared_with_seats;
 use crate::shared::Shared;
 use bw_model::Limits;
-use bw_tree::{Called, LoadError};
+use running_tree::{Called, LoadError};
 use seats::opened_from;
 use std::alloc::Global;
 

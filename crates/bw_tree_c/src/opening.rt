@@ -2,7 +2,7 @@
 ghost use Rattle.std.specs.Prelude.{◌≡◌, ◌↔◌, IfSome, IsSome, IsTrue};
 ghost use Rattle.std.specs.Arc.{arc_value};
 ghost use Rattle.tree_limits.specs.Room.{AreProposed, AreProposedLarge};
-ghost use Rattle.bw_tree.specs.Trees.{AreSeatsOf};
+ghost use Rattle.running_tree.specs.Trees.{AreSeatsOf};
 ghost use Rattle.bw_tree_c.specs.Left.{HaveOneTree};
 ghost use Rattle.bw_tree_c.specs.Opened.{HasOpened, IsOpenedAt, ProposesLargeLimits, ProposesLimits};
 ghost use Rattle.bw_tree_c.specs.Shown.{AreOpenable};
@@ -14,7 +14,7 @@ use crate::left::{is_nothing, nothing_left};
 use crate::shared::Shared;
 use crate::slot::{Slot, are_closed, slot_of};
 use bw_model::Limits;
-use bw_tree::{BwSeat, Tree};
+use running_tree::{BwSeat, Tree};
 use seats::opened;
 use std::alloc::Global;
 use std::sync::Arc;

@@ -1,9 +1,9 @@
 //! What a call has while it runs.
 ghost use Rattle.std.specs.Arc.{arc_value};
-ghost use Rattle.bw_tree.specs.Trees.{IsSeatOf};
+ghost use Rattle.running_tree.specs.Trees.{IsSeatOf};
 
 use bw_model::Reply;
-use bw_tree::{BwSeat, Tree};
+use running_tree::{BwSeat, Tree};
 use std::sync::Arc;
 
 /// A seat, a share of its tree, and the place in which calls are told replies.

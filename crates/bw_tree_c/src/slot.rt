@@ -2,7 +2,7 @@
 //! where the seat is away, the exchange fails.
 ghost use Rattle.std.specs.Prelude.{◌≡◌, ◌%◌, IfErr, IfOk, IfSome};
 ghost use Rattle.std.specs.Arc.{arc_value};
-ghost use Rattle.bw_tree.specs.Trees.{IsSeatOf};
+ghost use Rattle.running_tree.specs.Trees.{IsSeatOf};
 ghost use Rattle.bw_tree_c.specs.Seats.{IsLater};
 ghost use Rattle.bw_tree_c.specs.Refused.{IsPassing};
 
@@ -10,8 +10,8 @@ use crate::loose::Loose;
 use crate::place::Place;
 use crate::refusal::Refusal;
 use bw_model::Reply;
-use bw_tree::{BwSeat, Tree};
 use counted_slot::{Counted, Fits, TAKEN};
+use running_tree::{BwSeat, Tree};
 use std::alloc::Global;
 use std::sync::Arc;
 

@@ -4,7 +4,7 @@
 use crate::by_hand::let_go;
 use crate::scripts::{Ask, opened};
 use bw_model::{Key, Limits, OpenError, Value};
-use refusing::Refusing;
+use refusing_alloc::Refusing;
 use std::alloc::{Allocator, Global};
 use step_core::{Core, RunError, run};
 use traces::Turn;

@@ -6,7 +6,7 @@ use crate::named::{key, value};
 use crate::scripts::opened;
 use bw_model::{Command, Key, Limits, Link, Reply, Value};
 use core_memory::Entries;
-use refusing::Refusing;
+use refusing_alloc::Refusing;
 use std::alloc::{Allocator, Global};
 use step_core::{Core, RunError, run};
 use traces::{Entry, Turn};

@@ -2,7 +2,7 @@
 use Rattle.std.proofs.Common.{◌≡◌, ℕ, zero, suc, List, [], ◌∷◌, ◌++◌, Some, arith, length, refl, subst, sym}
 use Rattle.std.specs.Prelude.{slice_get}
 use Rattle.std.proofs.lemmas.Option.{same_Some}
-use Rattle.bw_tree.specs.Seats.{Seat}
+use Rattle.running_tree.specs.Seats.{Seat}
 use Rattle.seats.specs.Gathered.{SeesOn}
 use Rattle.seat_threads.specs.Works.{AreDone, AreEachDone, with_each_behind}
 

@@ -1,10 +1,10 @@
 //! A call in pieces: a thread that has other things to do lends each piece a few steps.
-ghost use Rattle.bw_tree.specs.Seats.{IsSame};
-ghost use Rattle.bw_tree.specs.Trees.{IsSeatOf};
+ghost use Rattle.running_tree.specs.Seats.{IsSame};
+ghost use Rattle.running_tree.specs.Trees.{IsSeatOf};
 
 use crate::opening::done_alone;
 use bw_model::{Command, Key, Reply};
-use bw_tree::{BwSeat, Called, Tree};
+use running_tree::{BwSeat, Called, Tree};
 use std::alloc::Global;
 use workers::{Work, called, resumed};
 

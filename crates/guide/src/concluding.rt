@@ -1,11 +1,11 @@
 //! What may be concluded of the only seat of a tree: a lookup shows what was set before.
 ghost use Rattle.std.specs.Prelude.{◌≡◌, IfSome};
-ghost use Rattle.bw_tree.specs.Seats.{IsSame};
-ghost use Rattle.bw_tree.specs.Trees.{IsSeatOf};
+ghost use Rattle.running_tree.specs.Seats.{IsSame};
+ghost use Rattle.running_tree.specs.Trees.{IsSeatOf};
 
 use bw_model::{Command, Key, Limits, Reply, Value};
-use bw_tree::{BwSeat, Tree};
 use map_laws::{one_seat, own_reads};
+use running_tree::{BwSeat, Tree};
 use std::alloc::Global;
 use workers::{opened, reply, take_seat};
 

@@ -1,8 +1,8 @@
 //! Two reasons why nothing is free for a writer, and what another seat can do about each.
-ghost use Rattle.bw_tree.specs.Trees.{IsSeatOf};
+ghost use Rattle.running_tree.specs.Trees.{IsSeatOf};
 
 use bw_model::{Command, Key, Limits, Reply, Value};
-use bw_tree::{BwSeat, Tree};
+use running_tree::{BwSeat, Tree};
 use std::alloc::Global;
 use workers::{called, opened, reply, resumed, take_seat};
 

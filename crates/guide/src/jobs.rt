@@ -1,8 +1,8 @@
 //! Jobs of commands, which the workers of a tree share.
-ghost use Rattle.bw_tree.specs.Trees.{AreSeatsOf};
+ghost use Rattle.running_tree.specs.Trees.{AreSeatsOf};
 
 use bw_model::{Command, Key, Limits, Reply, Value};
-use bw_tree::{BwSeat, Tree};
+use running_tree::{BwSeat, Tree};
 use std::alloc::{AllocError, Global};
 use std::sync::Wait;
 use std::thread::Threads;

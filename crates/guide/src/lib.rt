@@ -2,7 +2,7 @@
 //!
 //! Each module is one block of that page, or is named there, as checks/copies looks.
 //!
-//! Called by nobody. It uses a tree as a user would, by `workers`, `walks`, `map_laws`, `bw_tree` and `bw_model`.
+//! Called by nobody. It uses a tree as a user would, by `workers`, `walks`, `map_laws`, `running_tree` and `bw_model`.
 #![tactic(auto)]
 
 #[cfg(test)]

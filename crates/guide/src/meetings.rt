@@ -2,12 +2,12 @@
 ghost use Rattle.std.specs.Prelude.{◌≡◌, ℕ, [], Contains, IfSome, Ok, Some, slice_get};
 ghost use Rattle.bw_model.specs.declared.command.Command.TheVariants as command;
 ghost use Rattle.bw_model.specs.declared.command.Reply.{Reply};
-ghost use Rattle.bw_tree.specs.Calls.{calls_in};
-ghost use Rattle.bw_tree.specs.Seats.{Seat};
-ghost use Rattle.bw_tree.specs.Trees.{AreSeatsOf};
+ghost use Rattle.running_tree.specs.Calls.{calls_in};
+ghost use Rattle.running_tree.specs.Seats.{Seat};
+ghost use Rattle.running_tree.specs.Trees.{AreSeatsOf};
 
 use bw_model::{Command, Key, Limits, Reply, Value};
-use bw_tree::{BwSeat, Tree};
+use running_tree::{BwSeat, Tree};
 use std::alloc::Global;
 use std::thread::Threads;
 use workers::{NoReply, Work, gather, opened, reply, take_seat, work_in_threads};
@@ -28,7 +28,7 @@ impl Work for Inserts {
     ghost use Rattle.std.specs.Prelude.{◌≡◌, ◌++◌, ◌∷◌, [], Ok, Some};
     ghost use Rattle.bw_model.specs.declared.command.Command.TheVariants as command;
     ghost use Rattle.bw_model.specs.declared.command.Reply.{Reply};
-    ghost use Rattle.bw_tree.specs.Calls.{calls_in};
+    ghost use Rattle.running_tree.specs.Calls.{calls_in};
 
     /// The seat's calls are those that it had, and then the insert with its reply, if it was told one.
     ghost does = { λ given before done after. (reply : Reply) → done.told ≡ Some (Ok reply) → calls_in after ≡ calls_in before ++ (command.Insert done.key [], Some reply) ∷ [] };

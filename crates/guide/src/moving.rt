@@ -1,7 +1,7 @@
 //! A full tree is closed, and its pairs are moved to a larger one.
 use crate::opening::Store;
 use bw_model::{Command, Key, Limits, Reply, Value};
-use bw_tree::{BwSeat, Tree};
+use running_tree::{BwSeat, Tree};
 use std::alloc::Global;
 use workers::{Work, reply};
 

@@ -1,11 +1,11 @@
 //! Notes go along with messages, so that who gets a message finds what was done before it.
 ghost use Rattle.std.specs.Prelude.{◌≡◌, Some};
-ghost use Rattle.bw_tree.specs.Notes.{IsNoteOf};
-ghost use Rattle.bw_tree.specs.Trees.{AreSeatsOf, IsSeatOf, Tree as TreeSeen};
+ghost use Rattle.running_tree.specs.Notes.{IsNoteOf};
+ghost use Rattle.running_tree.specs.Trees.{AreSeatsOf, IsSeatOf, Tree as TreeSeen};
 
 use bw_model::{Command, Key, Limits, Reply, Value};
-use bw_tree::{BwSeat, Note, Tree};
 use crossbeam_channel::{Receiver, Sender, bounded};
+use running_tree::{BwSeat, Note, Tree};
 use std::alloc::Global;
 use std::marker::{Brand, PhantomData};
 use std::sync::Wait;
@@ -18,7 +18,7 @@ const TIMES: u32 = 300;
 /// The tree that all messages of a channel are about.
 trait OfTree {
     ghost use Rattle.std.specs.Prelude.{Option};
-    ghost use Rattle.bw_tree.specs.Trees.{Tree};
+    ghost use Rattle.running_tree.specs.Trees.{Tree};
 
     ghost tree: { Option Tree };
 }

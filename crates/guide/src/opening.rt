@@ -1,8 +1,8 @@
 //! A struct that owns a tree and its seats: it is opened, lends a seat, and is closed.
-ghost use Rattle.bw_tree.specs.Trees.{AreSeatsOf};
+ghost use Rattle.running_tree.specs.Trees.{AreSeatsOf};
 
 use bw_model::{Command, Key, Limits, Reply, Value};
-use bw_tree::{BwSeat, Tree};
+use running_tree::{BwSeat, Tree};
 use std::alloc::Global;
 use std::test::Fail;
 use workers::{NoReply, Work, give_seat, opened, opened_from, reply, take_seat};

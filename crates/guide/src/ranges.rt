@@ -1,13 +1,13 @@
 //! The pairs of a range of keys, page by page and all at once.
 ghost use Rattle.std.specs.Prelude.{◌≡◌, [], false, IfSome, None, Some};
-ghost use Rattle.bw_tree.specs.Seats.{IsSame};
-ghost use Rattle.bw_tree.specs.Trees.{IsSeatOf};
+ghost use Rattle.running_tree.specs.Seats.{IsSame};
+ghost use Rattle.running_tree.specs.Trees.{IsSeatOf};
 ghost use Rattle.walks.specs.Cursors.{Cursor as Place, HasTold};
 ghost use Rattle.walks.specs.Pages.{place_under};
 
 use crate::opening::done_alone;
 use bw_model::{Command, Key, Reply, Value};
-use bw_tree::{BwSeat, Tree};
+use running_tree::{BwSeat, Tree};
 use std::alloc::Global;
 use walks::{Cursor, Scanned, Walk};
 use workers::{Work, reply, resumed};

@@ -4,7 +4,7 @@ use Rattle.std.specs.Prelude.{nat_le, slice_get, if◌then◌else◌}
 use Rattle.std.proofs.lemmas.Bool.{le-leb, leb-true, lt-leb}
 use Rattle.std.proofs.lemmas.Option.{slice_get_past, slice_get_within}
 use Rattle.deltas.specs.declared.record.Record.{Record}
-use Rattle.smo.specs.Versions.{Version}
+use Rattle.structure_changes.specs.Versions.{Version}
 use Rattle.layer_tests.specs.Held.{ShareNoRow, ThreePages, HasRowsOf, or_else, page_record}
 
 pub le_true : (a b : ℕ) → a ≤ b → nat_le a b ≡ true

@@ -8,7 +8,7 @@ use Rattle.traces.specs.chain.Chains.{covers, is_removed, level_in}
 use Rattle.traces.specs.chain.Fitted.{FitsOver, IsPageChain}
 use Rattle.traces.proofs.FittedLaws.{ruled}
 use Rattle.traces.proofs.Updated.{delete_fits}
-use Rattle.smo.proofs.Places.{made}
+use Rattle.structure_changes.proofs.Places.{made}
 
 pub delete_over : (chain : List Record) (next : ℕ) (key : List ℕ) → IsPageChain chain → IsRow next → is_removed chain ≡ false → level_in chain ≡ 0 → IsTrue (covers chain key)
     → FitsOver chain (kind.Delete (record { next = next; key = key }))

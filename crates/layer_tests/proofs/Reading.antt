@@ -8,7 +8,7 @@ use Rattle.deltas.specs.Spellable.{IsSpellable}
 use Rattle.deltas.specs.declared.record.Record.{Record}
 use Rattle.traces.specs.chain.Chains.{IsChainFrom, IsFront, chain_rows}
 use Rattle.traces.specs.chain.Fitted.{IsFitted}
-use Rattle.smo.specs.Versions.{Version}
+use Rattle.structure_changes.specs.Versions.{Version}
 use Rattle.layer_tests.specs.Held.{ThreePages, HasRowsOf, found_in, page_record}
 use Rattle.layer_tests.proofs.Apart.{within_head}
 

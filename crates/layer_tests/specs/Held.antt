@@ -1,7 +1,7 @@
 -- Rows of pages that are put together by hand.
 use Rattle.std.specs.Prelude.{◌≡◌, ◌-◌, ℕ, Option, None, Some, nat_le, slice_get, if◌then◌else◌}
 use Rattle.deltas.specs.declared.record.Record.{Record}
-use Rattle.smo.specs.Versions.{Version}
+use Rattle.structure_changes.specs.Versions.{Version}
 
 -- the page's record in the row: the newest one stands in its head, and each other one in the row before
 abbrev pub page_record : Version → ℕ → Option Record

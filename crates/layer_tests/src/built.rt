@@ -15,9 +15,9 @@ use deltas::Record;
 pub(crate) use planned::{
     hold, merge, merge_into_itself, remove, root, split, term, unterm, unterm_beside_itself,
 };
-use smo::Name;
 use std::marker::Model;
 use std::process::Abort;
+use structure_changes::Name;
 
 /// A page by hand. Its newest record stands in its head, and each other one in the row before.
 #[derive(Drop)]
@@ -27,7 +27,7 @@ pub(crate) struct Held {
 }
 
 impl Model for Held {
-    ghost use Rattle.smo.specs.Versions.{Version};
+    ghost use Rattle.structure_changes.specs.Versions.{Version};
     ghost use Rattle.traces.specs.chain.Fitted.{IsPageChain};
 
     ghost Value = { Version };

@@ -4,17 +4,17 @@ ghost use Rattle.bw_model.specs.Answers.{answer_of};
 ghost use Rattle.bw_model.specs.Lent.{lent};
 ghost use Rattle.traces.specs.discipline.Fitting.{Fits, FitsWord};
 ghost use Rattle.traces.specs.discipline.Knowledge.{nothing};
-ghost use Rattle.installs.specs.Changes.{IsOfChange, IsSpellablePlan, IsTarget};
-ghost use Rattle.installs.specs.Spares.{HaveRoom};
+ghost use Rattle.change_machine.specs.Changes.{IsOfChange, IsSpellablePlan, IsTarget};
+ghost use Rattle.change_machine.specs.Spares.{HaveRoom};
 ghost use Rattle.traces.specs.trace.Within.{IsWithin};
 
 use arrayvec::ArrayString;
 use base_page::{Items, Page};
 use bw_model::{Key, Limits, Step, Told};
+use change_machine::{Change, End, Kind, Spares};
 use deltas::{Record, Remove, Unterm};
-use installs::{Change, End, Kind, Spares};
-use smo::{Plan, SplitPlan};
 use std::fmt::Write;
+use structure_changes::{Plan, SplitPlan};
 
 /// What is planned.
 #[derive(Clone, Copy)]

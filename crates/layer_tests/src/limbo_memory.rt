@@ -2,7 +2,7 @@
 
 use bw_model::{Limits, OpenError};
 use epochs::{Item, Limbo, Reuse};
-use refusing::Refusing;
+use refusing_alloc::Refusing;
 use std::alloc::Global;
 
 /// An allocator that refuses one growth, and counts.

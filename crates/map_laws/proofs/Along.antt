@@ -17,8 +17,8 @@ use Rattle.traces.specs.trace.Trace.{command_of, commands_after}
 use Rattle.traces.proofs.Pushes.{pushed_length, slice_get_below, slice_get_kept, slice_get-append_left, slice_get-push, slice_get-push_cases, take-push_whole}
 use Rattle.traces.proofs.TraceLaws.{command_of-push}
 use Rattle.op_machine.specs.theorem.Operations.{IsOperation, IsOwnEntry}
-use Rattle.bw_tree.specs.Calls.{answered_last, call_after, calls_along, calls_of}
-use Rattle.bw_tree.proofs.Going.{answered_snoc}
+use Rattle.running_tree.specs.Calls.{answered_last, call_after, calls_along, calls_of}
+use Rattle.running_tree.proofs.Going.{answered_snoc}
 use Rattle.map_laws.specs.InOrder.{operation_at}
 use Rattle.map_laws.proofs.Asking.{Calls}
 use Rattle.map_laws.proofs.Spans.{IsOpenAt}

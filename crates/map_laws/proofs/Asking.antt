@@ -18,8 +18,8 @@ use Rattle.traces.specs.trace.Trace.{command_of, commands_after}
 use Rattle.traces.proofs.Pushes.{slice_get_below, slice_get_kept, slice_get-push, slice_get-push_cases}
 use Rattle.traces.proofs.RunLaws.{IsRun-last}
 use Rattle.op_machine.specs.theorem.Operations.{Finishes, IsOperation, Operation}
-use Rattle.bw_tree.specs.Calls.{answered_last, call_after, calls_along, calls_of}
-use Rattle.bw_tree.proofs.Going.{answered_snoc}
+use Rattle.running_tree.specs.Calls.{answered_last, call_after, calls_along, calls_of}
+use Rattle.running_tree.proofs.Going.{answered_snoc}
 use Rattle.map_laws.proofs.Ending.{some_of}
 use Rattle.map_laws.proofs.Spans.{IsOpenAt, begun_since, in_hand}
 use Rattle.traces.proofs.OwnEntries.{own_push}

@@ -18,12 +18,12 @@ use Rattle.op_machine.specs.theorem.Answered.{IsTrueReply, RepliesAtPoint}
 use Rattle.op_machine.specs.theorem.Linearized.{IsLinearized}
 use Rattle.op_machine.specs.theorem.Operations.{Finishes, IsOperation, Operation}
 use Rattle.op_machine.specs.theorem.Points.{log_at}
-use Rattle.bw_tree.specs.Calls.{IsCalled, IsResumed, answered_last, calls_in, calls_of}
-use Rattle.bw_tree.specs.Runs.{IsOneHistory}
-use Rattle.bw_tree.specs.Seats.{Seat, unfinished_command}
-use Rattle.bw_tree.specs.declared.called.Called.{Called}
-use Rattle.bw_tree.specs.declared.called.Called.TheVariants as called
-use Rattle.bw_tree.proofs.Going.{answered_snoc}
+use Rattle.running_tree.specs.Calls.{IsCalled, IsResumed, answered_last, calls_in, calls_of}
+use Rattle.running_tree.specs.Runs.{IsOneHistory}
+use Rattle.running_tree.specs.Seats.{Seat, unfinished_command}
+use Rattle.running_tree.specs.declared.called.Called.{Called}
+use Rattle.running_tree.specs.declared.called.Called.TheVariants as called
+use Rattle.running_tree.proofs.Going.{answered_snoc}
 use Rattle.map_laws.specs.Fits.{CameFitting, fits}
 use Rattle.map_laws.proofs.Asking.{Calls, last_unanswered}
 use Rattle.map_laws.proofs.InOrder.{are_in_order, each_ended}

@@ -8,7 +8,7 @@ use Rattle.traces.specs.declared.trace.Entry.{Entry}
 use Rattle.traces.specs.trace.Run.{IsRun}
 use Rattle.traces.specs.trace.Trace.{command_of}
 use Rattle.op_machine.specs.theorem.Operations.{Finishes, IsOperation}
-use Rattle.bw_tree.specs.Calls.{calls_of}
+use Rattle.running_tree.specs.Calls.{calls_of}
 use Rattle.map_laws.specs.InOrder.{AreInOrder, IsEnded, operation_at}
 use Rattle.map_laws.proofs.Along.{Keeps, Now, keeps_on}
 use Rattle.map_laws.proofs.Asking.{Calls}

@@ -9,7 +9,7 @@ use Rattle.traces.specs.declared.trace.Turn.{Turn}
 use Rattle.traces.specs.trace.Run.{IsRun}
 use Rattle.op_machine.specs.theorem.Linearized.{IsLinearized}
 use Rattle.op_machine.specs.theorem.Operations.{IsOperation, Operation}
-use Rattle.bw_tree.specs.Calls.{calls_of}
+use Rattle.running_tree.specs.Calls.{calls_of}
 use Rattle.map_laws.specs.InOrder.{AreInOrder, operation_at}
 use Rattle.map_laws.specs.OwnKeys.{AreOwnReplies}
 use Rattle.map_laws.proofs.Asking.{Calls}

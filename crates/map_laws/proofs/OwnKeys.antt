@@ -29,7 +29,7 @@ use Rattle.op_machine.specs.theorem.Linearized.{IsLinearized}
 use Rattle.op_machine.specs.theorem.Operations.{Finishes, IsOperation, IsOwnEntry, IsOwnStep, Operation}
 use Rattle.op_machine.specs.theorem.Points.{HasPoints, IsPoint, has_point, log_at, updates_by}
 use Rattle.op_machine.proofs.LogLaws.{log_at-step}
-use Rattle.bw_tree.specs.Calls.{calls_of}
+use Rattle.running_tree.specs.Calls.{calls_of}
 use Rattle.map_laws.specs.InOrder.{operation_at}
 use Rattle.map_laws.specs.OwnKeys.{AreOwnReplies, ChangesAlone, ChangesAloneSince, is_about, may_change, tells, value_made, value_then, value_through}
 use Rattle.map_laws.proofs.Along.{Keeps, Now, keeps_on}

@@ -12,9 +12,9 @@ use Rattle.bw_model.specs.declared.command.Reply.TheVariants as reply
 use Rattle.op_machine.specs.theorem.Points.{has_point}
 use Rattle.traces.specs.trace.Trace.{turn_of}
 use Rattle.traces.proofs.Pushes.{slice_get-push, slice_get_kept}
-use Rattle.bw_tree.specs.Calls.{IsDone, calls_in}
-use Rattle.bw_tree.specs.Runs.{IsOneHistory}
-use Rattle.bw_tree.specs.Seats.{Seat}
+use Rattle.running_tree.specs.Calls.{IsDone, calls_in}
+use Rattle.running_tree.specs.Runs.{IsOneHistory}
+use Rattle.running_tree.specs.Seats.{Seat}
 use Rattle.map_laws.specs.Fits.{fits}
 use Rattle.map_laws.specs.OwnKeys.{AreOwnReplies, is_about, tells, value_then, value_through}
 use Rattle.map_laws.proofs.Asking.{Calls}

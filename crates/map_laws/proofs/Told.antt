@@ -8,7 +8,7 @@ use Rattle.traces.specs.declared.trace.Entry.{Entry}
 use Rattle.traces.specs.declared.trace.Entry.TheVariants.{Begin, Step}
 use Rattle.traces.specs.discipline.Disciplined.{is_entry_of, own_entries}
 use Rattle.traces.proofs.Pushes.{slice_get_kept, slice_get-push}
-use Rattle.bw_tree.specs.Calls.{answered_last, call_after, calls_along}
+use Rattle.running_tree.specs.Calls.{answered_last, call_after, calls_along}
 use Rattle.map_laws.specs.InOrder.{IsCall}
 use Rattle.map_laws.proofs.Asking.{Calls}
 

@@ -4,8 +4,8 @@ use Rattle.bw_model.specs.declared.command.Command.{Command}
 use Rattle.bw_model.specs.declared.command.Command.TheVariants.{Get, Insert, Upsert, Delete, Swap, Page, Tidy}
 use Rattle.bw_model.specs.declared.command.Reply.{Reply}
 use Rattle.bw_model.specs.declared.command.Reply.TheVariants as reply
-use Rattle.bw_tree.specs.declared.called.Called.{Called}
-use Rattle.bw_tree.specs.declared.called.Called.TheVariants.{Done, Spent}
+use Rattle.running_tree.specs.declared.called.Called.{Called}
+use Rattle.running_tree.specs.declared.called.Called.TheVariants.{Done, Spent}
 
 -- whether the reply is one of the command's kind
 abbrev pub fits : Command → Reply → Bool

@@ -3,7 +3,7 @@ use Rattle.std.specs.Prelude.{◌≡◌, ◌≤◌, ℕ, suc, List, [], ◌∷�
 use Rattle.bw_model.specs.declared.command.Command.{Command}
 use Rattle.bw_model.specs.declared.command.Reply.{Reply}
 use Rattle.traces.specs.declared.trace.Entry.{Entry}
-use Rattle.bw_tree.specs.Calls.{calls_of}
+use Rattle.running_tree.specs.Calls.{calls_of}
 use Rattle.op_machine.specs.theorem.Operations.{Finishes, IsOperation, Operation}
 
 -- the actor's operation that begins at this place of the run

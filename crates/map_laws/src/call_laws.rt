@@ -3,10 +3,10 @@ ghost use Rattle.std.specs.Prelude.{ℕ, List, ◌≡◌, ◌∷◌, ◌++◌, [
 ghost use Rattle.tree_limits.specs.declared.limits.Limits.{Limits};
 ghost use Rattle.bw_model.specs.declared.command.Command.{Command};
 ghost use Rattle.bw_model.specs.declared.command.Reply.{Reply};
-ghost use Rattle.bw_tree.specs.Calls.{IsCalled, IsResumed, calls_in, calls_of};
-ghost use Rattle.bw_tree.specs.Runs.{IsOneHistory};
-ghost use Rattle.bw_tree.specs.Seats.{Seat, unfinished_command};
-ghost use Rattle.bw_tree.specs.declared.called.Called.{Called};
+ghost use Rattle.running_tree.specs.Calls.{IsCalled, IsResumed, calls_in, calls_of};
+ghost use Rattle.running_tree.specs.Runs.{IsOneHistory};
+ghost use Rattle.running_tree.specs.Seats.{Seat, unfinished_command};
+ghost use Rattle.running_tree.specs.declared.called.Called.{Called};
 ghost use Rattle.traces.specs.declared.trace.Entry.{Entry};
 ghost use Rattle.traces.specs.declared.trace.Turn.{Turn};
 ghost use Rattle.traces.specs.trace.Run.{IsRun};

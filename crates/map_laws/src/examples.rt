@@ -2,8 +2,8 @@
 ghost use Rattle.std.specs.Prelude.{codes, ◌≡◌, ◌∷◌, [], IsFalse, IsTrue, None, Some};
 ghost use Rattle.bw_model.specs.declared.command.Command.TheVariants.{Get, Insert, Upsert, Delete, Swap, Page, Tidy};
 ghost use Rattle.bw_model.specs.declared.command.Reply.TheVariants as reply;
-ghost use Rattle.bw_tree.specs.Calls.{calls_of};
-ghost use Rattle.bw_tree.specs.Examples.{two_actors};
+ghost use Rattle.running_tree.specs.Calls.{calls_of};
+ghost use Rattle.running_tree.specs.Examples.{two_actors};
 ghost use Rattle.map_laws.specs.Fits.{fits};
 ghost use Rattle.map_laws.specs.Examples.{own_calls};
 ghost use Rattle.map_laws.specs.InOrder.{AreInOrder};

@@ -3,7 +3,7 @@
 //! Look first at `calls_are_operations`; docs/GUIDE.md says which law serves which wish.
 //!
 //! No function here does anything: each one's contract is proved of all runs, and a body that calls it has that at hand. A run is what a
-//! seat of `bw_tree` has seen, and its calls are `calls_of` (bw_tree, specs/Calls).
+//! seat of `running_tree` has seen, and its calls are `calls_of` (running_tree, specs/Calls).
 //!
 //! Called by `seats` and by who embeds a tree; `walks` cites its lemmas. It knows what the theorem says of a run (`op_machine`,
 //! specs/theorem), and nothing of how a tree comes to that.

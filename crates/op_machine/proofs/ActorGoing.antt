@@ -12,7 +12,7 @@ use Rattle.deltas.specs.declared.record.Record.{Record}
 use Rattle.traces.specs.discipline.Fitting.{Fits}
 use Rattle.traces.specs.discipline.Knowledge.{Knowledge, learn}
 use Rattle.traces.specs.discipline.Recalled.{Recalled, blank, cause_worth, recall}
-use Rattle.descent.specs.Machines.{AreThere}
+use Rattle.round_model.specs.Machines.{AreThere}
 use Rattle.op_machine.specs.machine.GoesLeft.{GoesLeft}
 use Rattle.op_machine.specs.machine.RoundSteps.{StepsInRound}
 use Rattle.op_machine.specs.machine.Hands.{Hand}
@@ -27,8 +27,8 @@ use Rattle.op_machine.specs.machine.Wants.{Step, Done}
 use Rattle.op_machine.specs.machine.States.{State, Begun, Epoch, Enter, Read, Write, Change, Leave}
 use Rattle.op_machine.specs.machine.UnderWay.{AsksIf, UnderWay, asking, running_at}
 use Rattle.epochs.specs.Limbo.{Limbo}
-use Rattle.installs.specs.Spares.{Spares}
-use Rattle.installs.specs.declared.taking.Kind.{Kind}
+use Rattle.change_machine.specs.Spares.{Spares}
+use Rattle.change_machine.specs.declared.taking.Kind.{Kind}
 use Rattle.op_machine.specs.machine.Lacks.{TellsLack}
 use Rattle.sweep.specs.Kept.{AreKept}
 use Rattle.sweep.specs.Sweeps.{Sweep}

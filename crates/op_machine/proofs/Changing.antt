@@ -14,15 +14,15 @@ use Rattle.traces.specs.discipline.Discipline.{MayReply}
 use Rattle.traces.specs.discipline.Fitting.{Fits}
 use Rattle.traces.specs.discipline.Knowledge.{Knowledge, learn}
 use Rattle.traces.specs.discipline.Recalled.{IsStepSpent, Recalled, cause_worth, recall}
-use Rattle.installs.specs.Bounded as bound
-use Rattle.installs.specs.Changes as change
-use Rattle.smo.specs.Plans.{clears}
-use Rattle.installs.specs.Spares.{HaveRoom, Spares}
-use Rattle.installs.specs.declared.change.End.{End}
-use Rattle.installs.specs.declared.taking.Kind.{Kind}
-use Rattle.installs.specs.declared.change.End.TheVariants.{Won, Lost, Full}
-use Rattle.smo.specs.declared.plan.Plan.{Plan}
-use Rattle.smo.specs.declared.plan.Plan.TheVariants.{Install, Split, Root, Unlink}
+use Rattle.change_machine.specs.Bounded as bound
+use Rattle.change_machine.specs.Changes as change
+use Rattle.structure_changes.specs.Plans.{clears}
+use Rattle.change_machine.specs.Spares.{HaveRoom, Spares}
+use Rattle.change_machine.specs.declared.change.End.{End}
+use Rattle.change_machine.specs.declared.taking.Kind.{Kind}
+use Rattle.change_machine.specs.declared.change.End.TheVariants.{Won, Lost, Full}
+use Rattle.structure_changes.specs.declared.plan.Plan.{Plan}
+use Rattle.structure_changes.specs.declared.plan.Plan.TheVariants.{Install, Split, Root, Unlink}
 use Rattle.op_machine.specs.machine.Bounded.{left_for, one_round}
 use Rattle.op_machine.proofs.Replying.{not_full}
 use Rattle.op_machine.proofs.Worth.{enough}
@@ -34,8 +34,8 @@ use Rattle.op_machine.specs.machine.Shows.{IsInChange}
 use Rattle.op_machine.specs.machine.Tasks.{IsBetweenChanges, IsUnreadPid, Seeks, Task}
 use Rattle.op_machine.specs.declared.then.Then.{Then}
 use Rattle.op_machine.specs.declared.then.Then.TheVariants.{After, Reply}
-use Rattle.smo.specs.declared.after.After.TheVariants.{Round, Limbo, Errand}
-use Rattle.smo.specs.declared.unlinked.Unlinked.{Unlinked}
+use Rattle.structure_changes.specs.declared.after.After.TheVariants.{Round, Limbo, Errand}
+use Rattle.structure_changes.specs.declared.unlinked.Unlinked.{Unlinked}
 
 -- a PID that is taken is of no page that was read
 taken_unread : (limits : Limits) (k : Knowledge) (asked : Step Record) (told : Answer Record) → Fits limits k asked told → (p : ℕ) → bound.pid_taken asked told ≡ Some p → k.read.heads p ≡ None

@@ -22,7 +22,7 @@ use Rattle.traces.specs.chain.Chains.{covers, is_removed, level_in}
 use Rattle.traces.specs.discipline.Discipline.{FitsOn, update_record, value_of}
 use Rattle.traces.specs.chain.Fitted.{FitsOver, Makes}
 use Rattle.traces.specs.discipline.Knowledge.{Knowledge}
-use Rattle.installs.specs.Changes.{KeepsSparePage, linked_by}
+use Rattle.change_machine.specs.Changes.{KeepsSparePage, linked_by}
 use Rattle.op_machine.specs.machine.Brings.{IsUsefulOver, update_over}
 
 -- an update that a test decides, which doesn't know whose it is

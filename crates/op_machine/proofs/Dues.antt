@@ -6,12 +6,12 @@ use Rattle.deltas.specs.declared.record.Term.{Term}
 use Rattle.deltas.specs.declared.record.Unterm.{Unterm}
 use Rattle.traces.specs.discipline.Knowledge.{Knowledge}
 use Rattle.traces.specs.discipline.Recalled.{Recalled}
-use Rattle.descent.specs.WriteEnds as due
-use Rattle.descent.specs.WriteEnds.{DueChange, IsPlanned}
-use Rattle.descent.specs.WriteRounds.{IsDueBy, WriteRound}
-use Rattle.installs.specs.Changes.{IsSpellablePlan, IsTarget}
-use Rattle.smo.specs.declared.after.After.{After}
-use Rattle.smo.specs.declared.plan.Plan.{Plan}
+use Rattle.round_model.specs.WriteEnds as due
+use Rattle.round_model.specs.WriteEnds.{DueChange, IsPlanned}
+use Rattle.round_model.specs.WriteRounds.{IsDueBy, WriteRound}
+use Rattle.change_machine.specs.Changes.{IsSpellablePlan, IsTarget}
+use Rattle.structure_changes.specs.declared.after.After.{After}
+use Rattle.structure_changes.specs.declared.plan.Plan.{Plan}
 use Rattle.op_machine.proofs.Plans.{over_page, place_of, spells_base}
 use Rattle.op_machine.proofs.Tending.{plans_there}
 

@@ -7,8 +7,8 @@ use Rattle.traces.specs.chain.Chains.{covers}
 use Rattle.traces.specs.discipline.Discipline.{found}
 use Rattle.traces.specs.discipline.Knowledge.{Knowledge}
 use Rattle.traces.specs.discipline.Recalled.{Recalled}
-use Rattle.installs.specs.Spares.{Spares}
-use Rattle.smo.specs.Versions.{Version}
+use Rattle.change_machine.specs.Spares.{Spares}
+use Rattle.structure_changes.specs.Versions.{Version}
 use Rattle.op_machine.specs.machine.Errands.{way_key}
 use Rattle.op_machine.specs.machine.Outcomes.{IsAtLeaf}
 use Rattle.op_machine.specs.machine.Shows.{ShowsState}

@@ -6,8 +6,8 @@ use Rattle.bw_model.specs.declared.step.Step.{Step}
 use Rattle.deltas.specs.declared.record.Record.{Record}
 use Rattle.traces.specs.discipline.Knowledge.{Knowledge}
 use Rattle.traces.specs.discipline.Recalled.{Recalled}
-use Rattle.descent.specs.Machines.{AreThere}
-use Rattle.installs.specs.Spares.{Spares}
+use Rattle.round_model.specs.Machines.{AreThere}
+use Rattle.change_machine.specs.Spares.{Spares}
 use Rattle.op_machine.specs.machine.Bounded.{IsSpentLast, LeavesFor, left_at, with_errands}
 use Rattle.op_machine.specs.machine.Hands.{Hand}
 use Rattle.op_machine.specs.machine.Ops.{Op}

@@ -7,20 +7,20 @@ use Rattle.deltas.specs.declared.record.Record.{Record}
 use Rattle.deltas.specs.Records.{next_row}
 use Rattle.deltas.specs.Spellable.{IsPid, IsRow}
 use Rattle.traces.specs.chain.Chains.{is_removed, level_in}
-use Rattle.smo.specs.Versions.{Version}
-use Rattle.descent.specs.Courses.{WriteGoal}
-use Rattle.descent.specs.Courses as goal
-use Rattle.descent.specs.Descents.{Descent, Finds, Page, Responds as Moves, Root, WayState}
-use Rattle.descent.specs.ReadEnds.{ReadEnd}
-use Rattle.descent.specs.ReadEnds as read_end
-use Rattle.descent.specs.ReadLegs.{IsPlain, Leg, Round, above_of}
-use Rattle.descent.specs.ReadRounds.{AsksTheSame, ReadRound, TreatsRead, reading}
-use Rattle.descent.specs.Rounds.{Sees}
-use Rattle.descent.specs.Visits.{Row, Sight, Slot, Empty, Visit, VisitState, Whole}
-use Rattle.descent.specs.WriteEnds.{DueChange, WriteEnd}
-use Rattle.descent.specs.WriteEnds as write_end
-use Rattle.descent.specs.WriteResponses.{EndsBy, TreatsWrite, writing}
-use Rattle.descent.specs.WriteRounds.{SeeksLeaf, WriteRound}
+use Rattle.structure_changes.specs.Versions.{Version}
+use Rattle.round_model.specs.Courses.{WriteGoal}
+use Rattle.round_model.specs.Courses as goal
+use Rattle.round_model.specs.Descents.{Descent, Finds, Page, Responds as Moves, Root, WayState}
+use Rattle.round_model.specs.ReadEnds.{ReadEnd}
+use Rattle.round_model.specs.ReadEnds as read_end
+use Rattle.round_model.specs.ReadLegs.{IsPlain, Leg, Round, above_of}
+use Rattle.round_model.specs.ReadRounds.{AsksTheSame, ReadRound, TreatsRead, reading}
+use Rattle.round_model.specs.Rounds.{Sees}
+use Rattle.round_model.specs.Visits.{Row, Sight, Slot, Empty, Visit, VisitState, Whole}
+use Rattle.round_model.specs.WriteEnds.{DueChange, WriteEnd}
+use Rattle.round_model.specs.WriteEnds as write_end
+use Rattle.round_model.specs.WriteResponses.{EndsBy, TreatsWrite, writing}
+use Rattle.round_model.specs.WriteRounds.{SeeksLeaf, WriteRound}
 use Rattle.op_machine.specs.machine.GoesLeft.{GoesLeft, MeetsReading, MeetsWriting, TurnsLeft, first_read, read_left_of, write_left_of}
 use Rattle.op_machine.specs.machine.Outcomes.{is_changing}
 use Rattle.op_machine.specs.machine.RoundSteps.{AfterReading, AfterWriting, StepsInRound, StepsReading, StepsWriting}

@@ -8,11 +8,11 @@ use Rattle.base_page.specs.Rules.{AreApart, is_held}
 use Rattle.traces.specs.chain.Fitted.{IsFitted}
 use Rattle.op_machine.specs.theorem.Halves.{AreHalves}
 use Rattle.traces.proofs.FittedLaws.{items_unique, ruled}
-use Rattle.smo.specs.declared.split.SplitPlan.{SplitPlan}
-use Rattle.smo.specs.Splits.{IsSplitPlace, IsSplitPlan}
-use Rattle.smo.specs.Versions.{Version}
-use Rattle.smo.proofs.Places.{made, of_made}
-use Rattle.smo.proofs.SplitFits.{apart, next_place}
+use Rattle.structure_changes.specs.declared.split.SplitPlan.{SplitPlan}
+use Rattle.structure_changes.specs.Splits.{IsSplitPlace, IsSplitPlan}
+use Rattle.structure_changes.specs.Versions.{Version}
+use Rattle.structure_changes.proofs.Places.{made, of_made}
+use Rattle.structure_changes.proofs.SplitFits.{apart, next_place}
 
 -- an item that there is is the same one by whatever stands for those that aren't
 at_any : (items : List Item) (n : ℕ) (d e : Item) → n < length items → slice_index_or items n d ≡ slice_index_or items n e

@@ -17,11 +17,11 @@ use Rattle.traces.specs.chain.HeldBack.{HoldsBack, begins_at, has_held_neighbour
 use Rattle.traces.specs.discipline.Knowledge.{Knowledge}
 use Rattle.traces.specs.discipline.Recalled.{Recalled}
 use Rattle.traces.proofs.FittedLaws.{ruled}
-use Rattle.descent.specs.WriteRounds.{IsTermed, IsUpper}
-use Rattle.smo.specs.Holds.{CanHold, HasFreeNeighbours}
-use Rattle.smo.specs.Upkeep.{IsIdle, IsSmall}
-use Rattle.smo.specs.Versions.{Version}
-use Rattle.smo.proofs.Places.{from_made, index_at, made}
+use Rattle.round_model.specs.WriteRounds.{IsTermed, IsUpper}
+use Rattle.structure_changes.specs.Holds.{CanHold, HasFreeNeighbours}
+use Rattle.structure_changes.specs.Upkeep.{IsIdle, IsSmall}
+use Rattle.structure_changes.specs.Versions.{Version}
+use Rattle.structure_changes.proofs.Places.{from_made, index_at, made}
 use Rattle.op_machine.specs.machine.Upkeep.{IsIdleFor, tidies}
 use Rattle.std.proofs.lemmas.Bool.{or_parts}
 

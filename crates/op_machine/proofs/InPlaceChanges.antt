@@ -6,11 +6,11 @@ use Rattle.deltas.specs.declared.record.Record.{Record}
 use Rattle.traces.specs.discipline.Fitting.{Fits}
 use Rattle.traces.specs.discipline.Knowledge.{Knowledge, learn}
 use Rattle.traces.specs.discipline.Recalled.{Recalled}
-use Rattle.installs.specs.Bounded as bound
-use Rattle.installs.specs.Changes as change
-use Rattle.installs.specs.Outs.{TakesFresh, limbo_after}
-use Rattle.installs.specs.Spares.{HaveRoom, Spares}
-use Rattle.installs.specs.declared.change.End.{End}
+use Rattle.change_machine.specs.Bounded as bound
+use Rattle.change_machine.specs.Changes as change
+use Rattle.change_machine.specs.Outs.{TakesFresh, limbo_after}
+use Rattle.change_machine.specs.Spares.{HaveRoom, Spares}
+use Rattle.change_machine.specs.declared.change.End.{End}
 use Rattle.op_machine.specs.machine.Bounded.{one_round}
 use Rattle.op_machine.specs.machine.Outcomes.{UnlinksAfter, changed}
 use Rattle.op_machine.specs.machine.Places.{ended_with}

@@ -13,18 +13,18 @@ use Rattle.deltas.specs.declared.record.Record.{Record}
 use Rattle.traces.specs.discipline.Fitting.{Fits}
 use Rattle.traces.specs.discipline.Knowledge.{Knowledge}
 use Rattle.traces.specs.discipline.Recalled.{Recalled}
-use Rattle.descent.specs.Machines.{AreThere, IsTold, IsToldThere}
-use Rattle.descent.specs.ReadRounds as read
-use Rattle.descent.specs.Rounds.{machine}
-use Rattle.descent.specs.WriteResponses as response
-use Rattle.descent.specs.WriteRounds as write
-use Rattle.descent.specs.ReadEnds.{ReadEnd}
-use Rattle.descent.specs.WriteEnds.{WriteEnd}
-use Rattle.descent.proofs.Reading as reading
-use Rattle.descent.proofs.Writing as writing
-use Rattle.installs.specs.Changes.{Change as ChangeOf}
-use Rattle.installs.specs.Spares.{Spares}
-use Rattle.installs.specs.declared.taking.Kind.{Kind}
+use Rattle.round_model.specs.Machines.{AreThere, IsTold, IsToldThere}
+use Rattle.round_model.specs.ReadRounds as read
+use Rattle.round_model.specs.Rounds.{machine}
+use Rattle.round_model.specs.WriteResponses as response
+use Rattle.round_model.specs.WriteRounds as write
+use Rattle.round_model.specs.ReadEnds.{ReadEnd}
+use Rattle.round_model.specs.WriteEnds.{WriteEnd}
+use Rattle.round_model.proofs.Reading as reading
+use Rattle.round_model.proofs.Writing as writing
+use Rattle.change_machine.specs.Changes.{Change as ChangeOf}
+use Rattle.change_machine.specs.Spares.{Spares}
+use Rattle.change_machine.specs.declared.taking.Kind.{Kind}
 use Rattle.op_machine.specs.machine.Bounded.{left_at, left_for, left_round, one_round}
 use Rattle.op_machine.specs.machine.Outcomes.{Faces, Outcome, is_changing, is_leaving, is_reading, is_writing, read_out, written_out}
 use Rattle.op_machine.specs.machine.Places.{HaveLimits, OpPlaces, ReadsOn, WritesOn, state_at, state_of}

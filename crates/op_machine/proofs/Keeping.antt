@@ -10,7 +10,7 @@ use Rattle.traces.specs.discipline.Fitting.{Fits}
 use Rattle.traces.specs.discipline.Knowledge.{Knowledge, Limbos, learn}
 use Rattle.traces.specs.discipline.Recalled.{Recalled}
 use Rattle.epochs.specs.Limbo.{Limbo}
-use Rattle.installs.specs.Spares.{Spares}
+use Rattle.change_machine.specs.Spares.{Spares}
 use Rattle.op_machine.specs.machine.Outcomes.{is_changing}
 use Rattle.op_machine.specs.machine.Shows.{FitsLast, ShowsState, learn_last, wanted_at}
 use Rattle.op_machine.specs.machine.Tasks.{Task}

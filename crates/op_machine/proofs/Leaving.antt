@@ -6,22 +6,22 @@ use Rattle.bw_model.specs.declared.step.Step.{Step as StepOf}
 use Rattle.bw_model.specs.declared.step.Step.TheVariants as step
 use Rattle.deltas.specs.declared.record.Record.{Record}
 use Rattle.traces.specs.discipline.Knowledge.{Knowledge}
-use Rattle.descent.specs.Descents as descent
-use Rattle.descent.specs.Visits as page
-use Rattle.descent.specs.Descents.{WayState as DescentState}
-use Rattle.descent.specs.Visits.{VisitState}
+use Rattle.round_model.specs.Descents as descent
+use Rattle.round_model.specs.Visits as page
+use Rattle.round_model.specs.Descents.{WayState as DescentState}
+use Rattle.round_model.specs.Visits.{VisitState}
 use Rattle.epochs.specs.Limbo.{Limbo}
 use Rattle.epochs.specs.declared.item.Reuse.{Reuse}
 use Rattle.epochs.specs.declared.item.Reuse.TheVariants as reuse
-use Rattle.installs.specs.Changes as change
-use Rattle.installs.specs.Spares.{Spares}
-use Rattle.installs.specs.Taking.{wanted_number}
-use Rattle.installs.specs.declared.change.State.{State as ChangeState}
-use Rattle.installs.specs.declared.change.State.TheVariants as change_state
-use Rattle.smo.specs.declared.plan.Plan.{Plan}
-use Rattle.installs.specs.declared.taking.Kind.TheVariants as kind
-use Rattle.installs.specs.declared.taking.Taking.{Taking}
-use Rattle.installs.specs.declared.taking.Taking.TheVariants as taking
+use Rattle.change_machine.specs.Changes as change
+use Rattle.change_machine.specs.Spares.{Spares}
+use Rattle.change_machine.specs.Taking.{wanted_number}
+use Rattle.change_machine.specs.declared.change.State.{State as ChangeState}
+use Rattle.change_machine.specs.declared.change.State.TheVariants as change_state
+use Rattle.structure_changes.specs.declared.plan.Plan.{Plan}
+use Rattle.change_machine.specs.declared.taking.Kind.TheVariants as kind
+use Rattle.change_machine.specs.declared.taking.Taking.{Taking}
+use Rattle.change_machine.specs.declared.taking.Taking.TheVariants as taking
 use Rattle.op_machine.specs.machine.Hands.{Hand}
 use Rattle.op_machine.specs.machine.Ops.{EndsAtLeave, HoldsLimbo, IsToldOp, Op, asked_by}
 use Rattle.op_machine.specs.machine.Outcomes.{is_leaving}

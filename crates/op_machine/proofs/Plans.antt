@@ -13,14 +13,14 @@ use Rattle.deltas.specs.declared.record.Record.TheVariants as kind
 use Rattle.traces.specs.chain.Fitted.{IsFitted}
 use Rattle.traces.specs.discipline.Knowledge.{Knowledge}
 use Rattle.traces.specs.discipline.Recalled.{Recalled}
-use Rattle.descent.specs.Versions.{IsAlive}
-use Rattle.descent.specs.WriteEnds as end
-use Rattle.descent.specs.WriteRounds.{IsLongEnd, WriteRound}
-use Rattle.installs.specs.Changes as change
-use Rattle.installs.specs.Spares.{Spares}
+use Rattle.round_model.specs.Versions.{IsAlive}
+use Rattle.round_model.specs.WriteEnds as end
+use Rattle.round_model.specs.WriteRounds.{IsLongEnd, WriteRound}
+use Rattle.change_machine.specs.Changes as change
+use Rattle.change_machine.specs.Spares.{Spares}
 use Rattle.rounds.specs.WriteRounds.{PlacedWrite}
-use Rattle.smo.specs.Sizes.{many_of}
-use Rattle.smo.specs.Versions.{Version}
+use Rattle.structure_changes.specs.Sizes.{many_of}
+use Rattle.structure_changes.specs.Versions.{Version}
 use Rattle.op_machine.specs.machine.Bounded.{few_changes, one_round, with_errands}
 use Rattle.op_machine.specs.machine.Errands.{with_errand}
 use Rattle.op_machine.specs.machine.Outcomes.{FacesWritten, IsAtLeafBelow}

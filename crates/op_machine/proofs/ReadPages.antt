@@ -5,11 +5,11 @@ use Rattle.tree_limits.specs.declared.limits.Limits.{Limits}
 use Rattle.deltas.specs.declared.record.Record.{Record}
 use Rattle.traces.specs.discipline.Knowledge.{Knowledge}
 use Rattle.traces.specs.discipline.Recalled.{Recalled}
-use Rattle.descent.proofs.SeenPages.{seen_is_read}
-use Rattle.descent.specs.Machines.{AreThere}
-use Rattle.descent.specs.WriteRounds.{IsUpper}
-use Rattle.smo.specs.Reads.{IsReadPage}
-use Rattle.smo.specs.Versions.{Version}
+use Rattle.round_model.proofs.SeenPages.{seen_is_read}
+use Rattle.round_model.specs.Machines.{AreThere}
+use Rattle.round_model.specs.WriteRounds.{IsUpper}
+use Rattle.structure_changes.specs.Reads.{IsReadPage}
+use Rattle.structure_changes.specs.Versions.{Version}
 
 pub read_above : (is_there : ℕ → Record → Type 0) (k : Knowledge) → AreThere is_there k → (limits : Limits) (r : Recalled) (leaf : Version) (parent : Option Version) → IfSome parent (IsUpper limits k r leaf) → IfSome parent (IsReadPage is_there)
 read_above is_there k there limits r leaf None above = tt

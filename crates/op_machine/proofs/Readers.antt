@@ -7,10 +7,10 @@ use Rattle.bw_model.specs.declared.step.Step.TheVariants as step
 use Rattle.deltas.specs.declared.record.Record.{Record}
 use Rattle.traces.specs.discipline.Knowledge.{Knowledge}
 use Rattle.traces.specs.discipline.Recalled.{Recalled}
-use Rattle.descent.specs.Descents as way
-use Rattle.descent.specs.Visits as page
+use Rattle.round_model.specs.Descents as way
+use Rattle.round_model.specs.Visits as page
 use Rattle.epochs.specs.Limbo.{Limbo}
-use Rattle.installs.specs.Spares.{Spares}
+use Rattle.change_machine.specs.Spares.{Spares}
 use Rattle.sweep.specs.Sweeps.{Sweep}
 use Rattle.op_machine.specs.theorem.Readers.{IsOfUse, IsReading}
 use Rattle.op_machine.specs.machine.Hands.{Hand}

@@ -12,13 +12,13 @@ use Rattle.deltas.specs.Memory.{replaced_at}
 use Rattle.traces.specs.discipline.Fitting.{Fits}
 use Rattle.traces.specs.discipline.Knowledge.{Empty, Knowledge, learn}
 use Rattle.traces.specs.discipline.Recalled.{Recalled}
-use Rattle.descent.specs.Descents.{wanted_at, WayState, Root, Page}
-use Rattle.descent.specs.ReadRounds as read
-use Rattle.descent.specs.WriteRounds as write
-use Rattle.descent.specs.Visits as page
-use Rattle.installs.specs.Spares.{IsUnlinked, Spares}
+use Rattle.round_model.specs.Descents.{wanted_at, WayState, Root, Page}
+use Rattle.round_model.specs.ReadRounds as read
+use Rattle.round_model.specs.WriteRounds as write
+use Rattle.round_model.specs.Visits as page
+use Rattle.change_machine.specs.Spares.{IsUnlinked, Spares}
 use Rattle.op_machine.specs.machine.Tasks.{Seeks, Task}
-use Rattle.installs.proofs.Learning.{empty_page}
+use Rattle.change_machine.proofs.Learning.{empty_page}
 
 -- the step reads a slot, or a row
 abbrev pub IsReading : Step Record → Type 0

@@ -6,20 +6,20 @@ use Rattle.deltas.specs.declared.record.Record.{Record}
 use Rattle.traces.specs.discipline.Fitting.{Fits}
 use Rattle.traces.specs.discipline.Knowledge.{Knowledge, learn}
 use Rattle.traces.specs.discipline.Recalled.{IsStepSpent, Recalled, recall}
-use Rattle.descent.specs.ReadRounds as read
-use Rattle.descent.specs.Rounds.{Follows, Responds, Sees}
-use Rattle.descent.specs.WriteResponses as response
-use Rattle.descent.specs.WriteRounds as write
-use Rattle.descent.specs.ReadGoals.{ReadGoal}
-use Rattle.descent.specs.ReadGoals as read_to
-use Rattle.descent.specs.Visits.{Sight, Empty, Whole}
-use Rattle.descent.specs.Courses as write_to
-use Rattle.descent.specs.Courses.{Seek}
-use Rattle.descent.specs.ReadEnds.{ReadEnd}
-use Rattle.descent.specs.ReadEnds as read_end
-use Rattle.descent.specs.WriteEnds.{WriteEnd}
-use Rattle.descent.specs.WriteEnds as write_end
-use Rattle.installs.specs.Spares.{Spares}
+use Rattle.round_model.specs.ReadRounds as read
+use Rattle.round_model.specs.Rounds.{Follows, Responds, Sees}
+use Rattle.round_model.specs.WriteResponses as response
+use Rattle.round_model.specs.WriteRounds as write
+use Rattle.round_model.specs.ReadGoals.{ReadGoal}
+use Rattle.round_model.specs.ReadGoals as read_to
+use Rattle.round_model.specs.Visits.{Sight, Empty, Whole}
+use Rattle.round_model.specs.Courses as write_to
+use Rattle.round_model.specs.Courses.{Seek}
+use Rattle.round_model.specs.ReadEnds.{ReadEnd}
+use Rattle.round_model.specs.ReadEnds as read_end
+use Rattle.round_model.specs.WriteEnds.{WriteEnd}
+use Rattle.round_model.specs.WriteEnds as write_end
+use Rattle.change_machine.specs.Spares.{Spares}
 use Rattle.op_machine.specs.machine.Bounded.{LeavesFor, left_at, left_for, left_round, one_round}
 use Rattle.op_machine.specs.machine.Outcomes as outcome
 use Rattle.op_machine.specs.machine.Outcomes.{Comes, FacesRead, FacesWritten, HasSought, read_out, written_out}

@@ -7,15 +7,15 @@ use Rattle.traces.specs.discipline.Fitting.{Fits}
 use Rattle.traces.specs.discipline.Knowledge.{Knowledge}
 use Rattle.epochs.specs.declared.item.Reuse.{Reuse}
 use Rattle.epochs.specs.declared.item.Reuse.TheVariants as reuse
-use Rattle.installs.specs.Changes as change
-use Rattle.installs.specs.Spares.{Spares}
-use Rattle.installs.specs.Taking.{wanted_number}
-use Rattle.installs.specs.declared.change.State.{State as ChangeState}
-use Rattle.installs.specs.declared.change.State.TheVariants as change_state
-use Rattle.smo.specs.declared.plan.Plan.{Plan}
-use Rattle.installs.specs.declared.taking.Kind.TheVariants as kind
-use Rattle.installs.specs.declared.taking.Taking.{Taking}
-use Rattle.installs.specs.declared.taking.Taking.TheVariants as taking
+use Rattle.change_machine.specs.Changes as change
+use Rattle.change_machine.specs.Spares.{Spares}
+use Rattle.change_machine.specs.Taking.{wanted_number}
+use Rattle.change_machine.specs.declared.change.State.{State as ChangeState}
+use Rattle.change_machine.specs.declared.change.State.TheVariants as change_state
+use Rattle.structure_changes.specs.declared.plan.Plan.{Plan}
+use Rattle.change_machine.specs.declared.taking.Kind.TheVariants as kind
+use Rattle.change_machine.specs.declared.taking.Taking.{Taking}
+use Rattle.change_machine.specs.declared.taking.Taking.TheVariants as taking
 use Rattle.op_machine.specs.machine.Ops.{asked_by}
 use Rattle.op_machine.specs.machine.Outcomes.{has_begun, is_changing}
 use Rattle.op_machine.specs.machine.Shows.{FitsLast, wanted_at}

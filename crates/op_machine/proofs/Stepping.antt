@@ -9,21 +9,21 @@ use Rattle.traces.specs.discipline.Discipline.{HasRead, May, MayFree}
 use Rattle.traces.specs.chain.Chains.{IsChainFrom}
 use Rattle.traces.specs.discipline.Knowledge.{Knowledge, Written, Ready as Set}
 use Rattle.deltas.specs.declared.record.Split.{Split as SplitOf}
-use Rattle.smo.specs.declared.split.SplitPlan.{SplitPlan}
-use Rattle.smo.specs.Splits.{split_to}
+use Rattle.structure_changes.specs.declared.split.SplitPlan.{SplitPlan}
+use Rattle.structure_changes.specs.Splits.{split_to}
 use Rattle.traces.specs.discipline.Useful.{IsUseful}
-use Rattle.descent.specs.Visits.{ReadsWithin}
-use Rattle.installs.specs.Changes as change
-use Rattle.smo.specs.Plans.{cleared_page, cleared_row}
-use Rattle.installs.specs.Spares.{Spares, last_row, pid_of}
-use Rattle.installs.specs.Taking.{wanted_number}
-use Rattle.installs.specs.declared.change.State.{State}
-use Rattle.installs.specs.declared.change.State.TheVariants.{Taking, Base, Ready, Place, Link, Undo, Clear}
-use Rattle.smo.specs.declared.plan.Plan.{Plan}
-use Rattle.smo.specs.declared.plan.Plan.TheVariants.{Install, Split, Root, Unlink}
-use Rattle.installs.specs.declared.taking.Kind.TheVariants.{Pid, Row}
-use Rattle.installs.specs.declared.taking.Taking as taken
-use Rattle.installs.specs.declared.taking.Taking.TheVariants.{Bits, Take}
+use Rattle.round_model.specs.Visits.{ReadsWithin}
+use Rattle.change_machine.specs.Changes as change
+use Rattle.structure_changes.specs.Plans.{cleared_page, cleared_row}
+use Rattle.change_machine.specs.Spares.{Spares, last_row, pid_of}
+use Rattle.change_machine.specs.Taking.{wanted_number}
+use Rattle.change_machine.specs.declared.change.State.{State}
+use Rattle.change_machine.specs.declared.change.State.TheVariants.{Taking, Base, Ready, Place, Link, Undo, Clear}
+use Rattle.structure_changes.specs.declared.plan.Plan.{Plan}
+use Rattle.structure_changes.specs.declared.plan.Plan.TheVariants.{Install, Split, Root, Unlink}
+use Rattle.change_machine.specs.declared.taking.Kind.TheVariants.{Pid, Row}
+use Rattle.change_machine.specs.declared.taking.Taking as taken
+use Rattle.change_machine.specs.declared.taking.Taking.TheVariants.{Bits, Take}
 use Rattle.rounds.specs.Descents.{asked_step}
 use Rattle.rounds.specs.declared.asked.Asked.{Asked}
 use Rattle.rounds.specs.declared.asked.Asked.TheVariants.{Slot as SlotOf, Row as RowOf}

@@ -13,7 +13,7 @@ use Rattle.traces.specs.discipline.Useful.{IsUseful}
 use Rattle.op_machine.specs.theorem.Halves.{IsHalved}
 use Rattle.traces.specs.trace.Within.{IsWithin}
 use Rattle.epochs.specs.Limbo.{Limbo}
-use Rattle.installs.specs.Spares.{Spares}
+use Rattle.change_machine.specs.Spares.{Spares}
 use Rattle.op_machine.specs.machine.Hands.{Hand}
 use Rattle.op_machine.specs.machine.Ops.{Goes, HoldsLimbo, IsSweeping, Op, Shows, asked_by}
 use Rattle.op_machine.specs.machine.Shows.{FitsLast, ShowsState, learn_last, recall_last}

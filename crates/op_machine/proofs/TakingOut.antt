@@ -10,18 +10,18 @@ use Rattle.traces.specs.chain.Chains.{IsChainFrom, chain_rows}
 use Rattle.traces.specs.discipline.Fitting.{AreOutOfLimbo}
 use Rattle.traces.specs.discipline.Knowledge.{Absent, Unstamped, Knowledge, Limbos, taken_out}
 use Rattle.epochs.specs.Limbo.{Limbo as LimboSeen}
-use Rattle.installs.specs.Changes.{linked_by}
-use Rattle.installs.specs.Outs.{TakesFresh, limbo_after, limbo_over}
-use Rattle.installs.specs.declared.change.End.{End}
-use Rattle.installs.specs.declared.change.End.TheVariants.{Won, Lost, Full}
-use Rattle.smo.specs.declared.plan.Plan.{Plan}
-use Rattle.smo.specs.declared.plan.Plan.TheVariants.{Install, Split, Root, Unlink}
+use Rattle.change_machine.specs.Changes.{linked_by}
+use Rattle.change_machine.specs.Outs.{TakesFresh, limbo_after, limbo_over}
+use Rattle.change_machine.specs.declared.change.End.{End}
+use Rattle.change_machine.specs.declared.change.End.TheVariants.{Won, Lost, Full}
+use Rattle.structure_changes.specs.declared.plan.Plan.{Plan}
+use Rattle.structure_changes.specs.declared.plan.Plan.TheVariants.{Install, Split, Root, Unlink}
 use Rattle.op_machine.specs.machine.Brings.{Brings}
 use Rattle.op_machine.specs.machine.Hands.{IsPageOut, IsTakenBy, GoesToLimbo, TakesNothing, Unlinks}
 use Rattle.op_machine.specs.declared.then.Then.{Then}
 use Rattle.op_machine.specs.declared.then.Then.TheVariants.{After, Reply}
-use Rattle.smo.specs.declared.after.After.TheVariants.{Round, Limbo, Errand}
-use Rattle.smo.specs.declared.unlinked.Unlinked.{Unlinked}
+use Rattle.structure_changes.specs.declared.after.After.TheVariants.{Round, Limbo, Errand}
+use Rattle.structure_changes.specs.declared.unlinked.Unlinked.{Unlinked}
 use Rattle.sweep.specs.Kept.{AreKept}
 use Rattle.sweep.specs.Taken.{IsTakenOut}
 

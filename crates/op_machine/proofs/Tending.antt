@@ -11,23 +11,23 @@ use Rattle.traces.specs.chain.Chains.{is_removed, level_in}
 use Rattle.traces.specs.chain.Fitted.{IsPageChain}
 use Rattle.traces.specs.discipline.Knowledge.{Knowledge}
 use Rattle.traces.specs.discipline.Recalled.{Recalled}
-use Rattle.descent.specs.Versions.{IsAlive}
-use Rattle.descent.specs.WriteRounds.{IsTendEnd, IsUpper, WriteRound}
-use Rattle.installs.specs.Changes.{IsSpellablePlan, IsTarget, MayInstall}
-use Rattle.installs.specs.Spares.{Spares}
-use Rattle.smo.specs.declared.plan.Plan.{Plan}
-use Rattle.smo.specs.Holds.{IsHoldPlan}
-use Rattle.smo.specs.Readings.{HasSeen}
-use Rattle.smo.specs.Removals.{IsRemovePlan}
-use Rattle.smo.specs.Upkeep.{IsUpkeep}
-use Rattle.smo.specs.Versions.{Version}
+use Rattle.round_model.specs.Versions.{IsAlive}
+use Rattle.round_model.specs.WriteRounds.{IsTendEnd, IsUpper, WriteRound}
+use Rattle.change_machine.specs.Changes.{IsSpellablePlan, IsTarget, MayInstall}
+use Rattle.change_machine.specs.Spares.{Spares}
+use Rattle.structure_changes.specs.declared.plan.Plan.{Plan}
+use Rattle.structure_changes.specs.Holds.{IsHoldPlan}
+use Rattle.structure_changes.specs.Readings.{HasSeen}
+use Rattle.structure_changes.specs.Removals.{IsRemovePlan}
+use Rattle.structure_changes.specs.Upkeep.{IsUpkeep}
+use Rattle.structure_changes.specs.Versions.{Version}
 use Rattle.op_machine.specs.machine.Errands.{tends_of}
 use Rattle.op_machine.specs.machine.Outcomes.{IsAtLeafBelow}
 use Rattle.op_machine.specs.machine.Shows.{IsRoundOf, MayBegin}
 use Rattle.op_machine.specs.machine.Tasks.{Seeks, Task}
 use Rattle.op_machine.specs.machine.Upkeep.{IsUpkeepFor, tidies}
 use Rattle.op_machine.specs.declared.then.Then.TheVariants.{After}
-use Rattle.smo.specs.declared.after.After.TheVariants.{Round}
+use Rattle.structure_changes.specs.declared.after.After.TheVariants.{Round}
 use Rattle.op_machine.proofs.Plans.{over_page}
 
 -- a round that tends small pages is one of a deletion or a tidying

@@ -17,11 +17,11 @@ use Rattle.traces.specs.chain.Fitted.{IsFitted}
 use Rattle.traces.specs.discipline.Knowledge.{Knowledge}
 use Rattle.traces.specs.discipline.Recalled.{Recalled}
 use Rattle.traces.proofs.FittedLaws.{Makes-base}
-use Rattle.installs.specs.Spares.{Spares}
-use Rattle.smo.specs.Sizes.{HasFewItems}
-use Rattle.smo.specs.Versions.{Version}
-use Rattle.smo.proofs.Places.{from_made, of_made}
-use Rattle.smo.proofs.Unheld.{leaf_unheld}
+use Rattle.change_machine.specs.Spares.{Spares}
+use Rattle.structure_changes.specs.Sizes.{HasFewItems}
+use Rattle.structure_changes.specs.Versions.{Version}
+use Rattle.structure_changes.proofs.Places.{from_made, of_made}
+use Rattle.structure_changes.proofs.Unheld.{leaf_unheld}
 use Rattle.op_machine.specs.machine.Errands.{due_of}
 use Rattle.op_machine.specs.machine.Outcomes.{IsAtLeafBelow}
 use Rattle.op_machine.specs.machine.Tasks.{Task}

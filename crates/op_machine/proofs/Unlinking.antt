@@ -4,11 +4,11 @@ use Rattle.std.specs.Prelude.{IfSome}
 use Rattle.deltas.specs.declared.record.Record.TheVariants as kind
 use Rattle.deltas.specs.declared.record.Unterm.{Unterm}
 use Rattle.traces.specs.discipline.Knowledge.{Knowledge}
-use Rattle.installs.specs.Changes.{KeepsSparePage}
-use Rattle.installs.specs.Spares.{Spares}
-use Rattle.smo.specs.Readings.{HasSeen}
-use Rattle.smo.specs.Unterms.{IsUntermPlan}
-use Rattle.smo.specs.Versions.{Version}
+use Rattle.change_machine.specs.Changes.{KeepsSparePage}
+use Rattle.change_machine.specs.Spares.{Spares}
+use Rattle.structure_changes.specs.Readings.{HasSeen}
+use Rattle.structure_changes.specs.Unterms.{IsUntermPlan}
+use Rattle.structure_changes.specs.Versions.{Version}
 use Rattle.op_machine.specs.machine.Tasks.{Seeks, Task}
 
 -- a page that was read isn't the spare one

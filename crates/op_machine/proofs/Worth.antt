@@ -7,28 +7,28 @@ use Rattle.deltas.specs.declared.record.Record.{Record}
 use Rattle.traces.specs.chain.Chains.{is_removed}
 use Rattle.traces.specs.discipline.Knowledge.{Knowledge}
 use Rattle.traces.specs.discipline.Recalled.{Recalled, Walk, cause_worth}
-use Rattle.descent.specs.Descents.{WayState, Root, Page, left_from}
-use Rattle.descent.specs.ReadGoals as read
-use Rattle.descent.specs.ReadGoals.{ReadGoal}
-use Rattle.descent.specs.ReadRounds.{read_round_kept}
-use Rattle.descent.specs.Visits.{VisitState, Slot, Row}
-use Rattle.descent.specs.Courses as write
-use Rattle.descent.specs.Courses.{WriteGoal}
-use Rattle.descent.specs.Walks.{reads_left_at, with_walk}
-use Rattle.descent.specs.WriteRounds.{write_round_kept}
+use Rattle.round_model.specs.Descents.{WayState, Root, Page, left_from}
+use Rattle.round_model.specs.ReadGoals as read
+use Rattle.round_model.specs.ReadGoals.{ReadGoal}
+use Rattle.round_model.specs.ReadRounds.{read_round_kept}
+use Rattle.round_model.specs.Visits.{VisitState, Slot, Row}
+use Rattle.round_model.specs.Courses as write
+use Rattle.round_model.specs.Courses.{WriteGoal}
+use Rattle.round_model.specs.Walks.{reads_left_at, with_walk}
+use Rattle.round_model.specs.WriteRounds.{write_round_kept}
 use Rattle.epochs.specs.declared.item.Reuse.{Reuse}
 use Rattle.epochs.specs.declared.item.Reuse.TheVariants.{Rows, Pids}
-use Rattle.installs.specs.Bounded as change
-use Rattle.installs.specs.Bounded.{few_steps, numbers_missing, pids_missing}
-use Rattle.smo.specs.Plans.{needs_pid, rows_needed}
-use Rattle.installs.specs.Spares.{Spares}
-use Rattle.installs.specs.Taking.{most_reads, number_left}
-use Rattle.installs.specs.declared.change.State.{State as ChangeState}
-use Rattle.installs.specs.declared.change.State.TheVariants as changing
-use Rattle.smo.specs.declared.plan.Plan.{Plan}
-use Rattle.smo.specs.declared.plan.Plan.TheVariants.{Install, Split, Root as NewRoot, Unlink}
-use Rattle.installs.specs.declared.taking.Taking.{Taking}
-use Rattle.installs.specs.declared.taking.Taking.TheVariants.{Bits, Take}
+use Rattle.change_machine.specs.Bounded as change
+use Rattle.change_machine.specs.Bounded.{few_steps, numbers_missing, pids_missing}
+use Rattle.structure_changes.specs.Plans.{needs_pid, rows_needed}
+use Rattle.change_machine.specs.Spares.{Spares}
+use Rattle.change_machine.specs.Taking.{most_reads, number_left}
+use Rattle.change_machine.specs.declared.change.State.{State as ChangeState}
+use Rattle.change_machine.specs.declared.change.State.TheVariants as changing
+use Rattle.structure_changes.specs.declared.plan.Plan.{Plan}
+use Rattle.structure_changes.specs.declared.plan.Plan.TheVariants.{Install, Split, Root as NewRoot, Unlink}
+use Rattle.change_machine.specs.declared.taking.Taking.{Taking}
+use Rattle.change_machine.specs.declared.taking.Taking.TheVariants.{Bits, Take}
 use Rattle.sweep.specs.Bounded.{most_steps, reuses_left}
 use Rattle.sweep.specs.Bounded as sweep
 use Rattle.sweep.specs.Sweeps.{Sweep}

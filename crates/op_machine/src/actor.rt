@@ -12,8 +12,8 @@ ghost use Rattle.traces.specs.discipline.Recalled.{Recalled, blank, cause_worth}
 
 use crate::{Hand, Operation};
 use bw_model::{Command, Key, Limits, OpenError, Reply, Step, Told};
+use change_machine::Kind;
 use deltas::Record;
-use installs::Kind;
 use row_search::{RowAt, Rows};
 use std::alloc::{Allocator, Global};
 use std::marker::Model;

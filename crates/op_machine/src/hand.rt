@@ -7,11 +7,11 @@ ghost use Rattle.sweep.specs.Kept.{AreKept};
 
 use crate::then::Then;
 use bw_model::{Limits, OpenError};
+use change_machine::{End, Spares};
 use epochs::Limbo;
-use installs::{End, Spares};
-use smo::After;
 use std::alloc::{Allocator, Global};
 use std::marker::Model;
+use structure_changes::After;
 use sweep::{chains_go_to_limbo, take_out};
 
 /// What an actor keeps between operations: the rows and the PID that it took and never linked, and what it took out of the tree and

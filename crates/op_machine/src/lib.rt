@@ -5,7 +5,7 @@
 //! places (`Places`): a reader's round, a writer's round, a change, the reply. `Task` is what was asked, with the errands of splits, and
 //! decides what follows an end. specs/machine defines all of it; specs/theorem says what it means that a run is linearized.
 //!
-//! Called by `step_core`, over one memory, and by `bw_tree`, over the words of a table. It never sees the memory or another actor: each
+//! Called by `step_core`, over one memory, and by `running_tree`, over the words of a table. It never sees the memory or another actor: each
 //! step is justified by what its own steps have shown (`IsAllowed`).
 #![tactic(auto)]
 

@@ -14,9 +14,9 @@ use base_page::Page;
 use bw_model::{Command, Key, Limits};
 use deltas::{Delete, Put, Record};
 use epochs::Limbo;
-use smo::many_deltas;
 use std::alloc::Allocator;
 use std::marker::Model;
+use structure_changes::many_deltas;
 use sweep::Sweep;
 
 /// What an operation was asked, by whom, and what it is still to visit.

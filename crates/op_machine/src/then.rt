@@ -1,7 +1,7 @@
 //! What comes after a change.
 
 use crate::short_reply::ShortReply;
-use smo::After;
+use structure_changes::After;
 
 /// What comes once a change has won.
 #[derive(Drop)]

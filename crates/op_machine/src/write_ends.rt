@@ -2,9 +2,9 @@
 ghost use Rattle.std.specs.Prelude.{◌≡◌, ◌≤◌, ◌+◌, ◌-◌, [], IfSome, Option, Some, IsSome, MatchOption, length, take};
 ghost use Rattle.traces.specs.discipline.Knowledge.{Knowledge};
 ghost use Rattle.traces.specs.discipline.Recalled.{Recalled};
-ghost use Rattle.descent.specs.Machines.{AreThere};
-ghost use Rattle.descent.specs.WriteEnds as end;
-ghost use Rattle.installs.specs.Spares.{Spares as SparesOf};
+ghost use Rattle.round_model.specs.Machines.{AreThere};
+ghost use Rattle.round_model.specs.WriteEnds as end;
+ghost use Rattle.change_machine.specs.Spares.{Spares as SparesOf};
 ghost use Rattle.op_machine.specs.machine.Bounded.{few_changes, left_at, left_for, with_errands};
 ghost use Rattle.op_machine.specs.machine.Brings.{errands_after};
 ghost use Rattle.op_machine.specs.machine.Outcomes as Outcome;
@@ -15,19 +15,19 @@ ghost use Rattle.op_machine.specs.machine.Shows.{ShowsState, wanted_at};
 ghost use Rattle.op_machine.specs.machine.Tasks.{IsSameTask};
 ghost use Rattle.op_machine.specs.machine.Upkeep.{IsIdleFor, IsUpkeepFor};
 ghost use Rattle.rounds.specs.WriteRounds.{ended_write};
-ghost use Rattle.smo.specs.Reads.{IsReadPage};
-ghost use Rattle.smo.specs.Versions.{Version};
+ghost use Rattle.structure_changes.specs.Reads.{IsReadPage};
+ghost use Rattle.structure_changes.specs.Versions.{Version};
 
 use crate::places::Places;
 use crate::short_reply::{ShortReply, Which};
 use crate::task::Task;
 use crate::then::Then;
 use bw_model::Command;
-use installs::{End, Spares, plans_may_be_linked};
+use change_machine::{End, Spares, plans_may_be_linked};
 use rounds::{WriteEnded, WriteRound};
 use row_search::{KeyWords, Rows};
-use smo::{After, Plan, plan_upkeep};
 use std::alloc::Allocator;
+use structure_changes::{After, Plan, plan_upkeep};
 use traces::{chains_make_pages, updates_fit};
 
 impl Task {

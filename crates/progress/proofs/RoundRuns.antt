@@ -11,15 +11,15 @@ use Rattle.deltas.specs.Records.{next_row}
 use Rattle.deltas.specs.declared.record.Record.{Record}
 use Rattle.traces.specs.chain.Chains.{content_in, high_in}
 use Rattle.traces.specs.trace.Steps.{IsAnswer}
-use Rattle.smo.specs.Versions.{Version}
-use Rattle.descent.specs.Descents.{Descent, Page, Root}
-use Rattle.descent.specs.ReadEnds.{ReadEnd, Beside, Removed}
-use Rattle.descent.specs.ReadGoals.{ReadGoal, Seek, Left}
-use Rattle.descent.specs.ReadLegs.{Down}
-use Rattle.descent.specs.ReadRounds.{ReadRound, TreatsRead, left_of, read_way, reading, wanted}
-use Rattle.descent.specs.Rounds.{Responds}
-use Rattle.descent.specs.Visits.{Row, Slot, Visit, Whole, to_page}
-use Rattle.descent.specs.Ways.{LeadsDown, reaches}
+use Rattle.structure_changes.specs.Versions.{Version}
+use Rattle.round_model.specs.Descents.{Descent, Page, Root}
+use Rattle.round_model.specs.ReadEnds.{ReadEnd, Beside, Removed}
+use Rattle.round_model.specs.ReadGoals.{ReadGoal, Seek, Left}
+use Rattle.round_model.specs.ReadLegs.{Down}
+use Rattle.round_model.specs.ReadRounds.{ReadRound, TreatsRead, left_of, read_way, reading, wanted}
+use Rattle.round_model.specs.Rounds.{Responds}
+use Rattle.round_model.specs.Visits.{Row, Slot, Visit, Whole, to_page}
+use Rattle.round_model.specs.Ways.{LeadsDown, reaches}
 use Rattle.op_machine.specs.machine.GoesLeft.{first_read, read_left_of}
 use Rattle.op_machine.specs.machine.RoundSteps.{AfterReading}
 use Rattle.op_machine.specs.machine.States.{Leave, Read, State}

@@ -4,8 +4,8 @@ use Rattle.bw_model.specs.declared.step.Answer.{Answer}
 use Rattle.deltas.specs.Memory.{Memory}
 use Rattle.deltas.specs.declared.record.Record.{Record}
 use Rattle.traces.specs.trace.Steps.{IsAnswer}
-use Rattle.descent.specs.ReadEnds.{Again}
-use Rattle.descent.specs.ReadRounds.{ReadRound, wanted}
+use Rattle.round_model.specs.ReadEnds.{Again}
+use Rattle.round_model.specs.ReadRounds.{ReadRound, wanted}
 use Rattle.op_machine.specs.machine.RoundSteps.{StepsReading}
 use Rattle.op_machine.specs.machine.States.{State, Read}
 use Rattle.op_machine.specs.machine.Tasks.{Task}

@@ -15,7 +15,7 @@ use Rattle.traces.specs.discipline.Knowledge.{knows}
 use Rattle.traces.specs.discipline.Recalled.{Recalled}
 use Rattle.traces.specs.trace.Run.{IsNext}
 use Rattle.traces.specs.trace.Trace.{memory_of}
-use Rattle.descent.specs.ReadRounds.{ReadRound, Shows, wanted}
+use Rattle.round_model.specs.ReadRounds.{ReadRound, Shows, wanted}
 use Rattle.op_machine.specs.machine.RoundSteps.{StepsReading}
 use Rattle.op_machine.specs.machine.States.{Read}
 use Rattle.op_machine.specs.machine.Tasks.{Task}

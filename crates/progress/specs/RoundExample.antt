@@ -5,12 +5,12 @@ use Rattle.bw_model.specs.declared.command.Command.TheVariants.{Get}
 use Rattle.deltas.specs.Memory.{Memory}
 use Rattle.deltas.specs.declared.record.Record.{Record}
 use Rattle.traces.specs.trace.Trace.{memory_at}
-use Rattle.smo.specs.Versions.{Version}
-use Rattle.descent.specs.Descents.{Page}
-use Rattle.descent.specs.ReadGoals.{ReadGoal, Seek, Left}
-use Rattle.descent.specs.ReadLegs.{Down}
-use Rattle.descent.specs.ReadRounds.{ReadRound}
-use Rattle.descent.specs.Visits.{Slot, Row, VisitState}
+use Rattle.structure_changes.specs.Versions.{Version}
+use Rattle.round_model.specs.Descents.{Page}
+use Rattle.round_model.specs.ReadGoals.{ReadGoal, Seek, Left}
+use Rattle.round_model.specs.ReadLegs.{Down}
+use Rattle.round_model.specs.ReadRounds.{ReadRound}
+use Rattle.round_model.specs.Visits.{Slot, Row, VisitState}
 use Rattle.op_machine.specs.machine.GoesLeft.{first_read, read_left_of}
 use Rattle.op_machine.specs.machine.Tasks.{Task}
 use Rattle.op_machine.specs.theorem.Examples.{hold_leaf, new_leaf, page_life, remove_leaf, root, small, split_away}

@@ -10,9 +10,9 @@ use Rattle.traces.specs.discipline.Knowledge.{knows}
 use Rattle.traces.specs.discipline.Recalled.{Recalled}
 use Rattle.traces.specs.trace.Trace.{memory_of}
 use Rattle.traces.specs.chain.SideChain.{LivePage}
-use Rattle.smo.specs.Versions.{Version}
-use Rattle.descent.specs.ReadRounds.{ReadRound, Shows}
-use Rattle.descent.specs.Walks.{few_reads}
+use Rattle.structure_changes.specs.Versions.{Version}
+use Rattle.round_model.specs.ReadRounds.{ReadRound, Shows}
+use Rattle.round_model.specs.Walks.{few_reads}
 use Rattle.op_machine.specs.machine.GoesLeft.{first_read, read_left_of}
 use Rattle.op_machine.specs.machine.Tasks.{Task}
 use Rattle.tree_law.specs.LevelPages.{IsPageOn}

@@ -8,12 +8,12 @@ use Rattle.deltas.specs.declared.record.Record.{Record}
 use Rattle.traces.specs.chain.Chains.{IsChainFrom, content_in, is_removed, right_in}
 use Rattle.traces.specs.chain.Fitted.{IsPageChain}
 use Rattle.traces.specs.chain.SideChain.{LivePage}
-use Rattle.smo.specs.Versions.{Version}
-use Rattle.descent.specs.Descents.{WayState, Root, Page}
-use Rattle.descent.specs.ReadGoals.{ReadGoal, Seek, Left, Beyond}
-use Rattle.descent.specs.ReadLegs.{Leg, Down, Round, Past}
-use Rattle.descent.specs.ReadRounds.{ReadRound}
-use Rattle.descent.specs.Visits.{Slot, Row, VisitState}
+use Rattle.structure_changes.specs.Versions.{Version}
+use Rattle.round_model.specs.Descents.{WayState, Root, Page}
+use Rattle.round_model.specs.ReadGoals.{ReadGoal, Seek, Left, Beyond}
+use Rattle.round_model.specs.ReadLegs.{Leg, Down, Round, Past}
+use Rattle.round_model.specs.ReadRounds.{ReadRound}
+use Rattle.round_model.specs.Visits.{Slot, Row, VisitState}
 use Rattle.tree_law.specs.LevelPages.{IsPageOn}
 use Rattle.tree_law.specs.OneMemory.{HasWholeTree}
 

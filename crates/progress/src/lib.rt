@@ -7,7 +7,7 @@
 //! Then look at `readers_end_among_changes`: beside removals, too, a reader takes few steps but for changes of the tree, since in one
 //! memory its rounds come to an end, wherever they stand (`readers_end_alone`, `rounds_end`).
 //!
-//! Called by `step_core` and `bw_tree`, which say the first two of their runs; the others are there for who concludes them. It knows what
+//! Called by `step_core` and `running_tree`, which say the first two of their runs; the others are there for who concludes them. It knows what
 //! the theorem says of a trace (`op_machine`, specs/theorem), and, for readers beside removals, the invariant of the law and what a reader's rounds
 //! make of an answer.
 #![tactic(auto)]

@@ -4,8 +4,8 @@ use Rattle.std.specs.Io.KnownBytes.{Consumes, IsAtEnd}
 use Rattle.std.specs.Global.{Global}
 use Rattle.tree_limits.specs.declared.limits.Limits.{Limits}
 use Rattle.shell_lines.specs.declared.race_line.JobCommand.{JobCommand}
-use Rattle.bw_tree.specs.Seats.{Seat}
-use Rattle.bw_tree.specs.Trees.{Tree, AreFresh, AreClosed}
+use Rattle.running_tree.specs.Seats.{Seat}
+use Rattle.running_tree.specs.Trees.{Tree, AreFresh, AreClosed}
 use Rattle.byte_streams.specs.Output.{Writes}
 use Rattle.bw_shell.specs.Text.{listing_text, lone_refusal_text, refused_text}
 use Rattle.bw_shell.specs.declared.refusal.Refusal.{Refusal}

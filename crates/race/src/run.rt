@@ -2,7 +2,7 @@
 
 ghost use Rattle.std.specs.Prelude.{◌≡◌, [], false, ℕ, List};
 ghost use Rattle.byte_streams.specs.Output.{Prints};
-ghost use Rattle.bw_tree.specs.Trees.{AreSeatsOf};
+ghost use Rattle.running_tree.specs.Trees.{AreSeatsOf};
 ghost use Rattle.workers.specs.Jobs.{AreAscending};
 ghost use Rattle.race.specs.Race.{Closes, IsRace, RunsBytes, RunsJobs, told_as};
 
@@ -12,8 +12,8 @@ use crate::printed::show_results;
 use crate::taken::read_all;
 use bw_model::Limits;
 use bw_shell::{Refusal, show_listing, show_lone_refusal, show_refused, status};
-use bw_tree::{BwSeat, Tree};
 use byte_streams::{Input, Output, outputs_add_up};
+use running_tree::{BwSeat, Tree};
 use std::alloc::Global;
 use std::sync::Wait;
 use std::thread::Threads;

@@ -4,7 +4,7 @@
 //! where they spell it. The layout's numbers have their home here (`ROW_WORDS`, `FIRST_ITEM`, `ITEM_WORDS` ..); docs/FORMATS.md draws it.
 //! The first word says kind, level, count of items and form, so it tells how many words the record uses.
 //!
-//! Called by `row_search`, which searches rows without decoding them, by `tree_words` and `slot_rule`, which keep rows as atomic words,
+//! Called by `row_search`, which searches rows without decoding them, by `tree_words` and `table_rule`, which keep rows as atomic words,
 //! and by `widening`. It knows no chain: the row under a record is a number.
 #![tactic(auto)]
 

@@ -7,14 +7,14 @@ use Rattle.base_page.specs.Places.{HasNoChild, IsGreatestChild}
 use Rattle.traces.specs.chain.Chains.{content_in, is_removed, level_in, low_in, right_in}
 use Rattle.traces.specs.discipline.Discipline.{NamesChild}
 use Rattle.traces.specs.chain.Fitted.{IsFitted}
-use Rattle.smo.specs.Versions.{Version}
-use Rattle.descent.specs.ReadGoals.{ReadGoal}
-use Rattle.descent.specs.ReadLegs.{Leg, Down, Round, Past, above_of}
-use Rattle.descent.specs.ReadRounds.{CanGoRound, CanMeetLeg, CanTreatRead, IsAtLevel, IsAtMergedPage, LacksLeft, ReadRound, TreatsRead, going_to, left_of, on, read_way}
-use Rattle.descent.specs.Walks.{IsReached}
-use Rattle.descent.specs.Ways.{LeadsDown, LeadsOn, LeadsRight, StaysLeft}
-use Rattle.descent.proofs.Passing.{before_on}
-use Rattle.descent.proofs.WayLaws.{down_within, goes_down, on_within}
+use Rattle.structure_changes.specs.Versions.{Version}
+use Rattle.round_model.specs.ReadGoals.{ReadGoal}
+use Rattle.round_model.specs.ReadLegs.{Leg, Down, Round, Past, above_of}
+use Rattle.round_model.specs.ReadRounds.{CanGoRound, CanMeetLeg, CanTreatRead, IsAtLevel, IsAtMergedPage, LacksLeft, ReadRound, TreatsRead, going_to, left_of, on, read_way}
+use Rattle.round_model.specs.Walks.{IsReached}
+use Rattle.round_model.specs.Ways.{LeadsDown, LeadsOn, LeadsRight, StaysLeft}
+use Rattle.round_model.proofs.Passing.{before_on}
+use Rattle.round_model.proofs.WayLaws.{down_within, goes_down, on_within}
 use Rattle.rounds.specs.ReadRounds.{IsOnLevelOf, LeadsLeft}
 
 -- the child below a page that the page above has is where it leads to the left of the page

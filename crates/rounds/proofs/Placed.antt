@@ -9,13 +9,13 @@ use Rattle.deltas.specs.Records.{next_row}
 use Rattle.traces.specs.chain.Chains.{IsFront, chain_rows}
 use Rattle.traces.specs.chain.Fitted.{IsPageChain}
 use Rattle.row_chain.specs.Placed.{PlacedChain}
-use Rattle.smo.specs.Reads.{chain_of}
-use Rattle.smo.specs.Versions.{Version}
-use Rattle.descent.specs.Descents.{Descent, Responds, Root, Page, descending, wanted}
-use Rattle.descent.specs.Machines.{IsTold}
-use Rattle.descent.specs.Visits as page
-use Rattle.descent.specs.Visits.{Empty, Whole, VisitState, Slot, Row}
-use Rattle.descent.proofs.Visiting.{row_below, whole_chain}
+use Rattle.structure_changes.specs.Reads.{chain_of}
+use Rattle.structure_changes.specs.Versions.{Version}
+use Rattle.round_model.specs.Descents.{Descent, Responds, Root, Page, descending, wanted}
+use Rattle.round_model.specs.Machines.{IsTold}
+use Rattle.round_model.specs.Visits as page
+use Rattle.round_model.specs.Visits.{Empty, Whole, VisitState, Slot, Row}
+use Rattle.round_model.proofs.Visiting.{row_below, whole_chain}
 
 -- a descent at a page
 abbrev pub visiting : Limits → ℕ → List Record → VisitState → Descent

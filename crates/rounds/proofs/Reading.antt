@@ -8,21 +8,21 @@ use Rattle.deltas.specs.declared.record.Record.{Record}
 use Rattle.traces.specs.discipline.Fitting.{Fits}
 use Rattle.traces.specs.discipline.Knowledge.{Knowledge, learn}
 use Rattle.traces.specs.discipline.Recalled.{Recalled, recall}
-use Rattle.smo.specs.Reads.{IsReadPage}
-use Rattle.smo.specs.Versions.{Version}
-use Rattle.descent.specs.Descents.{Finds, WayState}
-use Rattle.descent.specs.Machines.{AreThere, IsToldThere}
-use Rattle.descent.specs.ReadGoals.{ReadGoal, Seek, Left, Beyond}
-use Rattle.descent.specs.ReadLegs.{Leg, Down, Round, Past, above_of}
-use Rattle.descent.specs.ReadRounds.{ReadRound, Shows, ShowsVisit, at, reading, wanted}
-use Rattle.descent.specs.Rounds.{machine}
-use Rattle.descent.specs.Visits as page
-use Rattle.descent.specs.Visits.{Whole}
-use Rattle.descent.specs.Walks.{HasArrived}
-use Rattle.descent.proofs.Passing.{IsOver, Passed}
-use Rattle.descent.proofs.Reading.{HasRead, whole}
-use Rattle.descent.proofs.SeenPages.{seen_is_read}
-use Rattle.descent.proofs.Seeking.{hand}
+use Rattle.structure_changes.specs.Reads.{IsReadPage}
+use Rattle.structure_changes.specs.Versions.{Version}
+use Rattle.round_model.specs.Descents.{Finds, WayState}
+use Rattle.round_model.specs.Machines.{AreThere, IsToldThere}
+use Rattle.round_model.specs.ReadGoals.{ReadGoal, Seek, Left, Beyond}
+use Rattle.round_model.specs.ReadLegs.{Leg, Down, Round, Past, above_of}
+use Rattle.round_model.specs.ReadRounds.{ReadRound, Shows, ShowsVisit, at, reading, wanted}
+use Rattle.round_model.specs.Rounds.{machine}
+use Rattle.round_model.specs.Visits as page
+use Rattle.round_model.specs.Visits.{Whole}
+use Rattle.round_model.specs.Walks.{HasArrived}
+use Rattle.round_model.proofs.Passing.{IsOver, Passed}
+use Rattle.round_model.proofs.Reading.{HasRead, whole}
+use Rattle.round_model.proofs.SeenPages.{seen_is_read}
+use Rattle.round_model.proofs.Seeking.{hand}
 use Rattle.rounds.specs.ReadRounds.{AreReadFor, IsReadGoal, IsReadLeg}
 
 module _ (is_there : ℕ → Record → Type 0) where

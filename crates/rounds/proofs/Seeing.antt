@@ -4,14 +4,14 @@ use Rattle.std.specs.Option.{option_map}
 use Rattle.tree_limits.specs.declared.limits.Limits.{Limits}
 use Rattle.bw_model.specs.declared.step.Answer.{Answer}
 use Rattle.deltas.specs.declared.record.Record.{Record}
-use Rattle.smo.specs.Versions.{Version}
-use Rattle.descent.specs.Descents as from_root
-use Rattle.descent.specs.Machines.{IsTold}
-use Rattle.descent.specs.ReadEnds as end
-use Rattle.descent.specs.ReadRounds as reader
-use Rattle.descent.specs.Rounds.{Responds, machine}
-use Rattle.descent.specs.Visits as sight
-use Rattle.descent.proofs.Reading.{can_see, treats_as, way_shows}
+use Rattle.structure_changes.specs.Versions.{Version}
+use Rattle.round_model.specs.Descents as from_root
+use Rattle.round_model.specs.Machines.{IsTold}
+use Rattle.round_model.specs.ReadEnds as end
+use Rattle.round_model.specs.ReadRounds as reader
+use Rattle.round_model.specs.Rounds.{Responds, machine}
+use Rattle.round_model.specs.Visits as sight
+use Rattle.round_model.proofs.Reading.{can_see, treats_as, way_shows}
 use Rattle.rounds.specs.Descents.{PlacedDescent, sight_of}
 use Rattle.rounds.specs.Legs.{PlacedLeg}
 use Rattle.rounds.specs.ReadRounds.{PlacedRead, ended_read, read_goal}

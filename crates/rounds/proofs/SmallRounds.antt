@@ -4,15 +4,15 @@ use Rattle.std.specs.Option.{option_map}
 use Rattle.tree_limits.specs.declared.limits.Limits.{Limits}
 use Rattle.bw_model.specs.declared.step.Step.TheVariants as step
 use Rattle.deltas.specs.declared.record.Record.{Record}
-use Rattle.smo.specs.Reads.{IsReadPage}
-use Rattle.smo.specs.Versions.{Version}
-use Rattle.descent.specs.Descents.{going_to, wanted_at}
-use Rattle.descent.specs.ReadRounds as reader
-use Rattle.descent.specs.Descents as stands
-use Rattle.descent.specs.ReadGoals as goal
-use Rattle.descent.specs.ReadLegs as legs
-use Rattle.descent.specs.ReadEnds as end
-use Rattle.descent.specs.Visits as sight
+use Rattle.structure_changes.specs.Reads.{IsReadPage}
+use Rattle.structure_changes.specs.Versions.{Version}
+use Rattle.round_model.specs.Descents.{going_to, wanted_at}
+use Rattle.round_model.specs.ReadRounds as reader
+use Rattle.round_model.specs.Descents as stands
+use Rattle.round_model.specs.ReadGoals as goal
+use Rattle.round_model.specs.ReadLegs as legs
+use Rattle.round_model.specs.ReadEnds as end
+use Rattle.round_model.specs.Visits as sight
 use Rattle.rounds.specs.Descents.{sight_of, placed_state, asked_step}
 use Rattle.rounds.specs.ReadRounds.{AreReadFor, again_if, ended_read, read_goal}
 use Rattle.rounds.specs.declared.asked.Asked.TheVariants as asked

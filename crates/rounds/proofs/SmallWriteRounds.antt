@@ -2,13 +2,13 @@
 use Rattle.std.proofs.Common.{◌≡◌, ℕ, true, false, Some, None, refl}
 use Rattle.std.specs.Option.{option_map}
 use Rattle.deltas.specs.declared.record.Record.{Record}
-use Rattle.smo.specs.declared.after.After.{After}
-use Rattle.smo.specs.declared.plan.Plan.{Plan}
-use Rattle.smo.specs.Reads.{IsReadPage}
-use Rattle.smo.specs.Versions.{Version}
-use Rattle.descent.specs.Courses as kept
-use Rattle.descent.specs.WriteRounds as writer
-use Rattle.descent.specs.WriteEnds as end
+use Rattle.structure_changes.specs.declared.after.After.{After}
+use Rattle.structure_changes.specs.declared.plan.Plan.{Plan}
+use Rattle.structure_changes.specs.Reads.{IsReadPage}
+use Rattle.structure_changes.specs.Versions.{Version}
+use Rattle.round_model.specs.Courses as kept
+use Rattle.round_model.specs.WriteRounds as writer
+use Rattle.round_model.specs.WriteEnds as end
 use Rattle.rounds.specs.Courses.{write_goal, kept_if}
 use Rattle.rounds.specs.WriteRounds.{AreReadToWrite, PlacedWrite, again_if, ended_write}
 use Rattle.rounds.specs.declared.course.Aim.TheVariants as aim

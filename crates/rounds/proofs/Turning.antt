@@ -6,11 +6,11 @@ use Rattle.base_page.specs.declared.item.Item.{Item}
 use Rattle.deltas.specs.declared.record.Record.{Record}
 use Rattle.traces.specs.chain.Chains.{IsItemsOf}
 use Rattle.traces.specs.chain.Fitted.{IsFitted}
-use Rattle.smo.specs.Sizes.{HasFewDeltas, HasManyItems, many_of}
-use Rattle.smo.proofs.Few.{few_many}
-use Rattle.smo.proofs.Places.{made}
-use Rattle.descent.specs.Courses.{WriteGoal, Seek, Left, Merge, Unterm, removed_of}
-use Rattle.descent.specs.WriteRounds.{IsLong, SeeksLeaf, ends_at}
+use Rattle.structure_changes.specs.Sizes.{HasFewDeltas, HasManyItems, many_of}
+use Rattle.structure_changes.proofs.Few.{few_many}
+use Rattle.structure_changes.proofs.Places.{made}
+use Rattle.round_model.specs.Courses.{WriteGoal, Seek, Left, Merge, Unterm, removed_of}
+use Rattle.round_model.specs.WriteRounds.{IsLong, SeeksLeaf, ends_at}
 
 -- what a test would have said isn't so
 pub denied : (b : Bool) (P : Type 0) → (P → b ≡ true) → b ≡ false → P → ⊥

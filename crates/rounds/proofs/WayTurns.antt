@@ -4,8 +4,8 @@ use Rattle.std.specs.Prelude.{IsFalse, IsTrue, MatchOption}
 use Rattle.deltas.specs.declared.record.Record.{Record}
 use Rattle.traces.specs.chain.Chains.{high_in, right_in}
 use Rattle.traces.specs.chain.Fitted.{IsFitted}
-use Rattle.descent.specs.Ways.{LeadsRight, StaysLeft}
-use Rattle.descent.proofs.WayLaws.{goes_right}
+use Rattle.round_model.specs.Ways.{LeadsRight, StaysLeft}
+use Rattle.round_model.proofs.WayLaws.{goes_right}
 
 -- whether an end is on the way
 abbrev pub EndsOn : (List ℕ → Bool) → Option (List ℕ) → Bool → Type 0

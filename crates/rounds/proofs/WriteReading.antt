@@ -10,18 +10,18 @@ use Rattle.deltas.specs.declared.record.Record.{Record}
 use Rattle.traces.specs.discipline.Fitting.{Fits}
 use Rattle.traces.specs.discipline.Knowledge.{Knowledge, learn}
 use Rattle.traces.specs.discipline.Recalled.{recall}
-use Rattle.smo.specs.Versions.{Version}
-use Rattle.descent.specs.Courses.{WriteGoal, Seek, Left, Merge, Unterm}
-use Rattle.descent.specs.Descents.{Finds, WayState}
-use Rattle.descent.specs.Machines.{AreThere, IsTold, IsToldThere, Machine}
-use Rattle.descent.specs.Rounds.{machine}
-use Rattle.descent.specs.Visits as page
-use Rattle.descent.specs.Visits.{Whole}
-use Rattle.descent.specs.WriteResponses.{writing}
-use Rattle.descent.specs.WriteRounds.{Shows, VisitsToWrite, WriteRound, at, wanted}
-use Rattle.descent.proofs.Keeping.{Passed, reached_next}
-use Rattle.descent.proofs.SeenPages.{seen_is_read}
-use Rattle.descent.proofs.Seeking.{hand}
+use Rattle.structure_changes.specs.Versions.{Version}
+use Rattle.round_model.specs.Courses.{WriteGoal, Seek, Left, Merge, Unterm}
+use Rattle.round_model.specs.Descents.{Finds, WayState}
+use Rattle.round_model.specs.Machines.{AreThere, IsTold, IsToldThere, Machine}
+use Rattle.round_model.specs.Rounds.{machine}
+use Rattle.round_model.specs.Visits as page
+use Rattle.round_model.specs.Visits.{Whole}
+use Rattle.round_model.specs.WriteResponses.{writing}
+use Rattle.round_model.specs.WriteRounds.{Shows, VisitsToWrite, WriteRound, at, wanted}
+use Rattle.round_model.proofs.Keeping.{Passed, reached_next}
+use Rattle.round_model.proofs.SeenPages.{seen_is_read}
+use Rattle.round_model.proofs.Seeking.{hand}
 use Rattle.rounds.specs.Descents.{PlacedDescent}
 use Rattle.rounds.specs.WriteRounds.{AreReadToWrite, IsGoalRead, PlacedWrite}
 use Rattle.rounds.specs.declared.descents.Seen.TheVariants as seen

@@ -3,17 +3,17 @@ use Rattle.std.proofs.Common.{◌≡◌, inl, inr, ℕ, List, Bool, Option, None
 use Rattle.std.specs.Option.{option_map}
 use Rattle.tree_limits.specs.declared.limits.Limits.{Limits}
 use Rattle.bw_model.specs.declared.step.Answer.{Answer}
-use Rattle.smo.specs.declared.after.After.{After}
-use Rattle.smo.specs.declared.plan.Plan.{Plan}
+use Rattle.structure_changes.specs.declared.after.After.{After}
+use Rattle.structure_changes.specs.declared.plan.Plan.{Plan}
 use Rattle.deltas.specs.declared.record.Record.{Record}
-use Rattle.descent.specs.Descents as from_root
-use Rattle.descent.specs.Machines.{IsTold}
-use Rattle.descent.specs.Rounds.{Responds, machine}
-use Rattle.descent.specs.WriteResponses as response
-use Rattle.descent.specs.WriteRounds as writer
-use Rattle.descent.specs.Visits as sight
-use Rattle.descent.specs.WriteEnds as end
-use Rattle.descent.proofs.Writing.{can_see, treats_as, way_shows}
+use Rattle.round_model.specs.Descents as from_root
+use Rattle.round_model.specs.Machines.{IsTold}
+use Rattle.round_model.specs.Rounds.{Responds, machine}
+use Rattle.round_model.specs.WriteResponses as response
+use Rattle.round_model.specs.WriteRounds as writer
+use Rattle.round_model.specs.Visits as sight
+use Rattle.round_model.specs.WriteEnds as end
+use Rattle.round_model.proofs.Writing.{can_see, treats_as, way_shows}
 use Rattle.rounds.specs.Courses.{PlacedCourse}
 use Rattle.rounds.specs.Descents.{PlacedDescent, sight_of}
 use Rattle.rounds.specs.WriteRounds.{PlacedWrite, ended_write}

@@ -1,7 +1,7 @@
 -- Where a writer's round goes, over a place for each of the two pages that it may keep on the way.
 use Rattle.std.specs.Prelude.{Bool, true, false, Option, Some, None}
-use Rattle.smo.specs.Versions.{Version}
-use Rattle.descent.specs.Courses as kept
+use Rattle.structure_changes.specs.Versions.{Version}
+use Rattle.round_model.specs.Courses as kept
 use Rattle.rounds.specs.declared.course.Aim.{Aim}
 use Rattle.rounds.specs.declared.course.Aim.TheVariants.{Seek, Left, Merge, Unterm}
 

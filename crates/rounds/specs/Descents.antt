@@ -5,10 +5,10 @@ use Rattle.bw_model.specs.declared.step.Step.{Step as StepOf}
 use Rattle.bw_model.specs.declared.step.Step.TheVariants as step
 use Rattle.deltas.specs.declared.record.Record.{Record}
 use Rattle.row_chain.specs.Placed.{PlacedChain}
-use Rattle.smo.specs.Versions.{Version}
-use Rattle.descent.specs.Descents as from_root
-use Rattle.descent.specs.Visits as visit
-use Rattle.descent.specs.Visits.{Sight}
+use Rattle.structure_changes.specs.Versions.{Version}
+use Rattle.round_model.specs.Descents as from_root
+use Rattle.round_model.specs.Visits as visit
+use Rattle.round_model.specs.Visits.{Sight}
 use Rattle.rounds.specs.declared.asked.Asked.{Asked}
 use Rattle.rounds.specs.declared.asked.Asked.TheVariants as asked
 use Rattle.rounds.specs.declared.descents.At.{At}

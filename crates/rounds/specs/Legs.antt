@@ -1,7 +1,7 @@
 -- On which leg of its way a reader's round is, over a place for a page.
 use Rattle.std.specs.Prelude.{None, Some, ⊤}
-use Rattle.smo.specs.Versions.{Version}
-use Rattle.descent.specs.ReadLegs as legs
+use Rattle.structure_changes.specs.Versions.{Version}
+use Rattle.round_model.specs.ReadLegs as legs
 use Rattle.rounds.specs.declared.leg.On.{On}
 use Rattle.rounds.specs.declared.leg.On.TheVariants.{Top, Below, Round, Past, PastBelow}
 

@@ -2,16 +2,16 @@
 use Rattle.std.specs.Prelude.{◌≡◌, ℕ, Bool, Option, Some, None, true, false, IfSome, ⊤}
 use Rattle.deltas.specs.declared.record.Record.{Record}
 use Rattle.traces.specs.chain.Chains.{is_removed, level_in}
-use Rattle.smo.specs.Reads.{IsReadPage}
-use Rattle.smo.specs.Versions.{Version}
-use Rattle.descent.specs.ReadRounds as rounds
-use Rattle.descent.specs.ReadLegs.{Leg, Down, Round, Past, IsPlain}
-use Rattle.descent.specs.Walks.{IsReached}
-use Rattle.descent.specs.Ways.{LeadsDown}
-use Rattle.descent.specs.ReadGoals.{ReadGoal}
-use Rattle.descent.specs.ReadGoals as goal
-use Rattle.descent.specs.ReadEnds.{ReadEnd}
-use Rattle.descent.specs.ReadEnds as end
+use Rattle.structure_changes.specs.Reads.{IsReadPage}
+use Rattle.structure_changes.specs.Versions.{Version}
+use Rattle.round_model.specs.ReadRounds as rounds
+use Rattle.round_model.specs.ReadLegs.{Leg, Down, Round, Past, IsPlain}
+use Rattle.round_model.specs.Walks.{IsReached}
+use Rattle.round_model.specs.Ways.{LeadsDown}
+use Rattle.round_model.specs.ReadGoals.{ReadGoal}
+use Rattle.round_model.specs.ReadGoals as goal
+use Rattle.round_model.specs.ReadEnds.{ReadEnd}
+use Rattle.round_model.specs.ReadEnds as end
 use Rattle.rounds.specs.declared.read_round.Going.{Going}
 use Rattle.rounds.specs.declared.read_round.Going.TheVariants.{Seek, Left, Beyond}
 use Rattle.rounds.specs.declared.read_round.ReadEnded.{ReadEnded}

@@ -1,15 +1,15 @@
 -- A writer's round in its place: its pages stand in it, and an end names them there.
 use Rattle.std.specs.Prelude.{ℕ, Bool, true, false, Option, Some, None, IfSome, ⊤}
 use Rattle.deltas.specs.declared.record.Record.{Record}
-use Rattle.smo.specs.declared.after.After.{After}
-use Rattle.smo.specs.declared.plan.Plan.{Plan}
-use Rattle.smo.specs.Reads.{IsReadPage}
-use Rattle.smo.specs.Versions.{Version}
-use Rattle.descent.specs.Courses.{WriteGoal, Seek, Left}
-use Rattle.descent.specs.Courses as goal
-use Rattle.descent.specs.WriteRounds as rounds
-use Rattle.descent.specs.WriteEnds.{WriteEnd}
-use Rattle.descent.specs.WriteEnds as end
+use Rattle.structure_changes.specs.declared.after.After.{After}
+use Rattle.structure_changes.specs.declared.plan.Plan.{Plan}
+use Rattle.structure_changes.specs.Reads.{IsReadPage}
+use Rattle.structure_changes.specs.Versions.{Version}
+use Rattle.round_model.specs.Courses.{WriteGoal, Seek, Left}
+use Rattle.round_model.specs.Courses as goal
+use Rattle.round_model.specs.WriteRounds as rounds
+use Rattle.round_model.specs.WriteEnds.{WriteEnd}
+use Rattle.round_model.specs.WriteEnds as end
 use Rattle.rounds.specs.declared.write_ended.WriteEnded.{WriteEnded}
 use Rattle.rounds.specs.declared.write_ended.WriteEnded.TheVariants.{Again, Removed, Due, Leaf, Done}
 

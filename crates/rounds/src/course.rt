@@ -1,17 +1,17 @@
 //! Where a writer's round goes, over places for two pages.
 ghost use Rattle.std.specs.Prelude.{◌≡◌, None, Some, IfOk};
 ghost use Rattle.std.specs.Bool.{Decides};
-ghost use Rattle.descent.specs.Courses as goal;
-ghost use Rattle.descent.specs.Courses.{down_to, removed_of};
-ghost use Rattle.descent.specs.WriteRounds.{SeeksLeaf};
+ghost use Rattle.round_model.specs.Courses as goal;
+ghost use Rattle.round_model.specs.Courses.{down_to, removed_of};
+ghost use Rattle.round_model.specs.WriteRounds.{SeeksLeaf};
 ghost use Rattle.rounds.specs.Courses.{write_goal, kept_if};
-ghost use Rattle.smo.specs.Versions.{Version};
+ghost use Rattle.structure_changes.specs.Versions.{Version};
 
 use crate::Descent;
 use row_search::Rows;
-use smo::PageInHand;
 use std::alloc::{AllocError, Allocator, Global};
 use std::marker::Model;
+use structure_changes::PageInHand;
 
 /// What a writer's round reads pages for.
 #[derive(Clone, Copy)]

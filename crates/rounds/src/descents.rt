@@ -4,20 +4,20 @@ ghost use Rattle.bw_model.specs.declared.step.Answer.TheVariants.{Content, Numbe
 ghost use Rattle.bw_model.specs.declared.step.Step.TheVariants as step;
 ghost use Rattle.traces.specs.discipline.Discipline.{May};
 ghost use Rattle.traces.specs.discipline.Knowledge.{Knowledge};
-ghost use Rattle.descent.specs.Descents.{Responds, Shows, descending, going_to, wanted};
-ghost use Rattle.descent.specs.Machines.{IsTold};
-ghost use Rattle.descent.specs.Visits.{ReadsWithin};
-ghost use Rattle.descent.specs.Descents as state;
+ghost use Rattle.round_model.specs.Descents.{Responds, Shows, descending, going_to, wanted};
+ghost use Rattle.round_model.specs.Machines.{IsTold};
+ghost use Rattle.round_model.specs.Visits.{ReadsWithin};
+ghost use Rattle.round_model.specs.Descents as state;
 ghost use Rattle.rounds.specs.Descents.{sight_of, placed_state, asked_step};
 
 use crate::Asked;
 use bw_model::Limits;
 use row_chain::ChainPart;
 use row_search::{RowAt, Rows};
-use smo::PageInHand;
 use std::alloc::{AllocError, Allocator, Global};
 use std::marker::Model;
 use std::mem;
+use structure_changes::PageInHand;
 
 /// Where a descent stands: each state is named by what it reads, slot 0, a page's slot, or a row of a page, whose chain so far tells
 /// where it begins.

@@ -1,13 +1,13 @@
 //! On which leg of its way a reader's round is, over a place for a page.
 ghost use Rattle.std.specs.Prelude.{◌≡◌, None, Some, IfOk, false, true};
-ghost use Rattle.descent.specs.ReadLegs.{Down, IsPlain, Past, Round, above_of, below, level_on};
+ghost use Rattle.round_model.specs.ReadLegs.{Down, IsPlain, Past, Round, above_of, below, level_on};
 ghost use Rattle.rounds.specs.Legs.{IsPlainWithout};
 
 use crate::Descent;
 use row_search::Rows;
-use smo::PageInHand;
 use std::alloc::{AllocError, Allocator, Global};
 use std::marker::Model;
+use structure_changes::PageInHand;
 
 /// On which leg a round is.
 #[derive(Clone, Copy, PartialEq, Eq)]

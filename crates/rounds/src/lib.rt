@@ -4,7 +4,7 @@
 //! ends at some time (`ReadEnded`, `WriteEnded`), with the pages of its end where they stand in it. `Descent` reads page after page; `Leg`
 //! and `read_round/detour` go round removed index pages of any level. A writer's round ends at the first change that is due.
 //!
-//! Called by `op_machine`. What each function does is defined in `descent`, of which this is the code. It takes no step, links nothing,
+//! Called by `op_machine`. What each function does is defined in `round_model`, of which this is the code. It takes no step, links nothing,
 //! and knows no command: a key, how many deltas are due, and whether small index pages are tended.
 #![tactic(auto)]
 

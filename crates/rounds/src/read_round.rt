@@ -8,15 +8,15 @@ ghost use Rattle.traces.specs.chain.Chains.{level_in, low_in, right_in};
 ghost use Rattle.traces.specs.discipline.Discipline.{May};
 ghost use Rattle.traces.specs.discipline.Knowledge.{Knowledge};
 ghost use Rattle.traces.specs.discipline.Recalled.{Recalled};
-ghost use Rattle.smo.specs.Reads.{IsReadPage};
-ghost use Rattle.descent.specs.Machines.{IsTold, IsToldThere};
-ghost use Rattle.descent.specs.ReadLegs.{Down, level_on};
-ghost use Rattle.descent.specs.ReadRounds.{CanTreatRead, AsksTheSame, Shows, TreatsRead, going_to, on, read_way, reading, toward, wanted};
-ghost use Rattle.descent.specs.Rounds.{Responds, machine};
-ghost use Rattle.descent.specs.Visits.{ReadsWithin};
-ghost use Rattle.descent.specs.Ways.{EndsHere, LeadsDown, LeadsRight, StaysLeft, precedes};
-ghost use Rattle.descent.specs.Descents.{Root};
-ghost use Rattle.descent.specs.ReadGoals as goal;
+ghost use Rattle.structure_changes.specs.Reads.{IsReadPage};
+ghost use Rattle.round_model.specs.Machines.{IsTold, IsToldThere};
+ghost use Rattle.round_model.specs.ReadLegs.{Down, level_on};
+ghost use Rattle.round_model.specs.ReadRounds.{CanTreatRead, AsksTheSame, Shows, TreatsRead, going_to, on, read_way, reading, toward, wanted};
+ghost use Rattle.round_model.specs.Rounds.{Responds, machine};
+ghost use Rattle.round_model.specs.Visits.{ReadsWithin};
+ghost use Rattle.round_model.specs.Ways.{EndsHere, LeadsDown, LeadsRight, StaysLeft, precedes};
+ghost use Rattle.round_model.specs.Descents.{Root};
+ghost use Rattle.round_model.specs.ReadGoals as goal;
 ghost use Rattle.rounds.specs.Descents.{asked_step};
 ghost use Rattle.rounds.specs.ReadRounds.{AreReadFor, CanGoOn, again_if, ended_read};
 
@@ -26,9 +26,9 @@ use crate::way::{child_on_way, right_on_way};
 use crate::{Asked, Descent, Leg, Seen};
 use bw_model::{Key, Limits};
 use row_search::{KeyWords, RowAt, Rows};
-use smo::PageInHand;
 use std::alloc::{AllocError, Allocator, Global};
 use std::marker::Model;
+use structure_changes::PageInHand;
 
 /// How a reader's round ends. The pages that an end is about stand in the round.
 #[derive(Clone, Copy)]

@@ -3,7 +3,7 @@ ghost use Rattle.std.specs.Prelude.{◌≡◌, ◌<◌, IsFalse, IsTrue, MatchOp
 ghost use Rattle.bw_model.specs.Bytes.{is_below};
 ghost use Rattle.traces.specs.chain.Chains.{high_in, level_in, low_in};
 ghost use Rattle.row_chain.specs.Placed.{IsReadChain};
-ghost use Rattle.descent.specs.Ways.{LeadsDown, LeadsOn, LeadsRight, StaysLeft, passes};
+ghost use Rattle.round_model.specs.Ways.{LeadsDown, LeadsOn, LeadsRight, StaysLeft, passes};
 
 use row_chain::Chain;
 use row_search::{KeyWords, Rows};

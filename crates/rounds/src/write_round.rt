@@ -7,17 +7,17 @@ ghost use Rattle.traces.specs.chain.Chains.{is_removed, level_in, low_in};
 ghost use Rattle.traces.specs.discipline.Discipline.{May};
 ghost use Rattle.traces.specs.discipline.Knowledge.{Knowledge};
 ghost use Rattle.traces.specs.discipline.Recalled.{Recalled};
-ghost use Rattle.descent.specs.Courses as goal;
-ghost use Rattle.descent.specs.Machines.{IsTold, IsToldThere};
-ghost use Rattle.descent.specs.Rounds.{Responds, machine};
-ghost use Rattle.descent.specs.Visits.{ReadsWithin, reads_on};
-ghost use Rattle.descent.specs.WriteResponses.{CanTreatWrite, IsFine, IsHere, IsIdleOnWay, IsAtLeft, IsSplitFinished, TreatsWrite, writing};
-ghost use Rattle.descent.specs.WriteRounds.{AsksTheSame, SeeksLeaf, Shows, ends_at, goes_left, wanted, write_way};
-ghost use Rattle.descent.specs.Ways.{LeadsDown, LeadsRight, StaysLeft};
-ghost use Rattle.descent.specs.Descents.{Root};
+ghost use Rattle.round_model.specs.Courses as goal;
+ghost use Rattle.round_model.specs.Machines.{IsTold, IsToldThere};
+ghost use Rattle.round_model.specs.Rounds.{Responds, machine};
+ghost use Rattle.round_model.specs.Visits.{ReadsWithin, reads_on};
+ghost use Rattle.round_model.specs.WriteResponses.{CanTreatWrite, IsFine, IsHere, IsIdleOnWay, IsAtLeft, IsSplitFinished, TreatsWrite, writing};
+ghost use Rattle.round_model.specs.WriteRounds.{AsksTheSame, SeeksLeaf, Shows, ends_at, goes_left, wanted, write_way};
+ghost use Rattle.round_model.specs.Ways.{LeadsDown, LeadsRight, StaysLeft};
+ghost use Rattle.round_model.specs.Descents.{Root};
 ghost use Rattle.rounds.specs.Descents.{asked_step};
 ghost use Rattle.rounds.specs.WriteRounds.{AreReadToWrite, again_if, ended_write};
-ghost use Rattle.smo.specs.Reads.{IsReadPage};
+ghost use Rattle.structure_changes.specs.Reads.{IsReadPage};
 
 mod due;
 
@@ -27,9 +27,9 @@ use crate::way::{child_on_way, right_on_way};
 use crate::{Asked, Descent, Seen, WriteEnded};
 use bw_model::{Key, Limits};
 use row_search::{KeyWords, RowAt, Rows};
-use smo::{After, MANY_DELTAS, PageInHand, Plan};
 use std::alloc::{AllocError, Allocator, Global};
 use std::marker::Model;
+use structure_changes::{After, MANY_DELTAS, PageInHand, Plan};
 
 /// One round of a writer from the root, and the next one in the same place.
 pub struct WriteRound<R: Rows, A: Allocator = Global> {

@@ -4,7 +4,7 @@
 //! bounds, the row under it, its items' keys, and how many items are below a bound. `Rows` is where the row lies: what a look takes, and
 //! what a look finds. `KeyWords` is a key as words, compared word by word.
 //!
-//! Called by `row_chain` for every record of a page, by `rounds`, and by whoever reads a record (`step_core`, `bw_tree`), whose memories
+//! Called by `row_chain` for every record of a page, by `rounds`, and by whoever reads a record (`step_core`, `running_tree`), whose memories
 //! are such rows. It knows one row at a time, and neither how it was read nor why it stays: each search asks, as its premise, that its
 //! record was read. What a chain of rows decides is said in `row_chain`.
 #![tactic(auto)]

@@ -1,8 +1,8 @@
 -- Lists behind which stand what is taken of another one's elements.
 use Rattle.std.proofs.Common.{◌≡◌, ◌++◌, ◌∷◌, [], ◌∙◌, List, Some, ap, arith, length, refl, suc, ℕ}
 use Rattle.std.specs.Prelude.{slice_get}
-use Rattle.bw_tree.specs.Seats.{Seat}
-use Rattle.bw_tree.specs.Trees.{AreSeatsOf, IsSeatOf, Tree}
+use Rattle.running_tree.specs.Seats.{Seat}
+use Rattle.running_tree.specs.Trees.{AreSeatsOf, IsSeatOf, Tree}
 use Rattle.seat_threads.specs.Works.{AreEachDone, with_each_behind}
 use Rattle.seats.proofs.Pushed.{all_pushed}
 

@@ -2,12 +2,12 @@
 use Rattle.std.proofs.Common.{◌≡◌, ℕ, [], ◌∷◌, ◌++◌, Some, None, ap, subst, ◌∙◌}
 use Rattle.bw_model.specs.declared.command.Command.{Command}
 use Rattle.bw_model.specs.declared.command.Reply.{Reply}
-use Rattle.bw_tree.specs.Calls.{IsCalled, IsDone, IsFinished, IsResumed, IsSpent, IsStill, answered_last, calls_in}
-use Rattle.bw_tree.specs.Runs.{StartsWith}
-use Rattle.bw_tree.specs.Seats.{IsSame, Seat, unfinished_command}
-use Rattle.bw_tree.specs.declared.called.Called.{Called}
-use Rattle.bw_tree.specs.declared.called.Called.TheVariants.{Done, Spent}
-use Rattle.bw_tree.proofs.Going.{answered_snoc, same_on, starts_on}
+use Rattle.running_tree.specs.Calls.{IsCalled, IsDone, IsFinished, IsResumed, IsSpent, IsStill, answered_last, calls_in}
+use Rattle.running_tree.specs.Runs.{StartsWith}
+use Rattle.running_tree.specs.Seats.{IsSame, Seat, unfinished_command}
+use Rattle.running_tree.specs.declared.called.Called.{Called}
+use Rattle.running_tree.specs.declared.called.Called.TheVariants.{Done, Spent}
+use Rattle.running_tree.proofs.Going.{answered_snoc, same_on, starts_on}
 use Rattle.seats.specs.Replies.{GoesOn}
 
 -- A command was begun on the seat, and isn't done.

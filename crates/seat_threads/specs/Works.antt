@@ -1,7 +1,7 @@
 -- Works that are done, each with a seat of its own.
 use Rattle.std.specs.Prelude.{◌≡◌, ◌++◌, ◌∷◌, [], ℕ, List, Some, length, slice_get}
-use Rattle.bw_tree.specs.Runs.{StartsWith}
-use Rattle.bw_tree.specs.Seats.{IsSame, Seat}
+use Rattle.running_tree.specs.Runs.{StartsWith}
+use Rattle.running_tree.specs.Seats.{IsSame, Seat}
 use Rattle.seats.specs.Gathered.{SeesOn}
 
 -- the list, and behind it what is taken of each element of another list, from that one's last to its first

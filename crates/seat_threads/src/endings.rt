@@ -1,14 +1,14 @@
 //! Commands that run to their end, whatever that takes.
 ghost use Rattle.std.specs.Prelude.{◌≡◌, ◌∷◌, [], IsTrue, None, Some};
-ghost use Rattle.bw_tree.specs.Runs.{IsOneHistory};
-ghost use Rattle.bw_tree.specs.Seats.{unfinished_command};
-ghost use Rattle.bw_tree.specs.Trees.{IsSeatOf};
+ghost use Rattle.running_tree.specs.Runs.{IsOneHistory};
+ghost use Rattle.running_tree.specs.Seats.{unfinished_command};
+ghost use Rattle.running_tree.specs.Trees.{IsSeatOf};
 ghost use Rattle.map_laws.specs.Fits.{fits};
 ghost use Rattle.seats.specs.Replies.{GoesOn};
 
 use bw_model::{Command, Reply};
-use bw_tree::{BwSeat, Called, Tree};
 use map_laws::seats_replies_fit;
+use running_tree::{BwSeat, Called, Tree};
 use seats::BUDGET;
 use std::alloc::Allocator;
 use std::sync::Wait;

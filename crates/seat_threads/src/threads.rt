@@ -1,11 +1,11 @@
 //! Threads over one tree, each with a seat of its own.
 ghost use Rattle.std.specs.Prelude.{◌≡◌, ◌<◌, ◌≤◌, ◌+◌, ◌↔◌, [], All, IfErr, IfOk, OnErr, vec_len};
 ghost use Rattle.std.specs.Vec.{vec_capacity};
-ghost use Rattle.bw_tree.specs.Seats.{IsSame};
-ghost use Rattle.bw_tree.specs.Trees.{AreSeatsOf, IsSeatOf};
+ghost use Rattle.running_tree.specs.Seats.{IsSame};
+ghost use Rattle.running_tree.specs.Trees.{AreSeatsOf, IsSeatOf};
 ghost use Rattle.seat_threads.specs.Works.{AreDone, AreEachDone, IsWorkDone, with_each_behind};
 
-use bw_tree::{BwSeat, Tree};
+use running_tree::{BwSeat, Tree};
 use std::thread::{Threads, for_each_mut};
 use thiserror::Error;
 use tree_law::own_lasts;
@@ -13,7 +13,7 @@ use tree_law::own_lasts;
 /// What a thread does over a tree with its seat. It may say by `does` what it comes to, and `work_in_threads` says the same of each work.
 pub trait Work: Drop + Send {
     ghost use Rattle.std.specs.Prelude.{⊤};
-    ghost use Rattle.bw_tree.specs.Seats.{Seat};
+    ghost use Rattle.running_tree.specs.Seats.{Seat};
 
     /// What it comes to: the work and its seat as they were, and as they are.
     ghost does: { Self → Seat → Self → Seat → Type 0 } = { λ _ _ _ _. ⊤ };

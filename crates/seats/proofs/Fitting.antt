@@ -3,8 +3,8 @@ use Rattle.std.proofs.Common.{◌≡◌, Option, Some, None, IsTrue, refl, subst
 use Rattle.std.specs.Prelude.{IfSome}
 use Rattle.bw_model.specs.declared.command.Command.{Command}
 use Rattle.bw_model.specs.declared.command.Reply.{Reply}
-use Rattle.bw_tree.specs.declared.called.Called.{Called}
-use Rattle.bw_tree.specs.declared.called.Called.TheVariants.{Done}
+use Rattle.running_tree.specs.declared.called.Called.{Called}
+use Rattle.running_tree.specs.declared.called.Called.TheVariants.{Done}
 use Rattle.map_laws.specs.Fits.{CameFitting, fits}
 
 pub done_fits : (command : Command) (called : Called) (reply : Reply) → called ≡ Done reply → CameFitting command called → IsTrue (fits command reply)

@@ -2,9 +2,9 @@
 use Rattle.std.proofs.Common.{◌≡◌, ℕ, ◌<◌, List, Some, refl, sym, subst, ◌∙◌}
 use Rattle.std.specs.Prelude.{None, slice_get}
 use Rattle.std.proofs.lemmas.Option.{same_Some, slice_get_within}
-use Rattle.bw_tree.specs.Loaded.{AreLoaded, seat_at}
-use Rattle.bw_tree.specs.Seats.{Seat, unfinished_command}
-use Rattle.bw_tree.specs.Trees.{AreFresh, AreSeatsOf, IsSeatOf, Tree, fresh_seat}
+use Rattle.running_tree.specs.Loaded.{AreLoaded, seat_at}
+use Rattle.running_tree.specs.Seats.{Seat, unfinished_command}
+use Rattle.running_tree.specs.Trees.{AreFresh, AreSeatsOf, IsSeatOf, Tree, fresh_seat}
 use Rattle.seats.specs.Idle.{AreIdle}
 
 is_fresh : (tree : Tree) (seats : List Seat) → AreFresh tree seats → (n : ℕ) (seat : Seat) → slice_get seats n ≡ Some seat → fresh_seat tree n ≡ seat

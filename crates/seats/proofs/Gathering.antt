@@ -7,11 +7,11 @@ use Rattle.traces.specs.discipline.Disciplined.{Extends, own_entries}
 use Rattle.traces.proofs.OwnEntries.{extends_self, own_append, own_extends}
 use Rattle.traces.proofs.Pushes.{slice_get-push_cases, slice_get_below}
 use Rattle.tree_law.specs.Own.{OwnLasts}
-use Rattle.bw_tree.specs.Calls.{calls_along}
-use Rattle.bw_tree.specs.Notes.{HasHeeded, note_of}
-use Rattle.bw_tree.specs.Runs.{IsOneHistory, StartsWith}
-use Rattle.bw_tree.specs.Seats.{Seat}
-use Rattle.bw_tree.specs.Trees.{AreSeatsOf, IsSeatOf, Tree}
+use Rattle.running_tree.specs.Calls.{calls_along}
+use Rattle.running_tree.specs.Notes.{HasHeeded, note_of}
+use Rattle.running_tree.specs.Runs.{IsOneHistory, StartsWith}
+use Rattle.running_tree.specs.Seats.{Seat}
+use Rattle.running_tree.specs.Trees.{AreSeatsOf, IsSeatOf, Tree}
 use Rattle.seats.specs.Gathered.{IsHistoryOf, HasSeenAll, HaveGathered, HaveHeeded, IsGathered, SeesOn}
 use Rattle.seats.proofs.Seeing.{heeded}
 

@@ -1,8 +1,8 @@
 -- Seats of which none has an operation.
 use Rattle.std.proofs.Common.{◌≡◌, List, Option, Some, None, false, refl, true}
 use Rattle.std.specs.Prelude.{Bool, MatchBool}
-use Rattle.bw_tree.specs.Seats.{Seat, unfinished_command}
-use Rattle.bw_tree.specs.Trees.{HasBusy}
+use Rattle.running_tree.specs.Seats.{Seat, unfinished_command}
+use Rattle.running_tree.specs.Trees.{HasBusy}
 use Rattle.seats.specs.Idle.{AreIdle}
 
 none_unless : {X : Type 0} (o : Option X) → ((o ≡ None → ⊥) → ⊥) → o ≡ None

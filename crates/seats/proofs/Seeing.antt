@@ -11,11 +11,11 @@ use Rattle.traces.specs.trace.Trace.{command_of}
 pub use Rattle.traces.proofs.Pushes.{slice_get_below}
 use Rattle.traces.proofs.OwnEntries.{extends_self, others_append, own_extends}
 use Rattle.tree_law.specs.Own.{OwnLasts}
-use Rattle.bw_tree.specs.Calls.{calls_along}
-use Rattle.bw_tree.specs.Notes.{HasHeeded, Note, note_of}
-use Rattle.bw_tree.specs.Runs.{StartsWith}
-use Rattle.bw_tree.specs.Seats.{Seat}
-use Rattle.bw_tree.proofs.Going.{same_on, same_self, starts_on}
+use Rattle.running_tree.specs.Calls.{calls_along}
+use Rattle.running_tree.specs.Notes.{HasHeeded, Note, note_of}
+use Rattle.running_tree.specs.Runs.{StartsWith}
+use Rattle.running_tree.specs.Seats.{Seat}
+use Rattle.running_tree.proofs.Going.{same_on, same_self, starts_on}
 use Rattle.seats.specs.Gathered.{SeesOn}
 
 pub heeded : OwnLasts → (old new : Seat) (note : Note) → HasHeeded old note new → SeesOn old new

@@ -4,9 +4,9 @@ use Rattle.std.specs.Prelude.{slice_get}
 use Rattle.std.proofs.lemmas.Option.{same_Some}
 use mathlib.Core.Logic.{dite}
 use native.Mathlib.Decide.{ℕ_discrete}
-use Rattle.bw_tree.specs.Notes.{HasHeeded, Note}
-use Rattle.bw_tree.specs.Runs.{IsOneHistory}
-use Rattle.bw_tree.specs.Seats.{Seat}
+use Rattle.running_tree.specs.Notes.{HasHeeded, Note}
+use Rattle.running_tree.specs.Runs.{IsOneHistory}
+use Rattle.running_tree.specs.Seats.{Seat}
 use Rattle.seats.proofs.Seeing.{get_one}
 
 pub set_count : {X : Type 0} (xs : List X) (n : ℕ) (x : X) → length (slice_set xs n x) ≡ length xs

@@ -2,10 +2,10 @@
 use Rattle.std.specs.Prelude.{◌≡◌, ℕ, List, Some, length, slice_get}
 use Rattle.traces.specs.declared.trace.Entry.{Entry}
 use Rattle.traces.specs.discipline.Disciplined.{Extends}
-use Rattle.bw_tree.specs.Calls.{calls_in, calls_of}
-use Rattle.bw_tree.specs.Notes.{HasHeeded, Note}
-use Rattle.bw_tree.specs.Runs.{IsOneHistory, StartsWith}
-use Rattle.bw_tree.specs.Seats.{IsSame, Seat, unfinished_command}
+use Rattle.running_tree.specs.Calls.{calls_in, calls_of}
+use Rattle.running_tree.specs.Notes.{HasHeeded, Note}
+use Rattle.running_tree.specs.Runs.{IsOneHistory, StartsWith}
+use Rattle.running_tree.specs.Seats.{IsSame, Seat, unfinished_command}
 
 -- The same seat with the same calls, which may have seen more of others.
 pub record SeesOn (old new : Seat) : Type 0 where

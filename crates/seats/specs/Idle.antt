@@ -1,6 +1,6 @@
 -- Seats on which nothing is under way.
 use Rattle.std.specs.Prelude.{◌≡◌, ℕ, List, None, Some, slice_get}
-use Rattle.bw_tree.specs.Seats.{Seat, unfinished_command}
+use Rattle.running_tree.specs.Seats.{Seat, unfinished_command}
 
 -- No seat has an operation.
 abbrev pub AreIdle : List Seat → Type 0

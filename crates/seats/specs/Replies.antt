@@ -2,9 +2,9 @@
 use Rattle.std.specs.Prelude.{◌≡◌, ◌++◌, ◌⊎◌, ℕ, IsSome, List, None, Option}
 use Rattle.bw_model.specs.declared.command.Command.{Command}
 use Rattle.bw_model.specs.declared.command.Reply.{Reply}
-use Rattle.bw_tree.specs.Calls.{IsSpent, calls_in}
-use Rattle.bw_tree.specs.Runs.{StartsWith}
-use Rattle.bw_tree.specs.Seats.{IsSame, Seat, unfinished_command}
+use Rattle.running_tree.specs.Calls.{IsSpent, calls_in}
+use Rattle.running_tree.specs.Runs.{StartsWith}
+use Rattle.running_tree.specs.Seats.{IsSame, Seat, unfinished_command}
 use Rattle.seats.specs.declared.replies.NoReply.{NoReply}
 use Rattle.seats.specs.declared.replies.NoReply.TheVariants.{Busy, Spent}
 

@@ -1,10 +1,10 @@
 //! Seats see what others have seen.
 ghost use Rattle.std.specs.Prelude.{◌≡◌, ◌≤◌, vec_len};
-ghost use Rattle.bw_tree.specs.Notes.{note_of};
-ghost use Rattle.bw_tree.specs.Trees.{AreSeatsOf, IsSeatOf};
+ghost use Rattle.running_tree.specs.Notes.{note_of};
+ghost use Rattle.running_tree.specs.Trees.{AreSeatsOf, IsSeatOf};
 ghost use Rattle.seats.specs.Gathered.{HasSeenAll, HaveGathered, HaveHeeded, SeesOn};
 
-use bw_tree::{BwSeat, Tree};
+use running_tree::{BwSeat, Tree};
 use std::alloc::Allocator;
 use tree_law::own_lasts;
 

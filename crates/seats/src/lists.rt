@@ -2,12 +2,12 @@
 ghost use Rattle.std.specs.Prelude.{◌≡◌, ◌≤◌, ◌↔◌, ◌++◌, ◌∷◌, [], IfErr, IfOk, IfSome, IsErrOf, MatchBool, None, OnErr, OnOk, option_to_list, vec_len};
 ghost use Rattle.std.specs.Vec.{vec_capacity};
 ghost use Rattle.bw_model.specs.declared.command.Reply.TheVariants as reply;
-ghost use Rattle.bw_tree.specs.Loaded.{AreLoaded, IsStopped, KeysAscend};
-ghost use Rattle.bw_tree.specs.Trees.{AreFresh, AreSeatsOf, HasBusy, IsSeatOf};
+ghost use Rattle.running_tree.specs.Loaded.{AreLoaded, IsStopped, KeysAscend};
+ghost use Rattle.running_tree.specs.Trees.{AreFresh, AreSeatsOf, HasBusy, IsSeatOf};
 ghost use Rattle.seats.specs.Idle.{AreIdle};
 
 use bw_model::{Key, Limits, OpenError, Value};
-use bw_tree::{BwSeat, Called, LOAD_BUDGET, LoadError, Tree};
+use running_tree::{BwSeat, Called, LOAD_BUDGET, LoadError, Tree};
 use std::alloc::Allocator;
 
 /// A tree with a seat for each actor, of which the last one is taken first; refused for want of memory alone.
@@ -77,5 +77,5 @@ pub fn give_seat(tree: &Tree, seats: &mut Vec<BwSeat>, seat: BwSeat) -> Result<(
 pub fn are_idle<A: Allocator>(seats: &[BwSeat<A>]) -> bool
     ensures { MatchBool result (AreIdle seats.now) (HasBusy seats.now) }
 {
-    bw_tree::are_idle(seats)
+    running_tree::are_idle(seats)
 }

@@ -1,15 +1,15 @@
 //! Commands that run to their end.
 ghost use Rattle.std.specs.Prelude.{◌≡◌, ◌≤◌, IfErr, IfOk, IfSome, IsSome, IsTrue, None};
-ghost use Rattle.bw_tree.specs.Calls.{IsCalled, IsDone, IsResumed, called_if};
-ghost use Rattle.bw_tree.specs.Runs.{IsOneHistory};
-ghost use Rattle.bw_tree.specs.Seats.{IsSame, unfinished_command};
-ghost use Rattle.bw_tree.specs.Trees.{IsSeatOf};
+ghost use Rattle.running_tree.specs.Calls.{IsCalled, IsDone, IsResumed, called_if};
+ghost use Rattle.running_tree.specs.Runs.{IsOneHistory};
+ghost use Rattle.running_tree.specs.Seats.{IsSame, unfinished_command};
+ghost use Rattle.running_tree.specs.Trees.{IsSeatOf};
 ghost use Rattle.map_laws.specs.Fits.{CameFitting, fits};
 ghost use Rattle.seats.specs.Replies.{CantBegin, HasNoReply, many};
 
 use bw_model::{Command, Reply};
-use bw_tree::{BwSeat, Called, Tree};
 use map_laws::seats_replies_fit;
+use running_tree::{BwSeat, Called, Tree};
 use thiserror::Error;
 
 /// How many steps a command is given that is to run to its end: more than an operation takes in small trees.

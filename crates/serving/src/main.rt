@@ -7,11 +7,11 @@
 //! page says.
 #![tactic(auto)]
 
-ghost use Rattle.bw_tree.specs.Trees.{AreSeatsOf, IsSeatOf};
+ghost use Rattle.running_tree.specs.Trees.{AreSeatsOf, IsSeatOf};
 
 use bw_model::{Command, Key, Limits, Reply, Value};
-use bw_tree::{BwSeat, Tree};
 use crossbeam_channel::{Receiver, Sender, bounded};
+use running_tree::{BwSeat, Tree};
 use std::alloc::Global;
 use std::io;
 use std::sync::Wait;

@@ -19,7 +19,7 @@ use Rattle.deltas.specs.Memory.{opening}
 use Rattle.traces.specs.trace.Steps.{IsAnswer, memory_after}
 use Rattle.core_memory.specs.Looks.{StandsIn}
 use Rattle.core_memory.specs.Tables.{CoreTable, memory_in}
-use Rattle.descent.specs.Machines.{AreThere}
+use Rattle.round_model.specs.Machines.{AreThere}
 use Rattle.traces.specs.trace.Trace.{command_of, commands_after, memory_of}
 use Rattle.traces.specs.discipline.Discipline.{IsAllowed, May}
 use Rattle.traces.specs.discipline.Disciplined.{IsDisciplinedFrom, MayStand}

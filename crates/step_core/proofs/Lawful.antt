@@ -12,7 +12,7 @@ use Rattle.traces.specs.discipline.Knowledge.{knows}
 use Rattle.traces.specs.discipline.Recalled.{Recalled}
 use Rattle.core_memory.specs.Looks.{StandsIn}
 use Rattle.core_memory.specs.Tables.{CoreTable, IsWithinTable, memory_in}
-use Rattle.descent.specs.Machines.{AreThere}
+use Rattle.round_model.specs.Machines.{AreThere}
 use Rattle.traces.specs.trace.Trace.{memory_of}
 use Rattle.traces.specs.trace.Within.{IsWithin}
 use Rattle.op_machine.specs.machine.Hands.{Hand}

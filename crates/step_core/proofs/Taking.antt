@@ -3,7 +3,7 @@ use Rattle.std.proofs.Common.{◌≡◌, ℕ, List, Bool, Option, Some, None, co
 use Rattle.std.specs.Str.{bytes_eq}
 use Rattle.std.proofs.lemmas.Bool.{cases_eq}
 use Rattle.std.proofs.lemmas.Option.{same_Some}
-use Rattle.descent.specs.Machines.{AreThere}
+use Rattle.round_model.specs.Machines.{AreThere}
 use Rattle.op_machine.specs.machine.UnderWay.{UnderWay}
 use Rattle.op_machine.specs.machine.Actors.{Actor, ActsOn, IsActor, IsActorShown, IsActorWith, IsGoing, IsToldActor, IsToldActorThere, command_at, running_command, wanted_by}
 use Rattle.bw_model.specs.declared.command.Command.{Command}
@@ -28,8 +28,8 @@ use Rattle.core_memory.specs.Shared.{PlacesSpellable}
 use Rattle.traces.specs.discipline.Knowledge.{Knowledge, learn}
 use Rattle.traces.specs.discipline.Recalled.{Recalled}
 use Rattle.traces.specs.trace.Steps.{IsAnswer}
-use Rattle.installs.specs.Spares.{Spares}
-use Rattle.installs.specs.declared.taking.Kind.{Kind}
+use Rattle.change_machine.specs.Spares.{Spares}
+use Rattle.change_machine.specs.declared.taking.Kind.{Kind}
 use Rattle.op_machine.specs.machine.Hands.{Hand}
 use Rattle.op_machine.specs.machine.Shows.{ShowsState}
 use Rattle.op_machine.specs.machine.Tasks.{Task}

@@ -4,7 +4,7 @@
 //! specs/chain has what a chain decides and the page that it makes, specs/trace what a step answers and what a run is. Of code there are
 //! `Turn` and `Entry` alone; each other function is a law or a worked example, and does nothing.
 //!
-//! Called by all that takes steps (`op_machine`, `slot_rule`, `core_memory`, `step_core`) for its definitions, and by `tree_law`. It
+//! Called by all that takes steps (`op_machine`, `table_rule`, `core_memory`, `step_core`) for its definitions, and by `tree_law`. It
 //! knows no operation: what one wants, and why, is the business of `op_machine`.
 #![tactic(auto)]
 

@@ -1,9 +1,9 @@
 //! Calls of which it is known what they are to answer.
-ghost use Rattle.bw_tree.specs.Seats.{IsSame};
-ghost use Rattle.bw_tree.specs.Trees.{IsSeatOf};
+ghost use Rattle.running_tree.specs.Seats.{IsSame};
+ghost use Rattle.running_tree.specs.Trees.{IsSeatOf};
 
 use bw_model::{Command, Reply};
-use bw_tree::{BwSeat, Called, Tree};
+use running_tree::{BwSeat, Called, Tree};
 use workers::{called, reply, resumed};
 
 /// Whether a call answered this.

@@ -2,7 +2,7 @@
 //! known beforehand. All clients change the shared keys.
 use crate::numbered::{key, value};
 use bw_model::{Command, Reply};
-use bw_tree::{BwSeat, Tree};
+use running_tree::{BwSeat, Tree};
 use workers::{Work, reply};
 
 /// How many keys each client has of its own, and how many all share.

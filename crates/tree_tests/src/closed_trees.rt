@@ -5,8 +5,8 @@ use crate::numbered::key;
 use crate::refused_trees::Heap;
 use bumpalo::Bump;
 use bw_model::{Key, Limits, Value};
-use bw_tree::{CloseRefusal, ClosedTree};
-use refusing::Refusing;
+use refusing_alloc::Refusing;
+use running_tree::{CloseRefusal, ClosedTree};
 use std::alloc::Global;
 use workers::opened_from;
 

@@ -1,13 +1,13 @@
 //! Trees that aren't closed at once: where a seat is missing, where one isn't idle, and where memory is refused.
-ghost use Rattle.bw_tree.specs.Trees.{AreSeatsOf};
+ghost use Rattle.running_tree.specs.Trees.{AreSeatsOf};
 
 use crate::loading::first_pairs;
 use crate::refused_trees::{Heap, MOST};
 use crate::runs::{Run, key, value};
 use crate::trees::{give_back, runs};
 use bw_model::{Key, Limits, Value};
-use bw_tree::{BwSeat, CloseRefusal, Tree};
-use refusing::Refusing;
+use refusing_alloc::Refusing;
+use running_tree::{BwSeat, CloseRefusal, Tree};
 use std::alloc::{Allocator, Global};
 use std::test::Fail;
 use workers::{opened, take_seat};

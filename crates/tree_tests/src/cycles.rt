@@ -1,12 +1,12 @@
 //! Trees of the limits that are proposed for so many keys, each in a thread of its own: the keys come and go again and again, and nothing
 //! is refused.
-ghost use Rattle.bw_tree.specs.Trees.{AreSeatsOf};
+ghost use Rattle.running_tree.specs.Trees.{AreSeatsOf};
 
 use crate::orders::{Order, but_eighths, numbers};
 use crate::turns::done;
 use crate::works::Work;
 use bw_model::Limits;
-use bw_tree::{BwSeat, Tree};
+use running_tree::{BwSeat, Tree};
 use std::alloc::{AllocError, Global};
 use std::test::Fail;
 use std::thread::{Threads, map_vec};

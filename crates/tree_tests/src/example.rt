@@ -1,7 +1,7 @@
 //! Two threads share a tree.
 
 use bw_model::{Command, Key, Limits, Reply, Value};
-use bw_tree::{BwSeat, Tree};
+use running_tree::{BwSeat, Tree};
 use std::alloc::Global;
 use std::test::Fail;
 use std::thread::Threads;

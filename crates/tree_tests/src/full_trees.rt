@@ -1,11 +1,11 @@
 //! What helps where a writer is refused: a tidying on each seat, and a larger tree.
 ghost use Rattle.std.specs.Prelude.{IfSome};
-ghost use Rattle.bw_tree.specs.Trees.{AreSeatsOf};
+ghost use Rattle.running_tree.specs.Trees.{AreSeatsOf};
 
 use crate::turns::{in_turn, is_done};
 use crate::works::{Work, key};
 use bw_model::{Command, Limits};
-use bw_tree::{BwSeat, Tree};
+use running_tree::{BwSeat, Tree};
 use std::alloc::Global;
 use workers::{opened, opened_from};
 

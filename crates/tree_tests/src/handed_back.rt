@@ -1,11 +1,11 @@
 //! What is refused hands back what it was given, and what was done leaves seats with which more can be done: works that are too many, works, and
 //! jobs behind them, run twice.
-ghost use Rattle.bw_tree.specs.Trees.{AreSeatsOf};
+ghost use Rattle.running_tree.specs.Trees.{AreSeatsOf};
 
 use crate::numbered::{are_numbers, insert};
 use crate::trees::closed;
 use bw_model::{Limits, Reply};
-use bw_tree::{BwSeat, Tree};
+use running_tree::{BwSeat, Tree};
 use std::alloc::Global;
 use std::sync::Wait;
 use std::thread::Threads;

@@ -1,11 +1,11 @@
 //! Jobs that workers run on a tree's seats.
-ghost use Rattle.bw_tree.specs.Trees.{AreSeatsOf};
+ghost use Rattle.running_tree.specs.Trees.{AreSeatsOf};
 ghost use Rattle.workers.specs.Worked.{AreIdle};
 
 use crate::numbered::{are_numbers, insert};
 use crate::trees::closed;
 use bw_model::{Command, Limits, Reply};
-use bw_tree::{BwSeat, Tree};
+use running_tree::{BwSeat, Tree};
 use std::alloc::{AllocError, Global};
 use std::sync::Wait;
 use std::sync::atomic::{AtomicBool, AtomicU64, Ordering};

@@ -1,10 +1,10 @@
 //! Which kind ran out where a writer replied `Full`.
-ghost use Rattle.bw_tree.specs.Trees.{IsSeatOf};
+ghost use Rattle.running_tree.specs.Trees.{IsSeatOf};
 
 use crate::calls::{goes_to_its_end, stops_after};
 use crate::works::{Work, key, value};
 use bw_model::{Command, Limits, Reply};
-use bw_tree::{BwSeat, Kind, Tree};
+use running_tree::{BwSeat, Kind, Tree};
 use std::alloc::Global;
 use workers::{opened, reply, take_seat};
 

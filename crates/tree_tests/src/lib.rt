@@ -3,7 +3,7 @@
 //!
 //! Look first at `trees` and `clients`, which open trees and draw commands for the others; `example` is the example of README.md.
 //!
-//! Called by nobody, and apart from `bw_tree`, `seats`, `workers` and `walks`, which would be proved twice with their tests.
+//! Called by nobody, and apart from `running_tree`, `seats`, `workers` and `walks`, which would be proved twice with their tests.
 #![tactic(auto)]
 
 #[cfg(test)]

@@ -3,7 +3,7 @@
 use crate::numbered::{key, value};
 use crate::trees::closed;
 use bw_model::{Key, Limits, Value};
-use bw_tree::LoadError;
+use running_tree::LoadError;
 use std::alloc::{AllocError, Global};
 use workers::opened_from;
 

@@ -1,13 +1,13 @@
 //! Lists of pairs that a seat of a running tree loads.
 ghost use Rattle.std.specs.Prelude.{◌≡◌, None};
-ghost use Rattle.bw_tree.specs.Seats.{unfinished_command};
-ghost use Rattle.bw_tree.specs.Trees.{IsSeatOf};
+ghost use Rattle.running_tree.specs.Seats.{unfinished_command};
+ghost use Rattle.running_tree.specs.Trees.{IsSeatOf};
 
 use crate::loading::first_pairs;
 use crate::numbered::{key, value};
 use crate::trees::give_back;
 use bw_model::{Key, Limits, Value};
-use bw_tree::{BwSeat, LoadStop, Tree};
+use running_tree::{BwSeat, LoadStop, Tree};
 use std::alloc::{AllocError, Global};
 use workers::{opened, take_seat};
 

@@ -1,12 +1,12 @@
 //! A large tree with a hundred thousand keys, which come in drawn order, go in another one, and come again. Were numbers lost, or not taken where the words
 //! at which a taking begins have none, the second coming would be refused.
-ghost use Rattle.bw_tree.specs.Trees.{AreSeatsOf};
+ghost use Rattle.running_tree.specs.Trees.{AreSeatsOf};
 
 use crate::orders::{Order, numbers};
 use crate::turns::done;
 use crate::works::{Work, key, value};
 use bw_model::{Key, Limits, Value};
-use bw_tree::{BwSeat, Tree};
+use running_tree::{BwSeat, Tree};
 use std::alloc::{AllocError, Global};
 use workers::opened;
 

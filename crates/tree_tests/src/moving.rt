@@ -1,13 +1,13 @@
 //! A window of keys that four threads move over one tree of few PIDs, each with a seat of its own: they take the keys in turn, so that all work at
 //! both of its ends. While a thread stands inside an operation nothing is free that the others take out, so a command that found nothing free is given
 //! again: PIDs that were lost for ever, as a page of each level for each 512 keys, would be wanting after 60,000 of the 100,000 keys.
-ghost use Rattle.bw_tree.specs.Seats.{IsSame};
-ghost use Rattle.bw_tree.specs.Trees.{IsSeatOf};
+ghost use Rattle.running_tree.specs.Seats.{IsSame};
+ghost use Rattle.running_tree.specs.Trees.{IsSeatOf};
 
 use crate::threads::done_at_once;
 use crate::works::Work;
 use bw_model::{Limits, Reply};
-use bw_tree::{BwSeat, Tree};
+use running_tree::{BwSeat, Tree};
 use std::alloc::Global;
 use std::thread::Threads;
 use workers::reply;

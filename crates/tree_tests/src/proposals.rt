@@ -1,8 +1,8 @@
 //! The limits that are proposed for so many keys.
 
 use bw_model::{BadLimits, Limits};
-use installs::MAX_SPARES;
-use smo::many_deltas;
+use change_machine::MAX_SPARES;
+use structure_changes::many_deltas;
 
 /// PIDs and rows of limits.
 fn numbers(limits: Result<Limits, BadLimits>) -> Option<(u64, u64)> {

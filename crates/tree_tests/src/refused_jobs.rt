@@ -1,15 +1,15 @@
 //! Jobs of which each growth of memory and each thread is refused in turn: none begins, the seats come back, and the same jobs run on the same
 //! tree.
 ghost use Rattle.std.specs.Prelude.{◌≤◌, IfErr, IfOk, IfSome, IsSome, vec_len};
-ghost use Rattle.bw_tree.specs.Trees.{AreSeatsOf};
+ghost use Rattle.running_tree.specs.Trees.{AreSeatsOf};
 ghost use Rattle.workers.specs.Jobs.{AreAscending};
 ghost use Rattle.workers.specs.Worked.{AreIdle};
 
 use crate::numbered::{found, get, insert, key, value};
 use crate::refused_trees::Heap;
 use bw_model::{Command, Limits, Reply};
-use bw_tree::{BwSeat, Tree};
-use refusing::Refusing;
+use refusing_alloc::Refusing;
+use running_tree::{BwSeat, Tree};
 use std::alloc::{Allocator, Global};
 use std::sync::Wait;
 use std::sync::atomic::{AtomicU64, Ordering};

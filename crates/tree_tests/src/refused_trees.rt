@@ -3,8 +3,8 @@
 use crate::loading::first_pairs;
 use crate::numbered::{key, value};
 use bw_model::{Key, Limits, OpenError, Value};
-use bw_tree::{LoadError, Tree};
-use refusing::Refusing;
+use refusing_alloc::Refusing;
+use running_tree::{LoadError, Tree};
 use std::alloc::{Allocator, Global};
 use std::test::Fail;
 

@@ -1,10 +1,10 @@
 //! Rows in which long records and short ones stand by turns: bases of a leaf whose keys come and go, inserts and deletions, in a tree of so few
 //! rows that they are used again and again. What is read there is the last record alone, and behind its words stand zeros.
-ghost use Rattle.bw_tree.specs.Trees.{AreSeatsOf};
+ghost use Rattle.running_tree.specs.Trees.{AreSeatsOf};
 
 use crate::turns::in_turn;
 use bw_model::{Command, Key, Limits, Reply, Value};
-use bw_tree::{BwSeat, Tree};
+use running_tree::{BwSeat, Tree};
 use std::alloc::Global;
 use workers::opened;
 

@@ -1,10 +1,10 @@
 //! How many PIDs and rows are free while a tree opens, fills, refuses, and empties again, and what seats hold back.
-ghost use Rattle.bw_tree.specs.Trees.{IsSeatOf};
+ghost use Rattle.running_tree.specs.Trees.{IsSeatOf};
 
 use crate::calls::{goes_to_its_end, stops_after};
 use crate::works::{Work, key};
 use bw_model::{Command, Limits, Reply};
-use bw_tree::{BwSeat, Held, Room, Tree};
+use running_tree::{BwSeat, Held, Room, Tree};
 use std::alloc::Global;
 use workers::{opened, reply, take_seat};
 

@@ -1,12 +1,12 @@
 //! Trees that run full for ever: once the chains of pages have all rows, nearly every writer is refused; and once PIDs have run out and leaves are at their
 //! split, so is each writer at such a leaf.
-ghost use Rattle.bw_tree.specs.Trees.{AreSeatsOf};
+ghost use Rattle.running_tree.specs.Trees.{AreSeatsOf};
 
 use crate::orders::{Order, but_eighths, numbers};
 use crate::turns::done;
 use crate::works::Work;
 use bw_model::Limits;
-use bw_tree::{BwSeat, Tree};
+use running_tree::{BwSeat, Tree};
 use std::alloc::{AllocError, Global};
 use workers::opened;
 

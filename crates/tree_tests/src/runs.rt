@@ -1,12 +1,12 @@
 //! What two seats of one tree do, one after the other, and whether each reply is right.
-ghost use Rattle.bw_tree.specs.Trees.{IsSeatOf};
+ghost use Rattle.running_tree.specs.Trees.{IsSeatOf};
 
 use crate::calls::{ends_within, goes_to_its_end, replies, stops_after, stops_again};
 use crate::numbered::{are_from_k01, are_numbers, found, get, insert, pair};
 use crate::shrinking::comes_and_goes;
 use crate::stops::Stop;
 use bw_model::{Command, Key, Reply, Value};
-use bw_tree::{BwSeat, Tree};
+use running_tree::{BwSeat, Tree};
 
 /// What is done.
 #[derive(Clone, Copy)]

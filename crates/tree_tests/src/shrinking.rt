@@ -1,9 +1,9 @@
 //! A tree of 1,100 keys of four digits, of four levels, that shrinks to nothing, from the last key on and from the first, by calls of one seat.
-ghost use Rattle.bw_tree.specs.Trees.{IsSeatOf};
+ghost use Rattle.running_tree.specs.Trees.{IsSeatOf};
 
 use crate::calls::ends_within;
 use bw_model::{Command, Key, Reply, Value};
-use bw_tree::{BwSeat, Tree};
+use running_tree::{BwSeat, Tree};
 
 /// How many keys there are.
 const KEYS: u32 = 1100;

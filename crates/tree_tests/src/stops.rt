@@ -1,10 +1,10 @@
 //! A seat that is stopped after some of its steps, while another one goes on.
-ghost use Rattle.bw_tree.specs.Trees.{IsSeatOf};
+ghost use Rattle.running_tree.specs.Trees.{IsSeatOf};
 
 use crate::calls::{begins, goes_to_its_end, replies};
 use crate::numbered::{delete, found, get, insert, upsert, value};
 use bw_model::{Command, Reply};
-use bw_tree::{BwSeat, Tree};
+use running_tree::{BwSeat, Tree};
 
 /// The operation that is stopped.
 #[derive(Clone, Copy)]

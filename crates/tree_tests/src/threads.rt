@@ -6,7 +6,7 @@ use crate::loading::are_moved;
 use crate::numbered::{are_numbers, found, get, insert, key, value};
 use crate::trees::closed;
 use bw_model::{BadLimits, Key, Limits, Reply, Value};
-use bw_tree::{BwSeat, Tree};
+use running_tree::{BwSeat, Tree};
 use std::alloc::Global;
 use std::thread::Threads;
 use workers::{Work, opened, work_in_threads};

@@ -1,11 +1,11 @@
 //! Trees that are opened, run and closed.
 ghost use Rattle.std.specs.Prelude.{IfOk, true};
-ghost use Rattle.bw_tree.specs.Trees.{AreSeatsOf, IsSeatOf};
+ghost use Rattle.running_tree.specs.Trees.{AreSeatsOf, IsSeatOf};
 
 use crate::runs::{Run, is_right, is_right_alone};
 use crate::stops::Stop;
 use bw_model::{BadLimits, Key, Limits, OpenError, Value};
-use bw_tree::{BwSeat, Tree};
+use running_tree::{BwSeat, Tree};
 use std::alloc::Global;
 use workers::{give_seat, take_seat};
 

@@ -1,9 +1,9 @@
 //! Commands on the seats of a tree in turn: each seat is idle while the others do theirs.
-ghost use Rattle.bw_tree.specs.Trees.{AreSeatsOf, IsSeatOf};
+ghost use Rattle.running_tree.specs.Trees.{AreSeatsOf, IsSeatOf};
 
 use crate::works::Work;
 use bw_model::{Command, Reply};
-use bw_tree::{BwSeat, Tree};
+use running_tree::{BwSeat, Tree};
 use workers::{reply, take_seat};
 
 /// Puts a seat before the others of its list.

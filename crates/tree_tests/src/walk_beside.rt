@@ -1,10 +1,10 @@
 //! A walk beside another seat, which inserts and deletes keys between its pages.
-ghost use Rattle.bw_tree.specs.Trees.{AreSeatsOf, IsSeatOf};
+ghost use Rattle.running_tree.specs.Trees.{AreSeatsOf, IsSeatOf};
 
 use crate::numbered::{key, value};
 use crate::walk_numbered::{deletes, fills, inserts, walk_from};
 use bw_model::{Key, Limits, Value};
-use bw_tree::{BwSeat, Tree};
+use running_tree::{BwSeat, Tree};
 use std::alloc::Global;
 use std::test::Fail;
 use walks::Walk;

@@ -1,12 +1,12 @@
 //! Trees that have keys and values by number, and walks over them.
 ghost use Rattle.std.specs.Prelude.{◌≡◌, IfSome};
-ghost use Rattle.bw_tree.specs.Seats.{unfinished_command};
-ghost use Rattle.bw_tree.specs.Trees.{IsSeatOf};
+ghost use Rattle.running_tree.specs.Seats.{unfinished_command};
+ghost use Rattle.running_tree.specs.Trees.{IsSeatOf};
 ghost use Rattle.walks.specs.Cursors.{cursor_command};
 
 use crate::numbered::{delete, insert, key, value};
 use bw_model::Reply;
-use bw_tree::{BwSeat, Tree};
+use running_tree::{BwSeat, Tree};
 use walks::Cursor;
 use workers::reply;
 

@@ -1,10 +1,10 @@
 //! Walks by pages, whole and in pieces, with a bound and without one.
-ghost use Rattle.bw_tree.specs.Trees.{AreSeatsOf, IsSeatOf};
+ghost use Rattle.running_tree.specs.Trees.{AreSeatsOf, IsSeatOf};
 
 use crate::numbered::are_numbers;
 use crate::walk_numbered::{fills, walk_from};
 use bw_model::{Key, Limits, Value};
-use bw_tree::{BwSeat, Tree};
+use running_tree::{BwSeat, Tree};
 use std::alloc::{AllocError, Global};
 use std::test::Fail;
 use walks::{Scanned, Walk};

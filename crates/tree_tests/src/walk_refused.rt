@@ -1,11 +1,11 @@
 //! Scans into a list whose growth is refused.
-ghost use Rattle.bw_tree.specs.Trees.{AreSeatsOf, IsSeatOf};
+ghost use Rattle.running_tree.specs.Trees.{AreSeatsOf, IsSeatOf};
 
 use crate::numbered::are_numbers;
 use crate::walk_numbered::{fills, walk_from};
 use bw_model::Limits;
-use bw_tree::{BwSeat, Tree};
-use refusing::Refusing;
+use refusing_alloc::Refusing;
+use running_tree::{BwSeat, Tree};
 use std::alloc::Global;
 use std::test::Fail;
 use walks::Scanned;

@@ -1,12 +1,12 @@
 //! Trees whose keys come at one end and go behind it, each in a thread of its own: PIDs don't run out, however many keys come, where few are
 //! there at a time. Were a page of level 2 lost for each 512 keys, with one below it on each level, 256 PIDs would be lost within the first 20,000 of
 //! the 100,000 keys of the first tree. bench/windows.sh does so with a million.
-ghost use Rattle.bw_tree.specs.Trees.{AreSeatsOf};
+ghost use Rattle.running_tree.specs.Trees.{AreSeatsOf};
 
 use crate::turns::is_done;
 use crate::works::Work;
 use bw_model::Limits;
-use bw_tree::{BwSeat, Tree};
+use running_tree::{BwSeat, Tree};
 use std::alloc::{AllocError, Global};
 use std::test::Fail;
 use std::thread::{Threads, map_vec};

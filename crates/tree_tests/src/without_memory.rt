@@ -1,12 +1,12 @@
 //! Threads over a tree whose memory is counted: once it is open, no call of it wants any, so nothing changes where all of it is refused.
 ghost use Rattle.std.specs.Prelude.{IfSome};
-ghost use Rattle.bw_tree.specs.Trees.{AreSeatsOf, IsSeatOf};
+ghost use Rattle.running_tree.specs.Trees.{AreSeatsOf, IsSeatOf};
 
 use crate::clients::Client;
 use crate::refused_trees::Heap;
 use bw_model::{Command, Limits, Reply};
-use bw_tree::{BwSeat, Called, Tree};
-use refusing::Refusing;
+use refusing_alloc::Refusing;
+use running_tree::{BwSeat, Called, Tree};
 use std::alloc::{Allocator, Global};
 use std::thread::{Threads, map_vec};
 use workers::opened;

@@ -3,7 +3,7 @@
 //! Look first at specs/Changes and at `made_by`: which atomic operation on which word a step is. `opening_words` are the words of the
 //! tree of one empty leaf, and `word_place`, `row_place`, `slot_place` say where each part has its words.
 //!
-//! Called by `slot_rule`, which makes the operations, and by `bw_tree` at opening. It knows no seat and no thread: it says what one
+//! Called by `table_rule`, which makes the operations, and by `running_tree` at opening. It knows no seat and no thread: it says what one
 //! operation does to one word.
 #![tactic(auto)]
 

@@ -13,12 +13,12 @@ use Rattle.traces.specs.declared.trace.Entry.TheVariants.{Step}
 use Rattle.traces.specs.discipline.Disciplined.{own_entries}
 use Rattle.traces.specs.trace.Trace.{command_of}
 use Rattle.op_machine.specs.theorem.Operations.{Finishes, Operation}
-use Rattle.bw_tree.specs.Calls.{EndsWith, answered_last, calls_in, calls_of}
-use Rattle.bw_tree.specs.Runs.{IsOneHistory, StartsWith}
-use Rattle.bw_tree.specs.Seats.{IsSame, Seat, unfinished_command}
-use Rattle.bw_tree.specs.declared.called.Called.{Called}
-use Rattle.bw_tree.specs.declared.called.Called.TheVariants as called
-use Rattle.bw_tree.proofs.Going.{answered_snoc}
+use Rattle.running_tree.specs.Calls.{EndsWith, answered_last, calls_in, calls_of}
+use Rattle.running_tree.specs.Runs.{IsOneHistory, StartsWith}
+use Rattle.running_tree.specs.Seats.{IsSame, Seat, unfinished_command}
+use Rattle.running_tree.specs.declared.called.Called.{Called}
+use Rattle.running_tree.specs.declared.called.Called.TheVariants as called
+use Rattle.running_tree.proofs.Going.{answered_snoc}
 use Rattle.map_laws.proofs.Asking.{Calls, finishes, fronts, is_operation, last_unanswered, operation, since}
 use Rattle.walks.proofs.Replying.{IsPaged, paged}
 use Rattle.walks.specs.Cursors.{Cursor, HasShown, IsRunOn, WasIdle, cursor_command, page_from}

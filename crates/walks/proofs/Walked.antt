@@ -6,12 +6,12 @@ use Rattle.bw_model.specs.declared.command.Command.TheVariants as command
 use Rattle.bw_model.specs.declared.command.Reply.{Reply}
 use Rattle.traces.specs.trace.Trace.{command_of}
 use Rattle.traces.specs.declared.trace.Entry.{Entry}
-use Rattle.bw_tree.specs.Calls.{answered_last, calls_in}
-use Rattle.bw_tree.specs.Runs.{StartsWith}
-use Rattle.bw_tree.specs.Seats.{IsSame, Seat, unfinished_command}
-use Rattle.bw_tree.specs.declared.called.Called.{Called}
-use Rattle.bw_tree.specs.declared.called.Called.TheVariants as called
-use Rattle.bw_tree.proofs.Going.{starts_on}
+use Rattle.running_tree.specs.Calls.{answered_last, calls_in}
+use Rattle.running_tree.specs.Runs.{StartsWith}
+use Rattle.running_tree.specs.Seats.{IsSame, Seat, unfinished_command}
+use Rattle.running_tree.specs.declared.called.Called.{Called}
+use Rattle.running_tree.specs.declared.called.Called.TheVariants as called
+use Rattle.running_tree.proofs.Going.{starts_on}
 use Rattle.walks.specs.Cursors.{CallsPages, Cursor, HasShown, HasTold, HasWalked, IsNextOf, IsRunOn, IsSpentAt, WasIdle, added_by, commands_in}
 use Rattle.walks.specs.Walks.{IsWalk, pairs_shown}
 use Rattle.walks.specs.declared.cursor.Walk.{Walk}

@@ -12,7 +12,7 @@ use Rattle.base_page.proofs.KeyLaws.{and_both, and_left, and_right, below_from, 
 use Rattle.traces.specs.declared.trace.Entry.{Entry}
 use Rattle.traces.proofs.Pushes.{slice_get-append_left, slice_get_below, slice_get_kept}
 use Rattle.op_machine.specs.theorem.Operations.{Finishes, Operation}
-use Rattle.bw_tree.specs.Runs.{StartsWith}
+use Rattle.running_tree.specs.Runs.{StartsWith}
 use Rattle.walks.specs.Pages.{IsPageOf, IsPageShown, WalkedPage, end_under, page_operation, place_under}
 use Rattle.walks.specs.Walks.{PairsAscend, IsWalk, TellMap, pairs_shown}
 use Rattle.walks.proofs.Cuts.{Pair, below_bound}

@@ -8,11 +8,11 @@ use Rattle.traces.specs.declared.trace.Entry.{Entry}
 use Rattle.traces.specs.declared.trace.Turn.{Turn}
 use Rattle.tree_limits.specs.declared.limits.Limits.{Limits}
 use Rattle.op_machine.specs.theorem.Linearized.{IsLinearized}
-use Rattle.bw_tree.specs.Calls.{IsCalled, IsResumed, calls_in}
-use Rattle.bw_tree.specs.Runs.{StartsWith}
-use Rattle.bw_tree.specs.Seats.{IsSame, Seat}
-use Rattle.bw_tree.specs.declared.called.Called.{Called}
-use Rattle.bw_tree.specs.declared.called.Called.TheVariants as called
+use Rattle.running_tree.specs.Calls.{IsCalled, IsResumed, calls_in}
+use Rattle.running_tree.specs.Runs.{StartsWith}
+use Rattle.running_tree.specs.Seats.{IsSame, Seat}
+use Rattle.running_tree.specs.declared.called.Called.{Called}
+use Rattle.running_tree.specs.declared.called.Called.TheVariants as called
 use Rattle.walks.specs.Pages.{IsPageOf, WalkedPage, end_under}
 use Rattle.walks.specs.Walks.{IsWalk, TellMap, pairs_shown}
 use Rattle.walks.specs.declared.cursor.Walk.{Walk}

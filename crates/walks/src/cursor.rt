@@ -4,15 +4,15 @@ ghost use Rattle.std.specs.List.{prefix_len};
 ghost use Rattle.bw_model.specs.Bytes.{is_under};
 ghost use Rattle.bw_model.specs.declared.command.Command.TheVariants as command;
 ghost use Rattle.bw_model.specs.declared.pairs.TheConstants.{MAX_PAIRS};
-ghost use Rattle.bw_tree.specs.Runs.{IsOneHistory};
-ghost use Rattle.bw_tree.specs.Seats.{IsSame, unfinished_command};
-ghost use Rattle.bw_tree.specs.Trees.{IsSeatOf};
+ghost use Rattle.running_tree.specs.Runs.{IsOneHistory};
+ghost use Rattle.running_tree.specs.Seats.{IsSame, unfinished_command};
+ghost use Rattle.running_tree.specs.Trees.{IsSeatOf};
 ghost use Rattle.walks.specs.Cursors.{IsNextOf, IsRunOn, cursor_command};
 ghost use Rattle.walks.specs.Pages.{pairs_under, place_under};
 ghost use Rattle.walks.specs.Walks.{PairsAscend};
 
 use bw_model::{Command, Key, Pairs, Reply, Value};
-use bw_tree::{BwSeat, Called, Tree};
+use running_tree::{BwSeat, Called, Tree};
 use std::alloc::Allocator;
 use std::marker::Model;
 

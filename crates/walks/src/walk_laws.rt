@@ -1,8 +1,8 @@
 //! Laws of walks: each function does nothing, and its contract is proved of all walks.
 ghost use Rattle.std.specs.Prelude.{ℕ, List, Option, Some, ◌++◌};
 ghost use Rattle.tree_limits.specs.declared.limits.Limits.{Limits};
-ghost use Rattle.bw_tree.specs.Runs.{StartsWith};
-ghost use Rattle.bw_tree.specs.Seats.{IsSame, Seat};
+ghost use Rattle.running_tree.specs.Runs.{StartsWith};
+ghost use Rattle.running_tree.specs.Seats.{IsSame, Seat};
 ghost use Rattle.traces.specs.declared.trace.Entry.{Entry};
 ghost use Rattle.traces.specs.declared.trace.Turn.{Turn};
 ghost use Rattle.op_machine.specs.theorem.Linearized.{IsLinearized};

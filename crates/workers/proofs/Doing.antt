@@ -4,7 +4,7 @@ use Rattle.std.specs.Prelude.{None, vec_len}
 use Rattle.std.proofs.lemmas.Grind.{flat_map-append}
 use Rattle.std.proofs.lemmas.List.{append-nil, length-append}
 use Rattle.std.proofs.lemmas.List.Elements.{All-nil, All-push}
-use Rattle.bw_tree.specs.Seats.{Seat, unfinished_command}
+use Rattle.running_tree.specs.Seats.{Seat, unfinished_command}
 use Rattle.workers.specs.declared.job.JobResult.{JobResult}
 use Rattle.workers.specs.declared.worker.Worker.{Worker}
 use Rattle.workers.specs.Jobs.{calls_told}

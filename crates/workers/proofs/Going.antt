@@ -4,10 +4,10 @@ use Rattle.std.specs.Prelude.{slice_index_or, take, zip}
 use Rattle.std.proofs.lemmas.List.{append_assoc, append-nil, length-take, take_more}
 use Rattle.bw_model.specs.declared.command.Command.{Command}
 use Rattle.bw_model.specs.declared.command.Reply.{Reply}
-use Rattle.bw_tree.specs.Calls.{calls_in}
-use Rattle.bw_tree.specs.Seats.{Seat, unfinished_command}
+use Rattle.running_tree.specs.Calls.{calls_in}
+use Rattle.running_tree.specs.Seats.{Seat, unfinished_command}
 use Rattle.workers.specs.Worked.{GoesOn}
-use Rattle.bw_tree.proofs.Going.{same_on, starts_on}
+use Rattle.running_tree.proofs.Going.{same_on, starts_on}
 
 -- a seat that has made no call
 pub stays : (seat : Seat) → unfinished_command seat ≡ None → GoesOn seat [] seat

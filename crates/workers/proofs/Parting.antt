@@ -10,15 +10,15 @@ use Rattle.std.proofs.lemmas.List.Sorted.{All-permutation}
 use Rattle.std.proofs.lemmas.Option.{same_Some}
 use Rattle.bw_model.specs.declared.command.Command.{Command}
 use Rattle.bw_model.specs.declared.command.Reply.{Reply}
-use Rattle.bw_tree.specs.Seats.{Seat}
-use Rattle.bw_tree.specs.Trees.{AreSeatsOf, Tree}
+use Rattle.running_tree.specs.Seats.{Seat}
+use Rattle.running_tree.specs.Trees.{AreSeatsOf, Tree}
 use Rattle.workers.specs.declared.job.JobResult.{JobResult}
 use Rattle.workers.specs.declared.worker.Worker.{Worker}
 use Rattle.workers.specs.declared.job.Job.{Job}
 use Rattle.workers.specs.declared.job.JobsRefusal.{JobsRefusal}
 use Rattle.workers.specs.declared.job.JobsRefusal.TheVariants.{NotRun, Results}
 use Rattle.traces.proofs.Pushes.{slice_get_below}
-use Rattle.bw_tree.proofs.Going.{same_on, starts_on}
+use Rattle.running_tree.proofs.Going.{same_on, starts_on}
 use Rattle.seats.proofs.Gathering.{there}
 use Rattle.seats.proofs.Seeing.{index_is}
 use Rattle.seats.specs.Gathered.{HaveGathered, SeesOn}

@@ -1,6 +1,6 @@
 -- Workers in threads of their own, of which none runs a job before all threads stand.
 use Rattle.std.specs.Prelude.{◌≡◌, ℕ, Bool, List, MatchBool, Some, length, slice_get}
-use Rattle.bw_tree.specs.Runs.{IsOneHistory}
+use Rattle.running_tree.specs.Runs.{IsOneHistory}
 use Rattle.workers.specs.declared.begun.Back.{Back}
 use Rattle.workers.specs.declared.begun.Begun.{Begun}
 use Rattle.workers.specs.declared.begun.Begun.TheVariants as begun

@@ -1,8 +1,8 @@
 -- What seats have done for jobs.
 use Rattle.std.specs.Prelude.{◌≡◌, ◌<◌, ◌++◌, [], ℕ, List, length, Some, slice_get, All, flat_map, IsPermutation}
 use Rattle.std.specs.List.Sorted.{IsNonDecreasingBy}
-use Rattle.bw_tree.specs.Runs.{IsOneHistory}
-use Rattle.bw_tree.specs.Seats.{Seat}
+use Rattle.running_tree.specs.Runs.{IsOneHistory}
+use Rattle.running_tree.specs.Seats.{Seat}
 pub use Rattle.seats.specs.Gathered.{HaveOneHistory}
 pub use Rattle.seats.specs.Idle.{AreIdle}
 pub use Rattle.seats.specs.Replies.{GoesOn}

@@ -1,7 +1,7 @@
 -- What workers do, each at its place among the seats.
 use Rattle.std.specs.Prelude.{◌≡◌, ◌≤◌, ◌++◌, ◌∷◌, ◌*◌, [], ℕ, All, Vec, flat_map, vec_len}
 use Rattle.std.specs.Vec.{vec_capacity}
-use Rattle.bw_tree.specs.Seats.{Seat}
+use Rattle.running_tree.specs.Seats.{Seat}
 use Rattle.workers.specs.declared.job.JobResult.{JobResult}
 use Rattle.workers.specs.declared.room.Room.{Room}
 use Rattle.workers.specs.declared.worker.Worker.{Worker}

@@ -1,17 +1,17 @@
 //! Workers in threads of their own, none of which runs a job before all threads stand.
 ghost use Rattle.std.specs.Prelude.{◌≡◌, ◌≤◌, [], All, None, vec_len};
 ghost use Rattle.std.specs.Vec.{vec_capacity};
-ghost use Rattle.bw_tree.specs.Seats.{unfinished_command};
-ghost use Rattle.bw_tree.specs.Trees.{IsSeatOf};
+ghost use Rattle.running_tree.specs.Seats.{unfinished_command};
+ghost use Rattle.running_tree.specs.Trees.{IsSeatOf};
 ghost use Rattle.workers.specs.Begun.{AreBegun, HasJoined, HaveComeBack, HaveJoined, IsBack, IsBegun, IsToldBy};
 ghost use Rattle.workers.specs.Working.{HasRoom};
 
 use crate::gate::Gate;
 use crate::task::Task;
 use crate::worker::Worker;
-use bw_tree::Tree;
 use core::thread::Stack;
 use crossbeam_channel::Receiver;
+use running_tree::Tree;
 use std::alloc::Allocator;
 use std::snapshot::Snapshot;
 use std::sync::{OnceLock, OnceToken, Wait};

@@ -1,7 +1,7 @@
 //! Jobs, their results, and why there are none.
 
 use bw_model::{Command, Reply};
-use bw_tree::BwSeat;
+use running_tree::BwSeat;
 use std::alloc::{Allocator, Global};
 use thiserror::Error;
 

@@ -1,7 +1,7 @@
 //! The room that workers are given before their threads begin, and what is taken out of it afterwards.
 ghost use Rattle.std.specs.Prelude.{◌≡◌, ◌≤◌, ◌*◌, [], All, IfErr, IfOk, flat_map, map, vec_len};
 ghost use Rattle.std.specs.Vec.{vec_capacity};
-ghost use Rattle.bw_tree.specs.Trees.{AreSeatsOf};
+ghost use Rattle.running_tree.specs.Trees.{AreSeatsOf};
 ghost use Rattle.workers.specs.Worked.{AreIdle, HaveWorked};
 ghost use Rattle.workers.specs.Working.{HasRoom, IsRoom};
 
@@ -9,7 +9,7 @@ use crate::begun::{Shared, in_threads};
 use crate::gate::Gate;
 use crate::job::JobResult;
 use crate::worker::Worker;
-use bw_tree::BwSeat;
+use running_tree::BwSeat;
 use std::alloc::{AllocError, Allocator};
 use std::sync::Wait;
 use std::thread::Threads;

@@ -1,7 +1,7 @@
 //! Jobs are run.
 ghost use Rattle.std.specs.Prelude.{◌≡◌, ◌≤◌, [], IfErr, IfOk, IsPermutation, vec_len};
 ghost use Rattle.std.specs.List.Sorted.{IsNonDecreasingBy};
-ghost use Rattle.bw_tree.specs.Trees.{AreSeatsOf};
+ghost use Rattle.running_tree.specs.Trees.{AreSeatsOf};
 ghost use Rattle.workers.specs.Jobs.{AreAscending, AreResultsOf};
 ghost use Rattle.workers.specs.Worked.{AreIdle, HaveOneHistory, HaveStopped, HaveWorked};
 
@@ -11,7 +11,7 @@ use crate::gate::Gate;
 use crate::job::{Job, JobResult, JobsError, JobsRefusal};
 use crate::room::Room;
 use crate::task::tasks;
-use bw_tree::{BwSeat, Tree};
+use running_tree::{BwSeat, Tree};
 use seats::gather;
 use std::alloc::Allocator;
 use std::sync::{OnceLock, Wait};

@@ -1,9 +1,9 @@
 //! A worker: a seat, and the results of the jobs that it ran.
 ghost use Rattle.std.specs.Prelude.{◌≡◌, ◌<◌, ◌≤◌, [], None, Some, length, map, vec_len, zip};
 ghost use Rattle.std.specs.Vec.{vec_capacity};
-ghost use Rattle.bw_tree.specs.Runs.{IsOneHistory};
-ghost use Rattle.bw_tree.specs.Seats.{unfinished_command};
-ghost use Rattle.bw_tree.specs.Trees.{IsSeatOf};
+ghost use Rattle.running_tree.specs.Runs.{IsOneHistory};
+ghost use Rattle.running_tree.specs.Seats.{unfinished_command};
+ghost use Rattle.running_tree.specs.Trees.{IsSeatOf};
 ghost use Rattle.workers.specs.Worked.{GoesOn};
 ghost use Rattle.workers.specs.Working.{AddsResult, HasDone};
 
@@ -11,8 +11,8 @@ use crate::gate::Gate;
 use crate::job::JobResult;
 use crate::task::Task;
 use bw_model::{Command, Reply};
-use bw_tree::{BwSeat, Tree};
 use crossbeam_channel::Receiver;
+use running_tree::{BwSeat, Tree};
 use seat_threads::run_to_end;
 use std::alloc::Allocator;
 use std::sync::Wait;

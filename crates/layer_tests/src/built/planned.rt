@@ -4,16 +4,16 @@ ghost use Rattle.deltas.specs.Spellable.{IsPid};
 ghost use Rattle.deltas.specs.declared.record.Record.TheVariants as kind;
 ghost use Rattle.traces.specs.chain.Fitted.{IsPageChain};
 ghost use Rattle.traces.specs.discipline.Discipline.{FitsOn};
-ghost use Rattle.smo.specs.Splits.{split_to};
+ghost use Rattle.structure_changes.specs.Splits.{split_to};
 
 use crate::built::Held;
 use crate::built::shelf::{HeldRows, Shelf};
 use base_page::Page;
 use deltas::{Hold, Merge, Remove, Term, Unterm};
-use smo::{
+use std::process::Abort;
+use structure_changes::{
     SplitPlan, plan_hold, plan_merge, plan_remove, plan_root, plan_split, plan_term, plan_unterm,
 };
-use std::process::Abort;
 
 /// The split of the page.
 pub(crate) fn split<R: Abort + AllocGlobal>(rt: &R, page: &Held) -> Option<SplitPlan>

@@ -2,7 +2,7 @@
 ghost use Rattle.std.specs.Prelude.{◌≡◌, [], IfSome, IsTrue, Some, option_copied};
 ghost use Rattle.deltas.specs.declared.record.Record.{Record};
 ghost use Rattle.layer_tests.specs.Held.{ShareNoRow, HasRowsOf, found_in, page_record};
-ghost use Rattle.smo.specs.Reads.{IsReadPage, chain_of};
+ghost use Rattle.structure_changes.specs.Reads.{IsReadPage, chain_of};
 ghost use Rattle.traces.specs.chain.Chains.{IsChainFrom};
 
 use crate::built::Held;
@@ -10,9 +10,9 @@ use deltas::Record;
 use record_slots::to_words;
 use row_chain::ChainPart;
 use row_search::{RowAt, Rows};
-use smo::PageInHand;
 use std::marker::{Model, PhantomData};
 use std::process::Abort;
+use structure_changes::PageInHand;
 
 /// Three pages, whose rows are looked at: the first page that has a row tells what stands there.
 #[derive(Drop)]

@@ -3,17 +3,17 @@ use Rattle.std.proofs.Common.{◌≡◌, inl, inr, ℕ, Option, Some, None, refl
 use Rattle.bw_model.specs.declared.step.Answer.{Answer}
 use Rattle.bw_model.specs.declared.step.Answer.TheVariants.{Content, Number}
 use Rattle.deltas.specs.declared.record.Record.{Record}
-use Rattle.smo.specs.Versions.{Version}
-use Rattle.descent.specs.Courses.{WriteGoal}
-use Rattle.descent.specs.Courses as goal
-use Rattle.descent.specs.ReadGoals.{ReadGoal}
-use Rattle.descent.specs.ReadGoals as read_goal
-use Rattle.descent.specs.Descents.{Descent, Finds, Responds as Moves}
-use Rattle.descent.specs.Rounds.{Sees}
-use Rattle.descent.specs.Visits.{Sight, Empty, Whole, to_page}
-use Rattle.descent.specs.WriteEnds.{WriteEnd, Again}
-use Rattle.descent.specs.WriteResponses.{writing}
-use Rattle.descent.specs.WriteRounds.{WriteRound}
+use Rattle.structure_changes.specs.Versions.{Version}
+use Rattle.round_model.specs.Courses.{WriteGoal}
+use Rattle.round_model.specs.Courses as goal
+use Rattle.round_model.specs.ReadGoals.{ReadGoal}
+use Rattle.round_model.specs.ReadGoals as read_goal
+use Rattle.round_model.specs.Descents.{Descent, Finds, Responds as Moves}
+use Rattle.round_model.specs.Rounds.{Sees}
+use Rattle.round_model.specs.Visits.{Sight, Empty, Whole, to_page}
+use Rattle.round_model.specs.WriteEnds.{WriteEnd, Again}
+use Rattle.round_model.specs.WriteResponses.{writing}
+use Rattle.round_model.specs.WriteRounds.{WriteRound}
 use Rattle.op_machine.specs.machine.GoesLeft.{GoesLeft, MeetsReading, MeetsWriting, first_read, first_write}
 use Rattle.op_machine.specs.machine.Meeting.{before_base, before_slot, inserting, looking, reading_down, reading_left, removed_version, writing_down, writing_left}
 use Rattle.op_machine.specs.machine.RoundSteps.{AfterWriting, StepsInRound}

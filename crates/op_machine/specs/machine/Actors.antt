@@ -10,8 +10,8 @@ use Rattle.traces.specs.discipline.Discipline.{IsAllowed}
 use Rattle.traces.specs.discipline.Fitting.{Fits}
 use Rattle.traces.specs.discipline.Knowledge.{Knowledge, learn, finished}
 use Rattle.traces.specs.discipline.Recalled.{Recalled, cause_worth, recall}
-use Rattle.descent.specs.Machines.{AreThere}
-use Rattle.installs.specs.declared.taking.Kind.{Kind}
+use Rattle.round_model.specs.Machines.{AreThere}
+use Rattle.change_machine.specs.declared.taking.Kind.{Kind}
 use Rattle.op_machine.specs.theorem.Halves.{IsHalved}
 use Rattle.op_machine.specs.theorem.Readers.{IsOfUse}
 use Rattle.op_machine.specs.machine.Hands.{Hand, empty_hand}

@@ -5,20 +5,20 @@ use Rattle.bw_model.specs.declared.step.Answer.{Answer}
 use Rattle.bw_model.specs.declared.step.Step.{Step as StepOf}
 use Rattle.deltas.specs.declared.record.Record.{Record}
 use Rattle.traces.specs.discipline.Recalled.{Recalled, IsStepSpent}
-use Rattle.descent.specs.ReadRounds as read
-use Rattle.descent.specs.WriteRounds as write
-use Rattle.descent.specs.Walks.{few_reads}
-use Rattle.descent.specs.ReadEnds as read_end
-use Rattle.descent.specs.WriteEnds as write_end
-use Rattle.installs.specs.Bounded as change
-use Rattle.installs.specs.Spares.{Spares}
-use Rattle.installs.specs.declared.change.End.TheVariants.{Won, Lost, Full}
+use Rattle.round_model.specs.ReadRounds as read
+use Rattle.round_model.specs.WriteRounds as write
+use Rattle.round_model.specs.Walks.{few_reads}
+use Rattle.round_model.specs.ReadEnds as read_end
+use Rattle.round_model.specs.WriteEnds as write_end
+use Rattle.change_machine.specs.Bounded as change
+use Rattle.change_machine.specs.Spares.{Spares}
+use Rattle.change_machine.specs.declared.change.End.TheVariants.{Won, Lost, Full}
 use Rattle.op_machine.specs.machine.Outcomes.{Outcome, Begun, Epoch, Entered, Read, Written, Changed}
 use Rattle.op_machine.specs.machine.Shows.{recall_last}
 use Rattle.op_machine.specs.machine.States.{State}
 use Rattle.op_machine.specs.machine.States as at
 use Rattle.op_machine.specs.declared.then.Then.TheVariants.{After, Reply}
-use Rattle.smo.specs.declared.after.After.TheVariants.{Round, Limbo, Errand}
+use Rattle.structure_changes.specs.declared.after.After.TheVariants.{Round, Limbo, Errand}
 
 -- how many steps a change takes at most
 abbrev pub few_changes : Limits → ℕ

@@ -10,14 +10,14 @@ use Rattle.deltas.specs.declared.record.Record.TheVariants as newest
 use Rattle.traces.specs.chain.Chains.{IsChainFrom, covers, is_removed, level_in}
 use Rattle.traces.specs.discipline.Discipline.{found}
 use Rattle.traces.specs.discipline.Knowledge.{Knowledge}
-use Rattle.installs.specs.declared.change.End.{End}
-use Rattle.installs.specs.declared.change.End.TheVariants.{Won}
-use Rattle.smo.specs.declared.plan.Plan.{Plan}
-use Rattle.smo.specs.declared.plan.Plan.TheVariants.{Install, Split, Root, Unlink}
-use Rattle.installs.specs.Changes.{linked_after, linked_by}
-use Rattle.smo.specs.declared.after.After.TheVariants.{Round, Limbo, Errand}
-use Rattle.smo.specs.declared.split.SplitPlan.{SplitPlan}
-use Rattle.smo.specs.Sizes.{HasFewItems}
+use Rattle.change_machine.specs.declared.change.End.{End}
+use Rattle.change_machine.specs.declared.change.End.TheVariants.{Won}
+use Rattle.structure_changes.specs.declared.plan.Plan.{Plan}
+use Rattle.structure_changes.specs.declared.plan.Plan.TheVariants.{Install, Split, Root, Unlink}
+use Rattle.change_machine.specs.Changes.{linked_after, linked_by}
+use Rattle.structure_changes.specs.declared.after.After.TheVariants.{Round, Limbo, Errand}
+use Rattle.structure_changes.specs.declared.split.SplitPlan.{SplitPlan}
+use Rattle.structure_changes.specs.Sizes.{HasFewItems}
 use Rattle.op_machine.specs.theorem.Halves.{AreHalves}
 use Rattle.op_machine.specs.machine.Errands.{with_errand}
 use Rattle.op_machine.specs.machine.Hands.{IsTakenBy, TakesNothing}

@@ -4,7 +4,7 @@ use Rattle.tree_limits.specs.declared.limits.Limits.{Limits}
 use Rattle.bw_model.specs.declared.command.Command.{Command}
 use Rattle.bw_model.specs.declared.command.Command.TheVariants.{Delete, Get, Insert, Page, Swap, Tidy, Upsert}
 use Rattle.bw_model.specs.Replies.{command_key}
-use Rattle.smo.specs.Sizes.{many_of}
+use Rattle.structure_changes.specs.Sizes.{many_of}
 use Rattle.op_machine.specs.machine.Upkeep.{tidies}
 
 -- at most 16 errands are kept

@@ -5,15 +5,15 @@ use Rattle.bw_model.specs.declared.step.Answer.{Answer}
 use Rattle.tree_limits.specs.declared.limits.Limits.{Limits}
 use Rattle.deltas.specs.declared.record.Record.{Record}
 use Rattle.traces.specs.chain.Chains.{is_removed, level_in, low_in}
-use Rattle.smo.specs.Versions.{Version}
-use Rattle.descent.specs.Courses as goal
-use Rattle.descent.specs.Descents.{Finds, Root}
-use Rattle.descent.specs.ReadGoals as read_goal
-use Rattle.descent.specs.ReadLegs.{Down, IsPlain, Round}
-use Rattle.descent.specs.ReadRounds.{GoesRound, IsLost, ReadRound, reading}
-use Rattle.descent.specs.Visits.{Whole}
-use Rattle.descent.specs.WriteResponses.{writing}
-use Rattle.descent.specs.WriteRounds.{SeeksLeaf, WriteRound}
+use Rattle.structure_changes.specs.Versions.{Version}
+use Rattle.round_model.specs.Courses as goal
+use Rattle.round_model.specs.Descents.{Finds, Root}
+use Rattle.round_model.specs.ReadGoals as read_goal
+use Rattle.round_model.specs.ReadLegs.{Down, IsPlain, Round}
+use Rattle.round_model.specs.ReadRounds.{GoesRound, IsLost, ReadRound, reading}
+use Rattle.round_model.specs.Visits.{Whole}
+use Rattle.round_model.specs.WriteResponses.{writing}
+use Rattle.round_model.specs.WriteRounds.{SeeksLeaf, WriteRound}
 use Rattle.op_machine.specs.machine.Errands.{due_of, tends_of, way_key}
 use Rattle.op_machine.specs.machine.States.{State, Read, Write}
 use Rattle.op_machine.specs.machine.Tasks.{Task}

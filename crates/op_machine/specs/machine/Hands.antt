@@ -8,15 +8,15 @@ use Rattle.traces.specs.chain.Chains.{IsChainFrom, chain_rows}
 use Rattle.traces.specs.discipline.Fitting.{AreOutOfLimbo}
 use Rattle.traces.specs.discipline.Knowledge.{Absent, Unstamped, Knowledge, Limbos, taken_out}
 use Rattle.epochs.specs.Limbo.{Limbo}
-use Rattle.installs.specs.Spares.{Spares}
-use Rattle.installs.specs.declared.change.End.{End}
-use Rattle.installs.specs.declared.change.End.TheVariants.{Won}
-use Rattle.smo.specs.declared.plan.Plan.{Plan}
-use Rattle.smo.specs.declared.plan.Plan.TheVariants.{Install, Unlink}
+use Rattle.change_machine.specs.Spares.{Spares}
+use Rattle.change_machine.specs.declared.change.End.{End}
+use Rattle.change_machine.specs.declared.change.End.TheVariants.{Won}
+use Rattle.structure_changes.specs.declared.plan.Plan.{Plan}
+use Rattle.structure_changes.specs.declared.plan.Plan.TheVariants.{Install, Unlink}
 use Rattle.op_machine.specs.declared.then.Then.{Then}
 use Rattle.op_machine.specs.declared.then.Then.TheVariants as then
-use Rattle.smo.specs.declared.after.After.TheVariants as next
-use Rattle.smo.specs.declared.unlinked.Unlinked.{Unlinked}
+use Rattle.structure_changes.specs.declared.after.After.TheVariants as next
+use Rattle.structure_changes.specs.declared.unlinked.Unlinked.{Unlinked}
 use Rattle.sweep.specs.Kept.{empty_limbo}
 
 -- what was taken and not linked, and what was taken out of the tree and is not freed

@@ -4,8 +4,8 @@ use Rattle.bw_model.specs.declared.command.Reply.{Reply}
 use Rattle.bw_model.specs.declared.command.Reply.TheVariants.{Full}
 use Rattle.tree_limits.specs.declared.limits.Limits.{Limits}
 use Rattle.traces.specs.discipline.Knowledge.{Knowledge}
-use Rattle.installs.specs.Taking.{AllFull}
-use Rattle.installs.specs.declared.taking.Kind.{Kind}
+use Rattle.change_machine.specs.Taking.{AllFull}
+use Rattle.change_machine.specs.declared.taking.Kind.{Kind}
 
 -- A kind is told where the reply is Full, and nowhere else; the operation has read each word of the free numbers of that kind as 0.
 abbrev pub TellsLack : Limits → Knowledge → Reply → Option Kind → Type 0

@@ -2,14 +2,14 @@
 use Rattle.std.specs.Prelude.{codes, List, [], ◌∷◌, true, false, None, Some}
 use Rattle.std.proofs.Common.{lit≤}
 use Rattle.bw_model.specs.declared.command.Command.TheVariants.{Get, Insert}
-use Rattle.smo.specs.Versions.{Version}
-use Rattle.descent.specs.Courses as goal
-use Rattle.descent.specs.Descents.{Page, Root, WayState}
-use Rattle.descent.specs.ReadGoals as read_goal
-use Rattle.descent.specs.ReadLegs.{Down}
-use Rattle.descent.specs.ReadRounds.{ReadRound}
-use Rattle.descent.specs.Visits.{Row, Slot}
-use Rattle.descent.specs.WriteRounds.{WriteRound}
+use Rattle.structure_changes.specs.Versions.{Version}
+use Rattle.round_model.specs.Courses as goal
+use Rattle.round_model.specs.Descents.{Page, Root, WayState}
+use Rattle.round_model.specs.ReadGoals as read_goal
+use Rattle.round_model.specs.ReadLegs.{Down}
+use Rattle.round_model.specs.ReadRounds.{ReadRound}
+use Rattle.round_model.specs.Visits.{Row, Slot}
+use Rattle.round_model.specs.WriteRounds.{WriteRound}
 use Rattle.op_machine.specs.machine.Tasks.{Task}
 use Rattle.op_machine.specs.theorem.Examples.{hold_leaf, new_leaf, remove_leaf, root, small}
 

@@ -9,7 +9,7 @@ use Rattle.bw_model.specs.declared.step.Answer.{Answer}
 use Rattle.deltas.specs.declared.record.Record.{Record}
 use Rattle.traces.specs.discipline.Knowledge.{Knowledge}
 use Rattle.traces.specs.discipline.Recalled.{Recalled}
-use Rattle.descent.specs.Machines.{AreThere}
+use Rattle.round_model.specs.Machines.{AreThere}
 use Rattle.epochs.specs.Limbo.{Limbo}
 use Rattle.op_machine.specs.machine.Hands.{Hand}
 use Rattle.op_machine.specs.machine.Outcomes.{HasLeft}

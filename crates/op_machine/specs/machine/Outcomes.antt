@@ -11,20 +11,20 @@ use Rattle.traces.specs.discipline.Discipline.{MayReply, WasStanding}
 use Rattle.traces.specs.discipline.Knowledge.{Knowledge, Limbos, finished, learn}
 use Rattle.tree_limits.specs.declared.limits.Limits.{Limits}
 use Rattle.traces.specs.discipline.Recalled.{Recalled}
-use Rattle.descent.specs.ReadRounds as read
-use Rattle.descent.specs.Versions.{IsAlive}
-use Rattle.descent.specs.WriteRounds as write
-use Rattle.descent.specs.ReadEnds.{ReadEnd}
-use Rattle.descent.specs.Courses.{Seek}
-use Rattle.descent.specs.WriteEnds.{WriteEnd}
-use Rattle.descent.specs.WriteEnds as write_end
-use Rattle.installs.specs.declared.change.End.{End}
-use Rattle.installs.specs.declared.change.End.TheVariants.{Won, Lost, Full}
-use Rattle.installs.specs.Spares.{Spares}
-use Rattle.installs.specs.Taking.{AllFull}
-use Rattle.installs.specs.declared.taking.Kind.{Kind}
-use Rattle.smo.specs.Sizes.{HasFewItems}
-use Rattle.smo.specs.Versions.{Version}
+use Rattle.round_model.specs.ReadRounds as read
+use Rattle.round_model.specs.Versions.{IsAlive}
+use Rattle.round_model.specs.WriteRounds as write
+use Rattle.round_model.specs.ReadEnds.{ReadEnd}
+use Rattle.round_model.specs.Courses.{Seek}
+use Rattle.round_model.specs.WriteEnds.{WriteEnd}
+use Rattle.round_model.specs.WriteEnds as write_end
+use Rattle.change_machine.specs.declared.change.End.{End}
+use Rattle.change_machine.specs.declared.change.End.TheVariants.{Won, Lost, Full}
+use Rattle.change_machine.specs.Spares.{Spares}
+use Rattle.change_machine.specs.Taking.{AllFull}
+use Rattle.change_machine.specs.declared.taking.Kind.{Kind}
+use Rattle.structure_changes.specs.Sizes.{HasFewItems}
+use Rattle.structure_changes.specs.Versions.{Version}
 use Rattle.bw_model.specs.Replies.{command_key, is_writer}
 use Rattle.op_machine.specs.machine.Errands.{due_of, way_key}
 use Rattle.op_machine.specs.machine.Hands.{Unlinks}

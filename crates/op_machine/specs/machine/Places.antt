@@ -5,18 +5,18 @@ use Rattle.tree_limits.specs.declared.limits.Limits.{Limits}
 use Rattle.bw_model.specs.declared.step.Answer.{Answer}
 use Rattle.deltas.specs.declared.record.Record.{Record}
 use Rattle.traces.specs.chain.Chains.{level_in, low_in}
-use Rattle.smo.specs.Versions.{Version}
-use Rattle.descent.specs.Courses as course
-use Rattle.descent.specs.ReadRounds as read
-use Rattle.descent.specs.Rounds.{Responds}
-use Rattle.descent.specs.WriteResponses as response
-use Rattle.descent.specs.WriteRounds as write
-use Rattle.descent.specs.Descents.{Root}
-use Rattle.descent.specs.ReadEnds.{ReadEnd}
-use Rattle.descent.specs.WriteEnds.{WriteEnd}
-use Rattle.installs.specs.Changes.{Change as ChangeOf}
-use Rattle.installs.specs.declared.change.End.{End}
-use Rattle.installs.specs.declared.taking.Kind.{Kind}
+use Rattle.structure_changes.specs.Versions.{Version}
+use Rattle.round_model.specs.Courses as course
+use Rattle.round_model.specs.ReadRounds as read
+use Rattle.round_model.specs.Rounds.{Responds}
+use Rattle.round_model.specs.WriteResponses as response
+use Rattle.round_model.specs.WriteRounds as write
+use Rattle.round_model.specs.Descents.{Root}
+use Rattle.round_model.specs.ReadEnds.{ReadEnd}
+use Rattle.round_model.specs.WriteEnds.{WriteEnd}
+use Rattle.change_machine.specs.Changes.{Change as ChangeOf}
+use Rattle.change_machine.specs.declared.change.End.{End}
+use Rattle.change_machine.specs.declared.taking.Kind.{Kind}
 use Rattle.rounds.specs.ReadRounds.{PlacedRead}
 use Rattle.rounds.specs.WriteRounds.{PlacedWrite}
 use Rattle.op_machine.specs.declared.places.Stand.{Stand}

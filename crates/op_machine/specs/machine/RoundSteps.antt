@@ -2,14 +2,14 @@
 use Rattle.std.specs.Prelude.{◌≡◌, Option, None, Some, true, ⊤}
 use Rattle.bw_model.specs.declared.step.Answer.{Answer}
 use Rattle.deltas.specs.declared.record.Record.{Record}
-use Rattle.descent.specs.ReadEnds.{ReadEnd}
-use Rattle.descent.specs.ReadEnds as read_end
-use Rattle.descent.specs.ReadRounds.{AsksTheSame, ReadRound, reading}
-use Rattle.descent.specs.Rounds.{Responds}
-use Rattle.descent.specs.WriteEnds.{WriteEnd}
-use Rattle.descent.specs.WriteEnds as write_end
-use Rattle.descent.specs.WriteResponses.{writing}
-use Rattle.descent.specs.WriteRounds.{WriteRound}
+use Rattle.round_model.specs.ReadEnds.{ReadEnd}
+use Rattle.round_model.specs.ReadEnds as read_end
+use Rattle.round_model.specs.ReadRounds.{AsksTheSame, ReadRound, reading}
+use Rattle.round_model.specs.Rounds.{Responds}
+use Rattle.round_model.specs.WriteEnds.{WriteEnd}
+use Rattle.round_model.specs.WriteEnds as write_end
+use Rattle.round_model.specs.WriteResponses.{writing}
+use Rattle.round_model.specs.WriteRounds.{WriteRound}
 use Rattle.op_machine.specs.machine.GoesLeft.{first_read, first_write, read_left_of, write_left_of}
 use Rattle.op_machine.specs.machine.Outcomes.{is_leaving}
 use Rattle.op_machine.specs.machine.States.{State, Read, Write}

@@ -12,15 +12,15 @@ use Rattle.traces.specs.discipline.Knowledge.{Knowledge, learn}
 use Rattle.traces.specs.discipline.Recalled.{Recalled, WasHead, recall}
 use Rattle.traces.specs.discipline.Useful.{IsUseful}
 use Rattle.op_machine.specs.theorem.Halves.{IsHalved}
-use Rattle.descent.specs.ReadRounds as read
-use Rattle.descent.specs.WriteRounds as write
-use Rattle.descent.specs.Courses.{Seek}
-use Rattle.installs.specs.Changes as change
-use Rattle.smo.specs.Plans.{head_of, slot_of}
-use Rattle.installs.specs.Bounded as bound
-use Rattle.installs.specs.Spares.{Spares}
+use Rattle.round_model.specs.ReadRounds as read
+use Rattle.round_model.specs.WriteRounds as write
+use Rattle.round_model.specs.Courses.{Seek}
+use Rattle.change_machine.specs.Changes as change
+use Rattle.structure_changes.specs.Plans.{head_of, slot_of}
+use Rattle.change_machine.specs.Bounded as bound
+use Rattle.change_machine.specs.Spares.{Spares}
 use Rattle.traces.specs.trace.Within.{IsWithin}
-use Rattle.smo.specs.declared.plan.Plan.{Plan}
+use Rattle.structure_changes.specs.declared.plan.Plan.{Plan}
 use Rattle.bw_model.specs.Replies.{is_writer}
 use Rattle.op_machine.specs.machine.Brings.{Brings, IsReadPlan, IsUsefulPlan}
 use Rattle.op_machine.specs.machine.Lacks.{TellsLack}

@@ -6,7 +6,7 @@ use Rattle.deltas.specs.declared.record.Record.{Record}
 use Rattle.traces.specs.discipline.Knowledge.{Knowledge}
 use Rattle.traces.specs.discipline.Recalled.{Recalled}
 use Rattle.epochs.specs.Limbo.{Limbo}
-use Rattle.installs.specs.Spares.{Spares}
+use Rattle.change_machine.specs.Spares.{Spares}
 use Rattle.op_machine.specs.machine.Hands.{Hand}
 use Rattle.op_machine.specs.machine.Ops.{Goes, IsToldOp, Op, Shows, asked_by}
 use Rattle.op_machine.specs.machine.Shows.{FitsLast, learn_last, recall_last}

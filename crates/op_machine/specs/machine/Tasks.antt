@@ -3,7 +3,7 @@ use Rattle.std.specs.Prelude.{◌≡◌, ℕ, List, None, Some, IfSome, true, fa
 use Rattle.bw_model.specs.declared.command.Command.{Command}
 use Rattle.tree_limits.specs.declared.limits.Limits.{Limits}
 use Rattle.traces.specs.discipline.Knowledge.{Knowledge}
-use Rattle.installs.specs.Spares.{HaveRoom, Rest, Spares}
+use Rattle.change_machine.specs.Spares.{HaveRoom, Rest, Spares}
 
 -- whose an operation is, what it was asked, and which errands it has
 pub record Task : Type 0 where

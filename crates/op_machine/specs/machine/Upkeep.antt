@@ -3,10 +3,10 @@ use Rattle.std.specs.Prelude.{◌≡◌, Bool, Option, None, Some, true, false, 
 use Rattle.bw_model.specs.declared.command.Command.{Command}
 use Rattle.bw_model.specs.declared.command.Command.TheVariants.{Delete, Get, Insert, Page, Swap, Tidy, Upsert}
 use Rattle.deltas.specs.declared.record.Record.TheVariants as kind
-use Rattle.smo.specs.declared.plan.Plan.{Plan}
-use Rattle.smo.specs.declared.plan.Plan.TheVariants.{Install}
-use Rattle.smo.specs.Upkeep.{IsIdle, IsUpkeep}
-use Rattle.smo.specs.Versions.{Version}
+use Rattle.structure_changes.specs.declared.plan.Plan.{Plan}
+use Rattle.structure_changes.specs.declared.plan.Plan.TheVariants.{Install}
+use Rattle.structure_changes.specs.Upkeep.{IsIdle, IsUpkeep}
+use Rattle.structure_changes.specs.Versions.{Version}
 
 -- the commands that make the tree smaller
 abbrev pub tidies : Command → Bool

@@ -12,15 +12,15 @@ use Rattle.traces.specs.discipline.Recalled.{Recalled}
 use Rattle.traces.specs.trace.Steps.{IsAnswer}
 use Rattle.traces.specs.trace.Trace.{memory_of}
 use Rattle.traces.proofs.ChainLaws.{IsChainFrom-unique}
-use Rattle.descent.specs.Descents.{WayState, Root, Page}
-use Rattle.descent.specs.Descents as way
-use Rattle.descent.specs.ReadGoals.{ReadGoal}
-use Rattle.descent.specs.ReadLegs.{Leg, Down, Round, Past}
-use Rattle.descent.specs.ReadRounds.{ReadRound, ShowsState, ShowsVisit, wanted}
-use Rattle.descent.specs.ReadRounds as read
-use Rattle.descent.specs.Visits.{Slot, Row, Visit, VisitState}
-use Rattle.descent.specs.Visits as seen
-use Rattle.descent.specs.Walks.{IsOnWay}
+use Rattle.round_model.specs.Descents.{WayState, Root, Page}
+use Rattle.round_model.specs.Descents as way
+use Rattle.round_model.specs.ReadGoals.{ReadGoal}
+use Rattle.round_model.specs.ReadLegs.{Leg, Down, Round, Past}
+use Rattle.round_model.specs.ReadRounds.{ReadRound, ShowsState, ShowsVisit, wanted}
+use Rattle.round_model.specs.ReadRounds as read
+use Rattle.round_model.specs.Visits.{Slot, Row, Visit, VisitState}
+use Rattle.round_model.specs.Visits as seen
+use Rattle.round_model.specs.Walks.{IsOnWay}
 use Rattle.tree_law.specs.Keys.{Key}
 use Rattle.tree_law.specs.State.{IsInTree, IsState}
 use Rattle.progress.proofs.rounds.Known.{expected_reached, read_front}

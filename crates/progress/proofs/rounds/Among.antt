@@ -18,17 +18,17 @@ use Rattle.traces.specs.discipline.Recalled.{Recalled}
 use Rattle.traces.specs.trace.Run.{IsNext}
 use Rattle.traces.specs.trace.Steps.{IsAnswer}
 use Rattle.traces.specs.trace.Trace.{memory_of}
-use Rattle.descent.specs.Descents.{WayState, Root, Page}
-use Rattle.descent.specs.Descents as way
-use Rattle.descent.specs.ReadEnds.{ReadEnd, Again, Removed, Leaf, Beside}
-use Rattle.descent.specs.ReadGoals.{ReadGoal}
-use Rattle.descent.specs.ReadLegs.{Leg}
-use Rattle.descent.specs.ReadRounds.{ReadRound, at, reading, wanted}
-use Rattle.descent.specs.ReadRounds as read
-use Rattle.descent.specs.Rounds.{Responds}
-use Rattle.descent.specs.Visits.{Visit, VisitState}
-use Rattle.descent.specs.Visits as seen
-use Rattle.descent.proofs.Responding.{by_step}
+use Rattle.round_model.specs.Descents.{WayState, Root, Page}
+use Rattle.round_model.specs.Descents as way
+use Rattle.round_model.specs.ReadEnds.{ReadEnd, Again, Removed, Leaf, Beside}
+use Rattle.round_model.specs.ReadGoals.{ReadGoal}
+use Rattle.round_model.specs.ReadLegs.{Leg}
+use Rattle.round_model.specs.ReadRounds.{ReadRound, at, reading, wanted}
+use Rattle.round_model.specs.ReadRounds as read
+use Rattle.round_model.specs.Rounds.{Responds}
+use Rattle.round_model.specs.Visits.{Visit, VisitState}
+use Rattle.round_model.specs.Visits as seen
+use Rattle.round_model.proofs.Responding.{by_step}
 use Rattle.op_machine.specs.machine.GoesLeft.{first_read, read_left_of}
 use Rattle.op_machine.specs.machine.Outcomes.{is_leaving}
 use Rattle.op_machine.specs.machine.RoundSteps.{AfterReading}

@@ -7,9 +7,9 @@ use Rattle.tree_limits.specs.declared.limits.Limits.{Limits}
 use Rattle.deltas.specs.Memory.{Memory}
 use Rattle.traces.specs.chain.Chains.{is_removed, low_in}
 use Rattle.traces.specs.chain.SideChain.{LivePage}
-use Rattle.smo.specs.Versions.{Version}
-use Rattle.descent.specs.ReadGoals.{Left}
-use Rattle.descent.specs.ReadRounds.{ReadRound}
+use Rattle.structure_changes.specs.Versions.{Version}
+use Rattle.round_model.specs.ReadGoals.{Left}
+use Rattle.round_model.specs.ReadRounds.{ReadRound}
 use Rattle.op_machine.specs.machine.GoesLeft.{first_read, read_left_of}
 use Rattle.op_machine.specs.machine.Tasks.{Task}
 use Rattle.traces.specs.trace.Trace.{memory_of}

@@ -5,7 +5,7 @@ use Rattle.bw_model.specs.Bytes.{is_below}
 use Rattle.base_page.proofs.KeyLaws.{not_true}
 use Rattle.deltas.specs.declared.record.Record.{Record}
 use Rattle.traces.specs.chain.Chains.{covers, high_in, low_in}
-use Rattle.descent.specs.Ways.{StaysLeft, precedes, reaches}
+use Rattle.round_model.specs.Ways.{StaysLeft, precedes, reaches}
 use Rattle.tree_law.specs.Keys.{IsUnder, IsUpTo, Key}
 use Rattle.tree_law.proofs.shape.KeyOrder.{by_below, covers_from, covers_to, upto_below, upto_trans}
 

@@ -14,11 +14,11 @@ use Rattle.traces.specs.declared.trace.Entry.{Entry}
 use Rattle.traces.specs.discipline.Knowledge.{Knowledge, knows}
 use Rattle.traces.specs.trace.Trace.{memory_of}
 use Rattle.traces.proofs.ChainLaws.{IsChainFrom-unique, same_page}
-use Rattle.smo.specs.Readings.{HasSeen}
-use Rattle.smo.specs.Versions.{Version}
-use Rattle.smo.proofs.Due.{covered}
-use Rattle.descent.specs.Walks.{IsExpected}
-use Rattle.descent.specs.Ways.{NamesAt}
+use Rattle.structure_changes.specs.Readings.{HasSeen}
+use Rattle.structure_changes.specs.Versions.{Version}
+use Rattle.structure_changes.proofs.Due.{covered}
+use Rattle.round_model.specs.Walks.{IsExpected}
+use Rattle.round_model.specs.Ways.{NamesAt}
 use Rattle.tree_law.specs.Keys.{Key}
 use Rattle.tree_law.specs.OneMemory.{HasWholeTree}
 use Rattle.tree_law.specs.Owners.{ChainNames, HeadFits, InOrder, IsOut, OrderFits, Reached, SeenFits}

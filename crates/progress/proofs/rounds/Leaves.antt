@@ -6,8 +6,8 @@ use Rattle.base_page.proofs.KeyLaws.{either}
 use Rattle.traces.specs.chain.Chains.{content_in, covers, high_in, is_removed, low_in, right_in}
 use Rattle.traces.specs.chain.SideChain.{LivePage}
 use Rattle.deltas.specs.declared.record.Record.{Record}
-use Rattle.smo.specs.Versions.{Version}
-use Rattle.descent.specs.Ways.{LeadsRight, StaysLeft, precedes, reaches}
+use Rattle.structure_changes.specs.Versions.{Version}
+use Rattle.round_model.specs.Ways.{LeadsRight, StaysLeft, precedes, reaches}
 use Rattle.tree_law.specs.Keys.{IsBelow, IsUpTo, Key}
 use Rattle.tree_law.specs.LevelPages.{IsPageOn}
 use Rattle.tree_law.proofs.shape.KeyOrder.{below_not, by_below, covers_from, covers_to, not_below, under_trans, upto_both, upto_trans}

@@ -5,14 +5,14 @@ use Rattle.deltas.specs.declared.record.Record.{Record}
 use Rattle.traces.specs.chain.Chains.{is_removed, level_in, low_in, right_in}
 use Rattle.traces.specs.chain.Fitted.{IsPageChain}
 use Rattle.traces.specs.chain.SideChain.{LivePage}
-use Rattle.smo.specs.Versions.{Version}
-use Rattle.descent.specs.Descents.{Page}
-use Rattle.descent.specs.ReadEnds.{ReadEnd, Again, Removed, Leaf, Beside}
-use Rattle.descent.specs.ReadGoals.{ReadGoal, Left, Beyond}
-use Rattle.descent.specs.ReadLegs.{Leg, Round, Past, below, level_on}
-use Rattle.descent.specs.ReadRounds.{IsLeftLeaf, ReadRound, TreatsRead, going_to, left_of, on, read_way, toward}
-use Rattle.descent.specs.Visits.{to_page}
-use Rattle.descent.specs.Ways.{LeadsDown, LeadsOn, LeadsRight, reaches}
+use Rattle.structure_changes.specs.Versions.{Version}
+use Rattle.round_model.specs.Descents.{Page}
+use Rattle.round_model.specs.ReadEnds.{ReadEnd, Again, Removed, Leaf, Beside}
+use Rattle.round_model.specs.ReadGoals.{ReadGoal, Left, Beyond}
+use Rattle.round_model.specs.ReadLegs.{Leg, Round, Past, below, level_on}
+use Rattle.round_model.specs.ReadRounds.{IsLeftLeaf, ReadRound, TreatsRead, going_to, left_of, on, read_way, toward}
+use Rattle.round_model.specs.Visits.{to_page}
+use Rattle.round_model.specs.Ways.{LeadsDown, LeadsOn, LeadsRight, reaches}
 use Rattle.tree_law.specs.Keys.{IsBelow, Key}
 use Rattle.tree_law.specs.LevelPages.{IsPageOn}
 use Rattle.tree_law.proofs.shape.KeyOrder.{below_not, below_upto}

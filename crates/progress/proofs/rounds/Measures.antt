@@ -7,7 +7,7 @@ use Rattle.bw_model.specs.Bytes.{is_below}
 use Rattle.base_page.proofs.KeyLaws.{and_both, and_left, and_right, either, not_true}
 use Rattle.traces.specs.chain.Chains.{is_removed, level_in}
 use Rattle.traces.specs.chain.SideChain.{LivePage}
-use Rattle.descent.specs.Ways.{reaches}
+use Rattle.round_model.specs.Ways.{reaches}
 use Rattle.tree_law.specs.Keys.{IsBelow, IsUpTo, Key}
 use Rattle.tree_law.proofs.shape.KeyOrder.{below_not, below_upto, not_below, upto_refl}
 use Rattle.progress.proofs.rounds.Counts.{any, any_in, any_of, has_number, many, many_more, many_none, many_up, many_within, numbers, numbers_length}

@@ -11,9 +11,9 @@ use Rattle.deltas.specs.Memory.{Memory}
 use Rattle.traces.specs.chain.Chains.{IsChainOf, content_in, covers, high_in, is_removed, low_in}
 use Rattle.traces.specs.chain.SideChain.{LivePage}
 use Rattle.traces.proofs.ChainLaws.{IsChainOf-unique, same_page}
-use Rattle.smo.specs.Versions.{Version}
-use Rattle.descent.specs.Ways.{LeadsDown, LeadsRight, StaysLeft}
-use Rattle.descent.proofs.PageLaws.{spans}
+use Rattle.structure_changes.specs.Versions.{Version}
+use Rattle.round_model.specs.Ways.{LeadsDown, LeadsRight, StaysLeft}
+use Rattle.round_model.proofs.PageLaws.{spans}
 use Rattle.tree_law.specs.Keys.{IsBelow, IsUpTo, Key}
 use Rattle.tree_law.specs.LevelPages.{IsPageOn}
 use Rattle.tree_law.specs.OneMemory.{HasWholeTree, IsChildAt}

@@ -4,8 +4,8 @@ use Rattle.base_page.specs.declared.item.Content.TheVariants.{Child}
 use Rattle.base_page.proofs.KeyLaws.{either}
 use Rattle.traces.specs.chain.Chains.{IsChainOf, content_in, is_removed, level_in}
 use Rattle.traces.specs.chain.SideChain.{LivePage}
-use Rattle.smo.specs.Versions.{Version}
-use Rattle.descent.specs.ReadLegs.{Leg, Down, Round, Past, IsPlain, above_of, below, level_on}
+use Rattle.structure_changes.specs.Versions.{Version}
+use Rattle.round_model.specs.ReadLegs.{Leg, Down, Round, Past, IsPlain, above_of, below, level_on}
 use Rattle.tree_law.specs.Keys.{IsBelow, Key}
 use Rattle.tree_law.specs.LevelPages.{IsPageOn}
 use Rattle.progress.specs.RoundsIn.{KeepsItsPlace, IsLegIn, IsPlace, NamesPlaces}

@@ -10,16 +10,16 @@ use Rattle.traces.specs.chain.Chains.{IsChainOf}
 use Rattle.traces.specs.chain.SideChain.{LivePage}
 use Rattle.traces.specs.trace.Steps.{IsAnswer}
 use Rattle.traces.proofs.ChainLaws.{same_page}
-use Rattle.smo.specs.Versions.{Version}
-use Rattle.descent.specs.Descents.{WayState, Root, Page}
-use Rattle.descent.specs.ReadEnds.{ReadEnd, Again, Removed, Leaf, Beside}
-use Rattle.descent.specs.ReadGoals.{ReadGoal, Seek, Left}
-use Rattle.descent.specs.ReadLegs.{Leg, Down}
-use Rattle.descent.specs.ReadRounds.{ReadRound, at, reading, wanted}
-use Rattle.descent.specs.Rounds.{Responds, Sees}
-use Rattle.descent.specs.Visits.{Sight, Empty, Whole, Visit, VisitState, to_page}
-use Rattle.descent.specs.Visits as seen
-use Rattle.descent.proofs.Responding.{by_step}
+use Rattle.structure_changes.specs.Versions.{Version}
+use Rattle.round_model.specs.Descents.{WayState, Root, Page}
+use Rattle.round_model.specs.ReadEnds.{ReadEnd, Again, Removed, Leaf, Beside}
+use Rattle.round_model.specs.ReadGoals.{ReadGoal, Seek, Left}
+use Rattle.round_model.specs.ReadLegs.{Leg, Down}
+use Rattle.round_model.specs.ReadRounds.{ReadRound, at, reading, wanted}
+use Rattle.round_model.specs.Rounds.{Responds, Sees}
+use Rattle.round_model.specs.Visits.{Sight, Empty, Whole, Visit, VisitState, to_page}
+use Rattle.round_model.specs.Visits as seen
+use Rattle.round_model.proofs.Responding.{by_step}
 use Rattle.op_machine.specs.machine.GoesLeft.{first_read, read_left_of}
 use Rattle.op_machine.specs.machine.Outcomes.{is_leaving}
 use Rattle.op_machine.specs.machine.RoundSteps.{AfterReading}

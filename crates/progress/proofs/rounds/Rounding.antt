@@ -4,9 +4,9 @@ use Rattle.std.specs.Prelude.{IsSome, IsTrue}
 use Rattle.base_page.proofs.KeyLaws.{either}
 use Rattle.traces.specs.chain.Chains.{content_in, covers, is_removed, low_in, right_in}
 use Rattle.traces.specs.chain.SideChain.{LivePage}
-use Rattle.smo.specs.Versions.{Version}
-use Rattle.descent.specs.ReadRounds.{left_of}
-use Rattle.descent.specs.Ways.{LeadsDown, LeadsRight, StaysLeft}
+use Rattle.structure_changes.specs.Versions.{Version}
+use Rattle.round_model.specs.ReadRounds.{left_of}
+use Rattle.round_model.specs.Ways.{LeadsDown, LeadsRight, StaysLeft}
 use Rattle.base_page.specs.declared.item.Content.TheVariants.{Child}
 use Rattle.tree_law.specs.Keys.{IsBelow, IsUpTo, Key}
 use Rattle.tree_law.specs.LevelPages.{IsPageOn}

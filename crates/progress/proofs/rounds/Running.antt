@@ -9,19 +9,19 @@ use Rattle.traces.specs.chain.Chains.{IsChainFrom, IsChainOf, low_in}
 use Rattle.traces.specs.chain.SideChain.{LivePage}
 use Rattle.traces.proofs.ChainLaws.{same_page}
 use Rattle.traces.specs.trace.Steps.{IsAnswer}
-use Rattle.smo.specs.Versions.{Version}
-use Rattle.descent.specs.Descents.{WayState, Root, Page}
-use Rattle.descent.specs.ReadEnds.{ReadEnd, Again, Removed, Leaf, Beside}
-use Rattle.descent.specs.ReadGoals.{ReadGoal, Seek, Left, Beyond}
-use Rattle.descent.specs.ReadLegs.{Leg, Down, Round, Past}
-use Rattle.descent.specs.ReadRounds.{ReadRound, at, read_way, reading, wanted}
-use Rattle.descent.specs.Rounds.{Responds, Sees}
-use Rattle.descent.specs.Visits.{Sight, Empty, Whole, Visit, to_page}
-use Rattle.descent.specs.Visits as page
-use Rattle.descent.specs.Ways.{precedes, reaches}
-use Rattle.descent.proofs.PageLaws.{above_empty}
-use Rattle.descent.proofs.Responding.{by_step}
-use Rattle.descent.proofs.WayLaws.{lowest}
+use Rattle.structure_changes.specs.Versions.{Version}
+use Rattle.round_model.specs.Descents.{WayState, Root, Page}
+use Rattle.round_model.specs.ReadEnds.{ReadEnd, Again, Removed, Leaf, Beside}
+use Rattle.round_model.specs.ReadGoals.{ReadGoal, Seek, Left, Beyond}
+use Rattle.round_model.specs.ReadLegs.{Leg, Down, Round, Past}
+use Rattle.round_model.specs.ReadRounds.{ReadRound, at, read_way, reading, wanted}
+use Rattle.round_model.specs.Rounds.{Responds, Sees}
+use Rattle.round_model.specs.Visits.{Sight, Empty, Whole, Visit, to_page}
+use Rattle.round_model.specs.Visits as page
+use Rattle.round_model.specs.Ways.{precedes, reaches}
+use Rattle.round_model.proofs.PageLaws.{above_empty}
+use Rattle.round_model.proofs.Responding.{by_step}
+use Rattle.round_model.proofs.WayLaws.{lowest}
 use Rattle.op_machine.specs.machine.GoesLeft.{read_left_of}
 use Rattle.op_machine.specs.machine.Outcomes.{is_leaving}
 use Rattle.op_machine.specs.machine.RoundSteps.{AfterReading}

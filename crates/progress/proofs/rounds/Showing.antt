@@ -6,15 +6,15 @@ use Rattle.traces.specs.chain.Chains.{is_removed, right_in}
 use Rattle.traces.specs.declared.trace.Entry.{Entry}
 use Rattle.traces.specs.discipline.Knowledge.{Knowledge, knows}
 use Rattle.traces.specs.discipline.Recalled.{Recalled}
-use Rattle.smo.specs.Versions.{Version}
-use Rattle.descent.specs.Descents.{WayState, Root, Page}
-use Rattle.descent.specs.ReadGoals.{ReadGoal, Seek, Left, Beyond}
-use Rattle.descent.specs.ReadLegs.{Leg, Down, Round, Past}
-use Rattle.descent.specs.ReadRounds.{BeginsToRead, IsAbove, IsAside, IsGoneAt, IsOn, KeepsToRead, ReadRound, ShowsState, ShowsVisit, VisitsToRead}
-use Rattle.descent.specs.ReadRounds as read
-use Rattle.descent.specs.Visits.{Slot, Row, Visit, VisitState}
-use Rattle.descent.specs.Visits as seen
-use Rattle.descent.specs.Walks.{IsAhead, IsOnWay}
+use Rattle.structure_changes.specs.Versions.{Version}
+use Rattle.round_model.specs.Descents.{WayState, Root, Page}
+use Rattle.round_model.specs.ReadGoals.{ReadGoal, Seek, Left, Beyond}
+use Rattle.round_model.specs.ReadLegs.{Leg, Down, Round, Past}
+use Rattle.round_model.specs.ReadRounds.{BeginsToRead, IsAbove, IsAside, IsGoneAt, IsOn, KeepsToRead, ReadRound, ShowsState, ShowsVisit, VisitsToRead}
+use Rattle.round_model.specs.ReadRounds as read
+use Rattle.round_model.specs.Visits.{Slot, Row, Visit, VisitState}
+use Rattle.round_model.specs.Visits as seen
+use Rattle.round_model.specs.Walks.{IsAhead, IsOnWay}
 use Rattle.tree_law.specs.Keys.{Key}
 use Rattle.tree_law.specs.State.{IsState}
 use Rattle.progress.specs.RoundsIn.{IsGoalIn, IsLegIn, IsRoundIn, IsStateIn, IsVisitIn, NamesPlaces, WasRemovedLeaf}

@@ -4,7 +4,7 @@ use Rattle.deltas.specs.declared.record.Record.{Record}
 use Rattle.traces.specs.chain.Chains.{level_in}
 use Rattle.traces.specs.chain.Fitted.{IsFitted}
 use Rattle.traces.proofs.FittedLaws.{ruled}
-use Rattle.smo.proofs.Places.{made}
+use Rattle.structure_changes.proofs.Places.{made}
 
 pub top_of : (chain : List Record) → IsFitted chain → level_in chain ≤ 15
 top_of chain fit = let m = made chain fit in let top = (ruled chain m.0 fit m.1).top in let is = m.1.level in omega (arith, top, is)

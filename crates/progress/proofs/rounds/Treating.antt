@@ -4,9 +4,9 @@ use Rattle.base_page.specs.Pages.{child_in}
 use Rattle.base_page.specs.Places.{HasNoChild}
 use Rattle.traces.specs.chain.Chains.{content_in, is_removed, level_in, low_in, right_in}
 use Rattle.traces.specs.chain.SideChain.{LivePage}
-use Rattle.smo.specs.Versions.{Version}
-use Rattle.descent.specs.ReadRounds.{left_of}
-use Rattle.descent.specs.Ways.{LeadsDown, LeadsOn, LeadsRight, StaysLeft}
+use Rattle.structure_changes.specs.Versions.{Version}
+use Rattle.round_model.specs.ReadRounds.{left_of}
+use Rattle.round_model.specs.Ways.{LeadsDown, LeadsOn, LeadsRight, StaysLeft}
 use Rattle.tree_law.specs.Keys.{IsBelow, Key}
 use Rattle.tree_law.specs.LevelPages.{IsPageOn}
 use Rattle.progress.proofs.rounds.KeyWays.{IsWay}

@@ -5,14 +5,14 @@ use Rattle.base_page.specs.Places.{HasNoChild}
 use Rattle.traces.specs.chain.Chains.{content_in, is_removed, level_in, low_in, right_in}
 use Rattle.traces.specs.chain.SideChain.{LivePage}
 use Rattle.tree_limits.specs.declared.limits.Limits.{Limits}
-use Rattle.smo.specs.Versions.{Version}
-use Rattle.descent.specs.Descents.{WayState, Page}
-use Rattle.descent.specs.ReadEnds.{ReadEnd, Again, Removed, Leaf, Beside}
-use Rattle.descent.specs.ReadGoals.{ReadGoal, Seek, Left, Beyond}
-use Rattle.descent.specs.ReadLegs.{Leg, Down, Round, Past, IsPlain, above_of, below, level_on}
-use Rattle.descent.specs.ReadRounds.{IsLeftLeaf, IsLost, IsOffLevel, LacksLeft, ReadRound, TreatsRead, going_to, left_of, on, read_way, toward}
-use Rattle.descent.specs.Visits.{to_page}
-use Rattle.descent.specs.Ways.{LeadsOn, LeadsRight, StaysLeft, reaches}
+use Rattle.structure_changes.specs.Versions.{Version}
+use Rattle.round_model.specs.Descents.{WayState, Page}
+use Rattle.round_model.specs.ReadEnds.{ReadEnd, Again, Removed, Leaf, Beside}
+use Rattle.round_model.specs.ReadGoals.{ReadGoal, Seek, Left, Beyond}
+use Rattle.round_model.specs.ReadLegs.{Leg, Down, Round, Past, IsPlain, above_of, below, level_on}
+use Rattle.round_model.specs.ReadRounds.{IsLeftLeaf, IsLost, IsOffLevel, LacksLeft, ReadRound, TreatsRead, going_to, left_of, on, read_way, toward}
+use Rattle.round_model.specs.Visits.{to_page}
+use Rattle.round_model.specs.Ways.{LeadsOn, LeadsRight, StaysLeft, reaches}
 use Rattle.tree_law.specs.Keys.{IsBelow, Key}
 use Rattle.tree_law.specs.LevelPages.{IsPageOn}
 use Rattle.tree_law.proofs.shape.KeyOrder.{below_not, below_upto, upto_below, upto_trans}

@@ -9,8 +9,8 @@ use Rattle.deltas.specs.Records.{next_row}
 use Rattle.deltas.specs.declared.record.Record.{Record}
 use Rattle.traces.specs.chain.Chains.{IsChainFrom, IsChainOf}
 use Rattle.traces.specs.trace.Steps.{IsAnswer}
-use Rattle.smo.specs.Versions.{Version}
-use Rattle.descent.specs.Visits.{Completes, Continues, FindsHead, Responds, Empty, Whole, Visit, VisitState, Slot, Row, wanted}
+use Rattle.structure_changes.specs.Versions.{Version}
+use Rattle.round_model.specs.Visits.{Completes, Continues, FindsHead, Responds, Empty, Whole, Visit, VisitState, Slot, Row, wanted}
 
 module _ (memory : Memory) where
   -- what is still to be read of the page's chain, and how many steps that takes

@@ -3,10 +3,10 @@ ghost use Rattle.std.specs.Prelude.{◌≡◌, ◌≢◌, ◌<◌, IsTrue, Match
 ghost use Rattle.std.specs.Bool.{Decides};
 ghost use Rattle.std.specs.Option.{option_map};
 ghost use Rattle.traces.specs.chain.Chains.{is_removed, level_in, low_in, right_in};
-ghost use Rattle.smo.specs.Reads.{IsReadPage};
-ghost use Rattle.descent.specs.ReadLegs.{IsPlain, Round};
-ghost use Rattle.descent.specs.ReadRounds.{CanTreatRead, AsksTheSame, LacksLeft, TreatsRead, left_of, read_way};
-ghost use Rattle.descent.specs.Ways.{LeadsOn, LeadsRight, StaysLeft};
+ghost use Rattle.structure_changes.specs.Reads.{IsReadPage};
+ghost use Rattle.round_model.specs.ReadLegs.{IsPlain, Round};
+ghost use Rattle.round_model.specs.ReadRounds.{CanTreatRead, AsksTheSame, LacksLeft, TreatsRead, left_of, read_way};
+ghost use Rattle.round_model.specs.Ways.{LeadsOn, LeadsRight, StaysLeft};
 ghost use Rattle.rounds.specs.ReadRounds.{AreReadFor, IsOnLevelOf, IsReadGoal, IsReadLeg, LeadsLeft, ended_read};
 
 use super::{Going, ReadEnded, ReadRound};

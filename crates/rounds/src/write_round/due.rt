@@ -3,29 +3,29 @@ ghost use Rattle.std.specs.Prelude.{◌≡◌, ◌≢◌, ◌<◌, IfSome, Match
 ghost use Rattle.std.specs.Bool.{Decides};
 ghost use Rattle.base_page.specs.declared.item.Content.TheVariants.{Child};
 ghost use Rattle.traces.specs.chain.Chains.{content_in, level_in};
-ghost use Rattle.descent.specs.Courses as goal;
-ghost use Rattle.descent.specs.WriteResponses.{CanTreatWrite, EndsDue, IsHere, IsIdleOnWay, IsSplitFinished, IsTended, TreatsWrite};
-ghost use Rattle.descent.specs.WriteEnds as end;
-ghost use Rattle.descent.specs.WriteRounds.{IsLong, SeeksLeaf};
+ghost use Rattle.round_model.specs.Courses as goal;
+ghost use Rattle.round_model.specs.WriteResponses.{CanTreatWrite, EndsDue, IsHere, IsIdleOnWay, IsSplitFinished, IsTended, TreatsWrite};
+ghost use Rattle.round_model.specs.WriteEnds as end;
+ghost use Rattle.round_model.specs.WriteRounds.{IsLong, SeeksLeaf};
 ghost use Rattle.row_chain.specs.Placed.{IsReadChain};
 ghost use Rattle.rounds.specs.WriteRounds.{AreReadToWrite, ended_write};
-ghost use Rattle.smo.specs.Reads.{IsReadPage};
-ghost use Rattle.smo.specs.Sizes.{HasManyItems};
-ghost use Rattle.smo.specs.Splits.{CanSplit};
-ghost use Rattle.smo.specs.Upkeep.{IsUpkeep};
-ghost use Rattle.smo.specs.declared.after.After.TheVariants.{Round};
+ghost use Rattle.structure_changes.specs.Reads.{IsReadPage};
+ghost use Rattle.structure_changes.specs.Sizes.{HasManyItems};
+ghost use Rattle.structure_changes.specs.Splits.{CanSplit};
+ghost use Rattle.structure_changes.specs.Upkeep.{IsUpkeep};
+ghost use Rattle.structure_changes.specs.declared.after.After.TheVariants.{Round};
 
 use crate::{WriteEnded, WriteRound};
 use base_page::Content;
 use deltas::Record;
 use row_chain::Chain;
 use row_search::{KeyWords, Rows};
-use smo::{
+use std::alloc::Allocator;
+use std::mem;
+use structure_changes::{
     After, MANY_ITEMS, PageInHand, Plan, Unlinked, many_deltas, plan_base, plan_merge, plan_root,
     plan_split, plan_term, plan_unterm, plan_upkeep,
 };
-use std::alloc::Allocator;
-use std::mem;
 
 impl<R: Rows, A: Allocator> WriteRound<R, A> {
     /// The change that is due where the round has ended with one, and what comes once it has won.

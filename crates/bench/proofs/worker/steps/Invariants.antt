@@ -1,4 +1,4 @@
-use Rattle.bw_tree.specs.Seats.{IsSame}
+use Rattle.running_tree.specs.Seats.{IsSame}
 use Rattle.bench.proofs.worker.steps.Given as goal
 
 abbrev pub invariant-loop-step : goal.invariant-loop-step

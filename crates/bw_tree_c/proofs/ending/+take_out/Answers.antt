@@ -1,6 +1,6 @@
 use Rattle.std.proofs.Common.{◌≡◌, ◌∙◌, None, subst, sym}
-use Rattle.bw_tree.specs.Seats.{unfinished_command}
-use Rattle.bw_tree.proofs.Resting.{has_none}
+use Rattle.running_tree.specs.Seats.{unfinished_command}
+use Rattle.running_tree.proofs.Resting.{has_none}
 use Rattle.bw_tree_c.proofs.Taking.{on_ok, taken_one}
 use Rattle.bw_tree_c.proofs.ending.+take_out.Goals.{in-Ok, in-Err}
 use Rattle.bw_tree_c.proofs.ending.+take_out.Goals as goal

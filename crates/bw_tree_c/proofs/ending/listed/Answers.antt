@@ -1,4 +1,4 @@
-use Rattle.bw_tree.proofs.Leaving.{are_closed}
+use Rattle.running_tree.proofs.Leaving.{are_closed}
 use Rattle.bw_tree_c.proofs.ending.listed.Goals as goal
 
 pub returns : goal.returns

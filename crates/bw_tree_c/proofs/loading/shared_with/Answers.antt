@@ -1,8 +1,8 @@
 use Rattle.std.proofs.Common.{map, subst, sym, ◌∙◌}
 use Rattle.bw_model.specs.declared.command.Reply.TheVariants as reply
-use Rattle.bw_tree.specs.Loaded.{AreLoaded, IsStopped}
-use Rattle.bw_tree.specs.declared.called.Called.TheVariants as called
-use Rattle.bw_tree.specs.declared.filling.TheConstants.{LOAD_BUDGET}
+use Rattle.running_tree.specs.Loaded.{AreLoaded, IsStopped}
+use Rattle.running_tree.specs.declared.called.Called.TheVariants as called
+use Rattle.running_tree.specs.declared.filling.TheConstants.{LOAD_BUDGET}
 use Rattle.bw_tree_c.specs.Loaded.{given_pair}
 use Rattle.bw_tree_c.proofs.Taking.{one_tree}
 use Rattle.bw_tree_c.proofs.Unloading.{is_full, is_spent}

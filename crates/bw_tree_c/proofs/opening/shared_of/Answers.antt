@@ -1,5 +1,5 @@
 use Rattle.std.proofs.Common.{subst, sym}
-use Rattle.bw_tree.specs.Trees.{AreFresh}
+use Rattle.running_tree.specs.Trees.{AreFresh}
 use Rattle.bw_tree_c.proofs.Taking.{one_tree}
 use Rattle.bw_tree_c.proofs.opening.shared_of.Goals as goal
 

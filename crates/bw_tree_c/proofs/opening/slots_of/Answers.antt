@@ -1,6 +1,6 @@
 use Rattle.std.proofs.Common.{length}
 use Rattle.std.specs.Arc.{arc_value}
-use Rattle.bw_tree.specs.Trees.{IsSeatOf}
+use Rattle.running_tree.specs.Trees.{IsSeatOf}
 use Rattle.seats.proofs.Yielded.{one_yielded}
 use Rattle.bw_tree_c.proofs.Yielded.{of_all}
 use Rattle.bw_tree_c.proofs.opening.slots_of.Goals as goal

@@ -1,4 +1,4 @@
-use Rattle.bw_tree.specs.Seats.{IsSame}
+use Rattle.running_tree.specs.Seats.{IsSame}
 use Rattle.guide.proofs.budgets.in_pieces.Given as goal
 
 abbrev pub invariant-loop-pieces : goal.invariant-loop-pieces

@@ -1,7 +1,7 @@
 use Rattle.std.proofs.Common.{◌≡◌, ◌∙◌, List, ℕ, ap, subst, sym}
 use Rattle.bw_model.specs.declared.command.Command.TheVariants.{Get, Upsert}
 use Rattle.bw_model.specs.declared.command.Reply.TheVariants as reply
-use Rattle.bw_tree.specs.Calls.{IsDone}
+use Rattle.running_tree.specs.Calls.{IsDone}
 use Rattle.seats.specs.Replies.{many}
 use Rattle.guide.proofs.concluding.read_back.Goals as goal
 use Rattle.guide.proofs.concluding.read_back.Goals.{In-Ok-reply}

@@ -2,8 +2,8 @@ use Rattle.std.proofs.Common.{◌≡◌, ◌∙◌, [], Contains, Ok, Some, subs
 use Rattle.std.proofs.lemmas.List.Elements.{Contains-push}
 use Rattle.bw_model.specs.declared.command.Command.TheVariants as command
 use Rattle.bw_model.specs.declared.command.Reply.{Reply}
-use Rattle.bw_tree.specs.Calls.{calls_in}
-use Rattle.bw_tree.specs.Seats.{Seat}
+use Rattle.running_tree.specs.Calls.{calls_in}
+use Rattle.running_tree.specs.Seats.{Seat}
 use Rattle.guide.specs.declared.meetings.Inserts.{Inserts}
 use Rattle.guide.proofs.Made.{all_have}
 use Rattle.guide.proofs.meetings.inserted.Goals as goal

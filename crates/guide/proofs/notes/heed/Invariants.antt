@@ -1,4 +1,4 @@
-use Rattle.bw_tree.specs.Trees.{IsSeatOf}
+use Rattle.running_tree.specs.Trees.{IsSeatOf}
 use Rattle.guide.proofs.notes.heed.Given as goal
 
 abbrev pub invariant-loop : goal.invariant-loop

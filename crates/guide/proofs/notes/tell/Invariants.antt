@@ -1,4 +1,4 @@
-use Rattle.bw_tree.specs.Trees.{IsSeatOf}
+use Rattle.running_tree.specs.Trees.{IsSeatOf}
 use Rattle.guide.proofs.notes.tell.Given as goal
 
 abbrev pub invariant-loop-number : goal.invariant-loop-number

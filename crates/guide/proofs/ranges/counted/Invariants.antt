@@ -1,5 +1,5 @@
 use Rattle.std.proofs.Common.{◌≡◌}
-use Rattle.bw_tree.specs.Seats.{IsSame, unfinished_command}
+use Rattle.running_tree.specs.Seats.{IsSame, unfinished_command}
 use Rattle.walks.specs.Cursors.{cursor_command}
 use Rattle.guide.proofs.ranges.counted.Given as goal
 

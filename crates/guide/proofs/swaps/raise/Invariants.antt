@@ -1,4 +1,4 @@
-use Rattle.bw_tree.specs.Seats.{IsSame}
+use Rattle.running_tree.specs.Seats.{IsSame}
 use Rattle.guide.proofs.swaps.raise.Given as goal
 
 abbrev pub invariant-loop : goal.invariant-loop

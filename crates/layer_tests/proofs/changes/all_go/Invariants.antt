@@ -1,4 +1,4 @@
-use Rattle.installs.specs.Spares.{HaveRoom}
+use Rattle.change_machine.specs.Spares.{HaveRoom}
 use Rattle.layer_tests.proofs.changes.all_go.Given as goal
 
 abbrev pub invariant-loop-case : goal.invariant-loop-case

@@ -1,5 +1,5 @@
 use Rattle.std.proofs.Common.{◌≡◌}
-use Rattle.installs.specs.Changes.{IsMade, IsSoundChange}
+use Rattle.change_machine.specs.Changes.{IsMade, IsSoundChange}
 use Rattle.layer_tests.proofs.changes.drive.Given as goal
 
 abbrev pub invariant-loop : goal.invariant-loop

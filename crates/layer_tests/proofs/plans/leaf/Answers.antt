@@ -1,5 +1,5 @@
 use Rattle.std.proofs.Common.{[], arith}
-use Rattle.smo.proofs.TestedLeaves.{page_chain}
+use Rattle.structure_changes.proofs.TestedLeaves.{page_chain}
 use Rattle.layer_tests.proofs.plans.leaf.Goals as goal
 
 pub returns : goal.returns

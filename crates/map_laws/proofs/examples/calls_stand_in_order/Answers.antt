@@ -5,7 +5,7 @@ use Rattle.bw_model.specs.declared.command.Command.TheVariants.{Get}
 use Rattle.bw_model.specs.declared.step.Answer.TheVariants.{Done}
 use Rattle.bw_model.specs.declared.step.Step.TheVariants.{Leave}
 use Rattle.traces.specs.declared.trace.Entry.TheVariants.{Begin}
-use Rattle.bw_tree.specs.Examples.{two_actors}
+use Rattle.running_tree.specs.Examples.{two_actors}
 use Rattle.map_laws.proofs.examples.calls_stand_in_order.Goals as goal
 
 -- between the begin of actor 0 and its Leave it begins nothing

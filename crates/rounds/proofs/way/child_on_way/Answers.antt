@@ -3,8 +3,8 @@ use Rattle.std.specs.Prelude.{IsTrue}
 use Rattle.base_page.specs.Places.{IsGreatestChild}
 use Rattle.traces.specs.chain.Chains.{content_in, low_in}
 use Rattle.traces.proofs.FittedLaws.{has_child}
-use Rattle.descent.specs.Ways.{passes}
-use Rattle.descent.proofs.WayLaws.{goes_down}
+use Rattle.round_model.specs.Ways.{passes}
+use Rattle.round_model.proofs.WayLaws.{goes_down}
 use Rattle.rounds.proofs.way.child_on_way.Goals as goal
 
 pub returns-then-below-clause-leads : goal.returns-then-below-clause-leads

@@ -1,6 +1,6 @@
 use Rattle.std.proofs.Common.{refl}
 use Rattle.traces.specs.chain.Chains.{high_in}
-use Rattle.descent.specs.Ways.{passes}
+use Rattle.round_model.specs.Ways.{passes}
 use Rattle.rounds.proofs.WayTurns.{leads_right, stays_left}
 use Rattle.rounds.proofs.way.right_on_way.Goals as goal
 

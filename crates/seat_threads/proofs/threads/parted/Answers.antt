@@ -1,5 +1,5 @@
 use Rattle.std.proofs.Common.{◌∙◌, ap, arith, sym}
-use Rattle.bw_tree.specs.Seats.{Seat}
+use Rattle.running_tree.specs.Seats.{Seat}
 use Rattle.seat_threads.specs.Works.{with_each_behind}
 use Rattle.seat_threads.proofs.Behind.{behind_none, behind_push}
 use Rattle.seat_threads.proofs.threads.parted.Goals as goal

@@ -1,6 +1,6 @@
 use Rattle.std.proofs.Common.{◌∷◌, ◌∙◌, [], Some, ap, arith, subst, sym}
 use Rattle.std.proofs.lemmas.List.Elements.{All-push}
-use Rattle.bw_tree.specs.Trees.{AreSeatsOf, IsSeatOf}
+use Rattle.running_tree.specs.Trees.{AreSeatsOf, IsSeatOf}
 use Rattle.seat_threads.specs.Works.{with_each_behind}
 use Rattle.seat_threads.proofs.Behind.{behind_push}
 use Rattle.seats.proofs.Pushed.{all_before, last_of}

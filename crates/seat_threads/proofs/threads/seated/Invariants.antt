@@ -1,6 +1,6 @@
 use Rattle.std.proofs.Common.{◌≡◌, ◌≤◌, ◌+◌, All, length, vec_len}
 use Rattle.std.specs.Vec.{vec_capacity}
-use Rattle.bw_tree.specs.Trees.{AreSeatsOf, IsSeatOf}
+use Rattle.running_tree.specs.Trees.{AreSeatsOf, IsSeatOf}
 use Rattle.seat_threads.specs.Works.{with_each_behind}
 use Rattle.seat_threads.proofs.threads.seated.Given as goal
 

@@ -1,5 +1,5 @@
 use Rattle.std.proofs.Common.{◌∙◌, ap, arith, subst, sym}
-use Rattle.bw_tree.specs.Trees.{AreSeatsOf, IsSeatOf}
+use Rattle.running_tree.specs.Trees.{AreSeatsOf, IsSeatOf}
 use Rattle.seat_threads.specs.Works.{AreEachDone, with_each_behind}
 use Rattle.seat_threads.proofs.Behind.{own_behind}
 use Rattle.seats.proofs.Pushed.{all_at, written}

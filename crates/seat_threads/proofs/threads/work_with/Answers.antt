@@ -1,7 +1,7 @@
 use Rattle.std.proofs.Common.{subst}
-use Rattle.bw_tree.specs.Runs.{StartsWith}
-use Rattle.bw_tree.specs.Seats.{IsSame}
-use Rattle.bw_tree.proofs.Going.{same_on}
+use Rattle.running_tree.specs.Runs.{StartsWith}
+use Rattle.running_tree.specs.Seats.{IsSame}
+use Rattle.running_tree.proofs.Going.{same_on}
 use Rattle.seats.proofs.Seeing.{heeded}
 use Rattle.seat_threads.proofs.threads.work_with.Goals as goal
 

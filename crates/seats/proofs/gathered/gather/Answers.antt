@@ -1,6 +1,6 @@
 use Rattle.std.proofs.Common.{◌∷◌, ◌∙◌, [], Some, arith, subst, sym}
-use Rattle.bw_tree.specs.Notes.{note_of}
-use Rattle.bw_tree.specs.Trees.{AreSeatsOf, IsSeatOf}
+use Rattle.running_tree.specs.Notes.{note_of}
+use Rattle.running_tree.specs.Trees.{AreSeatsOf, IsSeatOf}
 use Rattle.seats.specs.Gathered.{HasSeenAll, HaveHeeded}
 use Rattle.seats.proofs.Gathering.{all_gathered, own_gathered}
 use Rattle.seats.proofs.Pushed.{all_before, last_of, pushed_behind}

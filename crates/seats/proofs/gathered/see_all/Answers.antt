@@ -1,7 +1,7 @@
 use Rattle.std.proofs.Common.{◌≡◌, ◌∙◌, Some, ap, arith, length, refl, slice_index_or, subst, sym}
 use Rattle.std.specs.Prelude.{slice_get}
-use Rattle.bw_tree.specs.Notes.{HasHeeded, IsNoteOf, note_of}
-use Rattle.bw_tree.specs.Trees.{IsSeatOf}
+use Rattle.running_tree.specs.Notes.{HasHeeded, IsNoteOf, note_of}
+use Rattle.running_tree.specs.Trees.{IsSeatOf}
 use Rattle.seats.proofs.Seeing.{at_index, heeded, seen_one_more, sees_on, sees_self, set_same}
 use Rattle.traces.proofs.Pushes.{slice_get_below}
 use Rattle.seats.proofs.gathered.see_all.Goals as goal

@@ -1,7 +1,7 @@
 use Rattle.std.proofs.Common.{◌≡◌, ◌∙◌, Some, ap, arith, refl, slice_index_or, subst, sym}
 use Rattle.std.specs.Prelude.{slice_get}
-use Rattle.bw_tree.specs.Notes.{HasHeeded, note_of}
-use Rattle.bw_tree.specs.Trees.{IsSeatOf}
+use Rattle.running_tree.specs.Notes.{HasHeeded, note_of}
+use Rattle.running_tree.specs.Trees.{IsSeatOf}
 use Rattle.seats.proofs.Seeing.{at_index}
 use Rattle.seats.proofs.Showing.{heeded_one_more, none_heeded}
 use Rattle.traces.proofs.Pushes.{slice_get_below}

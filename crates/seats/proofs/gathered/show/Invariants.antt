@@ -1,5 +1,5 @@
 use Rattle.std.proofs.Common.{◌≡◌}
-use Rattle.bw_tree.specs.Notes.{note_of}
+use Rattle.running_tree.specs.Notes.{note_of}
 use Rattle.seats.proofs.Showing.{HaveHeededBefore}
 use Rattle.seats.proofs.gathered.show.Given as goal
 

@@ -1,5 +1,5 @@
 use Rattle.std.proofs.Common.{sym, subst}
-use Rattle.bw_tree.specs.Trees.{AreSeatsOf, IsSeatOf}
+use Rattle.running_tree.specs.Trees.{AreSeatsOf, IsSeatOf}
 use Rattle.seats.proofs.Pushed.{all_pushed}
 use Rattle.seats.proofs.lists.give_seat.Goals as goal
 

@@ -1,4 +1,4 @@
-use Rattle.bw_tree.specs.Seats.{unfinished_command}
+use Rattle.running_tree.specs.Seats.{unfinished_command}
 use Rattle.seats.proofs.Fitting.{each_fits}
 use Rattle.seats.proofs.replies.resumed.Goals as goal
 

@@ -1,5 +1,5 @@
-use Rattle.bw_tree.specs.Calls.{called_if}
-use Rattle.bw_tree.specs.Seats.{unfinished_command}
+use Rattle.running_tree.specs.Calls.{called_if}
+use Rattle.running_tree.specs.Seats.{unfinished_command}
 use Rattle.seats.proofs.Fitting.{each_fits}
 use Rattle.seats.proofs.replies.resumed_in.Goals as goal
 

@@ -1,4 +1,4 @@
-use Rattle.bw_tree.specs.Trees.{AreSeatsOf}
+use Rattle.running_tree.specs.Trees.{AreSeatsOf}
 use Rattle.tree_tests.proofs.cycles.come_and_go.Given as goal
 
 abbrev pub invariant-loop-seed : goal.invariant-loop-seed

@@ -1,4 +1,4 @@
-use Rattle.bw_tree.specs.Trees.{AreSeatsOf}
+use Rattle.running_tree.specs.Trees.{AreSeatsOf}
 use Rattle.tree_tests.proofs.full_trees.works_alone.Given as goal
 
 abbrev pub invariant-loop-place : goal.invariant-loop-place

@@ -1,4 +1,4 @@
-use Rattle.bw_tree.specs.Trees.{IsSeatOf}
+use Rattle.running_tree.specs.Trees.{IsSeatOf}
 use Rattle.tree_tests.proofs.runs.inserts.Given as goal
 
 abbrev pub invariant-loop-number : goal.invariant-loop-number

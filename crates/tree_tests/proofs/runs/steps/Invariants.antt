@@ -1,4 +1,4 @@
-use Rattle.bw_tree.specs.Trees.{IsSeatOf}
+use Rattle.running_tree.specs.Trees.{IsSeatOf}
 use Rattle.tree_tests.proofs.runs.steps.Given as goal
 
 abbrev pub invariant-loop : goal.invariant-loop

@@ -1,4 +1,4 @@
-use Rattle.bw_tree.specs.Trees.{IsSeatOf}
+use Rattle.running_tree.specs.Trees.{IsSeatOf}
 use Rattle.tree_tests.proofs.runs.updates.Given as goal
 
 abbrev pub invariant-loop-round : goal.invariant-loop-round

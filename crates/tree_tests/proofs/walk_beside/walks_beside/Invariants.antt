@@ -1,6 +1,6 @@
 use Rattle.std.proofs.Common.{◌≡◌}
-use Rattle.bw_tree.specs.Seats.{unfinished_command}
-use Rattle.bw_tree.specs.Trees.{IsSeatOf}
+use Rattle.running_tree.specs.Seats.{unfinished_command}
+use Rattle.running_tree.specs.Trees.{IsSeatOf}
 use Rattle.walks.specs.Cursors.{cursor_command}
 use Rattle.tree_tests.proofs.walk_beside.walks_beside.Given as goal
 

@@ -1,4 +1,4 @@
-use Rattle.bw_tree.specs.Trees.{IsSeatOf}
+use Rattle.running_tree.specs.Trees.{IsSeatOf}
 use Rattle.tree_tests.proofs.walk_refused.scans.Given as goal
 
 abbrev pub invariant-loop-grows : goal.invariant-loop-grows

@@ -1,4 +1,4 @@
-use Rattle.bw_tree.specs.Trees.{AreSeatsOf}
+use Rattle.running_tree.specs.Trees.{AreSeatsOf}
 use Rattle.tree_tests.proofs.windows.thins.Given as goal
 
 abbrev pub invariant-loop-number : goal.invariant-loop-number

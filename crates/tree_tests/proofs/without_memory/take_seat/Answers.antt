@@ -1,6 +1,6 @@
 use Rattle.std.proofs.Common.{subst}
 use Rattle.std.specs.Prelude.{option_to_list}
-use Rattle.bw_tree.specs.Trees.{AreSeatsOf, IsSeatOf}
+use Rattle.running_tree.specs.Trees.{AreSeatsOf, IsSeatOf}
 use Rattle.seats.proofs.Pushed.{all_before, last_of}
 use Rattle.tree_tests.proofs.without_memory.take_seat.Goals as goal
 

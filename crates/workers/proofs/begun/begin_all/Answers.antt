@@ -1,6 +1,6 @@
 use Rattle.std.proofs.Common.{◌≡◌, ℕ, None, ◌∙◌, arith, subst}
-use Rattle.bw_tree.specs.Seats.{unfinished_command}
-use Rattle.bw_tree.specs.Trees.{IsSeatOf, Tree}
+use Rattle.running_tree.specs.Seats.{unfinished_command}
+use Rattle.running_tree.specs.Trees.{IsSeatOf, Tree}
 use Rattle.workers.specs.declared.worker.Worker.{Worker}
 use Rattle.workers.specs.Begun.{AreBegun}
 use Rattle.workers.specs.Working.{HasRoom}

@@ -1,6 +1,6 @@
 use Rattle.std.proofs.Common.{◌∙◌, arith, subst, sym}
 use Rattle.workers.specs.Jobs.{AreResultsOf}
-use Rattle.bw_tree.specs.Trees.{AreSeatsOf}
+use Rattle.running_tree.specs.Trees.{AreSeatsOf}
 use Rattle.workers.specs.Worked.{AreIdle}
 use Rattle.workers.proofs.Parting.{gathered, idle_after, not_run, one_history, own_after, stopped, where_false, worked_reordered}
 use Rattle.workers.proofs.run.run_jobs.Goals as goal

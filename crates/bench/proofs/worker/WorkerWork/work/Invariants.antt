@@ -1,4 +1,4 @@
-use Rattle.bw_tree.specs.Seats.{IsSame}
+use Rattle.running_tree.specs.Seats.{IsSame}
 use Rattle.bench.proofs.worker.WorkerWork.work.Given as goal
 
 abbrev pub invariant-loop-operation : goal.invariant-loop-operation

@@ -5,9 +5,9 @@ use Rattle.deltas.specs.declared.record.Record.{Record}
 use Rattle.deltas.specs.declared.record.Record.TheVariants as kind
 use Rattle.row_chain.specs.Placed.{PlacedChain}
 use Rattle.traces.specs.discipline.Discipline.{FitsOn}
-use Rattle.smo.specs.Splits.{CanSplit, IsSplitPlan, split_to}
-use Rattle.smo.specs.Versions.{Version}
-use Rattle.smo.specs.declared.split.SplitPlan.{SplitPlan}
+use Rattle.structure_changes.specs.Splits.{CanSplit, IsSplitPlan, split_to}
+use Rattle.structure_changes.specs.Versions.{Version}
+use Rattle.structure_changes.specs.declared.split.SplitPlan.{SplitPlan}
 use Rattle.layer_tests.proofs.built.planned.split.Goals as goal
 
 fits : (plan : Option SplitPlan) (page : Version) (chain : List Record) → page.chain ≡ chain → MatchOption plan (¬ CanSplit page) (IsSplitPlan page)

@@ -1,5 +1,5 @@
 use Rattle.std.proofs.Common.{◌≡◌, ap, rules}
-use Rattle.smo.specs.declared.after.After.TheVariants.{Limbo}
+use Rattle.structure_changes.specs.declared.after.After.TheVariants.{Limbo}
 use Rattle.op_machine.specs.declared.then.Then.TheVariants.{After}
 use Rattle.op_machine.specs.machine.Hands.{Hand}
 use Rattle.op_machine.proofs.TakingOut.{gone, taken}

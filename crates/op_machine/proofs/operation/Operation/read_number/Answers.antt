@@ -1,6 +1,6 @@
 use Rattle.std.proofs.Common.{ap}
 use Rattle.bw_model.specs.declared.step.Answer.TheVariants.{Number}
-use Rattle.descent.specs.ReadEnds.{Again}
+use Rattle.round_model.specs.ReadEnds.{Again}
 use Rattle.rounds.specs.ReadRounds.{again_if}
 use Rattle.op_machine.specs.machine.Outcomes.{Read, read_out}
 use Rattle.op_machine.specs.machine.Places.{state_of}

@@ -1,6 +1,6 @@
 use Rattle.std.proofs.Common.{ap}
 use Rattle.bw_model.specs.declared.step.Answer.TheVariants.{Number}
-use Rattle.descent.specs.WriteEnds.{Again}
+use Rattle.round_model.specs.WriteEnds.{Again}
 use Rattle.rounds.specs.WriteRounds.{again_if}
 use Rattle.op_machine.specs.machine.Outcomes.{Written, written_out}
 use Rattle.op_machine.specs.machine.Places.{state_of}

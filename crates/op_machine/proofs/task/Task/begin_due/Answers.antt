@@ -2,13 +2,13 @@ use Rattle.std.proofs.Common.{◌≡◌, ◌<◌, Some, length, refl, sym, ap, s
 use Rattle.deltas.specs.declared.record.Unterm.{Unterm}
 use Rattle.traces.specs.discipline.Recalled.{WasHead}
 use Rattle.traces.proofs.ChainLaws.{IsChainFrom-unique}
-use Rattle.descent.specs.WriteEnds as due
-use Rattle.descent.specs.WriteEnds.{DueChange, IsPlanned}
-use Rattle.descent.specs.WriteRounds.{IsDueBy}
-use Rattle.installs.specs.Changes.{KeepsSpare, MayLinkAs}
-use Rattle.smo.specs.Plans.{head_of, slot_of}
-use Rattle.smo.specs.declared.after.After.{After}
-use Rattle.smo.specs.declared.plan.Plan.{Plan}
+use Rattle.round_model.specs.WriteEnds as due
+use Rattle.round_model.specs.WriteEnds.{DueChange, IsPlanned}
+use Rattle.round_model.specs.WriteRounds.{IsDueBy}
+use Rattle.change_machine.specs.Changes.{KeepsSpare, MayLinkAs}
+use Rattle.structure_changes.specs.Plans.{head_of, slot_of}
+use Rattle.structure_changes.specs.declared.after.After.{After}
+use Rattle.structure_changes.specs.declared.plan.Plan.{Plan}
 use Rattle.op_machine.specs.declared.then.Then.TheVariants as then
 use Rattle.op_machine.specs.machine.Brings.{Brings, IsReadPlan, IsUsefulPlan}
 use Rattle.op_machine.specs.machine.Shows.{MayBegin}

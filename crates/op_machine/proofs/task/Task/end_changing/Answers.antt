@@ -2,11 +2,11 @@ use Rattle.std.proofs.Common.{◌≡◌, ◌≤◌, inl, inr, refl, ap, subst, a
 use Rattle.tree_limits.specs.declared.limits.Limits.{Limits}
 use Rattle.traces.specs.discipline.Discipline.{LacksRoom}
 use Rattle.traces.specs.discipline.Knowledge.{Knowledge}
-use Rattle.installs.specs.Taking.{AllFull}
-use Rattle.smo.specs.declared.after.After.TheVariants.{Errand}
+use Rattle.change_machine.specs.Taking.{AllFull}
+use Rattle.structure_changes.specs.declared.after.After.TheVariants.{Errand}
 use Rattle.op_machine.specs.declared.then.Then.TheVariants.{After}
-use Rattle.installs.specs.declared.taking.Kind.{Kind}
-use Rattle.installs.specs.declared.taking.Kind.TheVariants.{Pid, Row}
+use Rattle.change_machine.specs.declared.taking.Kind.{Kind}
+use Rattle.change_machine.specs.declared.taking.Kind.TheVariants.{Pid, Row}
 use Rattle.op_machine.specs.machine.Bounded.{left_at, one_round}
 use Rattle.op_machine.specs.machine.Places.{state_of}
 use Rattle.op_machine.specs.machine.Tasks.{Task}

@@ -1,4 +1,4 @@
-use Rattle.descent.proofs.SeenPages.{seen_is_read}
+use Rattle.round_model.proofs.SeenPages.{seen_is_read}
 use Rattle.op_machine.proofs.ReadPages.{read_above}
 use Rattle.op_machine.proofs.Tending.{may_tend, plans_for}
 use Rattle.op_machine.proofs.task.Task.tend_leaf.Goals as goal

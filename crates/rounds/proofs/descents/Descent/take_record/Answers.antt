@@ -1,8 +1,8 @@
 use Rattle.std.proofs.Common.{sym, ◌∙◌}
 use Rattle.bw_model.specs.declared.step.Answer.TheVariants.{Content}
-use Rattle.descent.specs.Descents.{Root, descending}
-use Rattle.descent.specs.Machines.{IsTold}
-use Rattle.descent.specs.Visits.{Row}
+use Rattle.round_model.specs.Descents.{Root, descending}
+use Rattle.round_model.specs.Machines.{IsTold}
+use Rattle.round_model.specs.Visits.{Row}
 use Rattle.rounds.proofs.Placed.{completes, continues, few, is_whole, lies_next, visiting}
 use Rattle.rounds.proofs.descents.Descent.take_record.Goals as goal
 

@@ -1,4 +1,4 @@
-use Rattle.descent.proofs.Reading.{way_shows}
+use Rattle.round_model.proofs.Reading.{way_shows}
 use Rattle.rounds.proofs.read_round.ReadRound.asks.Goals as goal
 
 pub returns-clause-wanted : goal.returns-clause-wanted

@@ -2,8 +2,8 @@ use Rattle.std.proofs.Common.{◌≡◌, ◌≢◌, List, Some, inl, inr, refl, 
 use Rattle.deltas.specs.declared.record.Record.{Record}
 use Rattle.traces.specs.chain.Chains.{right_in}
 use Rattle.row_chain.specs.Placed.{PlacedChain}
-use Rattle.smo.specs.Versions.{Version}
-use Rattle.descent.specs.Ways.{LeadsRight, StaysLeft, reaches}
+use Rattle.structure_changes.specs.Versions.{Version}
+use Rattle.round_model.specs.Ways.{LeadsRight, StaysLeft, reaches}
 use Rattle.rounds.proofs.Turning.{denied}
 use Rattle.rounds.proofs.read_round.ReadRound.pass_removed.Goals as goal
 

@@ -1,8 +1,8 @@
 use Rattle.std.proofs.Common.{subst}
 use Rattle.bw_model.specs.declared.step.Answer.TheVariants.{Content}
-use Rattle.descent.specs.Machines.{IsToldThere}
-use Rattle.descent.specs.ReadRounds.{reading}
-use Rattle.descent.specs.Rounds.{machine}
+use Rattle.round_model.specs.Machines.{IsToldThere}
+use Rattle.round_model.specs.ReadRounds.{reading}
+use Rattle.round_model.specs.Rounds.{machine}
 use Rattle.rounds.specs.ReadRounds.{PlacedRead}
 use Rattle.rounds.specs.declared.descents.Seen.TheVariants.{Whole}
 use Rattle.rounds.proofs.Reading.{are_read}

@@ -1,10 +1,10 @@
 use Rattle.std.proofs.Common.{◌≡◌, ℕ, Some, None, refl, sym, ap, ◌∙◌}
 use Rattle.std.specs.Prelude.{Bool}
 use Rattle.deltas.specs.declared.record.Record.TheVariants as kind
-use Rattle.descent.specs.WriteEnds as due
-use Rattle.smo.specs.Plans.{over}
-use Rattle.smo.specs.Versions.{Version}
-use Rattle.smo.specs.declared.plan.Plan.TheVariants as plan
+use Rattle.round_model.specs.WriteEnds as due
+use Rattle.structure_changes.specs.Plans.{over}
+use Rattle.structure_changes.specs.Versions.{Version}
+use Rattle.structure_changes.specs.declared.plan.Plan.TheVariants as plan
 use Rattle.rounds.specs.Courses.{kept_if}
 use Rattle.rounds.proofs.write_round.WriteRound.due_aside.Goals as goal
 

@@ -1,8 +1,8 @@
 use Rattle.std.proofs.Common.{refl, ap, ◌∙◌}
 use Rattle.deltas.specs.declared.record.Record.TheVariants as kind
-use Rattle.descent.specs.WriteEnds as due
-use Rattle.smo.specs.Plans.{over}
-use Rattle.smo.specs.Versions.{Version}
+use Rattle.round_model.specs.WriteEnds as due
+use Rattle.structure_changes.specs.Plans.{over}
+use Rattle.structure_changes.specs.Versions.{Version}
 use Rattle.rounds.proofs.write_round.WriteRound.end_long.Goals as goal
 
 pub returns-clause-treats : goal.returns-clause-treats

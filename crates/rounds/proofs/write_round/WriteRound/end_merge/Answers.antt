@@ -1,9 +1,9 @@
 use Rattle.std.proofs.Common.{inl, inr, refl, ap, subst, ◌∙◌}
 use Rattle.deltas.specs.declared.record.Record.TheVariants as kind
-use Rattle.descent.specs.WriteEnds as due
-use Rattle.smo.specs.Merges.{CanMerge}
-use Rattle.smo.specs.Plans.{over}
-use Rattle.smo.specs.Versions.{Version}
+use Rattle.round_model.specs.WriteEnds as due
+use Rattle.structure_changes.specs.Merges.{CanMerge}
+use Rattle.structure_changes.specs.Plans.{over}
+use Rattle.structure_changes.specs.Versions.{Version}
 use Rattle.rounds.proofs.write_round.WriteRound.end_merge.Goals as goal
 
 pub returns-in-None-clause-treats : goal.returns-in-None-clause-treats

@@ -1,7 +1,7 @@
 use Rattle.std.proofs.Common.{inr, refl, subst}
-use Rattle.descent.specs.WriteEnds as due
-use Rattle.smo.specs.Unterms.{CanUnterm}
-use Rattle.smo.specs.Versions.{Version}
+use Rattle.round_model.specs.WriteEnds as due
+use Rattle.structure_changes.specs.Unterms.{CanUnterm}
+use Rattle.structure_changes.specs.Versions.{Version}
 use Rattle.rounds.proofs.write_round.WriteRound.end_unterm.Goals as goal
 
 pub returns-in-None-clause-treats : goal.returns-in-None-clause-treats

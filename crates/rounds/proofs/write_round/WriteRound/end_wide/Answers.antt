@@ -1,7 +1,7 @@
 use Rattle.std.proofs.Common.{refl, ap, ◌∙◌}
-use Rattle.descent.specs.WriteEnds as due
-use Rattle.smo.specs.declared.after.After.TheVariants.{Errand}
-use Rattle.smo.specs.declared.plan.Plan.TheVariants.{Split}
+use Rattle.round_model.specs.WriteEnds as due
+use Rattle.structure_changes.specs.declared.after.After.TheVariants.{Errand}
+use Rattle.structure_changes.specs.declared.plan.Plan.TheVariants.{Split}
 use Rattle.rounds.proofs.write_round.WriteRound.end_wide.Goals as goal
 
 pub returns-clause-treats : goal.returns-clause-treats

@@ -1,8 +1,8 @@
 use Rattle.std.proofs.Common.{◌≡◌, ◌<◌, ap, sym, ◌∙◌, arith}
 use Rattle.traces.specs.chain.Chains.{level_in}
 use Rattle.row_chain.specs.Placed.{PlacedChain}
-use Rattle.descent.specs.WriteRounds.{ends_at}
-use Rattle.smo.specs.Reads.{chain_of}
+use Rattle.round_model.specs.WriteRounds.{ends_at}
+use Rattle.structure_changes.specs.Reads.{chain_of}
 use Rattle.rounds.proofs.Turning.{below_left}
 use Rattle.rounds.proofs.write_round.WriteRound.go_on.Goals as goal
 

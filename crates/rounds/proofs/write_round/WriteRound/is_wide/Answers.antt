@@ -4,8 +4,8 @@ use Rattle.std.specs.Bool.{Decides}
 use Rattle.std.proofs.Math.Dec.{leb}
 use Rattle.deltas.specs.declared.record.Record.{Record}
 use Rattle.row_chain.specs.Placed.{PlacedChain}
-use Rattle.smo.specs.Sizes.{HasManyItems}
-use Rattle.smo.specs.Versions.{Version}
+use Rattle.structure_changes.specs.Sizes.{HasManyItems}
+use Rattle.structure_changes.specs.Versions.{Version}
 use Rattle.rounds.proofs.Turning.{count_of_many, many_by_count}
 use Rattle.rounds.proofs.write_round.WriteRound.is_wide.Goals as goal
 

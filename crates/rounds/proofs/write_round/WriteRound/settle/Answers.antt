@@ -1,5 +1,5 @@
-use Rattle.descent.specs.WriteRounds.{IsLong}
-use Rattle.smo.specs.Sizes.{HasManyItems}
+use Rattle.round_model.specs.WriteRounds.{IsLong}
+use Rattle.structure_changes.specs.Sizes.{HasManyItems}
 use Rattle.rounds.proofs.Turning.{denied, few_deltas}
 use Rattle.rounds.proofs.write_round.WriteRound.settle.Goals as goal
 

@@ -1,6 +1,6 @@
 use Rattle.bw_model.specs.declared.step.Answer.TheVariants.{Content}
-use Rattle.descent.specs.Rounds.{machine}
-use Rattle.descent.specs.WriteResponses.{writing}
+use Rattle.round_model.specs.Rounds.{machine}
+use Rattle.round_model.specs.WriteResponses.{writing}
 use Rattle.rounds.specs.WriteRounds.{PlacedWrite}
 use Rattle.rounds.proofs.WriteReading.{is_told, reads_now}
 use Rattle.rounds.proofs.WriteSeeing.{Moved, can_treat_now, placed, treats_now}

@@ -1,5 +1,5 @@
 use Rattle.std.proofs.Common.{refl}
-use Rattle.descent.specs.WriteEnds as due
+use Rattle.round_model.specs.WriteEnds as due
 use Rattle.rounds.proofs.write_round.WriteRound.tend.Goals as goal
 
 pub returns-in-Some-clause-treats : goal.returns-in-Some-clause-treats

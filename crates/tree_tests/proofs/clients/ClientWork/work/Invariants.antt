@@ -1,4 +1,4 @@
-use Rattle.bw_tree.specs.Seats.{IsSame}
+use Rattle.running_tree.specs.Seats.{IsSame}
 use Rattle.tree_tests.proofs.clients.ClientWork.work.Given as goal
 
 abbrev pub invariant-loop-round : goal.invariant-loop-round

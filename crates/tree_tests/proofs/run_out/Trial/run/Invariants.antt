@@ -1,4 +1,4 @@
-use Rattle.bw_tree.specs.Trees.{AreSeatsOf}
+use Rattle.running_tree.specs.Trees.{AreSeatsOf}
 use Rattle.tree_tests.proofs.run_out.Trial.run.Given as goal
 
 abbrev pub invariant-loop : goal.invariant-loop

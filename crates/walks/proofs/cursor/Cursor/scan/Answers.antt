@@ -1,5 +1,5 @@
 use Rattle.std.proofs.Common.{inl, inr, refl, arith}
-use Rattle.bw_tree.proofs.Going.{same_on}
+use Rattle.running_tree.proofs.Going.{same_on}
 use Rattle.walks.proofs.Walked.{has_told, spent_on, walked_counted, walked_more, walked_nothing}
 use Rattle.walks.proofs.cursor.Cursor.scan.Goals as goal
 

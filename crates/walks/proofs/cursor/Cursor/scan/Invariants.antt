@@ -1,5 +1,5 @@
 use Rattle.std.proofs.Common.{◌≡◌, length}
-use Rattle.bw_tree.specs.Seats.{IsSame, unfinished_command}
+use Rattle.running_tree.specs.Seats.{IsSame, unfinished_command}
 use Rattle.walks.specs.Cursors.{HasTold, HasWalked, cursor_command}
 use Rattle.walks.proofs.cursor.Cursor.scan.Given as goal
 

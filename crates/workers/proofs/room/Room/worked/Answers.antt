@@ -3,8 +3,8 @@ use Rattle.std.specs.Prelude.{vec_len}
 use Rattle.std.specs.Vec.{vec_capacity}
 use Rattle.std.proofs.lemmas.List.{length-map}
 use Rattle.std.proofs.lemmas.List.Elements.{All-weaker}
-use Rattle.bw_tree.specs.Seats.{unfinished_command}
-use Rattle.bw_tree.specs.Trees.{AreSeatsOf, IsSeatOf}
+use Rattle.running_tree.specs.Seats.{unfinished_command}
+use Rattle.running_tree.specs.Trees.{AreSeatsOf, IsSeatOf}
 use Rattle.workers.specs.Worked.{AreIdle}
 use Rattle.workers.specs.Working.{HasRoom}
 use Rattle.workers.proofs.Named.{done_by}

@@ -6,7 +6,7 @@ use Rattle.record_slots.specs.Spelling.{words_of}
 use Rattle.record_slots.specs.Spells.{HasSpelling}
 use Rattle.traces.specs.chain.Chains.{IsFront}
 use Rattle.traces.specs.chain.Fitted.{IsFitted}
-use Rattle.smo.specs.Versions.{Version}
+use Rattle.structure_changes.specs.Versions.{Version}
 use Rattle.layer_tests.specs.Held.{found_in, page_record}
 use Rattle.layer_tests.proofs.Reading as reading
 use Rattle.layer_tests.proofs.built.shelf.Shelf.fill.Goals as goal

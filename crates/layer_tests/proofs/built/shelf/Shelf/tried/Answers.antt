@@ -2,7 +2,7 @@ use Rattle.std.proofs.Common.{◌≡◌, sym, ap, subst, ◌∙◌}
 use Rattle.row_chain.specs.Placed.{PlacedChain}
 use Rattle.traces.specs.chain.Chains.{IsChainFrom}
 use Rattle.traces.specs.chain.Fitted.{IsPageChain}
-use Rattle.smo.specs.Reads.{chain_of}
+use Rattle.structure_changes.specs.Reads.{chain_of}
 use Rattle.layer_tests.specs.Held.{page_record}
 use Rattle.layer_tests.proofs.built.shelf.Shelf.tried.Goals as goal
 

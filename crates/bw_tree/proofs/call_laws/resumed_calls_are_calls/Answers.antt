@@ -1,5 +1,0 @@
-use Rattle.bw_tree.proofs.Resuming.{call_resumed}
-use Rattle.bw_tree.proofs.call_laws.resumed_calls_are_calls.Goals as goal
-
-pub returns : goal.returns
-returns c = call_resumed

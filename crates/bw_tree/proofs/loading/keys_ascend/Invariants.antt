@@ -1,5 +1,0 @@
-use Rattle.bw_tree.proofs.Ascending.{Adjacent}
-use Rattle.bw_tree.proofs.loading.keys_ascend.Given as goal
-
-abbrev pub invariant-loop-place : goal.invariant-loop-place
-invariant-loop-place l = record { ascend : Adjacent l.pairs l.place }

@@ -1,6 +1,0 @@
-use Rattle.bw_tree.specs.Calls.{IsStill}
-use Rattle.bw_tree.specs.Seats.{IsSame}
-use Rattle.bw_tree.proofs.seat.BwSeat.go_on.Given as goal
-
-abbrev pub invariant-loop : goal.invariant-loop
-invariant-loop g l = record { same : IsSame l.initial.self l.self; still : IsStill l.initial.self l.counter l.self }

@@ -1,4 +1,0 @@
-use Rattle.bw_tree.proofs.tree.Tree.open_from.Goals as goal
-
-pub returns-in-Ok-loaded-clause-order : goal.returns-in-Ok-loaded-clause-order
-returns-in-Ok-loaded-clause-order g c = ((λ other ascend. cc), (λ falls. absurd (falls c.if-not-keys_ascend.ensures)))

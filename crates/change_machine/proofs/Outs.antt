@@ -1,0 +1,167 @@
+-- What a change takes out of the tree, whatever the answer.
+use Rattle.std.proofs.Common.{◌≡◌, ◌<◌, ℕ, Bool, true, false, Option, refl, subst}
+use Rattle.tree_limits.specs.declared.limits.Limits.{Limits}
+use Rattle.bw_model.specs.declared.step.Answer.{Answer}
+use Rattle.bw_model.specs.declared.step.Answer.TheVariants as answer
+use Rattle.bw_model.specs.declared.step.Step.TheVariants as step
+use Rattle.deltas.specs.declared.record.Record.{Record}
+use Rattle.deltas.specs.declared.record.Record.TheVariants as kind
+use Rattle.traces.specs.discipline.Fitting.{Fits}
+use Rattle.traces.specs.discipline.Knowledge.{Knowledge, OwnPage, Other, Empty, Ready, Gone, Written, exchanged, learn, linked_over, split_off}
+use Rattle.structure_changes.specs.Splits.{split_to}
+use Rattle.change_machine.specs.Changes.{Change, IsPlaced, IsSoundChange, IsTarget, Shows, StandsReady, linked_number, wanted, wanted_at}
+use Rattle.structure_changes.specs.Plans.{clears, head_of, slot_of}
+use Rattle.change_machine.specs.Moves.{Moved, moved, moved_by, whether_in}
+use Rattle.change_machine.specs.Outs.{IsFreshOver, TakesFresh, limbo_after, limbo_over}
+use Rattle.change_machine.specs.Spares.{Spares, last_row, pid_of}
+use Rattle.change_machine.specs.Taking.{found_after, wanted_number}
+use Rattle.change_machine.specs.declared.change.End.{End}
+use Rattle.change_machine.specs.declared.change.State.{State}
+use Rattle.change_machine.specs.declared.change.State.TheVariants as state
+use Rattle.structure_changes.specs.declared.plan.Plan.{Plan}
+use Rattle.structure_changes.specs.declared.plan.Plan.TheVariants.{Install, Split, Root, Unlink}
+use Rattle.change_machine.specs.declared.taking.Found.{Found}
+use Rattle.change_machine.specs.declared.taking.Found.TheVariants.{Not, Taken, Full}
+use Rattle.change_machine.specs.declared.taking.Kind.TheVariants.{Pid, Row}
+use Rattle.change_machine.specs.declared.taking.Taking.{Taking}
+use Rattle.change_machine.specs.declared.taking.Taking.TheVariants.{Bits, Take}
+use Rattle.change_machine.proofs.Following.{last_is, set_learnt, undo_learnt}
+use Rattle.change_machine.proofs.Learning.{clear_fresh, clear_went, cleared_learnt, over_fresh, over_learnt, over_other, rooted_learnt, went}
+use Rattle.change_machine.proofs.Making.{bare_at, shows_bare, sound_bare}
+
+-- what is taken out by a change that ended so, or goes on
+pub record TakesOut (limits : Limits) (k now : Knowledge) (plan : Plan) (end : Option End) : Type 0 where
+  pub limbo : now.limbo ≡ limbo_after plan end k
+  pub fresh : TakesFresh limits k plan end
+
+module _ (k : Knowledge) where
+  split_limbo : (o : OwnPage) (page row : ℕ) → (split_off o page row k).limbo ≡ k.limbo
+  split_limbo Other page row = refl
+  split_limbo Empty page row = refl
+  split_limbo (Ready base) page row = refl
+  split_limbo Gone page row = refl
+
+  linked_limbo : (content : Record) (old row : ℕ) → (linked_over (Written content) old row k).limbo ≡ limbo_over content old k
+  linked_limbo (kind.Base page) old row = refl
+  linked_limbo (kind.Put put) old row = refl
+  linked_limbo (kind.Delete delete) old row = refl
+  linked_limbo (kind.Split split) old row = split_limbo (k.own.pages split.page) split.page row
+  linked_limbo (kind.Term term) old row = refl
+  linked_limbo (kind.Hold hold) old row = refl
+  linked_limbo (kind.Remove remove) old row = refl
+  linked_limbo (kind.Merge merge) old row = refl
+  linked_limbo (kind.Unterm unterm) old row = refl
+
+  -- a taking takes nothing out
+  number_limbo : (taking : Taking) (told : Answer Record) → (learn k (wanted_number taking) told).limbo ≡ k.limbo
+  number_limbo (Bits Pid word whole) answer.Start = refl
+  number_limbo (Bits Pid word whole) (answer.Number n) = refl
+  number_limbo (Bits Pid word whole) (answer.Content content) = refl
+  number_limbo (Bits Pid word whole) (answer.Whether b) = refl
+  number_limbo (Bits Pid word whole) answer.Done = refl
+  number_limbo (Bits Row word whole) answer.Start = refl
+  number_limbo (Bits Row word whole) (answer.Number n) = refl
+  number_limbo (Bits Row word whole) (answer.Content content) = refl
+  number_limbo (Bits Row word whole) (answer.Whether b) = refl
+  number_limbo (Bits Row word whole) answer.Done = refl
+  number_limbo (Take Pid number whole) answer.Start = refl
+  number_limbo (Take Pid number whole) (answer.Number n) = refl
+  number_limbo (Take Pid number whole) (answer.Content content) = refl
+  number_limbo (Take Pid number whole) (answer.Whether true) = refl
+  number_limbo (Take Pid number whole) (answer.Whether false) = refl
+  number_limbo (Take Pid number whole) answer.Done = refl
+  number_limbo (Take Row number whole) answer.Start = refl
+  number_limbo (Take Row number whole) (answer.Number n) = refl
+  number_limbo (Take Row number whole) (answer.Content content) = refl
+  number_limbo (Take Row number whole) (answer.Whether true) = refl
+  number_limbo (Take Row number whole) (answer.Whether false) = refl
+  number_limbo (Take Row number whole) answer.Done = refl
+
+  module _ (limits : Limits) where
+    fresh_over : (content : Record) (page old new : ℕ) → 0 < page → 0 < old → 0 < new → Fits limits k (step.Exchange page old new) (answer.Whether true)
+        → IsFreshOver limits k content old
+    fresh_over (kind.Base base) page old new p o n fits = over_fresh k limits page old new p o n fits
+    fresh_over (kind.Put put) page old new p o n fits = tt
+    fresh_over (kind.Delete delete) page old new p o n fits = tt
+    fresh_over (kind.Split split) page old new p o n fits = tt
+    fresh_over (kind.Term term) page old new p o n fits = tt
+    fresh_over (kind.Hold hold) page old new p o n fits = tt
+    fresh_over (kind.Remove remove) page old new p o n fits = tt
+    fresh_over (kind.Merge merge) page old new p o n fits = tt
+    fresh_over (kind.Unterm unterm) page old new p o n fits = tt
+
+    -- a record was linked over a page's newest row
+    linked_outs : (page old new : ℕ) (content : Record) → 0 < page → 0 < old → 0 < new → k.own.rows new ≡ Written content → Fits limits k (step.Exchange page old new) (answer.Whether true)
+        → (exchanged page old new k).limbo ≡ limbo_over content old k
+    linked_outs page old new content p o n placed fits = rw (over_learnt k page old new content p n (over_other k limits page old new p o n fits) placed) (linked_limbo content old new)
+
+    module _ (plan : Plan) (spares : Spares) where
+      taking_outs : (now : Knowledge) → now.limbo ≡ k.limbo → (state : State) (found : Found) → TakesOut limits k now plan (moved_by limits plan spares state found).end
+      taking_outs now same state (Not taking) = record { limbo = same; fresh = tt }
+      taking_outs now same state (Taken kind number) = record { limbo = same; fresh = tt }
+      taking_outs now same state (Full which) = record { limbo = same; fresh = tt }
+
+      -- what a change takes out where it goes on so
+      abbrev pub TakesOutTo : State → Answer Record → Type 0
+      TakesOutTo state told = TakesOut limits k (learn k (wanted_at plan spares state) told) plan (moved limits plan spares state told).end
+
+-- the exchange that decides won
+won_outs : (k : Knowledge) (limits : Limits) (plan : Plan) (spares : Spares) → 0 < last_row spares → IsTarget limits plan → StandsReady plan spares k.own → IsPlaced plan spares k.own → Fits limits k (wanted_at plan spares state.Link) (answer.Whether true)
+    → TakesOutTo k limits plan spares state.Link (answer.Whether true)
+won_outs k limits (Install pid head content) spares row target ready placed fits = record {
+  limbo = linked_outs k limits pid head (last_row spares) content target.page target.linked row placed fits;
+  fresh = fresh_over k limits content pid head (last_row spares) target.page target.linked row fits;
+}
+won_outs k limits (Split pid plan) spares row target ready placed fits = record { limbo = linked_outs k limits pid plan.next (last_row spares) (kind.Split (split_to plan (pid_of spares))) target.page target.linked row placed fits; fresh = tt }
+won_outs k limits (Root left root) spares row target ready placed fits = rw (rooted_learnt k left (pid_of spares) (last_row spares) ready.0) (record { limbo = refl; fresh = tt })
+won_outs k limits (Unlink pid head unterm removal) spares row target ready placed fits = record { limbo = linked_outs k limits pid head (last_row spares) (kind.Unterm unterm) target.0.page target.0.linked row placed fits; fresh = tt }
+
+-- it lost
+lost_outs : (k : Knowledge) (limits : Limits) (plan : Plan) (spares : Spares) → TakesOutTo k limits plan spares state.Link (answer.Whether false)
+lost_outs k limits (Install pid head content) spares = record { limbo = refl; fresh = tt }
+lost_outs k limits (Split pid plan) spares = record { limbo = refl; fresh = tt }
+lost_outs k limits (Root left root) spares = record { limbo = refl; fresh = tt }
+lost_outs k limits (Unlink pid head unterm removal) spares = record { limbo = refl; fresh = tt }
+
+module _ (actor : ℕ) (limits : Limits) (k : Knowledge) (spares : Spares) where
+  abbrev change : Plan → State → Change
+  change plan state = bare_at limits plan state
+
+  decided_outs : (plan : Plan) (won : Bool) → IsSoundChange (change plan state.Link) spares → IsTarget limits plan → Shows actor (change plan state.Link) spares k → Fits limits k (wanted_at plan spares state.Link) (answer.Whether won)
+      → TakesOutTo k limits plan spares state.Link (answer.Whether won)
+  decided_outs plan true sound target h fits =
+      let row = (last_is actor limits k plan spares sound.room sound.state h.may h.keeps h.are).1 in
+      won_outs k limits plan spares row target h.stands.0 h.stands.1 fits
+  decided_outs plan false sound target h fits = lost_outs k limits plan spares
+
+  -- a page whose term is out was cleared
+  cleared_outs : (plan : Plan) (told : Answer Record) → clears plan ≡ true → IsTarget limits plan → Shows actor (change plan state.Clear) spares k → Fits limits k (wanted_at plan spares state.Clear) told
+      → TakesOutTo k limits plan spares state.Clear told
+  cleared_outs (Install pid head content) told is target h fits = cc
+  cleared_outs (Split pid plan) told is target h fits = cc
+  cleared_outs (Root left root) told is target h fits = cc
+  cleared_outs (Unlink pid head unterm removal) told is target h fits =
+      let page = target.1.0 in
+      let is_told = clear_went k limits unterm.child removal told page target.2 h.stands.1 h.may.links.1 fits in
+      let fresh = clear_fresh k limits unterm.child removal page target.2 h.stands.1 (rw is_told at fits) in
+      rw (is_told, cleared_learnt k unterm.child removal page h.stands.1) (record { limbo = refl; fresh = (page, target.1.1, fresh.0, fresh.1) })
+
+  outs_at : (plan : Plan) (state : State) (told : Answer Record) → IsSoundChange (change plan state) spares → IsTarget limits plan → Shows actor (change plan state) spares k → Fits limits k (wanted_at plan spares state) told
+      → TakesOutTo k limits plan spares state told
+  outs_at plan (state.Taking taking) told sound target h fits = taking_outs k limits plan spares (learn k (wanted_number taking) told) (number_limbo k taking told) (state.Taking taking) (found_after limits taking told)
+  outs_at plan state.Base told sound target h fits = record { limbo = refl; fresh = tt }
+  outs_at plan state.Ready told sound target h fits = rw (set_learnt actor limits k plan spares sound.room sound.state.0 h.may h.keeps h.are told sound.state.1 h.stands.0 fits) (record { limbo = refl; fresh = tt })
+  outs_at plan state.Place told sound target h fits = record { limbo = refl; fresh = tt }
+  outs_at plan state.Link told sound target h fits =
+      let is = went k limits (slot_of plan) (head_of plan) (linked_number plan spares) told fits in
+      rw is (decided_outs plan (whether_in told) sound target h (rw is at fits))
+  outs_at plan state.Undo told sound target h fits =
+      let is = undo_learnt actor limits k plan spares sound.room sound.state.0 h.may h.keeps h.are told sound.state.1 h.stands fits in
+      rw (is.0, is.1) (record { limbo = refl; fresh = tt })
+  outs_at plan state.Clear told sound target h fits = cleared_outs plan told sound.state target h fits
+
+-- the same of a change that has gone on so
+module _ (old new : Change) (had has : Spares) (told : Answer Record) (end : Option End) (is : moved old.limits old.plan had old.state told ≡ record { state = new.state; spares = has; end = end }) where
+  pub outs : (actor : ℕ) (k : Knowledge) → IsSoundChange old had → IsTarget old.limits old.plan → Shows actor old had k → Fits old.limits k (wanted old had) told
+      → TakesOut old.limits k (learn k (wanted old had) told) old.plan end
+  outs actor k sound target h fits = subst (λ (now : Moved). TakesOut old.limits k (learn k (wanted old had) told) old.plan now.end) is (outs_at actor old.limits k had old.plan old.state told (sound_bare old had sound) target (shows_bare actor old had k h) fits)

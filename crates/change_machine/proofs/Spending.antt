@@ -1,0 +1,270 @@
+-- What a change's steps leave it.
+use Rattle.std.proofs.Common.{◌≡◌, ◌≢◌, ◌<◌, ◌≤◌, ◌∙◌, ◌*◌, ◌/◌, ◌%◌, ◌+◌, inl, inr, ℕ, zero, suc, [], ◌∷◌, ◌++◌, length, length-append, Bool, true, false, Option, Some, None, refl, sym, ap, subst, arith}
+use Rattle.std.specs.Prelude.{ltb, ◌==◌, ◌-◌, is_some, not, ◌&&◌, if◌then◌else◌}
+use Rattle.std.proofs.Math.Nat.{mul-le-mul_left, mul-suc}
+use Rattle.std.proofs.lemmas.Bool.{ltb-true}
+use Rattle.std.specs.Int.{bit_at, trailing_zeros, w64}
+use Rattle.tree_limits.specs.declared.limits.Limits.{Limits}
+use Rattle.bw_model.specs.declared.step.Answer.{Answer}
+use Rattle.bw_model.specs.declared.step.Answer.TheVariants as answer
+use Rattle.deltas.specs.declared.record.Record.{Record}
+use Rattle.traces.specs.discipline.Fitting.{Fits, FitsWord}
+use Rattle.traces.specs.discipline.Knowledge.{Knowledge}
+use Rattle.traces.specs.discipline.Recalled.{Recalled, WasFree, WasHead, recall}
+use Rattle.change_machine.specs.Bounded.{IsApart, RecallsAt, Spends, SpendsTo, few_steps, steps_left_at, numbers_missing, pid_taken, pids_missing}
+use Rattle.change_machine.specs.Changes.{AreEnough, Change, IsNeededNext, HasNewState, IsSoundChange, linked_number, wanted, wanted_at}
+use Rattle.structure_changes.specs.Plans.{clears, head_of, needs_pid, rows_needed, slot_of}
+use Rattle.change_machine.specs.Moves.{Moved, after_ready, after_taking, decided_by, first_state, moved, moved_by, unused, whether_in, with_number}
+use Rattle.change_machine.specs.Spares.{HaveRoom, Spares, pid_of}
+use Rattle.change_machine.specs.Taking.{IsSoundTaking, begun_at, count_of, first_word, found_after, kind_of, most_reads, most_words, recalled_words, wanted_number}
+use Rattle.change_machine.specs.declared.change.End.{End}
+use Rattle.change_machine.specs.declared.change.State.{State}
+use Rattle.change_machine.specs.declared.change.State.TheVariants as state
+use Rattle.structure_changes.specs.declared.plan.Plan.{Plan}
+use Rattle.structure_changes.specs.declared.plan.Plan.TheVariants.{Install, Split, Root, Unlink}
+use Rattle.change_machine.specs.declared.taking.Found.TheVariants.{Not, Full}
+use Rattle.change_machine.specs.declared.taking.Kind.{Kind}
+use Rattle.change_machine.specs.declared.taking.Kind.TheVariants.{Pid, Row}
+use Rattle.change_machine.specs.declared.taking.Taking.{Taking}
+use Rattle.change_machine.specs.declared.taking.Taking.TheVariants.{Bits, Take}
+use Rattle.change_machine.proofs.Answered.{only_state}
+use Rattle.change_machine.proofs.Following.{some_pid}
+use Rattle.change_machine.proofs.Learning.{went}
+use Rattle.change_machine.proofs.Taken.{in_word}
+use Rattle.change_machine.proofs.Making.{bare, bare_at, sound_bare, spends_bare}
+use Rattle.deltas.proofs.Replaced.{replaced_same, replaced_other}
+
+-- a word of either kind is one of 256
+few_words : (limits : Limits) (kind : Kind) (word : ℕ) → 64 * word < count_of limits kind → word < most_words limits
+few_words limits Pid word below = let whole = limits.allowed.whole_pids in omega (arith, below, whole)
+few_words limits Row word below = let whole = limits.allowed.whole_rows in omega (arith, below, whole)
+
+-- one number less is missing once it is taken
+fewer_missing : (plan : Plan) (spares : Spares) (kind : Kind) (number : ℕ) → IsNeededNext plan spares kind → suc (numbers_missing plan (with_number kind number spares)) ≡ numbers_missing plan spares
+fewer_missing plan spares Pid number missing = rw (missing.0, missing.1) (omega arith)
+fewer_missing plan spares Row number missing =
+    let some = missing.0 in
+    let more : length (spares.rows ++ number ∷ []) ≡ length spares.rows + 1 = length-append spares.rows (number ∷ []) in
+    omega (arith, some, more)
+
+-- a change that clears a page has no new one
+clears_apart : (plan : Plan) (pid : Option ℕ) → clears plan ≡ true → IsApart plan pid
+clears_apart (Install page head content) pid is = tt
+clears_apart (Split page plan) pid is = cc
+clears_apart (Root left root) pid is = tt
+clears_apart (Unlink page head unterm removal) pid is = tt
+
+-- a taking goes over all words twice at most
+few_left : (limits : Limits) (word : ℕ) (whole : Bool) → (if whole then suc (most_words limits) - word else most_reads limits - word) ≤ most_reads limits
+unfolding most_reads
+few_left limits word true = omega arith
+few_left limits word false = omega arith
+
+reads_are : (limits : Limits) → most_reads limits ≡ 2 * most_words limits + 2
+unfolding most_reads
+reads_are limits = refl
+
+-- of one number more
+reads_more : (limits : Limits) (n : ℕ) → 1 ≤ n → most_reads limits * (n - 1) + most_reads limits ≡ most_reads limits * n
+reads_more limits zero some = absurd (omega arith)
+reads_more limits (suc n) some = let e : suc n - 1 ≡ n = omega arith in rw e (sym (mul-suc (most_reads limits) n))
+
+reads_same : (limits : Limits) (m n : ℕ) → suc m ≡ n → most_reads limits * m ≡ most_reads limits * (n - 1)
+reads_same limits m n e = let same : m ≡ n - 1 = omega (arith, e) in ap (λ k. most_reads limits * k) same
+
+-- at most three numbers are missing
+few_missing : (plan : Plan) (spares : Spares) → numbers_missing plan spares ≤ 3
+few_missing plan spares = let one = one_pid (needs_pid plan) spares.pid in let two = two_rows plan in omega (arith, one, two)
+  where
+    one_pid : (needs : Bool) (pid : Option ℕ) → pids_missing needs pid ≤ 1
+    one_pid false pid = omega arith
+    one_pid true None = omega arith
+    one_pid true (Some pid) = omega arith
+
+    two_rows : (plan : Plan) → rows_needed plan ≤ 2
+    two_rows (Install pid head content) = omega arith
+    two_rows (Split pid plan) = omega arith
+    two_rows (Root left root) = omega arith
+    two_rows (Unlink pid head unterm removal) = omega arith
+
+-- how many steps a change takes at most from its first state on
+pub left_first : (limits : Limits) (after : ℕ) (plan : Plan) (spares : Spares) → steps_left_at limits after plan spares (first_state limits plan spares) ≤ most_reads limits * numbers_missing plan spares + 5
+left_first limits after plan spares = at_first (needs_pid plan && not (is_some spares.pid)) refl (ltb (length spares.rows) (rows_needed plan)) refl
+  where
+    some_missing : (needs : Bool) (pid : Option ℕ) → (needs && not (is_some pid)) ≡ true → pids_missing needs pid ≡ 1
+    some_missing false pid e = cc
+    some_missing true None e = refl
+    some_missing true (Some pid) e = cc
+
+    at_place : (plan : Plan) → steps_left_at limits after plan spares (after_taking plan) ≤ 4
+    at_place (Install pid head content) = omega arith
+    at_place (Split pid plan) = omega arith
+    at_place (Root left root) = omega arith
+    at_place (Unlink pid head unterm removal) = omega arith
+
+    at_first : (pid : Bool) → (needs_pid plan && not (is_some spares.pid)) ≡ pid → (row : Bool) → ltb (length spares.rows) (rows_needed plan) ≡ row
+        → steps_left_at limits after plan spares (if pid then state.Taking (begun_at limits Pid (head_of plan)) else if row then state.Taking (begun_at limits Row (head_of plan)) else after_taking plan) ≤ most_reads limits * numbers_missing plan spares + 5
+    at_first true pid row e = let one = some_missing (needs_pid plan) spares.pid pid in let few = few_left limits (first_word limits Pid (head_of plan)) (first_word limits Pid (head_of plan) == 0) in let more = reads_more limits (numbers_missing plan spares) (omega (arith, one)) in omega (arith, one, few, more)
+    at_first false pid true e = let some = ltb-true (length spares.rows) (rows_needed plan) e in let few = few_left limits (first_word limits Row (head_of plan)) (first_word limits Row (head_of plan) == 0) in let more = reads_more limits (numbers_missing plan spares) (omega (arith, some)) in omega (arith, some, few, more)
+    at_first false pid false e = let few = at_place plan in omega (arith, few)
+
+pub few_first : (limits : Limits) (after : ℕ) (plan : Plan) (spares : Spares) → steps_left_at limits after plan spares (first_state limits plan spares) ≤ few_steps limits
+few_first limits after plan spares =
+    let first = left_first limits after plan spares in
+    let three = mul-le-mul_left (most_reads limits) (few_missing plan spares) in
+    omega (arith, first, three)
+
+-- at its first state it recalls the slot that decides
+recalls_first : (limits : Limits) (r : Recalled) (plan : Plan) (spares : Spares) → WasHead r (slot_of plan) (head_of plan) → RecallsAt r plan (first_state limits plan spares)
+recalls_first limits r plan spares h = at_first (needs_pid plan && not (is_some spares.pid)) (ltb (length spares.rows) (rows_needed plan))
+  where
+    at_place : (other : Plan) → RecallsAt r plan (after_taking other)
+    at_place (Install pid head content) = h
+    at_place (Split pid plan) = h
+    at_place (Root left root) = h
+    at_place (Unlink pid head unterm removal) = h
+
+    at_first : (pid row : Bool) → RecallsAt r plan (if pid then state.Taking (begun_at limits Pid (head_of plan)) else if row then state.Taking (begun_at limits Row (head_of plan)) else after_taking plan)
+    at_first true row = h
+    at_first false true = h
+    at_first false false = at_place plan
+
+module _ (limits : Limits) (plan : Plan) (spares : Spares) (after : ℕ) (r : Recalled) (apart : IsApart plan spares.pid) where
+  abbrev change : State → Change
+  change state = bare_at limits plan state
+
+  abbrev pub SpendsSo : State → Answer Record → Moved → Type 0
+  SpendsSo state told now = SpendsTo after r (change state) spares told (change now.state) now.spares now.end
+
+  -- a word was read
+  word_head : (kind : Kind) (word : ℕ) (whole : Bool) (bits : ℕ) → WasHead r (slot_of plan) (head_of plan) → WasHead (recall r (wanted_number (Bits kind word whole)) (answer.Number bits)) (slot_of plan) (head_of plan)
+  word_head Pid word whole bits h = h
+  word_head Row word whole bits h = h
+
+  empty_word : (kind : Kind) (word : ℕ) (whole : Bool) → 64 * word < count_of limits kind → WasHead r (slot_of plan) (head_of plan)
+      → SpendsSo (state.Taking (Bits kind word whole)) (answer.Number 0) (moved_by limits plan spares (state.Taking (Bits kind word whole)) (found_after limits (Bits kind word whole) (answer.Number 0)))
+  empty_word kind word whole below h = go (ltb (suc word) (count_of limits kind / 64)) whole
+    where
+      after_word : Bool → Bool → Moved
+      after_word more all = moved_by limits plan spares (state.Taking (Bits kind word all)) (if more then Not (Bits kind (suc word) all) else if all then Full kind else Not (Bits kind 0 true))
+
+      few : word < most_words limits
+      few = few_words limits kind word below
+
+      go : (more all : Bool) → SpendsSo (state.Taking (Bits kind word all)) (answer.Number 0) (after_word more all)
+      go true true = (record { at = word_head kind word true 0 h; apart = apart }, inl (let f = few in omega (arith, f)))
+      go true false = (record { at = word_head kind word false 0 h; apart = apart }, inl (let f = few in let are = reads_are limits in omega (arith, f, are)))
+      go false true = let f = few in omega (arith, f)
+      go false false = (record { at = word_head kind word false 0 h; apart = apart }, inl (let f = few in let are = reads_are limits in omega (arith, f, are)))
+
+  free_then : (kind : Kind) (word : ℕ) (whole : Bool) (bits number : ℕ) → number / 64 ≡ word → bit_at bits (number % 64) ≡ 1 → WasFree (recalled_words (recall r (wanted_number (Bits kind word whole)) (answer.Number bits)) kind) number
+  free_then Pid word whole bits number place free = (bits, rw place (replaced_same word (Some bits) r.pids), free)
+  free_then Row word whole bits number place free = (bits, rw place (replaced_same word (Some bits) r.rows), free)
+
+  some_word : (kind : Kind) (word : ℕ) (whole : Bool) (bits : ℕ) → 64 * word < count_of limits kind → FitsWord (count_of limits kind) word (suc bits) → WasHead r (slot_of plan) (head_of plan)
+      → SpendsSo (state.Taking (Bits kind word whole)) (answer.Number (suc bits)) (moved_by limits plan spares (state.Taking (Bits kind word whole)) (found_after limits (Bits kind word whole) (answer.Number (suc bits))))
+  some_word kind word whole bits below fits h =
+      let few = few_words limits kind word below in
+      let lowest = in_word (count_of limits kind) word bits fits in
+      (record { at = (word_head kind word whole (suc bits) h, free_then kind word whole (suc bits) (64 * word + trailing_zeros w64 (suc bits)) lowest.0 lowest.1); apart = apart }, inl (more_left whole few))
+    where
+      more_left : (all : Bool) → word < most_words limits → steps_left_at limits after plan spares (state.Taking (Take kind (64 * word + trailing_zeros w64 (suc bits)) all)) < steps_left_at limits after plan spares (state.Taking (Bits kind word all))
+      more_left true few = omega (arith, few)
+      more_left false few = let are = reads_are limits in omega (arith, few, are)
+
+  missed : (kind : Kind) (number : ℕ) (whole : Bool) → WasHead r (slot_of plan) (head_of plan) → WasFree (recalled_words r kind) number
+      → SpendsSo (state.Taking (Take kind number whole)) (answer.Whether false) (moved_by limits plan spares (state.Taking (Take kind number whole)) (found_after limits (Take kind number whole) (answer.Whether false)))
+  missed Pid number true h free = (record { at = h; apart = apart }, inr (free, (let few = few_left limits (number / 64) true in omega (arith, few))))
+  missed Pid number false h free = (record { at = h; apart = apart }, inr (free, (let few = few_left limits (number / 64) false in omega (arith, few))))
+  missed Row number true h free = (record { at = h; apart = apart }, inr (free, (let few = few_left limits (number / 64) true in omega (arith, few))))
+  missed Row number false h free = (record { at = h; apart = apart }, inr (free, (let few = few_left limits (number / 64) false in omega (arith, few))))
+
+  took : (kind : Kind) (number : ℕ) (whole : Bool) → IsNeededNext plan spares kind → WasHead r (slot_of plan) (head_of plan) → IsApart plan (pid_taken (wanted_number (Take kind number whole)) (answer.Whether true))
+      → SpendsSo (state.Taking (Take kind number whole)) (answer.Whether true) (moved_by limits plan spares (state.Taking (Take kind number whole)) (found_after limits (Take kind number whole) (answer.Whether true)))
+  took Pid number whole missing h far =
+      let less = fewer_missing plan spares Pid number missing in
+      let first = left_first limits after plan (with_number Pid number spares) in
+      (record { at = recalls_first limits (recall r (wanted_number (Take Pid number whole)) (answer.Whether true)) plan (with_number Pid number spares) h; apart = far }, inl (let same = reads_same limits _ _ less in omega (arith, less, first, same)))
+  took Row number whole missing h far =
+      let less = fewer_missing plan spares Row number missing in
+      let first = left_first limits after plan (with_number Row number spares) in
+      (record { at = recalls_first limits (recall r (wanted_number (Take Row number whole)) (answer.Whether true)) plan (with_number Row number spares) h; apart = apart }, inl (let same = reads_same limits _ _ less in omega (arith, less, first, same)))
+
+  takes : (taking : Taking) (told : Answer Record) → (k : Knowledge) → Fits limits k (wanted_number taking) told → IsSoundTaking limits taking → IsNeededNext plan spares (kind_of taking) → RecallsAt r plan (state.Taking taking) → IsApart plan (pid_taken (wanted_number taking) told)
+      → SpendsSo (state.Taking taking) told (moved_by limits plan spares (state.Taking taking) (found_after limits taking told))
+  takes (Bits kind word whole) (answer.Number zero) k fits sound missing h far = empty_word kind word whole sound h
+  takes (Bits Pid word whole) (answer.Number (suc bits)) k fits sound missing h far = some_word Pid word whole bits sound fits h
+  takes (Bits Row word whole) (answer.Number (suc bits)) k fits sound missing h far = some_word Row word whole bits sound fits h
+  takes (Bits Pid word whole) answer.Start k fits sound missing h far = absurd fits
+  takes (Bits Row word whole) answer.Start k fits sound missing h far = absurd fits
+  takes (Bits Pid word whole) (answer.Content content) k fits sound missing h far = absurd fits
+  takes (Bits Row word whole) (answer.Content content) k fits sound missing h far = absurd fits
+  takes (Bits Pid word whole) (answer.Whether b) k fits sound missing h far = absurd fits
+  takes (Bits Row word whole) (answer.Whether b) k fits sound missing h far = absurd fits
+  takes (Bits Pid word whole) answer.Done k fits sound missing h far = absurd fits
+  takes (Bits Row word whole) answer.Done k fits sound missing h far = absurd fits
+  takes (Take kind number whole) (answer.Whether true) k fits sound missing h far = took kind number whole missing h.0 far
+  takes (Take kind number whole) (answer.Whether false) k fits sound missing h far = missed kind number whole h.0 h.1
+  takes (Take Pid number whole) answer.Start k fits sound missing h far = absurd fits
+  takes (Take Row number whole) answer.Start k fits sound missing h far = absurd fits
+  takes (Take Pid number whole) (answer.Content content) k fits sound missing h far = absurd fits
+  takes (Take Row number whole) (answer.Content content) k fits sound missing h far = absurd fits
+  takes (Take Pid number whole) (answer.Number n) k fits sound missing h far = absurd fits
+  takes (Take Row number whole) (answer.Number n) k fits sound missing h far = absurd fits
+  takes (Take Pid number whole) answer.Done k fits sound missing h far = absurd fits
+  takes (Take Row number whole) answer.Done k fits sound missing h far = absurd fits
+
+  -- the new page isn't the slot that decides
+  slot_apart : (plan : Plan) → needs_pid plan ≡ true → IsApart plan (Some (pid_of spares)) → 0 < pid_of spares → slot_of plan ≢ pid_of spares
+  slot_apart (Install pid head content) needs far some = cc
+  slot_apart (Unlink pid head unterm removal) needs far some = cc
+  slot_apart (Split pid plan) needs far some = λ e. far (sym e)
+  slot_apart (Root left root) needs far some = λ e. let is : 0 ≡ pid_of spares = e in omega (arith, some, is)
+
+  set : AreEnough plan spares → needs_pid plan ≡ true → HaveRoom limits spares → (told : Answer Record) → WasHead r (slot_of plan) (head_of plan) → SpendsSo state.Ready told (record { state = after_ready plan; spares = spares; end = None })
+  set enough needs room told h =
+      let is = some_pid spares.pid (enough.pid needs) in
+      let some = (rw is at room.pid).0.0 in
+      let other = slot_apart plan needs (rw is at apart) some in
+      let still : WasHead (recall r (wanted_at plan spares state.Ready) told) (slot_of plan) (head_of plan) = (h.0, replaced_other (pid_of spares) None r.heads (slot_of plan) other ∙ h.1) in
+      (record { at = at_next plan still; apart = apart }, inl (less plan))
+    where
+      at_next : (other : Plan) → WasHead (recall r (wanted_at plan spares state.Ready) told) (slot_of plan) (head_of plan) → RecallsAt (recall r (wanted_at plan spares state.Ready) told) plan (after_ready other)
+      at_next (Install pid head content) h = h
+      at_next (Split pid plan) h = h
+      at_next (Root left root) h = h
+      at_next (Unlink pid head unterm removal) h = h
+
+      less : (other : Plan) → steps_left_at limits after plan spares (after_ready other) < 3
+      less (Install pid head content) = omega arith
+      less (Split pid plan) = omega arith
+      less (Root left root) = omega arith
+      less (Unlink pid head unterm removal) = omega arith
+
+  decided : (won : Bool) → WasHead r (slot_of plan) (head_of plan) → SpendsSo state.Link (answer.Whether won) (decided_by plan spares won)
+  decided true h = won (clears plan) refl
+    where
+      won : (clearing : Bool) → clears plan ≡ clearing → SpendsSo state.Link (answer.Whether true) (decided_by plan spares true)
+      won true is = rw is (record { at = tt; apart = clears_apart plan (unused plan spares).pid is }, inr (h, omega arith))
+      won false is = rw is (inl h)
+  decided false h = lost (needs_pid plan) refl
+    where
+      lost : (needs : Bool) → needs_pid plan ≡ needs → SpendsSo state.Link (answer.Whether false) (decided_by plan spares false)
+      lost true is = rw is (record { at = tt; apart = apart }, inr (h, omega arith))
+      lost false is = rw is (inl h)
+
+  spends_at : (state : State) (told : Answer Record) (k : Knowledge) → Fits limits k (wanted_at plan spares state) told → IsSoundChange (change state) spares → RecallsAt r plan state → IsApart plan (pid_taken (wanted_at plan spares state) told) → SpendsSo state told (moved limits plan spares state told)
+  spends_at (state.Taking taking) told k fits sound h far = takes taking told k fits sound.state.0 sound.state.1 h far
+  spends_at state.Base told k fits sound h far = (record { at = h; apart = apart }, inl (omega arith))
+  spends_at state.Ready told k fits sound h far = set sound.state.0 sound.state.1 sound.room told h
+  spends_at state.Place told k fits sound h far = (record { at = h; apart = apart }, inl (omega arith))
+  spends_at state.Link told k fits sound h far = let is = went k limits (slot_of plan) (head_of plan) (linked_number plan spares) told fits in rw is (decided (whether_in told) h)
+  spends_at state.Undo told k fits sound h far = inr (omega arith)
+  spends_at state.Clear told k fits sound h far = inr (sound.state, omega arith)
+
+module _ (old new : Change) (had has : Spares) (told : Answer Record) (end : Option End) (is : moved old.limits old.plan had old.state told ≡ record { state = new.state; spares = has; end = end }) (same : HasNewState old new) where
+  pub spends : (k : Knowledge) → Fits old.limits k (wanted old had) told → IsSoundChange old had → Spends old had told new has end
+  spends k fits sound = λ after r h far.
+      let at_state = spends_at old.limits old.plan had after r h.apart old.state told k fits (sound_bare old had sound) h.at far in
+      spends_bare after r old had told new has end
+      (rw (only_state old new had has told end is same) (subst (λ (now : Moved). SpendsTo after r (bare old) had told (bare_at old.limits old.plan now.state) now.spares now.end) is at_state))

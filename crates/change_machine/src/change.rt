@@ -1,0 +1,326 @@
+//! A change of the tree: a record over a page's newest row, the split of a page, a new root, or the end of a removed page.
+ghost use Rattle.std.specs.Prelude.{◌≡◌, ◌<◌, ◌≤◌, ◌*◌, ◌+◌, ◌/◌, ℕ, Bool, false, None, Some, IfNone};
+ghost use Rattle.std.specs.Int.{trailing_zeros, w64};
+ghost use Rattle.bw_model.specs.Answers.{answer_of};
+ghost use Rattle.bw_model.specs.Lent.{lent};
+ghost use Rattle.tree_limits.specs.declared.limits.Limits.{Limits as LimitsSeen};
+ghost use Rattle.traces.specs.discipline.Discipline.{May, MayFree};
+ghost use Rattle.traces.specs.discipline.Fitting.{Fits};
+ghost use Rattle.traces.specs.discipline.Knowledge.{Knowledge, learn};
+ghost use Rattle.traces.specs.discipline.Recalled.{Recalled, WasHead};
+ghost use Rattle.change_machine.specs.Bounded.{IsApart, IsPidFrom, Recalls, Spends, few_steps, pid_taken, steps_left};
+ghost use Rattle.change_machine.specs.Changes.{Follows, IsMade, IsMadeAt, IsOfChange, HasNewState, IsSoundChange, IsSpellablePlan, IsTarget, FitsChange, KeepsSpare, MayChange, Shows, at, base_row, linked_number, placed_in, wanted};
+ghost use Rattle.structure_changes.specs.Plans.{head_of, slot_of};
+ghost use Rattle.change_machine.specs.Moves.{after_ready, decided_by, first_state, moved, moved_by};
+ghost use Rattle.change_machine.specs.Outs.{TakesFresh, limbo_after};
+ghost use Rattle.change_machine.specs.Spares.{HaveRoom, Rest};
+ghost use Rattle.change_machine.specs.Taking.{found_after};
+ghost use Rattle.traces.specs.trace.Within.{IsWithin};
+
+use crate::Spares;
+use crate::taking::{Found, Kind, Taking, went};
+use bw_model::{Limits, Step, Told};
+use deltas::{Record, Remove};
+use std::marker::Model;
+use structure_changes::Plan;
+
+/// How a change ended.
+#[derive(Clone, Copy, PartialEq, Eq)]
+pub enum End {
+    /// What was planned is linked, and a page that was to be cleared is cleared.
+    Won,
+    /// Another actor's exchange came before.
+    Lost,
+    /// A number of this kind was needed, none was spare, and none was free.
+    Full(Kind),
+}
+
+/// Where a change stands: each state is named by the step that it has asked for.
+#[derive(Clone, Copy)]
+pub(crate) enum State {
+    /// A PID or a row is taken.
+    Taking(Taking),
+    /// The base of the new page is placed.
+    Base,
+    /// The new page's slot goes from 0 to its base.
+    Ready,
+    /// The record that comes over a page's newest row is placed.
+    Place,
+    /// The exchange that decides.
+    Link,
+    /// The new page's slot goes back to 0.
+    Undo,
+    /// The slot of a removed page, whose term is out, goes to 0.
+    Clear,
+}
+
+/// A change that is under way. What it takes and places is among the spares of its actor until it is linked. A record that is to be
+/// placed, and that the plan hasn't as such, is made once, and lies here.
+#[derive(Drop)]
+pub struct Change {
+    limits: Limits,
+    plan: Plan,
+    state: State,
+    made: Record,
+}
+
+impl Model for Change {
+    ghost use Rattle.change_machine.specs.Changes.{Change, IsSpellablePlan, IsTarget};
+
+    ghost Value = { Change };
+
+    ghost view = { λ c. record { limits = c.limits; plan = c.plan; state = c.state; made = c.made } };
+
+    ghost invariant = { λ c. IsTarget c.limits c.plan × IsSpellablePlan c.plan };
+}
+
+impl Change {
+    /// The change that links what is planned. It takes a number only where no spare one of the kind is left: a PID first, then rows.
+    pub fn new(limits: &Limits, spares: &Spares, plan: Plan) -> Change
+        requires target { IsTarget limits.now plan }
+        requires spells { IsSpellablePlan plan }
+        requires room { HaveRoom limits.now spares.now }
+        ensures shows { (actor : ℕ) (k : Knowledge) → MayChange actor k plan → KeepsSpare plan spares.now.pid → Rest k.own spares.now → Shows actor result spares.now k }
+        ensures sound { IsSoundChange result spares.now }
+        ensures made { IsMade result spares.now }
+        ensures limits { result.limits ≡ limits.now }
+        ensures plan { result.plan ≡ plan }
+        ensures recalls { (r : Recalled) → WasHead r (slot_of plan) (head_of plan) → IsApart plan spares.now.pid → Recalls result spares.now r }
+        ensures few { (after : ℕ) → steps_left after result spares.now ≤ few_steps limits.now }
+    {
+        let state = first_state(limits, &plan, spares);
+        let made = made_for(&plan, state, spares);
+        Change {
+            limits: *limits,
+            plan,
+            state,
+            made,
+        }
+    }
+
+    /// The step that the change wants next, with the record that is to be placed lent from where it lies.
+    pub fn wanted(&self, spares: &Spares) -> Step<&Record>
+        requires sound { IsSoundChange self.now spares.now }
+        requires made { IsMade self.now spares.now }
+        ensures wanted { lent result ≡ wanted self.now spares.now }
+        ensures within { IsWithin self.now.limits (lent result) }
+        ensures may { (actor : ℕ) (k : Knowledge) → Shows actor self.now spares.now k → May actor k (lent result) }
+        ensures only { IsOfChange (lent result) }
+        ensures frees { (limits : LimitsSeen) (actor : ℕ) (k : Knowledge) → MayFree limits actor k (lent result) }
+    {
+        match self.state {
+            State::Taking(taking) => taking.wanted(),
+            State::Base => Step::Place(self.base_row(spares), self.placed()),
+            State::Ready => Step::Exchange(spares.pid_or_0(), 0, self.base_row(spares)),
+            State::Place => Step::Place(spares.last_row(), self.placed()),
+            State::Link => Step::Exchange(
+                self.plan.slot(),
+                self.plan.head(),
+                self.linked_number(spares),
+            ),
+            State::Undo => Step::Exchange(spares.pid_or_0(), self.base_row(spares), 0),
+            State::Clear => Step::Exchange(self.plan.cleared_page(), self.plan.cleared_row(), 0),
+        }
+    }
+
+    /// The record that is to be placed.
+    fn placed(&self) -> &Record
+        ensures { result.now ≡ placed_in self.now.plan self.now.made }
+    {
+        match &self.plan {
+            Plan::Install { content, .. } => content,
+            Plan::Split { .. } | Plan::Root { .. } | Plan::Unlink { .. } => &self.made,
+        }
+    }
+
+    /// Is told the answer to the step wanted last, and tells whether the change has ended.
+    pub fn next(&mut self, spares: &mut Spares, told: Told) -> Option<End>
+        requires sound { IsSoundChange self.old spares.old }
+        requires told { FitsChange self.old spares.old (answer_of told) }
+        ensures follows { (actor : ℕ) (k : Knowledge) → Shows actor self.old spares.old k → Fits self.old.limits k (wanted self.old spares.old) (answer_of told) → Follows actor k (learn k (wanted self.old spares.old) (answer_of told)) self.old (answer_of told) self.new spares.new result }
+        ensures limbo { (actor : ℕ) (k : Knowledge) → Shows actor self.old spares.old k → Fits self.old.limits k (wanted self.old spares.old) (answer_of told) → (learn k (wanted self.old spares.old) (answer_of told)).limbo ≡ limbo_after self.old.plan result k }
+        ensures fresh { (actor : ℕ) (k : Knowledge) → Shows actor self.old spares.old k → Fits self.old.limits k (wanted self.old spares.old) (answer_of told) → TakesFresh self.old.limits k self.old.plan result }
+        ensures sound { IfNone result (IsSoundChange self.new spares.new) }
+        ensures made { IsMade self.new spares.new }
+        ensures room { HaveRoom self.old.limits spares.new }
+        ensures same { HasNewState self.old self.new }
+        ensures pid { IsPidFrom spares.old.pid (pid_taken (wanted self.old spares.old) (answer_of told)) spares.new.pid }
+        ensures spends { Spends self.old spares.old (answer_of told) self.new spares.new result }
+        ensures lowest { (kind : Kind) (word bits : ℕ) (whole : Bool) → self.old.state ≡ State.Taking (Taking.Bits kind word whole) → told ≡ Told.Number bits → 0 < bits → self.new.state ≡ State.Taking (Taking.Take kind (64 * word + trailing_zeros w64 bits) whole) }
+        ensures again { (kind : Kind) (number : ℕ) (whole : Bool) → self.old.state ≡ State.Taking (Taking.Take kind number whole) → told ≡ Told.Whether false → self.new.state ≡ State.Taking (Taking.Bits kind (number / 64) whole) }
+    {
+        let _ = &self.limits;
+        self.move_on(spares, told)
+    }
+
+    /// Goes to the state that follows, and makes what is to be placed there.
+    fn move_on(&mut self, spares: &mut Spares, told: Told) -> Option<End>
+        requires sound { IsSoundChange self.old spares.old }
+        requires told { FitsChange self.old spares.old (answer_of told) }
+        ensures moved { moved self.old.limits self.old.plan spares.old self.old.state (answer_of told) ≡ record { state = self.new.state; spares = spares.new; end = result } }
+        ensures same { HasNewState self.old self.new }
+        ensures made { IsMade self.new spares.new }
+    {
+        let end = self.follow(spares, told);
+        self.make(spares);
+        end
+    }
+
+    /// Makes the record that is to be placed next, where the plan hasn't it as such.
+    fn make(&mut self, spares: &Spares)
+        ensures made { IsMade self.new spares.now }
+        ensures same { HasNewState self.old self.new }
+        ensures state { self.new.state ≡ self.old.state }
+    {
+        if let Plan::Install { .. } = &self.plan {
+            return;
+        }
+        if let State::Base | State::Place = self.state {
+            self.make_now(spares);
+        }
+    }
+
+    /// Makes the record that is to be placed next.
+    #[inline(never)]
+    fn make_now(&mut self, spares: &Spares)
+        ensures made { IsMade self.new spares.now }
+        ensures same { HasNewState self.old self.new }
+        ensures state { self.new.state ≡ self.old.state }
+    {
+        self.made = made_for(&self.plan, self.state, spares);
+    }
+
+    /// Goes to the state that follows.
+    fn follow(&mut self, spares: &mut Spares, told: Told) -> Option<End>
+        requires sound { IsSoundChange self.old spares.old }
+        requires told { FitsChange self.old spares.old (answer_of told) }
+        ensures moved { moved self.old.limits self.old.plan spares.old self.old.state (answer_of told) ≡ record { state = self.new.state; spares = spares.new; end = result } }
+        ensures same { HasNewState self.old self.new }
+    {
+        match self.state {
+            State::Taking(taking) => self.go_on_taking(spares, taking, told),
+            State::Base => self.go(State::Ready),
+            State::Ready => {
+                let state = after_ready(&self.plan);
+                self.go(state)
+            }
+            State::Place => self.go(State::Link),
+            State::Link => self.decide(spares, went(told)),
+            State::Undo => Some(End::Lost),
+            State::Clear => Some(End::Won),
+        }
+    }
+
+    /// Goes on with a taking; what was taken is a spare.
+    fn go_on_taking(&mut self, spares: &mut Spares, taking: Taking, told: Told) -> Option<End>
+        requires state { self.old.state ≡ State.Taking taking }
+        requires sound { IsSoundChange self.old spares.old }
+        requires told { FitsChange self.old spares.old (answer_of told) }
+        ensures moved { moved_by self.old.limits self.old.plan spares.old self.old.state (found_after self.old.limits taking (answer_of told)) ≡ record { state = self.new.state; spares = spares.new; end = result } }
+        ensures same { HasNewState self.old self.new }
+    {
+        match taking.next(&self.limits, told) {
+            Found::Not(taking) => self.go(State::Taking(taking)),
+            Found::Taken { kind, number } => {
+                spares.keep(kind, number);
+                let state = first_state(&self.limits, &self.plan, spares);
+                self.go(state)
+            }
+            Found::Full(kind) => Some(End::Full(kind)),
+        }
+    }
+
+    /// Goes to a state.
+    fn go(&mut self, state: State) -> Option<End>
+        ensures moved { self.new ≡ at self.old state }
+        ensures on { result ≡ None }
+    {
+        self.state = state;
+        None
+    }
+
+    /// The exchange that decides was answered: what is linked is spare no more, and a page whose term is out is cleared; a new page
+    /// that is not linked is emptied again.
+    fn decide(&mut self, spares: &mut Spares, won: bool) -> Option<End>
+        requires state { self.old.state ≡ State.Link }
+        ensures decided { decided_by self.old.plan spares.old won ≡ record { state = self.new.state; spares = spares.new; end = result } }
+        ensures same { HasNewState self.old self.new }
+    {
+        if won {
+            spares.release(&self.plan);
+            if self.plan.clears() {
+                return self.go(State::Clear);
+            }
+            return Some(End::Won);
+        }
+        if self.plan.needs_pid() {
+            return self.go(State::Undo);
+        }
+        Some(End::Lost)
+    }
+
+    /// The row of the new page's base.
+    fn base_row(&self, spares: &Spares) -> u32
+        ensures { result ≡ base_row self.now.plan spares.now }
+    {
+        match &self.plan {
+            Plan::Split { .. } => spares.first_row(),
+            Plan::Install { .. } | Plan::Root { .. } | Plan::Unlink { .. } => spares.last_row(),
+        }
+    }
+
+    /// What comes into the slot whose exchange decides.
+    fn linked_number(&self, spares: &Spares) -> u32
+        ensures { result ≡ linked_number self.now.plan spares.now }
+    {
+        match &self.plan {
+            Plan::Install { .. } | Plan::Split { .. } | Plan::Unlink { .. } => spares.last_row(),
+            Plan::Root { .. } => spares.pid_or_0(),
+        }
+    }
+}
+
+/// The record that is to be placed in a state, where the plan hasn't it as such.
+fn made_for(plan: &Plan, state: State, spares: &Spares) -> Record
+    ensures { IsMadeAt plan.now result spares.now state }
+{
+    match plan {
+        Plan::Install { .. } => nothing(),
+        Plan::Split { .. } | Plan::Root { .. } | Plan::Unlink { .. } => match state {
+            State::Base => plan.base(),
+            State::Place => plan.record(spares.pid_or_0()),
+            _ => nothing(),
+        },
+    }
+}
+
+/// A record where none is needed.
+fn nothing() -> Record {
+    Record::Remove(Remove { level: 0, next: 0 })
+}
+
+/// What follows once the new page's slot is set.
+fn after_ready(plan: &Plan) -> State
+    ensures { result ≡ after_ready plan.now }
+{
+    match plan {
+        Plan::Install { .. } | Plan::Split { .. } | Plan::Unlink { .. } => State::Place,
+        Plan::Root { .. } => State::Link,
+    }
+}
+
+/// Where a change goes on with these spares.
+fn first_state(limits: &Limits, plan: &Plan, spares: &Spares) -> State
+    ensures { result ≡ first_state limits.now plan.now spares.now }
+{
+    if plan.needs_pid() && spares.pid().is_none() {
+        return State::Taking(Taking::begin(limits, Kind::Pid, plan.head()));
+    }
+    if spares.rows().len() < plan.rows_needed() {
+        return State::Taking(Taking::begin(limits, Kind::Row, plan.head()));
+    }
+    match plan {
+        Plan::Install { .. } | Plan::Unlink { .. } => State::Place,
+        Plan::Split { .. } | Plan::Root { .. } => State::Base,
+    }
+}

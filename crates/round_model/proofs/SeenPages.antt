@@ -1,0 +1,12 @@
+-- A page that was seen was read.
+use Rattle.std.proofs.Common.{ℕ}
+use Rattle.deltas.specs.declared.record.Record.{Record}
+use Rattle.traces.specs.discipline.Knowledge.{Knowledge}
+use Rattle.structure_changes.specs.Readings.{HasSeen}
+use Rattle.structure_changes.specs.Reads.{IsReadPage}
+use Rattle.structure_changes.specs.Versions.{Version}
+use Rattle.round_model.specs.Machines.{AreThere}
+
+-- its records may be looked at, where what was read is there
+pub seen_is_read : (is_there : ℕ → Record → Type 0) (k : Knowledge) (version : Version) → HasSeen k version → AreThere is_there k → IsReadPage is_there version
+seen_is_read is_there k version seen there = record { seen = k.read.seen; leads = seen.read; stand = there }

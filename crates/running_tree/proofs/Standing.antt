@@ -1,0 +1,59 @@
+-- What a seat's actor has read stands where it lies.
+use Rattle.std.proofs.Common.{◌≡◌, ℕ, List, sym, refl, ap, ◌∙◌, subst}
+use Rattle.std.specs.Prelude.{Some, None, slice_index, unwrap_or}
+use Rattle.atomic_table.specs.Seated.{TableId}
+use Rattle.tree_limits.specs.declared.limits.Limits.{Limits}
+use Rattle.bw_model.specs.declared.step.Answer.TheVariants.{Content}
+use Rattle.bw_model.specs.declared.step.Step.TheVariants.{Row}
+use Rattle.deltas.specs.declared.record.Record.{Record}
+use Rattle.deltas.specs.declared.record.Record.TheVariants.{Remove}
+use Rattle.round_model.specs.Machines.{AreThere}
+use Rattle.record_slots.specs.Spelling.{words_of}
+use Rattle.record_slots.specs.Spells.{HasSpelling}
+use Rattle.traces.specs.declared.trace.Entry.{Entry}
+use Rattle.traces.specs.discipline.Knowledge.{knows}
+use Rattle.table_rule.specs.declared.view.Reach.TheVariants.{Idle}
+use Rattle.table_rule.specs.Steps.{ReadsFirst, Took}
+use Rattle.table_rule.specs.Views.{Mine, SitsAt, seen_of}
+use Rattle.running_tree.specs.Seats.{Seat}
+use Rattle.running_tree.specs.Trees.{IsSeatOf, Tree}
+use Rattle.running_tree.specs.Runs.{IsLawfulRun}
+use Rattle.running_tree.specs.SeatLaws.{HaveLaws}
+use Rattle.running_tree.specs.Stands.{Stands, read_by}
+use Rattle.running_tree.proofs.Owning.{limits_of, table_of}
+use Rattle.running_tree.proofs.Seats.{known_after}
+use Rattle.deltas.proofs.Replaced.{replaced_same}
+
+-- a record that an actor has read is below the limit, and may be looked at
+pub all_stand : HaveLaws → (limits : Limits) (table seat : TableId) (a : ℕ) (me : Mine) → IsLawfulRun limits (seen_of me) → seat ≡ table → SitsAt limits a Idle me → AreThere (Stands limits table seat a me) (knows (seen_of me) a)
+all_stand laws limits table seat a me lawful same sits row content seen =
+    let apart = laws.apart limits (seen_of me) lawful.state in
+    let learnt = apart.seen_learnt a row content seen in
+    record { same = same; there = apart.learnt_below a row learnt; sits = sits; read = record { may = (apart.learnt_inside a row learnt, learnt); seen = seen } }
+
+-- the same by a seat of the tree
+pub all_there : HaveLaws → (own : Limits) (at at' : TableId) (a : ℕ) (seen : List Entry) (tree : Tree) (seat : Seat) (me : Mine) → record { table = at; limits = own; actor = a; seen = seen } ≡ seat → IsSeatOf tree seat → at' ≡ at → IsLawfulRun own (seen_of me) → SitsAt own a Idle me
+    → AreThere (Stands tree.limits tree.table at' a me) (knows (seen_of me) a)
+all_there laws own at at' a seen tree seat me seat_is one same lawful sits =
+    let limits_are : own ≡ tree.limits = limits_of own at a seen tree seat seat_is one in
+    all_stand laws tree.limits tree.table at' a me (subst (λ (l : Limits). IsLawfulRun l (seen_of me)) limits_are lawful) (same ∙ table_of own at a seen tree seat seat_is one) (subst (λ (l : Limits). SitsAt l a Idle me) limits_are sits)
+
+-- a record that was read is the one that the actor knows in the row
+module _ (laws : HaveLaws) (limits : Limits) (a row : ℕ) (seen : List Entry) (me : Mine) where
+  read_so : (content : Record) → Took IsLawfulRun limits a seen None (Row row) (Content content) None (seen_of me) → read_by me a row ≡ content
+  read_so content took =
+      ap (λ o. unwrap_or o (Remove (record { level = 0; next = 1 })))
+      (ap (λ q. q.read.seen row) (known_after laws limits a seen (Row row) (Content content) None (seen_of me) took) ∙ replaced_same row (Some content) (knows seen a).read.seen)
+
+  module _ (word : ℕ) (told : ReadsFirst IsLawfulRun limits a seen row word (seen_of me)) where
+    is_read : told.0 ≡ read_by me a row
+    is_read = sym (read_so told.0 told.3)
+
+    pub spelt_there : HasSpelling (read_by me a row)
+    spelt_there = subst HasSpelling is_read told.1
+
+    pub first_there : word ≡ slice_index (words_of (read_by me a row)) 0
+    first_there = told.2 ∙ ap (λ content. slice_index (words_of content) 0) is_read
+
+    pub took_there : Took IsLawfulRun limits a seen None (Row row) (Content (read_by me a row)) None (seen_of me)
+    took_there = subst (λ content. Took IsLawfulRun limits a seen None (Row row) (Content content) None (seen_of me)) is_read told.3

@@ -1,0 +1,11 @@
+use Rattle.std.proofs.Common.{◌≡◌, ◌<◌, ℕ, length}
+use Rattle.std.specs.Prelude.{slice_index}
+use Rattle.record_slots.specs.Layout.{row_size}
+use Rattle.tree_words.specs.Layout.{row_at}
+use Rattle.running_tree.proofs.closed.row_of.Given as goal
+
+abbrev pub invariant-loop-j : goal.invariant-loop-j
+invariant-loop-j g l = record {
+  long : length l.words ≡ row_size;
+  read : (i : ℕ) → i < l.j → slice_index l.words i ≡ slice_index l.closed.words.items (row_at l.row i);
+}

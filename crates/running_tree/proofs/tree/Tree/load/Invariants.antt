@@ -1,0 +1,10 @@
+use Rattle.std.proofs.Common.{take}
+use Rattle.running_tree.specs.Loaded.{HasLoaded}
+use Rattle.running_tree.specs.Seats.{IsSame}
+use Rattle.running_tree.proofs.tree.Tree.load.Given as goal
+
+abbrev pub invariant-loop-place : goal.invariant-loop-place
+invariant-loop-place g l = record {
+  same : IsSame l.fn.seat l.seat;
+  loaded : HasLoaded l.fn.seat (take l.place l.pairs) l.seat;
+}

@@ -1,0 +1,21 @@
+-- What stands in a row of a tree, by what the actor of a seat knows.
+use Rattle.std.specs.Prelude.{◌≡◌, ◌<◌, ℕ, unwrap_or}
+use Rattle.atomic_table.specs.Seated.{TableId}
+use Rattle.tree_limits.specs.declared.limits.Limits.{Limits}
+use Rattle.deltas.specs.declared.record.Record.{Record}
+use Rattle.deltas.specs.declared.record.Record.TheVariants.{Remove}
+use Rattle.traces.specs.discipline.Knowledge.{knows}
+use Rattle.table_rule.specs.declared.view.Reach.TheVariants.{Idle}
+use Rattle.table_rule.specs.Steps.{HasReadRecord}
+use Rattle.table_rule.specs.Views.{Mine, SitsAt, seen_of}
+
+-- the record that the actor has read in a row, or some record where it has read none
+abbrev pub read_by : Mine → ℕ → ℕ → Record
+read_by me actor row = unwrap_or ((knows (seen_of me) actor).read.seen row) (Remove (record { level = 0; next = 1 }))
+
+-- The seat is one of the tree's table, between two steps; its actor has read the record in the row since it entered.
+pub record Stands (limits : Limits) (table seat : TableId) (actor : ℕ) (me : Mine) (row : ℕ) (content : Record) : Type 0 where
+  pub same : seat ≡ table
+  pub there : row < limits.rows
+  pub sits : SitsAt limits actor Idle me
+  pub read : HasReadRecord (knows (seen_of me) actor) row content

@@ -1,0 +1,19 @@
+//! Laws of calls: each function does nothing, and its contract is proved of all seats.
+ghost use Rattle.std.specs.Prelude.{ℕ, ◌≡◌, ◌+◌, Some};
+ghost use Rattle.bw_model.specs.declared.command.Command.{Command};
+ghost use Rattle.bw_model.specs.declared.command.Reply.{Reply};
+ghost use Rattle.running_tree.specs.Calls.{EndsWith, IsCalled, IsResumed, IsSpent};
+ghost use Rattle.running_tree.specs.LastReply.{last_reply};
+ghost use Rattle.running_tree.specs.Seats.{Seat};
+ghost use Rattle.running_tree.specs.declared.called.Called.{Called};
+
+/// A call that was spent and then resumed, once or again and again, is a call whose budget is that of all parts.
+pub fn resumed_calls_are_calls()
+    ensures { (old mid new : Seat) (command : Command) (budget more : ℕ) (called : Called)
+        → IsSpent old command budget mid → IsResumed mid more called new → IsCalled old command (budget + more) called new }
+{}
+
+/// The reply with which what a seat has seen ends is that of its last operation, so that `BwSeat::lacking` tells of it.
+pub fn done_calls_reply_last()
+    ensures { (seat : Seat) (reply : Reply) → EndsWith seat reply → last_reply seat.actor seat.seen ≡ Some reply }
+{}

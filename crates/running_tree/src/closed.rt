@@ -1,0 +1,56 @@
+//! The words of a closed table, as the slots and rows of a memory.
+ghost use Rattle.std.specs.Prelude.{◌≡◌, ◌<◌, ℕ, length, slice_index};
+ghost use Rattle.record_slots.specs.Layout.{last_at, row_size};
+ghost use Rattle.running_tree.specs.Closed.{AreFilled};
+ghost use Rattle.tree_words.specs.Layout.{row_at};
+
+use atomic_table::Closed;
+use bw_model::Limits;
+use deltas::Record;
+use listing::Rows;
+use record_slots::{ROW_WORDS, read_words, rows_have_words, spelling_is_one};
+use std::alloc::Allocator;
+use tree_words::{row_place, slot_place};
+
+/// The words of a closed table.
+#[derive(Drop)]
+pub(crate) struct ClosedRows<'a, A: Allocator> {
+    pub(crate) limits: &'a Limits,
+    pub(crate) closed: &'a Closed<(), A>,
+}
+
+impl<'a, A: Allocator> Rows for ClosedRows<'a, A> {
+    ghost use Rattle.running_tree.specs.Closed.{AreFilled, KeepMemory};
+
+    ghost has = { λ rows memory. AreFilled rows.closed.now.words.filled rows.closed.now.words.len × KeepMemory rows.limits.now rows.closed.now.words.items memory };
+
+    ghost pids = { λ rows. rows.limits.now.pids };
+
+    fn slot(&self, pid: u32) -> u32 {
+        self.closed.word(slot_place(self.limits, pid)) as u32
+    }
+
+    fn record(&self, row: u32) -> Record {
+        rows_have_words();
+        spelling_is_one();
+        match read_words(&row_of(self.closed, row)) {
+            Ok(record) => record,
+            Err(_) => unreachable!(),
+        }
+    }
+}
+
+/// The words of a row.
+fn row_of<A: Allocator>(closed: &Closed<(), A>, row: u32) -> [u64; ROW_WORDS]
+    requires full { AreFilled closed.now.words.filled closed.now.words.len }
+    requires there { row_at row last_at < closed.now.words.len }
+    ensures long { length result ≡ row_size }
+    ensures words { (j : ℕ) → j < row_size → slice_index result j ≡ slice_index closed.now.words.items (row_at row j) }
+{
+    let mut words = [0; ROW_WORDS];
+    let base = row_place(row);
+    for j in 0..ROW_WORDS {
+        words[j] = closed.word(base + j);
+    }
+    words
+}

@@ -1,0 +1,16 @@
+//! What ran out for a seat's last operation.
+ghost use Rattle.running_tree.specs.Lacking.{IsLacking};
+
+use crate::seat::BwSeat;
+use change_machine::Kind;
+use std::alloc::Allocator;
+
+impl<A: Allocator> BwSeat<A> {
+    /// The kind that ran out, where the operation that the seat began last has replied `Full`: that operation read each word of free PIDs, or
+    /// of free rows, as 0, each at a moment of its own. None where it has another reply, or none yet. It takes no step and reads no word.
+    pub fn lacking(&self) -> Option<Kind>
+        ensures { IsLacking self.now result }
+    {
+        self.actor.lacks()
+    }
+}

@@ -1,0 +1,47 @@
+//! The running tree: threads call it, each with a seat of its own, over the same theorem.
+//!
+//! Look first at `Tree` (tree.rt), then at `BwSeat` (seat.rt).
+//!
+//! A `Tree` is shared by reference; a `BwSeat` is one thread's, and stands for one actor. A call runs the operation that a core would run
+//! too (`op_machine`), one atomic operation on the tree's words a step (`table_rule`), and takes no lock and no memory. What a call
+//! ensures is said of the run that its seat has seen: one history of all actors' steps up to the seat's own last one (specs/Runs,
+//! specs/Calls).
+//!
+//! Called by `seats`, `workers` and `walks`, and by who embeds a tree (docs/GUIDE.md). docs/LOOKUP.md goes through one call. It knows no
+//! thread and no channel: who has a seat steps for its actor.
+#![tactic(auto)]
+
+mod call_laws;
+mod called;
+mod closed;
+mod closed_tree;
+mod closing;
+mod dealing;
+mod desk;
+mod examples;
+mod filling;
+mod held;
+mod lacking;
+mod lawful_runs;
+mod loading;
+mod note;
+mod opening;
+mod room;
+mod seat;
+mod taking;
+mod tree;
+
+pub use call_laws::{done_calls_reply_last, resumed_calls_are_calls};
+pub use called::{Called, CloseError, CloseRefusal, LoadError, LoadStop};
+pub use change_machine::Kind;
+pub use closed_tree::{ClosedPage, ClosedTree};
+pub use closing::are_idle;
+pub use examples::{
+    counts_are_taken_by_words, entries_tell_calls, last_call_is_answered, last_replies_are_told,
+};
+pub use filling::LOAD_BUDGET;
+pub use held::Held;
+pub use note::Note;
+pub use room::Room;
+pub use seat::BwSeat;
+pub use tree::Tree;

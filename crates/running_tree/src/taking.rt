@@ -1,0 +1,117 @@
+//! One step on the words of the tree.
+ghost use Rattle.std.specs.Prelude.{◌≡◌, ◌≢◌, ◌<◌, None, Some};
+ghost use Rattle.bw_model.specs.Lent.{lent};
+ghost use Rattle.bw_model.specs.declared.step.Answer.TheVariants as Answer;
+ghost use Rattle.bw_model.specs.declared.step.Step.TheVariants.{Leave};
+ghost use Rattle.running_tree.specs.Runs.{IsLawfulRun};
+ghost use Rattle.running_tree.specs.declared.taking.Taken.TheVariants.{Leaving};
+ghost use Rattle.running_tree.specs.Told.{HasTaken};
+ghost use Rattle.traces.specs.discipline.Discipline.{May};
+ghost use Rattle.traces.specs.discipline.Knowledge.{knows};
+ghost use Rattle.traces.specs.trace.Within.{IsWithin};
+ghost use Rattle.table_rule.specs.declared.view.Reach.TheVariants.{Idle};
+ghost use Rattle.table_rule.specs.Steps.{IsLawfulStep, Took};
+ghost use Rattle.table_rule.specs.Views.{SitsAt, IsOf, seen_of};
+
+use crate::lawful_runs::{TreeWords, runs_keep_rows_apart};
+use bw_model::{Limits, Reply, Step, Told};
+use deltas::Record;
+use record_slots::to_words;
+use table_rule::{TableSeat, act, place_row, read_first};
+
+/// What a step answers.
+#[derive(Drop)]
+pub(crate) enum Taken {
+    /// The step is the leave, which wasn't taken: its reply is asked for before.
+    Leaving,
+    /// A record was read: its row, and its first word. It stays where it lies.
+    First(u32, u64),
+    /// Any other step is told this.
+    Told(Told),
+}
+
+/// Takes a step that the seat's actor may take, but for the leave.
+pub(crate) fn take(
+    words: &TreeWords,
+    place: &mut TableSeat,
+    limits: &Limits,
+    number: u8,
+    step: &Step<&Record>,
+) -> Taken
+    requires table { IsOf limits.now words.now.key words.now.table_id place.old.table_id }
+    requires there { number < limits.now.actors }
+    requires within { IsWithin limits.now (lent step.now) }
+    requires seat { SitsAt limits.now number Idle place.old.me }
+    requires known { May number (knows (seen_of place.old.me) number) (lent step.now) }
+    requires may { lent step.now ≢ Leave → IsLawfulStep IsLawfulRun limits.now number (seen_of place.old.me) None (lent step.now) None }
+    ensures same { place.new.table_id ≡ place.old.table_id }
+    ensures seat { SitsAt limits.now number Idle place.new.me }
+    ensures took { HasTaken limits.now number (seen_of place.old.me) (lent step.now) result (seen_of place.new.me) }
+    ensures leaving { result ≡ Leaving → place.new.me ≡ place.old.me }
+{
+    match step {
+        Step::Leave => Taken::Leaving,
+        Step::Row(row) => {
+            runs_keep_rows_apart();
+            let first = read_first(words, place, limits, number, *row);
+            Taken::First(*row, first)
+        }
+        Step::Place(row, record) => {
+            place_record(words, place, limits, number, *row, record);
+            Taken::Told(Told::Done)
+        }
+        _ => Taken::Told(act(words, place, limits, number, step, None, None)),
+    }
+}
+
+/// Takes the leave that ends an operation, with its reply.
+pub(crate) fn take_leave(
+    words: &TreeWords,
+    place: &mut TableSeat,
+    limits: &Limits,
+    number: u8,
+    reply: &Reply,
+)
+    requires table { IsOf limits.now words.now.key words.now.table_id place.old.table_id }
+    requires there { number < limits.now.actors }
+    requires seat { SitsAt limits.now number Idle place.old.me }
+    requires may { IsLawfulStep IsLawfulRun limits.now number (seen_of place.old.me) None Leave (Some reply.now) }
+    ensures same { place.new.table_id ≡ place.old.table_id }
+    ensures seat { SitsAt limits.now number Idle place.new.me }
+    ensures took { Took IsLawfulRun limits.now number (seen_of place.old.me) None Leave Answer.Done (Some reply.now) (seen_of place.new.me) }
+{
+    act(
+        words,
+        place,
+        limits,
+        number,
+        &Step::Leave,
+        None,
+        Some(reply),
+    );
+}
+
+/// Places a record into a row. Not inlined: no other step needs room for its words.
+#[inline(never)]
+fn place_record(
+    words: &TreeWords,
+    place: &mut TableSeat,
+    limits: &Limits,
+    number: u8,
+    row: u32,
+    content: &Record,
+)
+    requires table { IsOf limits.now words.now.key words.now.table_id place.old.table_id }
+    requires there { number < limits.now.actors }
+    requires within { IsWithin limits.now (Step.Place row content.now) }
+    requires seat { SitsAt limits.now number Idle place.old.me }
+    requires known { May number (knows (seen_of place.old.me) number) (Step.Place row content.now) }
+    requires may { IsLawfulStep IsLawfulRun limits.now number (seen_of place.old.me) None (Step.Place row content.now) None }
+    ensures same { place.new.table_id ≡ place.old.table_id }
+    ensures seat { SitsAt limits.now number Idle place.new.me }
+    ensures took { Took IsLawfulRun limits.now number (seen_of place.old.me) None (Step.Place row content.now) Answer.Done None (seen_of place.new.me) }
+{
+    runs_keep_rows_apart();
+    let spelt = to_words(content);
+    place_row(words, place, limits, number, row, content, &spelt);
+}

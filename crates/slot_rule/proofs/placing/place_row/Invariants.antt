@@ -1,6 +1,0 @@
-use Rattle.std.specs.Prelude.{None}
-use Rattle.bw_model.specs.declared.step.Step.TheVariants.{Place}
-use Rattle.slot_rule.proofs.placing.place_row.Given as goal
-
-abbrev pub ghosts-place_header : goal.ghosts-place_header
-ghosts-place_header g a = record { step = Place a.row a.content.now; begun = None; reply = None }

@@ -1,5 +1,0 @@
-use Rattle.slot_rule.proofs.Left.{closes}
-use Rattle.slot_rule.proofs.rule.closing_spells.Goals as goal
-
-pub returns : goal.returns
-returns g c = λ limits. closes limits (g.P.Law.law limits)

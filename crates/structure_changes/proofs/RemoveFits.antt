@@ -1,0 +1,42 @@
+-- A removal fits its page.
+use Rattle.std.proofs.Common.{◌≡◌, ◌≢◌, ◌≤◌, List, [], length, true, Some, refl, ◌∙◌, arith}
+use Rattle.std.specs.Prelude.{IsTrue}
+use Rattle.bw_model.specs.Bytes.{is_below}
+use Rattle.base_page.specs.declared.item.Content.TheVariants.{Child}
+use Rattle.base_page.specs.Pages.{Page, content_at}
+use Rattle.base_page.specs.Rules.{IsRuled}
+use Rattle.deltas.specs.declared.record.Record.{Record}
+use Rattle.deltas.specs.declared.record.Record.TheVariants as kind
+use Rattle.deltas.specs.declared.record.Remove.{Remove}
+use Rattle.deltas.specs.Fits.{FitsRemove}
+use Rattle.deltas.specs.Spellable.{IsSpellable}
+use Rattle.traces.specs.chain.Chains.{low_in}
+use Rattle.traces.specs.chain.Fitted.{FitsOver, IsFitted, Makes}
+use Rattle.traces.proofs.FittedLaws.{fits_over, ruled}
+use Rattle.structure_changes.specs.Versions.{Version}
+use Rattle.structure_changes.specs.Removals.{CanRemove, IsRemovePlan, remove_of}
+use Rattle.structure_changes.proofs.Places.{above_empty, above_low, held_inner, index_at, inside, made as made_of, not_empty, of_made}
+
+remove_fits : (chain : List Record) (page : Page) (remove : Remove) → Makes chain page → IsRuled page → IsSpellable (kind.Remove remove) → FitsRemove page remove → FitsOver chain (kind.Remove remove)
+remove_fits chain page remove makes rules spellable fit =
+    fits_over chain (kind.Remove remove) page (record page { removed = true }) refl spellable makes fit
+    (record { ascending = rules.is_page.ordered.ascending; contents = λ key. refl; level = refl; low = refl; high = refl; right = refl; removed = refl })
+    (record { is_page = record { spans = rules.is_page.spans; ordered = rules.is_page.ordered; within = rules.is_page.within; kinds = rules.is_page.kinds }; ends = rules.ends; top = rules.top; terms = rules.terms })
+
+-- the plan of a removal is one that may be linked: a page whose term is held isn't the first of its level
+pub planned : (parent page : Version) (made : Page) (remove : Remove) → IsFitted parent.chain → Makes page.chain made → IsRuled made → remove ≡ remove_of page → CanRemove parent page → IsRemovePlan parent page remove
+planned parent page made remove fitted makes rules is can =
+    let key = low_in page.chain in
+    let (above, names) = made_of parent.chain fitted in
+    let over = ruled parent.chain above fitted names in
+    let there : content_at above.items key ≡ Some (Child page.pid true) = names.items.contents key ∙ can.held in
+    let inner = held_inner above.low above.items key page.pid (over.terms (index_at above over key page.pid true there)).first there in
+    let some : key ≢ [] = not_empty above.low key (above_low above key (inside above over key (Child page.pid true) there) inner) in
+    let few = of_made page.chain made (λ items. length items ≤ 4) makes can.few in
+    let low : IsTrue (is_below [] made.low) = rw makes.low (above_empty key some) in
+    let fit : FitsRemove made (remove_of page) = record { alive = makes.removed ∙ can.alive; level = makes.level; few = few; inner = low } in
+    record {
+      can = can;
+      is = is;
+      fits = rw is (remove_fits page.chain made (remove_of page) makes rules (rw (← makes.level) rules.top, page.is_row) fit, (let short = can.short in omega (arith, short)));
+    }

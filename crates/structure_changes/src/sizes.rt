@@ -1,0 +1,33 @@
+//! How large a page grows before it is made smaller.
+ghost use Rattle.std.specs.Prelude.{◌≡◌, ◌<◌, ◌≤◌};
+ghost use Rattle.structure_changes.specs.Sizes.{many_of};
+
+use bw_model::Limits;
+
+/// As many deltas or more, and a page is consolidated before it gets another one.
+pub const MANY_DELTAS: usize = 8;
+
+/// The same in a large tree.
+const FEW_DELTAS: usize = 2;
+
+/// As many items or more, and a page is split before it gets another one.
+pub const MANY_ITEMS: usize = 16;
+
+/// As many items or fewer, and a page may be removed.
+pub const FEW_ITEMS: usize = 4;
+
+/// The highest level of a page.
+pub const TOP_LEVEL: u8 = 15;
+
+/// At how many deltas a page is consolidated.
+pub fn many_deltas(limits: &Limits) -> usize
+    ensures many { result ≡ many_of limits.now }
+    ensures some { 0 < result }
+    ensures few { result ≤ 8 }
+{
+    if limits.is_large {
+        FEW_DELTAS
+    } else {
+        MANY_DELTAS
+    }
+}

@@ -1,0 +1,95 @@
+-- The opening words with a view of all actors keep the rule.
+use Rattle.std.proofs.Common.{◌≡◌, ◌≢◌, ℕ, zero, suc, ◌+◌, ◌<◌, ◌≤◌, Bool, true, false, eqb, List, [], ◌∷◌, sym, refl, ap, subst, arith, eq-eqb, ne_eqb}
+use Rattle.std.specs.Prelude.{if◌then◌else◌, Some, None}
+use Rattle.std.specs.List.Sorted.{IsStrictlySortedBy}
+use Rattle.std.proofs.lemmas.Bool.{eqb-true}
+use Rattle.std.proofs.lemmas.List.Elements.{All-nil}
+use Rattle.std.proofs.lemmas.Option.{same_Some}
+use mathlib.Core.Logic.{dite}
+use mathlib.Core.Option.{some, some-injective, some-ne-none}
+use native.Mathlib.Decide.{ℕ_discrete}
+use lib.ListN.{get_elem?}
+use Rattle.atomic_table.specs.Table.{opening}
+use Rattle.tree_limits.specs.declared.limits.Limits.{Limits}
+use Rattle.base_page.specs.Pages.{IsAscending, empty_leaf}
+use Rattle.deltas.specs.declared.record.Record.{Record}
+use Rattle.deltas.specs.declared.record.Record.TheVariants.{Base}
+use Rattle.deltas.specs.Memory.{opening as memory_opening}
+use Rattle.deltas.specs.Spellable.{IsSpellablePage}
+use Rattle.traces.specs.declared.trace.Entry.{Entry}
+use Rattle.tree_words.specs.Words.{AreWordsOf}
+use Rattle.table_rule.specs.declared.view.Part.{Part}
+use Rattle.record_slots.specs.Spells.{HasSpelling}
+use Rattle.table_rule.specs.Running.{Each, IsSpelledRow, IsSettled, times, PartFits, Running}
+use Rattle.table_rule.specs.Views.{dealt, dealt_from}
+use Rattle.table_rule.proofs.Parts.{mark, spells_views}
+use Rattle.traces.proofs.OwnEntries.{extends_self}
+
+mark_most : (b : Bool) → mark b ≤ 1
+mark_most true = omega arith
+mark_most false = omega arith
+
+empty_ascends : IsAscending []
+unfolding IsStrictlySortedBy
+empty_ascends = tt
+
+empty_is_spellable : IsSpellablePage empty_leaf
+empty_is_spellable = record {
+  ruled = record { is_page = record { spans = refl; ordered = record { few = omega arith; ascending = empty_ascends }; within = All-nil _; kinds = All-nil _ }; ends = refl; top = omega arith; terms = λ h. absurd (omega arith) };
+  alive = refl;
+  right = tt;
+  children = All-nil _;
+}
+
+empty_is_spelt : HasSpelling (Base empty_leaf)
+empty_is_spelt = record { spellable = empty_is_spellable; short = (record { short = omega arith; bytes_fit = tt }, tt, All-nil _); are = refl }
+
+at_least : (first actor : ℕ) → first ≤ actor → first ≢ actor → suc first ≤ actor
+at_least first actor from ne = omega (arith, from, ne)
+
+module _ (limits : Limits) where
+  dealt_above : (actor first n : ℕ) → actor < first → times actor (dealt_from limits first n) ≡ 0
+  dealt_above actor first zero above = refl
+  dealt_above actor first (suc n) above =
+      let rest = dealt_above actor (suc first) n (omega arith) in
+      let none : mark (eqb first actor) ≡ 0 = ap mark (ne_eqb first actor (λ e. absurd (omega arith))) in omega arith
+
+  dealt_once : (actor first n : ℕ) → times actor (dealt_from limits first n) ≤ 1
+  dealt_once actor first zero = omega arith
+  dealt_once actor first (suc n) = dite (ℕ_discrete first actor)
+      (λ e. let rest = dealt_above actor (suc first) n (omega arith) in let one = mark_most (eqb first actor) in omega arith)
+      (λ ne. let rest = dealt_once actor (suc first) n in let none : mark (eqb first actor) ≡ 0 = ap mark (ne_eqb first actor ne) in omega arith)
+
+  dealt_all : (actor first n : ℕ) → first ≤ actor → actor < first + n → 1 ≤ times actor (dealt_from limits first n)
+  dealt_all actor first zero from below = absurd (omega arith)
+  dealt_all actor first (suc n) from below = dite (ℕ_discrete first actor)
+      (λ e. let one : mark (eqb first actor) ≡ 1 = ap mark (eq-eqb first actor e) in omega arith)
+      (λ ne. let rest = dealt_all actor (suc first) n (at_least first actor from ne) (omega arith) in omega arith)
+
+  dealt_fits : (words : List ℕ) (first n : ℕ) → first + n ≤ limits.actors → Each (PartFits limits words []) (dealt_from limits first n)
+  dealt_fits words first zero below = tt
+  dealt_fits words first (suc n) below = (record { extends = extends_self first []; reach = tt; there = omega arith; own_limits = refl }, dealt_fits words (suc first) n (omega arith))
+
+  opening_kept : (row : ℕ) (content : Record) → (memory_opening limits).rows row ≡ Some content → IsSpelledRow limits row content
+  opening_kept row content e = go (eqb row 1) refl e
+    where
+      go : (b : Bool) → eqb row 1 ≡ b → (if b then Some (Base empty_leaf) else None) ≡ Some content → IsSpelledRow limits row content
+      go true is e = let one : row ≡ 1 = eqb-true row 1 is in record { there = omega (arith, limits.allowed.some_rows); spelling = subst HasSpelling (same_Some (Base empty_leaf) content e) empty_is_spelt }
+      go false is e = cc
+
+  pub opens : (law : List Entry → Type 0) (words : List ℕ) → AreWordsOf limits (memory_opening limits) words → law [] → Running limits law (opening words [] (dealt limits))
+  opens law words are legal = record {
+    run = [];
+    legal = legal;
+    wide = are.wide;
+    spells = spells_views limits words (memory_opening limits) (λ _. Unit {0}) (IsSettled (dealt limits ∷ [])) (λ row _. tt) are.spells;
+    kept = opening_kept;
+    begins = tt;
+    actors = tt;
+    once = λ actor. let o = dealt_once actor 0 limits.actors in omega arith;
+    somewhere = λ actor below. let o = dealt_all actor 0 limits.actors (omega arith) (omega (arith, below)) in omega arith;
+    each = only;
+  } where
+    only : (id : ℕ) (view : List Part) → get_elem? (dealt limits ∷ []) id ≡ some view → Each (PartFits limits words []) view
+    only zero view at = subst (λ z. Each (PartFits limits words []) z) (some-injective _ _ at) (dealt_fits words 0 limits.actors (omega arith))
+    only (suc id) view at = absurd (some-ne-none view (sym at))

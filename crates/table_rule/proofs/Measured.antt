@@ -1,0 +1,92 @@
+-- The look at an own row's first word, by which a record begins to be placed there, keeps the rule.
+use Rattle.std.proofs.Common.{◌≡◌, ◌≢◌, ℕ, ◌<◌, ◌≤◌, List, [], get_or, sym, refl, ap, ◌∙◌, subst, arith}
+use Rattle.std.proofs.lemmas.List.{set-get_or}
+use mathlib.Core.Logic.{dite}
+use mathlib.Core.Option.{some, none}
+use native.Mathlib.Decide.{ℕ_discrete}
+use lib.ListN.{get_elem?}
+use Rattle.atomic_table.specs.Table.{step, keeps, Allows}
+use Rattle.tree_limits.specs.declared.limits.Limits.{Limits}
+use Rattle.deltas.specs.Memory.{Memory}
+use Rattle.traces.specs.declared.trace.Entry.{Entry}
+use Rattle.traces.specs.discipline.Knowledge.{knows}
+use Rattle.traces.specs.trace.Trace.{memory_of}
+use Rattle.record_slots.specs.Layout.{row_size}
+use Rattle.tree_words.specs.Layout.{row_at}
+use Rattle.tree_words.specs.Words.{words_in}
+use Rattle.table_rule.specs.declared.view.Reach.{Reach}
+use Rattle.table_rule.specs.declared.view.Reach.TheVariants.{Idle, Writing, Noted}
+use Rattle.table_rule.specs.declared.view.Part.{Part}
+use Rattle.table_rule.specs.Running.{Each, IsSettled, KnowsPlaceable, KeepsRowsApart, LeavesRow, PartFits, ReachFits}
+use Rattle.table_rule.specs.Steps.{Measures, used_by}
+use Rattle.table_rule.specs.Views.{alone, Mine, seen_of, SitsAt}
+use Rattle.table_rule.proofs.UsedWords.{few_in}
+use Rattle.table_rule.proofs.Parts.{IsApart, apart_ne, each_zip, elsewhere, times_alone}
+use Rattle.table_rule.proofs.Roster.{same_view}
+use Rattle.table_rule.proofs.Turns.{TableState, Rule, extends_now, knows_now, turn, same_actor, same_limits, spares_quiet, spells_quiet}
+
+module _ (limits : Limits) (law : Limits → List Entry → Type 0) (apart : KeepsRowsApart limits (law limits)) where
+  -- The row into which one actor may place a record is no other's.
+  pub no_other : (actor other row row' : ℕ) (run : List Entry) → law limits run → KnowsPlaceable (knows run actor) row → other ≢ actor → KnowsPlaceable (knows run other) row' → row' ≢ row
+  no_other actor other row row' run legal may ne may' e = ne (apart.one_owner other actor row run legal (subst (λ (z : ℕ). KnowsPlaceable (knows run other) z) e may') may)
+
+  -- No seat writes into a row of an idle seat's own.
+  module _ (s : TableState) (h : Rule limits law s) (id actor : ℕ) (seen : List Entry) (there : get_elem? s.views id ≡ some (alone limits actor seen Idle)) (row : ℕ)
+      (may : KnowsPlaceable (knows h.run actor) row) where
+    other_leaves : (other : Part) → IsApart actor other.actor other.reach → PartFits limits s.words h.run other → LeavesRow row other.reach
+    other_leaves other away fits = go other.reach away fits.reach
+      where
+        go : (reach : Reach) → IsApart actor other.actor reach → ReachFits limits s.words h.run other.actor reach → LeavesRow row reach
+        go Idle away fits = tt
+        go Noted away fits = tt
+        go (Writing at first written) away fits = no_other actor other.actor row at h.run h.legal may (apart_ne actor other.actor away) fits.may
+
+    own_settled : IsSettled s.views row
+    own_settled j view here = let one = times_alone limits actor seen Idle tt in dite (ℕ_discrete j id)
+        (λ e. subst (λ v. Each (λ p. LeavesRow row p.reach) v) (same_view s.views id j (alone limits actor seen Idle) view there here e) (tt, tt))
+        (λ ne. each_zip (λ p. IsApart actor p.actor p.reach) (PartFits limits s.words h.run) (λ p. LeavesRow row p.reach) other_leaves view
+        (elsewhere s.views id j (alone limits actor seen Idle) view actor h.once there (omega arith) here ne) (h.each j view here))
+
+  module _ (slots id actor : ℕ) (me : Mine) (row : ℕ) (within : row < limits.rows) (is : SitsAt limits actor Idle me) (owned : KnowsPlaceable (knows (seen_of me) actor) row) where
+    pub measures : Allows (Rule limits law) slots id me (row_at row 0) (λ n. n) (Measures (step slots (row_at row 0) 0 0 none) me)
+    measures s h _ here _ =
+        let there : get_elem? s.views id ≡ some (alone limits actor (seen_of me) Idle) = here ∙ ap (λ (z : Mine). some z.0) is in
+        let extends = extends_now limits law s h id actor (seen_of me) Idle tt there in
+        let may : KnowsPlaceable (knows h.run actor) row = subst (λ k. KnowsPlaceable k row) (sym (knows_now limits law s h id actor (seen_of me) Idle tt there)) owned in
+        let at : ℕ = row_at row 0 in
+        let n : ℕ = get_or s.words at 0 in
+        let memory : Memory = memory_of limits h.run in
+        let view : List Part = alone limits actor (seen_of me) (Writing row n []) in
+        let settled : IsSettled s.views row = own_settled s h id actor (seen_of me) there row may in
+        let first : n ≡ get_or (words_in (memory.rows row)) 0 0 = h.spells.rows row 0 within (omega arith) settled in (
+          view,
+          keeps,
+          tt,
+          turn limits law s h id actor (seen_of me) Idle tt there me.1 at n h.run (seen_of me) (Writing row n []) tt h.legal
+              (spares_quiet limits law actor at s.words h.run) extends h.kept h.begins h.actors
+              record {
+                may = may;
+                there = within;
+                short = omega arith;
+                old = first;
+                front = λ j below. absurd (omega arith);
+                behind = λ j above small. ap (λ (words : List ℕ). get_or words (row_at row j) 0) (set-get_or s.words at 0) ∙ h.spells.rows row j within small settled;
+              }
+              (spells_quiet limits law s h id actor (seen_of me) there at view),
+          λ limits' actor' row' is' word.
+              let row_same : row ≡ row' = omega arith in
+              let sits : SitsAt limits actor (Writing row n []) (view, me.1) = ap (λ (c : List (ℕ × Unit {0})). (view, c)) (ap (λ (z : Mine). z.1) is) in (
+                subst (λ (z : Limits × ℕ × ℕ). SitsAt z.0 z.1 (Writing z.2 n []) (view, me.1))
+                    (λ k. (same_limits limits limits' actor actor' Idle Idle me is is' k, same_actor limits limits' actor actor' Idle Idle me is is' k, row_same k)) sits,
+                refl,
+                subst (λ (u : ℕ). used_by u ≤ row_size) (sym first) (few_in (memory.rows row) (λ content e. (h.kept row content e).spelling)),
+              ),
+        )
+
+-- the same as the function asks for it
+module _ (law : Limits → List Entry → Type 0) (key limits : Limits) (own : key ≡ limits) (apart : KeepsRowsApart limits (law limits)) (slots id actor : ℕ) (me : Mine) (row word : ℕ)
+    (within : row < limits.rows) (is : SitsAt limits actor Idle me) (owned : KnowsPlaceable (knows (seen_of me) actor) row) where
+  pub measures_at : word ≡ row_at row 0 → Allows (Rule key law) slots id me word (λ n. n) (Measures (step slots word 0 0 none) me)
+  measures_at at =
+      subst (λ (z : Limits × ℕ). Allows (Rule z.0 law) slots id me z.1 (λ n. n) (Measures (step slots z.1 0 0 none) me)) (λ k. (sym own k, sym at k))
+      (measures limits law apart slots id actor me row within is owned)

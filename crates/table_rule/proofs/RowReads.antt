@@ -1,0 +1,116 @@
+-- The load of a row's first word, which is the step, and looks at its words keep the rule.
+use Rattle.std.proofs.Common.{◌≡◌, ℕ, ◌<◌, List, [], ◌∷◌, get_or, sym, refl, ap, ◌∙◌, subst, arith}
+use Rattle.std.specs.Prelude.{None, Some}
+use Rattle.std.proofs.lemmas.List.{set-get_or}
+use mathlib.Core.Option.{some, none}
+use lib.ListN.{get_elem?}
+use Rattle.atomic_table.specs.Table.{step, keeps, Allows}
+use Rattle.tree_limits.specs.declared.limits.Limits.{Limits}
+use Rattle.bw_model.specs.declared.step.Answer.TheVariants.{Content}
+use Rattle.bw_model.specs.declared.step.Step.TheVariants.{Row}
+use Rattle.deltas.specs.declared.record.Record.{Record}
+use Rattle.traces.specs.declared.trace.Entry.{Entry}
+use Rattle.traces.specs.discipline.Knowledge.{knows}
+use Rattle.traces.specs.trace.Trace.{memory_of}
+use Rattle.record_slots.specs.Layout.{row_size}
+use Rattle.record_slots.specs.Spelling.{words_of}
+use Rattle.record_slots.specs.Spells.{HasSpelling}
+use Rattle.tree_words.specs.Layout.{row_at}
+use Rattle.tree_words.specs.Words.{words_in}
+use Rattle.table_rule.specs.declared.view.Reach.TheVariants.{Idle, Writing, Noted}
+use Rattle.table_rule.specs.declared.view.Reach.{Reach}
+use Rattle.table_rule.specs.declared.view.Part.{Part}
+use Rattle.table_rule.specs.Running.{Each, IsSettled, KnowsPlaceable, KnowsReadable, KeepsRowsApart, LeavesRow, PartFits, ReachFits}
+use Rattle.table_rule.specs.Steps.{IsLawfulStep, Looks, ReadsRow, ReadsFirst}
+use Rattle.table_rule.specs.Views.{alone, Mine, seen_of, SitsAt}
+use Rattle.table_rule.proofs.Turns.{TableState, Rule, extends_now, knows_now, turn, event_telling, same_actor, same_limits, spares_quiet, spells_quiet}
+
+module _ (limits : Limits) (law : Limits → List Entry → Type 0) (apart : KeepsRowsApart limits (law limits)) where
+  -- no other seat writes into a row that the actor may read
+  leaves_by : (words : List ℕ) (run : List Entry) (actor row : ℕ) (other : Part) → law limits run → KnowsReadable (knows run actor) row → PartFits limits words run other → LeavesRow row other.reach
+  leaves_by words run actor row other legal may fits = go other.reach fits.reach
+    where
+      go : (reach : Reach) → ReachFits limits words run other.actor reach → LeavesRow row reach
+      go Idle fits = tt
+      go Noted fits = tt
+      go (Writing at first written) fits = λ e. absurd (apart.unread other.actor actor row run legal (subst (λ (z : ℕ). KnowsPlaceable (knows run other.actor) z) e fits.may) may)
+
+  each_leaves : (words : List ℕ) (run : List Entry) (actor row : ℕ) (view : List Part) → law limits run → KnowsReadable (knows run actor) row → Each (PartFits limits words run) view → Each (λ p. LeavesRow row p.reach) view
+  each_leaves words run actor row [] legal may fits = tt
+  each_leaves words run actor row (other ∷ view) legal may fits = (leaves_by words run actor row other legal may fits.0, each_leaves words run actor row view legal may fits.1)
+
+  -- into a row that an actor may read no seat writes
+  settled : (s : TableState) (h : Rule limits law s) (actor row : ℕ) → KnowsReadable (knows h.run actor) row → IsSettled s.views row
+  settled s h actor row may id view there = each_leaves s.words h.run actor row view h.legal may (h.each id view there)
+
+  -- the word j of the record of a row that the actor may read
+  word_is : (s : TableState) (h : Rule limits law s) (actor row j : ℕ) → KnowsReadable (knows h.run actor) row → row < limits.rows → j < row_size → get_or s.words (row_at row j) 0 ≡ get_or (words_in ((memory_of limits h.run).rows row)) j 0
+  word_is s h actor row j may within small = h.spells.rows row j within small (settled s h actor row may)
+
+  -- the record of a row that the actor may read
+  row_is : (s : TableState) (h : Rule limits law s) (actor row : ℕ) → KnowsReadable (knows h.run actor) row → (content : Record) × ((memory_of limits h.run).rows row ≡ Some content) × HasSpelling content
+  row_is s h actor row may = let p = apart.placed actor row h.run h.legal may in (p.0, p.1, (h.kept row p.0 p.1).spelling)
+
+  module _ (slots id actor : ℕ) (me : Mine) (row : ℕ) (within : row < limits.rows) (is : SitsAt limits actor Idle me) (known : KnowsReadable (knows (seen_of me) actor) row) where
+    -- what the seat knows now
+    module _ (s : TableState) (h : Rule limits law s) (there : get_elem? s.views id ≡ some (alone limits actor (seen_of me) Idle)) where
+      may_now : KnowsReadable (knows h.run actor) row
+      may_now = subst (λ k. KnowsReadable k row) (sym (knows_now limits law s h id actor (seen_of me) Idle tt there)) known
+
+    looks : (place : ℕ) → place < row_size → Allows (Rule limits law) slots id me (row_at row place) (λ n. n) (Looks (step slots (row_at row place) 0 0 none) me)
+    looks place small s h _ here _ =
+        let there : get_elem? s.views id ≡ some (alone limits actor (seen_of me) Idle) = here ∙ ap (λ (z : Mine). some z.0) is in
+        let at : ℕ = row_at row place in
+        let n : ℕ = get_or s.words at 0 in
+        let view : List Part = alone limits actor (seen_of me) Idle in (
+          view,
+          keeps,
+          tt,
+          turn limits law s h id actor (seen_of me) Idle tt there me.1 at n h.run (seen_of me) Idle tt h.legal (spares_quiet limits law actor at s.words h.run) (extends_now limits law s h id actor (seen_of me) Idle tt there) h.kept h.begins h.actors tt
+              (spells_quiet limits law s h id actor (seen_of me) there at view),
+          (
+            ap (λ (c : List (ℕ × Unit {0})). (view, c)) (ap (λ (z : Mine). z.1) is) ∙ sym is,
+            λ limits' actor' row' place' content is' small' has word.
+                let who : actor ≡ actor' = same_actor limits limits' actor actor' Idle Idle me is is' in
+                let row_same : row ≡ row' = omega arith in
+                let place_same : place ≡ place' = omega arith in
+                let seen : (knows h.run actor).read.seen row ≡ Some content = ap (λ k. k.read.seen row) (knows_now limits law s h id actor (seen_of me) Idle tt there) ∙ ap (λ (z : ℕ × ℕ). (knows (seen_of me) z.0).read.seen z.1) (λ k. (who k, row_same k)) ∙ has.seen in
+                word_is s h actor row place (may_now s h there) within small
+                ∙ ap (λ o. get_or (words_in o) place 0) (apart.stands actor row content h.run h.legal seen)
+                ∙ ap (λ (j : ℕ). get_or (words_of content) j 0) place_same,
+          ),
+        )
+
+    reads : IsLawfulStep law limits actor (seen_of me) None (Row row) None → Allows (Rule limits law) slots id me (row_at row 0) (λ n. n) (ReadsRow law (step slots (row_at row 0) 0 0 none) me)
+    reads may = event_telling limits law slots id actor me Idle (row_at row 0) (λ n. n) None (Row row) None (ReadsRow law (step slots (row_at row 0) 0 0 none) me) tt is may
+        (λ s h there.
+        let at : ℕ = row_at row 0 in
+        let n : ℕ = get_or s.words at 0 in
+        let now = may_now s h there in
+        let x = row_is s h actor row now in
+        let first : n ≡ get_or (words_of x.0) 0 0 = word_is s h actor row 0 now within (omega arith) ∙ ap (λ o. get_or (words_in o) 0 0) x.1 in (
+          Content x.0,
+          record {
+            answered = (x.0, x.1, refl);
+            spells = λ view _. spells_quiet limits law s h id actor (seen_of me) there at view;
+            kept = h.kept;
+            writes = λ other row' _ _ _ j small. ap (λ (u : List ℕ). get_or u (row_at row' j) 0) (set-get_or s.words at 0);
+            records = λ other row' _ _. refl;
+          },
+          λ me' is_after took limits' actor' row' is' word.
+              let row_same : row ≡ row' = omega arith in
+              subst (λ (z : Limits × ℕ × ℕ). SitsAt z.0 z.1 Idle me' × ReadsFirst law z.0 z.1 (seen_of me) z.2 n (seen_of me'))
+              (λ k. (same_limits limits limits' actor actor' Idle Idle me is is' k, same_actor limits limits' actor actor' Idle Idle me is is' k, row_same k))
+              (is_after, (x.0, x.2, first, took)),
+        ))
+
+-- the same as the functions ask for them
+module _ (law : Limits → List Entry → Type 0) (key limits : Limits) (own : key ≡ limits) (apart : KeepsRowsApart limits (law limits)) (slots id actor : ℕ) (me : Mine) (row word : ℕ)
+    (within : row < limits.rows) (is : SitsAt limits actor Idle me) (known : KnowsReadable (knows (seen_of me) actor) row) where
+  pub looks_at : (place : ℕ) → place < row_size → word ≡ row_at row place → Allows (Rule key law) slots id me word (λ n. n) (Looks (step slots word 0 0 none) me)
+  looks_at place small at = subst (λ (z : Limits × ℕ). Allows (Rule z.0 law) slots id me z.1 (λ n. n) (Looks (step slots z.1 0 0 none) me)) (λ k. (sym own k, sym at k))
+      (looks limits law apart slots id actor me row within is known place small)
+
+  pub reads_at : word ≡ row_at row 0 → IsLawfulStep law limits actor (seen_of me) None (Row row) None → Allows (Rule key law) slots id me word (λ n. n) (ReadsRow law (step slots word 0 0 none) me)
+  reads_at at may = subst (λ (z : Limits × ℕ). Allows (Rule z.0 law) slots id me z.1 (λ n. n) (ReadsRow law (step slots z.1 0 0 none) me)) (λ k. (sym own k, sym at k))
+      (reads limits law apart slots id actor me row within is known may)

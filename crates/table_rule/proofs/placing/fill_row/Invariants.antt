@@ -1,0 +1,16 @@
+use Rattle.std.proofs.Common.{◌≡◌, ◌≤◌, ◌-◌, take}
+use Rattle.table_rule.specs.declared.view.Reach.TheVariants.{Writing}
+use Rattle.table_rule.specs.Steps.{tail_from}
+use Rattle.table_rule.specs.Views.{seen_of, SitsAt}
+use Rattle.table_rule.proofs.placing.fill_row.Given as goal
+
+abbrev pub invariant-loop-i : goal.invariant-loop-i
+invariant-loop-i g l = record {
+  within : l.i ≤ l.behind;
+  table : l.seat.table_id ≡ l.initial.seat.table_id;
+  seen : seen_of l.seat.me ≡ seen_of l.initial.seat.me;
+  at : SitsAt l.limits l.actor (Writing l.row l.first (take l.i (tail_from l.spelt))) l.seat.me;
+}
+
+abbrev pub decreases-loop-i : goal.decreases-loop-i
+decreases-loop-i g l = l.behind - l.i

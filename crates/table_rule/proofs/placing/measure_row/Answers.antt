@@ -1,0 +1,21 @@
+use Rattle.std.proofs.Common.{arith}
+use Rattle.table_rule.proofs.Measured.{measures_at}
+use Rattle.table_rule.proofs.placing.measure_row.Goals as goal
+
+pub load-requires : goal.load-requires
+load-requires g c =
+    let wide = c.requires.table.wide in
+    let base = c.row_place.ensures in (
+      c.requires.table.same,
+      omega (arith, c.requires.range, wide, base),
+      measures_at g.P.Law.law _ c.args.limits.now c.requires.table.own c.requires.law _ _ c.args.actor _ c.args.row _ c.requires.range c.requires.seat c.requires.owned base,
+    )
+
+pub returns-clause-seat : goal.returns-clause-seat
+returns-clause-seat g c = (c.load.ensures.2 c.args.limits.now c.args.actor c.args.row c.requires.seat c.row_place.ensures).0
+
+pub returns-clause-seen : goal.returns-clause-seen
+returns-clause-seen g c = (c.load.ensures.2 c.args.limits.now c.args.actor c.args.row c.requires.seat c.row_place.ensures).1
+
+pub returns-clause-room : goal.returns-clause-room
+returns-clause-room g c = (c.load.ensures.2 c.args.limits.now c.args.actor c.args.row c.requires.seat c.row_place.ensures).2

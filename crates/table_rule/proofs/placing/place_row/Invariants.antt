@@ -1,0 +1,6 @@
+use Rattle.std.specs.Prelude.{None}
+use Rattle.bw_model.specs.declared.step.Step.TheVariants.{Place}
+use Rattle.table_rule.proofs.placing.place_row.Given as goal
+
+abbrev pub ghosts-place_header : goal.ghosts-place_header
+ghosts-place_header g a = record { step = Place a.row a.content.now; begun = None; reply = None }

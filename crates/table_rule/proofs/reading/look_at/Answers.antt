@@ -1,0 +1,23 @@
+use Rattle.std.proofs.Common.{arith}
+use Rattle.table_rule.proofs.RowReads.{looks_at}
+use Rattle.table_rule.proofs.reading.look_at.Goals as goal
+
+pub load-requires : goal.load-requires
+load-requires g c =
+    let wide = c.requires.table.wide in
+    let base = c.row_place.ensures in (
+      c.requires.table.same,
+      omega (arith, c.requires.range, c.requires.word, wide, base),
+      looks_at g.P.Law.law _ c.args.limits.now c.requires.table.own c.requires.law _ _ c.args.actor _ c.args.row _ c.requires.range c.requires.seat c.requires.known c.args.at c.requires.word (omega (arith, base)),
+    )
+
+pub returns-clause-found : goal.returns-clause-found
+returns-clause-found g c content has =
+    let base = c.row_place.ensures in
+    c.load.ensures.2.1 c.args.limits.now c.args.actor c.args.row c.args.at content c.requires.seat c.requires.word has (omega (arith, base))
+
+-- A seat is its table, its number, and what it knows.
+pub returns-clause-same : goal.returns-clause-same
+returns-clause-same g c =
+    let told = c.load.ensures in
+    λ i. record { marker = record {}; table_id = told.0 i; id = told.1 i; me = told.2.0 i }

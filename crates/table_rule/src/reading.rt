@@ -1,0 +1,64 @@
+//! Records that are read where they lie: the step is the load of the first word, and each word of a record that was read is looked at
+//! by one more load.
+ghost use Rattle.std.specs.Prelude.{◌≡◌, ◌<◌, None, slice_index};
+ghost use Rattle.bw_model.specs.declared.step.Step.TheVariants.{Row};
+ghost use Rattle.deltas.specs.declared.record.Record.{Record};
+ghost use Rattle.record_slots.specs.Spelling.{words_of};
+ghost use Rattle.record_slots.specs.declared.layout.TheConstants.{ROW_WORDS};
+ghost use Rattle.traces.specs.discipline.Knowledge.{knows};
+ghost use Rattle.table_rule.specs.declared.view.Reach.TheVariants.{Idle};
+ghost use Rattle.table_rule.specs.Running.{KeepsRowsApart, KnowsReadable};
+ghost use Rattle.table_rule.specs.Steps.{HasReadRecord, IsLawfulStep, ReadsFirst};
+ghost use Rattle.table_rule.specs.Views.{SitsAt, IsOf, seen_of};
+
+use crate::plays::{Looking, Reading};
+use crate::rule::{Law, TableSeat, Words};
+use bw_model::Limits;
+use tree_words::row_place;
+
+/// Reads a row that the seat's actor has learnt, by one load: that of its first word, which is the step.
+pub fn read_first<P: Law>(
+    words: &Words<P>,
+    seat: &mut TableSeat,
+    limits: &Limits,
+    actor: u8,
+    row: u32,
+) -> u64
+    requires law { KeepsRowsApart limits.now (P.law limits.now) }
+    requires table { IsOf limits.now words.now.key words.now.table_id seat.old.table_id }
+    requires range { row < limits.now.rows }
+    requires seat { SitsAt limits.now actor Idle seat.old.me }
+    requires known { KnowsReadable (knows (seen_of seat.old.me) actor) row }
+    requires may { IsLawfulStep P.law limits.now actor (seen_of seat.old.me) None (Row row) None }
+    ensures same { seat.new.table_id ≡ seat.old.table_id }
+    ensures seat { SitsAt limits.now actor Idle seat.new.me }
+    ensures took { ReadsFirst P.law limits.now actor (seen_of seat.old.me) row result (seen_of seat.new.me) }
+{
+    let _ = limits;
+    let _ = actor;
+    words.load::<Reading<P>>(seat, row_place(row))
+}
+
+/// Looks at a word of a row whose record the seat's actor has read since it entered, by one load. That is no step, and the seat stays as it
+/// is: nobody places anything there before the actor leaves.
+pub fn look_at<P: Law>(
+    words: &Words<P>,
+    seat: &mut TableSeat,
+    limits: &Limits,
+    actor: u8,
+    row: u32,
+    at: usize,
+) -> u64
+    requires law { KeepsRowsApart limits.now (P.law limits.now) }
+    requires table { IsOf limits.now words.now.key words.now.table_id seat.old.table_id }
+    requires range { row < limits.now.rows }
+    requires word { at < ROW_WORDS }
+    requires seat { SitsAt limits.now actor Idle seat.old.me }
+    requires known { KnowsReadable (knows (seen_of seat.old.me) actor) row }
+    ensures same { seat.new ≡ seat.old }
+    ensures found { (content : Record) → HasReadRecord (knows (seen_of seat.old.me) actor) row content → result ≡ slice_index (words_of content) at }
+{
+    let _ = limits;
+    let _ = actor;
+    words.load::<Looking>(seat, row_place(row) + at)
+}
