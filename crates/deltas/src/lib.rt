@@ -1,7 +1,7 @@
 //! The nine kinds of record of a page's chain, and what each makes of the page under it.
 //!
 //! Look first at `Record`: a base has a whole page, each other kind is a delta over the record under it, which it names by its row.
-//! `apply` is the meaning of all nine. What linking a record is (`Link`), which record fits which page, and the memory of slots, rows,
+//! `apply` is the meaning of all nine. `RecordRows` is any memory that can be read record by record. What linking a record is (`Link`), which record fits which page, and the memory of slots, rows,
 //! free bits and epochs are definitions (specs/Links, Fits, Memory).
 //!
 //! Called by every layer that makes, spells or reads records, from `record_slots` on. It knows no words: how a record lies in a row is
@@ -10,6 +10,8 @@
 
 mod applies;
 mod record;
+mod record_rows;
 
 pub use applies::apply;
 pub use record::{Delete, Hold, Merge, Put, Record, Remove, Split, Term, Unterm};
+pub use record_rows::RecordRows;

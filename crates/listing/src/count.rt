@@ -5,12 +5,12 @@ ghost use Rattle.listing.specs.Listed.{HavePages, pairs_of};
 ghost use Rattle.tree_law.specs.Leaves.{HasLeafPages};
 
 use crate::page::page_of;
-use crate::rows::Rows;
 use base_page::{Content, Items};
 use bw_model::Limits;
+use deltas::RecordRows;
 
 /// How many pairs the leaves have. It takes no memory, and reads each leaf as [`crate::add_pairs`] does.
-pub fn count_pairs<M: Rows>(limits: &Limits, rows: &M) -> usize
+pub fn count_pairs<M: RecordRows>(limits: &Limits, rows: &M) -> usize
     requires pids { M.pids rows.now ≡ limits.now.pids }
     requires stand { (memory : Memory) × M.has rows.now memory × HasLeafPages limits.now memory }
     ensures { (memory : Memory) → M.has rows.now memory → (leaves : HasLeafPages limits.now memory) → (pairs : List (List ℕ × List ℕ)) × HavePages leaves.pages pairs × (result ≡ length pairs) }

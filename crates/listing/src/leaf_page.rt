@@ -13,9 +13,9 @@ ghost use Rattle.tree_law.specs.Keys.{IsUnder, IsUpTo};
 ghost use Rattle.tree_law.specs.Leaves.{HasLeafPages};
 
 use crate::page::page_of;
-use crate::rows::Rows;
 use base_page::{Content, Item, Page};
 use bw_model::{Key, Limits, Pairs};
+use deltas::RecordRows;
 
 /// The pairs of one leaf from a key on.
 #[derive(Drop)]
@@ -30,7 +30,7 @@ pub struct LeafPage {
 
 /// The pairs of the leaf that has the key, from the key on. It is looked for from a leaf nearby, if that isn't behind the key, else from the
 /// first one; each leaf in between is read.
-pub fn page_from<M: Rows>(limits: &Limits, rows: &M, near: u32, from: &Key) -> LeafPage
+pub fn page_from<M: RecordRows>(limits: &Limits, rows: &M, near: u32, from: &Key) -> LeafPage
     requires pids { M.pids rows.now ≡ limits.now.pids }
     requires stand { (memory : Memory) × M.has rows.now memory × HasLeafPages limits.now memory }
     requires near { (memory : Memory) → M.has rows.now memory → (leaves : HasLeafPages limits.now memory) → IsAmong memory leaves.pages near }
@@ -47,7 +47,7 @@ pub fn page_from<M: Rows>(limits: &Limits, rows: &M, near: u32, from: &Key) -> L
 }
 
 /// The PID of the leaf that has the key.
-fn leaf_with<M: Rows>(limits: &Limits, rows: &M, near: u32, from: &Key) -> u32
+fn leaf_with<M: RecordRows>(limits: &Limits, rows: &M, near: u32, from: &Key) -> u32
     requires pids { M.pids rows.now ≡ limits.now.pids }
     requires stand { (memory : Memory) × M.has rows.now memory × HasLeafPages limits.now memory }
     requires near { (memory : Memory) → M.has rows.now memory → (leaves : HasLeafPages limits.now memory) → IsAmong memory leaves.pages near }
@@ -65,7 +65,7 @@ fn leaf_with<M: Rows>(limits: &Limits, rows: &M, near: u32, from: &Key) -> u32
 }
 
 /// The leaf nearby, if it isn't behind the key, else the first one.
-fn first_of<M: Rows>(limits: &Limits, rows: &M, near: u32, from: &Key) -> u32
+fn first_of<M: RecordRows>(limits: &Limits, rows: &M, near: u32, from: &Key) -> u32
     requires pids { M.pids rows.now ≡ limits.now.pids }
     requires stand { (memory : Memory) × M.has rows.now memory × HasLeafPages limits.now memory }
     requires near { (memory : Memory) → M.has rows.now memory → (leaves : HasLeafPages limits.now memory) → IsAmong memory leaves.pages near }

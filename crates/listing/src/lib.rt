@@ -1,6 +1,6 @@
 //! The pairs of a log, and those that stand in a memory, leaf by leaf, whatever keeps the memory.
 //!
-//! Look first at `add_pairs`, and at the trait `Rows`, by which a memory of a core and one of words are read alike. `logged_pairs` lists
+//! Look first at `add_pairs`, and at `page_of`: a memory of a core and one of words are read alike, as `RecordRows`. `logged_pairs` lists
 //! what a log of updates says; `pages_are_listed` is the law that both are one list.
 //!
 //! Called by `step_core` (a core's listing), `running_tree` (the pairs of a closed tree) and `scene`. It knows of no operation that is under
@@ -13,8 +13,6 @@ mod listed_pages;
 mod log;
 mod page;
 mod pairs;
-mod rows;
-mod table;
 
 pub use count::count_pairs;
 pub use leaf_page::{LeafPage, page_from};
@@ -22,4 +20,3 @@ pub use listed_pages::{pages_are_listed, pages_are_shown};
 pub use log::logged_pairs;
 pub use page::{page_of, rows_of};
 pub use pairs::add_pairs;
-pub use rows::Rows;

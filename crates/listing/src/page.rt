@@ -9,14 +9,13 @@ ghost use Rattle.traces.specs.chain.Chains.{chain_rows};
 ghost use Rattle.traces.specs.chain.Fitted.{Makes};
 ghost use Rattle.listing.specs.Listed.{StandsAt};
 
-use crate::rows::Rows;
 use arrayvec::ArrayVec;
 use base_page::Page;
-use deltas::{Record, apply};
+use deltas::{Record, RecordRows, apply};
 use row_chain::MAX_RECORDS;
 
 /// The page that the chain of a PID makes: the base, changed by each delta from the oldest on.
-pub fn page_of<M: Rows>(rows: &M, pid: u32) -> Page
+pub fn page_of<M: RecordRows>(rows: &M, pid: u32) -> Page
     requires there { pid < M.pids rows.now }
     requires stands { (memory : Memory) × (chain : List Record) × M.has rows.now memory × StandsAt memory pid chain }
     ensures makes { (memory : Memory) (chain : List Record) → M.has rows.now memory → StandsAt memory pid chain → Makes chain result }
@@ -32,7 +31,7 @@ pub fn page_of<M: Rows>(rows: &M, pid: u32) -> Page
 }
 
 /// The rows of a page's chain, the newest record's first and the base's last.
-pub fn rows_of<M: Rows>(rows: &M, pid: u32) -> ArrayVec<u32, MAX_RECORDS>
+pub fn rows_of<M: RecordRows>(rows: &M, pid: u32) -> ArrayVec<u32, MAX_RECORDS>
     requires there { pid < M.pids rows.now }
     requires stands { (memory : Memory) × (chain : List Record) × M.has rows.now memory × StandsAt memory pid chain }
     ensures { (memory : Memory) (chain : List Record) → M.has rows.now memory → StandsAt memory pid chain → result.items ≡ chain_rows (memory.slots pid) chain }
@@ -50,7 +49,7 @@ pub fn rows_of<M: Rows>(rows: &M, pid: u32) -> ArrayVec<u32, MAX_RECORDS>
 }
 
 /// The page of the base in a row.
-fn base_at<M: Rows>(rows: &M, row: u32) -> Page
+fn base_at<M: RecordRows>(rows: &M, row: u32) -> Page
     requires { (memory : Memory) × (page : PageOf) × M.has rows.now memory × (memory.rows row ≡ Some (Base page)) }
     ensures { (memory : Memory) → M.has rows.now memory → memory.rows row ≡ Some (Base result) }
 {

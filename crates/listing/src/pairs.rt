@@ -6,14 +6,14 @@ ghost use Rattle.listing.specs.Listed.{HavePages, pairs_of};
 ghost use Rattle.tree_law.specs.Leaves.{HasLeafPages};
 
 use crate::page::page_of;
-use crate::rows::Rows;
 use base_page::{Content, Items};
 use bw_model::{Key, Limits, Value};
+use deltas::RecordRows;
 use std::alloc::{AllocError, Allocator};
 
 /// Adds the pairs of the leaves, from left to right, each leaf's in the order of their keys. Refused only where there is no room for
 /// 24 pairs of each page.
-pub fn add_pairs<M: Rows, B: Allocator>(
+pub fn add_pairs<M: RecordRows, B: Allocator>(
     pairs: &mut Vec<(Key, Value), B>,
     limits: &Limits,
     rows: &M,

@@ -6,8 +6,7 @@ ghost use Rattle.tree_words.specs.Layout.{row_at};
 
 use atomic_table::Closed;
 use bw_model::Limits;
-use deltas::Record;
-use listing::Rows;
+use deltas::{Record, RecordRows};
 use record_slots::{ROW_WORDS, read_words, rows_have_words, spelling_is_one};
 use std::alloc::Allocator;
 use tree_words::{row_place, slot_place};
@@ -19,7 +18,7 @@ pub(crate) struct ClosedRows<'a, A: Allocator> {
     pub(crate) closed: &'a Closed<(), A>,
 }
 
-impl<'a, A: Allocator> Rows for ClosedRows<'a, A> {
+impl<'a, A: Allocator> RecordRows for ClosedRows<'a, A> {
     ghost use Rattle.running_tree.specs.Closed.{AreFilled, KeepMemory};
 
     ghost has = { λ rows memory. AreFilled rows.closed.now.words.filled rows.closed.now.words.len × KeepMemory rows.limits.now rows.closed.now.words.items memory };

@@ -5,6 +5,6 @@ use Rattle.listing.proofs.count.count_pairs.Given as goal
 
 abbrev pub invariant-loop : goal.invariant-loop
 invariant-loop g l = record {
-  listed : (memory : Memory) → g.M.Rows.has l.rows memory → (pairs : Pairs) × HasListed l.limits memory pairs l.counter l.pid × (l.count ≡ length pairs);
+  listed : (memory : Memory) → g.M.RecordRows.has l.rows memory → (pairs : Pairs) × HasListed l.limits memory pairs l.counter l.pid × (l.count ≡ length pairs);
   few : l.count ≤ 24 * l.counter;
 }

@@ -6,4 +6,4 @@ use Rattle.listing.specs.Listed.{StandsAt}
 use Rattle.listing.proofs.page.page_of.Given as goal
 
 abbrev pub invariant-loop-place : goal.invariant-loop-place
-invariant-loop-place g l = (memory : Memory) (chain : List Record) → g.M.Rows.has l.rows memory → StandsAt memory l.pid chain → Makes (drop l.place chain) l.page
+invariant-loop-place g l = (memory : Memory) (chain : List Record) → g.M.RecordRows.has l.rows memory → StandsAt memory l.pid chain → Makes (drop l.place chain) l.page

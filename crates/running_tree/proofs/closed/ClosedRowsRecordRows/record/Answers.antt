@@ -1,6 +1,6 @@
 use Rattle.std.proofs.Common.{arith}
 use Rattle.running_tree.proofs.Kept.{row_is, row_spells, row_there}
-use Rattle.running_tree.proofs.closed.ClosedRowsRows.record.Goals as goal
+use Rattle.running_tree.proofs.closed.ClosedRowsRecordRows.record.Goals as goal
 
 pub row_of-requires-clause-there : goal.row_of-requires-clause-there
 row_of-requires-clause-there g c =

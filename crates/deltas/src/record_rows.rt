@@ -1,9 +1,9 @@
-//! A memory that can be read.
+//! A memory that stands still, and can be read record by record.
 
-use deltas::Record;
+use crate::Record;
 
 /// What keeps a memory: slots of pages, and rows of records.
-pub trait Rows {
+pub trait RecordRows {
     ghost use Rattle.std.specs.Prelude.{◌≡◌, ◌<◌, ℕ, Some};
     ghost use Rattle.deltas.specs.Memory.{Memory};
     ghost use Rattle.deltas.specs.declared.record.Record.{Record};

@@ -3,7 +3,7 @@ use lib.ListN.{get_elem?}
 use mathlib.Core.Option.{some}
 use Rattle.tree_words.specs.Layout.{slot_at}
 use Rattle.running_tree.proofs.Kept.{slot_is, slot_small}
-use Rattle.running_tree.proofs.closed.ClosedRowsRows.slot.Goals as goal
+use Rattle.running_tree.proofs.closed.ClosedRowsRecordRows.slot.Goals as goal
 
 pub overflow_cast-result : goal.overflow_cast-result
 overflow_cast-result g c =

@@ -1,11 +1,10 @@
-//! A table keeps a memory.
+//! A table keeps a memory that can be read record by record.
 
-use crate::rows::Rows;
-use core_memory::CoreTable;
-use deltas::Record;
+use crate::CoreTable;
+use deltas::{Record, RecordRows};
 use std::alloc::Allocator;
 
-impl<A: Allocator> Rows for CoreTable<A> {
+impl<A: Allocator> RecordRows for CoreTable<A> {
     ghost use Rattle.std.specs.Prelude.{◌≡◌};
     ghost use Rattle.core_memory.specs.Tables.{memory_in};
 
