@@ -4,7 +4,7 @@
 //! for before a turn; `SharedRecord` is a record with several owners, so that what was placed and what was read is kept once. `CoreRows` are
 //! a table's rows as searches look at them.
 //!
-//! Called by `step_core`; `scene` reads a table, and `listing` by `RecordRows`. It knows no operation and no law: whether a step may be taken is not asked
+//! Called by `step_core`; `tree_picture` reads a table, and `listing` by `RecordRows`. It knows no operation and no law: whether a step may be taken is not asked
 //! here.
 #![tactic(auto)]
 

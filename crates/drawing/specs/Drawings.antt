@@ -3,7 +3,7 @@ use Rattle.std.specs.Prelude.{◌≡◌, ℕ, ◌⊎◌, ◌↔◌, List, [], Bo
 use Rattle.std.specs.Io.KnownBytes.{Consumes}
 use Rattle.tree_limits.specs.declared.limits.Limits.{Limits}
 use Rattle.traces.specs.trace.Trace.{memory_of}
-use Rattle.scene.specs.Scenes.{Scene, IsSceneOf}
+use Rattle.tree_picture.specs.Scenes.{Scene, IsSceneOf}
 use Rattle.shell_lines.specs.declared.request.Language.TheVariants.{Weave}
 use Rattle.tree_picture.specs.declared.shape.Shape.{Shape}
 use Rattle.tree_picture.specs.Document.{IsWellFormed}

@@ -10,10 +10,9 @@ use crate::elements::show_document;
 use bw_model::Limits;
 use bw_shell::{Refusal, Woven, show_lone_refusal, show_refused, weave_core};
 use byte_streams::{Input, Output, outputs_add_up};
-use scene::Scene;
 use std::alloc::{AllocError, Global};
 use step_core::Core;
-use tree_picture::{Picture, documents_are_well_formed, picture};
+use tree_picture::{Picture, Scene, documents_are_well_formed, picture};
 
 /// What stands in a core, as a picture; refused for want of memory alone.
 fn picture_of(alloc: Global, core: &Core) -> Result<Picture, AllocError>

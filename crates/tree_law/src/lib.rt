@@ -6,7 +6,7 @@
 //! changed few times.
 //! Every function is a law and does nothing when it runs.
 //!
-//! Called by `step_core` and `running_tree`, which keep the invariant; `listing` and `scene` use what it says of leaves and levels. It knows
+//! Called by `step_core` and `running_tree`, which keep the invariant; `listing` and `tree_picture` use what it says of leaves and levels. It knows
 //! no operation, only the discipline; neither `op_machine`'s code nor any way through the tree is named here.
 #![tactic(auto)]
 

@@ -1,3 +1,4 @@
+mod Descents
 mod Documents
 mod Escapes
 mod Heights
@@ -6,4 +7,5 @@ mod Layouts
 mod Marking
 mod Ranges
 mod Shapes
+mod Sides
 mod TextExamples

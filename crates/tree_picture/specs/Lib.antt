@@ -1,11 +1,14 @@
 pub mod Adding
 pub mod Colours
+pub mod Counts
 pub mod Document
 pub mod Elements
 pub mod Layout
+pub mod Levels
 pub mod Marks
 pub mod Pages
 pub mod Pids
 pub mod Ranges
+pub mod Scenes
 pub mod Sizes
 pub mod Texts

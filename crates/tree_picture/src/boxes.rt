@@ -5,6 +5,7 @@ ghost use Rattle.tree_picture.specs.Ranges.{page_range};
 ghost use Rattle.tree_picture.specs.Sizes.{page_height};
 ghost use Rattle.tree_picture.specs.declared.places.TheConstants.{PAGE_WIDTH};
 
+use crate::ScenePage;
 use crate::colour::Colour;
 use crate::places::{DELTA, HEAD, PAGE_WIDTH, ROW, page_height, record_height};
 use crate::shape::{Mark, PageBox, Rectangle};
@@ -13,7 +14,6 @@ use crate::words::Words;
 use crate::write::{record_words, with_number, with_range, with_token};
 use base_page::{Content, Item, Page};
 use deltas::Record;
-use scene::ScenePage;
 use std::alloc::AllocError;
 
 /// A page at its place.

@@ -1,13 +1,13 @@
 //! What stands around the levels: the title, slot 0, the counts and the legend.
 ghost use Rattle.std.specs.Prelude.{◌≡◌};
 
+use crate::Scene;
 use crate::colour::Colour;
 use crate::places::{LEFT, TOP};
 use crate::shape::{Line, Rectangle, Text};
 use crate::sheet::Sheet;
 use crate::words::Words;
 use crate::write::{plain, with_number};
-use scene::Scene;
 
 /// The title, the counts, and slot 0 with its line to the root, whose box begins at `root_x`.
 pub(crate) fn head(sheet: &mut Sheet, scene: &Scene, root_x: u32)

@@ -13,7 +13,7 @@ use crate::boxes::page_box;
 use crate::links::{Drawn, links, mark_of, side_link};
 use crate::places::{DROP, GAP, PAGE_WIDTH, first_x, level_height};
 use crate::sheet::Sheet;
-use scene::{Level, ScenePage};
+use crate::{Level, ScenePage};
 use std::alloc::AllocError;
 
 /// A level: its pages from left to right, with their side links.

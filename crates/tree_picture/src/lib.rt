@@ -1,18 +1,23 @@
 //! The picture of a tree: what stands in it, as shapes, each of which is one element of an SVG document.
 //!
-//! Look first at `picture` and at `Shape`: rectangles, lines and texts. Each page of the scene has its box (`boxes`), and a document of
-//! shapes is well-formed (`documents_are_well_formed`). The places on the sheet are those of `places`.
+//! Look first at `Scene`, what stands in a tree: the pages of its side chains, level by level (`Level`), with their records
+//! (`ScenePage`). Then at `picture` and at `Shape`: rectangles, lines and texts. Each page of the scene has its box (`boxes`), and a
+//! document of shapes is well-formed (`documents_are_well_formed`). The places on the sheet are those of `places`.
 //!
-//! Called by `drawing`, which writes the shapes. It knows no stream; it reads a scene and its core's actors, and changes nothing.
+//! Called by `drawing`, which writes the shapes. It knows no stream; it reads a core's table and actors, and changes nothing.
 #![tactic(auto)]
 
 mod boxes;
 mod colour;
+mod counts;
 mod doings;
 mod frame;
+mod level;
 mod levels;
 mod links;
+mod page;
 mod places;
+mod scene;
 mod shape;
 mod sheet;
 mod steps;
@@ -22,6 +27,10 @@ mod words;
 mod write;
 
 pub use colour::Colour;
+pub use counts::{free_pids, free_rows};
+pub use level::Level;
+pub use page::ScenePage;
+pub use scene::Scene;
 pub use shape::{
     INSET, Line, MARK_INSET, Mark, NAME_DROP, PageBox, RANGE_DROP, Rectangle, Shape, Text,
 };

@@ -9,8 +9,8 @@ use crate::shape::{Line, Mark, Rectangle};
 use crate::sheet::Sheet;
 use crate::words::Words;
 use crate::write::with_number;
+use crate::{Level, ScenePage};
 use base_page::{Content, Item};
-use scene::{Level, ScenePage};
 
 /// A level where it is drawn: its pages, and the place of the first one.
 #[derive(Clone, Copy)]

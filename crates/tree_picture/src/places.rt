@@ -3,8 +3,8 @@ ghost use Rattle.std.specs.Prelude.{◌≡◌, ◌≤◌, ◌<◌, ◌+◌, ◌*
 ghost use Rattle.tree_picture.specs.Sizes.{level_height, page_height, record_height};
 ghost use Rattle.tree_picture.specs.declared.places.TheConstants.{GAP, LEFT, PAGE_WIDTH};
 
+use crate::{Level, ScenePage};
 use deltas::Record;
-use scene::{Level, ScenePage};
 
 pub(crate) const PAGE_WIDTH: u32 = 236;
 

@@ -6,6 +6,7 @@ ghost use Rattle.tree_picture.specs.Pages.{boxes_of, marks_of, pids_of, ranges_o
 ghost use Rattle.tree_picture.specs.Pids.{all_pids};
 ghost use Rattle.tree_picture.specs.Ranges.{all_ranges};
 
+use crate::Scene;
 use crate::colour::Colour;
 use crate::doings::actor_lines;
 use crate::frame::{head, legend};
@@ -13,7 +14,6 @@ use crate::levels::{all_links, bottom_of, rows};
 use crate::places::{DROP, LEFT, TOP, first_x, width_of};
 use crate::shape::Rectangle;
 use crate::sheet::{Picture, Sheet};
-use scene::Scene;
 use std::alloc::{AllocError, Global};
 use step_core::Core;
 

@@ -1,8 +1,8 @@
 //! A whole tree as it stands.
 ghost use Rattle.std.specs.Prelude.{◌≡◌, ◌≤◌, length, IfOk};
 ghost use Rattle.core_memory.specs.Tables.{memory_in};
-ghost use Rattle.scene.specs.Levels.{AreLevels};
-ghost use Rattle.scene.specs.Scenes.{IsSceneOf};
+ghost use Rattle.tree_picture.specs.Levels.{AreLevels};
+ghost use Rattle.tree_picture.specs.Scenes.{IsSceneOf};
 ghost use Rattle.tree_law.specs.LevelPages.{HasAllLevels};
 
 use crate::counts::{free_pids, free_rows};
@@ -27,7 +27,7 @@ pub struct Scene<A: Allocator = Global> {
 
 impl<A: Allocator> Model for Scene<A> {
     ghost use Rattle.std.specs.Prelude.{◌≤◌, length};
-    ghost use Rattle.scene.specs.Scenes.{Scene};
+    ghost use Rattle.tree_picture.specs.Scenes.{Scene};
 
     ghost Value = { Scene };
 

@@ -1,7 +1,7 @@
 use Rattle.std.proofs.Common.{ap, length, sym, ◌≡◌, ◌∙◌, arith}
 use Rattle.tree_limits.specs.declared.limits.Limits.{Limits}
-use Rattle.scene.proofs.Sides.{chain_at, is_more, no_front, page_last, page_more, pid_below}
-use Rattle.scene.proofs.level.level_from.Goals as goal
+use Rattle.tree_picture.proofs.Sides.{chain_at, is_more, no_front, page_last, page_more, pid_below}
+use Rattle.tree_picture.proofs.level.level_from.Goals as goal
 
 pub page_at-requires-clause-there : goal.page_at-requires-clause-there
 page_at-requires-clause-there g c =

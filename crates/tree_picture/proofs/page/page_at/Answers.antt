@@ -1,6 +1,6 @@
 use Rattle.std.proofs.Common.{refl, subst, sym}
 use Rattle.traces.specs.chain.Fitted.{IsPageChain, Makes}
-use Rattle.scene.proofs.page.page_at.Goals as goal
+use Rattle.tree_picture.proofs.page.page_at.Goals as goal
 
 pub invariant_of-result : goal.invariant_of-result
 invariant_of-result g c =

@@ -13,7 +13,7 @@ use Rattle.traces.specs.chain.Chains.{IsChainOf, content_in, level_in, low_in}
 use Rattle.traces.specs.chain.Fitted.{IsPageChain}
 use Rattle.traces.specs.chain.SideChain.{IsSideChainFrom, LivePage}
 use Rattle.traces.proofs.FittedLaws.{content_all, page_of, ruled}
-use Rattle.scene.specs.Levels.{AreLevels, AreLevelsFrom, first_child, low_child}
+use Rattle.tree_picture.specs.Levels.{AreLevels, AreLevelsFrom, first_child, low_child}
 use Rattle.tree_law.specs.LevelPages.{HasAllLevels, HasPagesOn, IsPageOn}
 
 -- These are the first levels, as many as counted; level l is next, from this page on, and what stands from there stands under them.

@@ -2,7 +2,7 @@ use Rattle.std.proofs.Common.{◌≡◌, ◌<◌, [], ◌∷◌, ◌++◌, add-o
 use Rattle.std.proofs.Math.Seq.{take-length, take-suc}
 use Rattle.core_memory.specs.Tables.{memory_in}
 use Rattle.listing.proofs.Chaining.{no_record, record_at, record_there, rows_long}
-use Rattle.scene.proofs.page.records_at.Goals as goal
+use Rattle.tree_picture.proofs.page.records_at.Goals as goal
 
 pub unreachable-requires : goal.unreachable-requires
 unreachable-requires g c =

@@ -1,7 +1,7 @@
 use Rattle.std.proofs.Common.{◌≡◌, length}
 use Rattle.core_memory.specs.Tables.{memory_in}
-use Rattle.scene.proofs.Descents.{HasDown}
-use Rattle.scene.proofs.scene.levels_of.Given as goal
+use Rattle.tree_picture.proofs.Descents.{HasDown}
+use Rattle.tree_picture.proofs.scene.levels_of.Given as goal
 
 abbrev pub invariant-loop : goal.invariant-loop
 invariant-loop g l = record {

@@ -1,7 +1,7 @@
 use Rattle.std.proofs.Common.{◌≡◌, ◌≤◌}
 use Rattle.core_memory.specs.Tables.{memory_in}
-use Rattle.scene.specs.Counts.{how_many}
-use Rattle.scene.proofs.counts.free_pids.Given as goal
+use Rattle.tree_picture.specs.Counts.{how_many}
+use Rattle.tree_picture.proofs.counts.free_pids.Given as goal
 
 abbrev pub invariant-loop-pid : goal.invariant-loop-pid
 invariant-loop-pid g l = record {

@@ -1,7 +1,7 @@
 //! One level as it stands.
 ghost use Rattle.std.specs.Prelude.{◌≡◌, ◌≤◌, ℕ, length, IfOk};
 ghost use Rattle.core_memory.specs.Tables.{memory_in};
-ghost use Rattle.scene.specs.Levels.{first_child};
+ghost use Rattle.tree_picture.specs.Levels.{first_child};
 ghost use Rattle.tree_law.specs.LevelPages.{HasPagesOn};
 
 use crate::page::{ScenePage, page_at};

@@ -1,7 +1,7 @@
 use Rattle.std.proofs.Common.{[], ◌∷◌, ◌+◌, ap, length, sym, ◌∙◌, arith}
 use Rattle.std.proofs.lemmas.List.{length-append}
-use Rattle.scene.proofs.Descents.{is_few, levels_end, levels_more, stands_next}
-use Rattle.scene.proofs.scene.levels_of.Goals as goal
+use Rattle.tree_picture.proofs.Descents.{is_few, levels_end, levels_more, stands_next}
+use Rattle.tree_picture.proofs.scene.levels_of.Goals as goal
 
 pub level_from-requires : goal.level_from-requires
 level_from-requires g c =

@@ -3,8 +3,8 @@ use Rattle.std.specs.Prelude.{◌≡◌, ℕ, List}
 use Rattle.tree_limits.specs.declared.limits.Limits.{Limits}
 use Rattle.deltas.specs.Memory.{Memory}
 use Rattle.traces.specs.chain.SideChain.{LivePage}
-use Rattle.scene.specs.Counts.{how_many}
-use Rattle.scene.specs.Levels.{AreLevels}
+use Rattle.tree_picture.specs.Counts.{how_many}
+use Rattle.tree_picture.specs.Levels.{AreLevels}
 
 -- the PID in slot 0; the pages of each level from left to right, from the root's level down to the leaves; how many PIDs and rows
 -- are free; and the epoch

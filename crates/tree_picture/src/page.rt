@@ -5,7 +5,7 @@ ghost use Rattle.traces.specs.chain.Chains.{right_in};
 ghost use Rattle.traces.specs.chain.Fitted.{IsPageChain, Makes};
 ghost use Rattle.core_memory.specs.Tables.{memory_in};
 ghost use Rattle.listing.specs.Listed.{StandsAt};
-ghost use Rattle.scene.specs.Levels.{low_child};
+ghost use Rattle.tree_picture.specs.Levels.{low_child};
 
 use base_page::Page;
 use core_memory::CoreTable;

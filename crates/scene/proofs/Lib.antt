@@ -1,2 +1,0 @@
-mod Descents
-mod Sides
