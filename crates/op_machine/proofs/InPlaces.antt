@@ -32,8 +32,8 @@ use Rattle.op_machine.specs.machine.RoundSteps.{AfterReading, AfterWriting, Step
 use Rattle.op_machine.specs.machine.Shows.{FitsLast, ShowsState, learn_last, wanted_at}
 use Rattle.op_machine.specs.machine.Tasks.{Task}
 use Rattle.op_machine.specs.machine.Works.{FollowsOutcome, TurnsInto}
-use Rattle.op_machine.specs.declared.places.Stand.{Stand}
-use Rattle.op_machine.specs.declared.places.Stand.TheVariants.{Begun, Epoch, Enter, Read, Write, Change, Leave}
+use Rattle.op_machine.specs.declared.places.StateKind.{StateKind}
+use Rattle.op_machine.specs.declared.places.StateKind.TheVariants.{Begun, Epoch, Enter, Read, Write, Change, Leave}
 use Rattle.bw_model.specs.declared.step.Told.{Told}
 use Rattle.bw_model.specs.declared.step.Told.TheVariants.{Start, Number, Whether, Done}
 use Rattle.op_machine.specs.machine.States.{State}
@@ -45,7 +45,7 @@ use Rattle.sweep.specs.Sweeps.{Sweep}
 
 -- by the state that the places are, the operation stands there
 module _ (reader : read.ReadRound) (writer : write.WriteRound) (change : ChangeOf) (then : Then) (reply : Reply) (lacks : Option Kind) where
-  pub stands_reading : (stand : Stand) → is_reading (state_at stand reader writer change then reply lacks) ≡ true → stand ≡ Read
+  pub stands_reading : (stand : StateKind) → is_reading (state_at stand reader writer change then reply lacks) ≡ true → stand ≡ Read
   stands_reading Begun is = cc
   stands_reading Epoch is = cc
   stands_reading (Enter epoch) is = cc
@@ -54,7 +54,7 @@ module _ (reader : read.ReadRound) (writer : write.WriteRound) (change : ChangeO
   stands_reading Change is = cc
   stands_reading Leave is = cc
 
-  pub stands_writing : (stand : Stand) → is_writing (state_at stand reader writer change then reply lacks) ≡ true → stand ≡ Write
+  pub stands_writing : (stand : StateKind) → is_writing (state_at stand reader writer change then reply lacks) ≡ true → stand ≡ Write
   stands_writing Begun is = cc
   stands_writing Epoch is = cc
   stands_writing (Enter epoch) is = cc
@@ -63,7 +63,7 @@ module _ (reader : read.ReadRound) (writer : write.WriteRound) (change : ChangeO
   stands_writing Change is = cc
   stands_writing Leave is = cc
 
-  pub stands_changing : (stand : Stand) → is_changing (state_at stand reader writer change then reply lacks) ≡ true → stand ≡ Change
+  pub stands_changing : (stand : StateKind) → is_changing (state_at stand reader writer change then reply lacks) ≡ true → stand ≡ Change
   stands_changing Begun is = cc
   stands_changing Epoch is = cc
   stands_changing (Enter epoch) is = cc
@@ -72,7 +72,7 @@ module _ (reader : read.ReadRound) (writer : write.WriteRound) (change : ChangeO
   stands_changing Change is = refl
   stands_changing Leave is = cc
 
-  pub stands_leaving : (stand : Stand) → is_leaving (state_at stand reader writer change then reply lacks) ≡ true → stand ≡ Leave
+  pub stands_leaving : (stand : StateKind) → is_leaving (state_at stand reader writer change then reply lacks) ≡ true → stand ≡ Leave
   stands_leaving Begun is = cc
   stands_leaving Epoch is = cc
   stands_leaving (Enter epoch) is = cc

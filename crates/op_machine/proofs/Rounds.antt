@@ -132,8 +132,8 @@ module _ (task : Task) (spares : Spares) (k : Knowledge) (r : Recalled) (round n
     shows = follows;
   }
 
-  pub write_ended : (end : WriteEnd) → Responds response.writing round told new (Some end) → write.EndsWrite round (learn k (write.wanted round) told) (recall r (write.wanted round) told) end → FacesWritten task spares (learn k (write.wanted round) told) (recall r (write.wanted round) told) end
-  write_ended end responds ends = record {
+  pub write_end_kind : (end : WriteEnd) → Responds response.writing round told new (Some end) → write.EndsWrite round (learn k (write.wanted round) told) (recall r (write.wanted round) told) end → FacesWritten task spares (learn k (write.wanted round) told) (recall r (write.wanted round) told) end
+  write_end_kind end responds ends = record {
     seeks = seeks_still task spares k h.seeks task.limits (write.wanted round) told (writer_reads round k r h.shows) fits;
     writer = h.writer;
     round = round;
@@ -168,7 +168,7 @@ module _ (task : Task) (spares : Spares) (k : Knowledge) (r : Recalled) (round n
   -- whatever the round makes of the answer
   pub write_comes : write.AsksTheSame round new → (result : Option WriteEnd) → Responds response.writing round told new result → Follows response.writing k r round told new result → Comes task k r (Some (write.wanted round)) told (at.Write new) spares (written_out result)
   write_comes same None responds follows = (write_on responds same follows, refl)
-  write_comes same (Some end) responds ends = write_ended end responds ends
+  write_comes same (Some end) responds ends = write_end_kind end responds ends
 
   pub write_leaves : (result : Option WriteEnd) → write.Spends (left_round task.limits) (one_round task.limits) r round told new result → LeavesFor task.limits r (Some (write.wanted round)) told (left_at task.limits r spares (at.Write round)) (at.Write new) spares (written_out result)
   write_leaves None spends = write_went spends

@@ -31,7 +31,7 @@ ghost use Rattle.sweep.specs.Sweeps.{IsSoundSweep, FitsSweep as IsToldSweepAlone
 ghost use Rattle.traces.specs.discipline.Fitting.{Fits};
 
 use crate::hand::Hand;
-use crate::places::{Places, Stand};
+use crate::places::{Places, StateKind};
 use crate::task::Task;
 use bw_model::{Command, Key, Limits, Reply, Step, Told};
 use change_machine::{End, Kind, Spares};
@@ -235,8 +235,8 @@ impl<R: Rows, A: Allocator> Operation<R, A> {
         ensures { AsksOn self.old spares.now (answer_of told) self.new spares.now }
     {
         match self.places.stand() {
-            Stand::Read => self.read_number(spares, told),
-            Stand::Write => self.write_number(spares, told),
+            StateKind::Read => self.read_number(spares, told),
+            StateKind::Write => self.write_number(spares, told),
             _ => self.turn(spares, told),
         }
     }
@@ -250,11 +250,11 @@ impl<R: Rows, A: Allocator> Operation<R, A> {
         ensures { AsksOn self.old spares.now (answer_of told) self.new spares.now }
     {
         match self.places.stand() {
-            Stand::Begun => self.places.go_to(Stand::Epoch),
-            Stand::Epoch => self.places.go_to(Stand::Enter {
+            StateKind::Begun => self.places.go_to(StateKind::Epoch),
+            StateKind::Epoch => self.places.go_to(StateKind::Enter {
                 epoch: told.number(),
             }),
-            Stand::Enter { .. } => self.task.begin_round(&mut self.places),
+            StateKind::Enter { .. } => self.task.begin_round(&mut self.places),
             _ => unreachable!(),
         }
     }
@@ -267,8 +267,8 @@ impl<R: Rows, A: Allocator> Operation<R, A> {
         ensures same { pass.new ≡ pass.old }
     {
         match self.places.stand() {
-            Stand::Read => self.read_record(spares, found, rows, pass),
-            Stand::Write => self.write_record(spares, found, rows, pass),
+            StateKind::Read => self.read_record(spares, found, rows, pass),
+            StateKind::Write => self.write_record(spares, found, rows, pass),
             _ => unreachable!(),
         }
     }
@@ -345,7 +345,7 @@ fn ended<R: Rows, A: Allocator>(
     told: Told,
 ) -> Option<End>
     requires told { IsToldChange (state_of places.old) hand.old (answer_of told) }
-    requires changing { places.old.stand ≡ Stand.Change }
+    requires changing { places.old.stand ≡ StateKind.Change }
     ensures makes { TurnsInto (state_of places.old) hand.old.spares (answer_of told) (state_of places.new) hand.new.spares (changed (ended_with places.old.then result)) }
     ensures keeps { (task : TaskSeen) (k : Knowledge) (r : Recalled) → ShowsState task hand.old.spares k r (state_of places.old) → FitsLast task.limits k (wanted_at hand.old.spares (state_of places.old)) (answer_of told) → AreKept task.limits task.actor hand.old.limbo k.limbo → AreKept task.limits task.actor hand.new.limbo (learn_last k (wanted_at hand.old.spares (state_of places.old)) (answer_of told)).limbo }
     ensures only { places.new ≡ record places.old { change = places.new.change } }

@@ -42,7 +42,7 @@ use crate::then::Then;
 use bw_model::{Key, Limits, Reply, Step, Told};
 use change_machine::{Change, End, Kind, Spares};
 use deltas::{Record, Remove};
-use rounds::{Asked, ReadEnded, ReadRound, WriteEnded, WriteRound};
+use rounds::{Asked, ReadEndKind, ReadRound, WriteEndKind, WriteRound};
 use row_search::{RowAt, Rows};
 use std::alloc::{AllocError, Allocator, Global};
 use std::marker::Model;
@@ -50,7 +50,7 @@ use structure_changes::{After, PageInHand, Plan};
 
 /// Where an operation stands, by the place of what is under way: a state without a place is named by the step that it has asked for.
 #[derive(Clone, Copy)]
-pub(crate) enum Stand {
+pub(crate) enum StateKind {
     Begun,
     Epoch,
     Enter { epoch: u64 },
@@ -63,7 +63,7 @@ pub(crate) enum Stand {
 /// The places of an operation's rounds and of its change, what comes after the change, and the reply, with the kind that ran out
 /// where it is `Full`.
 pub(crate) struct Places<R: Rows, A: Allocator = Global> {
-    stand: Stand,
+    stand: StateKind,
     reader: ReadRound<R, A>,
     writer: WriteRound<R, A>,
     change: Change,
@@ -102,7 +102,7 @@ impl<R: Rows, A: Allocator + Copy> Places<R, A> {
         ensures writer { IfOk result (λ places. places.writer.round.limits ≡ limits.now) }
     {
         Ok(Places {
-            stand: Stand::Begun,
+            stand: StateKind::Begun,
             reader: ReadRound::<R, A>::new(alloc, limits)?,
             writer: WriteRound::<R, A>::new(alloc, limits)?,
             change: no_change(limits),
@@ -129,7 +129,7 @@ impl<R: Rows, A: Allocator> Places<R, A> {
     }
 
     /// Where the operation stands.
-    pub(crate) fn stand(&self) -> Stand
+    pub(crate) fn stand(&self) -> StateKind
         ensures { result ≡ self.now.stand }
     {
         self.stand
@@ -139,28 +139,28 @@ impl<R: Rows, A: Allocator> Places<R, A> {
     pub(crate) fn has_begun(&self) -> bool
         ensures { result ≡ has_begun (state_of self.now) }
     {
-        !matches!(self.stand, Stand::Begun)
+        !matches!(self.stand, StateKind::Begun)
     }
 
     /// Whether a change is under way.
     pub(crate) fn is_changing(&self) -> bool
         ensures { result ≡ is_changing (state_of self.now) }
     {
-        matches!(self.stand, Stand::Change)
+        matches!(self.stand, StateKind::Change)
     }
 
     /// Nothing was done yet, on a tree of these limits.
     pub(crate) fn reset(&mut self, limits: &Limits)
-        ensures begun { self.new.stand ≡ Stand.Begun }
+        ensures begun { self.new.stand ≡ StateKind.Begun }
         ensures have { HaveLimits limits.now self.new }
     {
-        self.stand = Stand::Begun;
+        self.stand = StateKind::Begun;
         self.reader.reset(limits);
         self.writer.reset(limits);
     }
 
     /// Goes to a state without a place.
-    pub(crate) fn go_to(&mut self, stand: Stand)
+    pub(crate) fn go_to(&mut self, stand: StateKind)
         ensures { self.new ≡ record self.old { stand = stand } }
     {
         self.stand = stand;
@@ -168,37 +168,37 @@ impl<R: Rows, A: Allocator> Places<R, A> {
 
     /// A reader's round to the leaf of the key begins.
     pub(crate) fn read(&mut self, key: &Key)
-        ensures { self.new ≡ record self.old { stand = Stand.Read; reader = record self.old.reader { round = record { limits = self.old.reader.round.limits; key = key.now; goal = goal.Seek; leg = Down None; state = Root } } } }
+        ensures { self.new ≡ record self.old { stand = StateKind.Read; reader = record self.old.reader { round = record { limits = self.old.reader.round.limits; key = key.now; goal = goal.Seek; leg = Down None; state = Root } } } }
     {
         self.reader.restart(key);
-        self.stand = Stand::Read;
+        self.stand = StateKind::Read;
     }
 
     /// A reader's round begins that goes to the left of the page in its hand first.
     #[inline(never)]
     pub(crate) fn read_left(&mut self)
-        ensures stand { self.new.stand ≡ Stand.Read }
+        ensures stand { self.new.stand ≡ StateKind.Read }
         ensures round { self.new.reader.round ≡ record self.old.reader.round { goal = goal.Left self.old.reader.page; leg = Down None; state = Root } }
         ensures writer { self.new.writer ≡ self.old.writer }
     {
         self.reader.go_left();
-        self.stand = Stand::Read;
+        self.stand = StateKind::Read;
     }
 
     /// A writer's round to the leaf of the key begins.
     pub(crate) fn write(&mut self, key: &Key, due: usize, tends: bool)
         requires due { 0 < due }
-        ensures { self.new ≡ record self.old { stand = Stand.Write; writer = record self.old.writer { round = record { limits = self.old.writer.round.limits; key = key.now; due = due; tends = tends; floor = 0; goal = course.Seek; parent = None; left = None; state = Root } } } }
+        ensures { self.new ≡ record self.old { stand = StateKind.Write; writer = record self.old.writer { round = record { limits = self.old.writer.round.limits; key = key.now; due = due; tends = tends; floor = 0; goal = course.Seek; parent = None; left = None; state = Root } } } }
     {
         self.writer.restart(key, due, tends);
-        self.stand = Stand::Write;
+        self.stand = StateKind::Write;
     }
 
     /// A writer's round to the left of the page in its hand begins, which is removed.
     #[inline(never)]
     pub(crate) fn write_left(&mut self, rows: &R, pass: &mut R::Pass)
         requires read { IsReadPage (R.has rows.now pass.old) self.old.writer.page }
-        ensures goes { self.new ≡ record self.old { stand = Stand.Write; writer = record self.old.writer { round = left_round_of self.old.writer } } }
+        ensures goes { self.new ≡ record self.old { stand = StateKind.Write; writer = record self.old.writer { round = left_round_of self.old.writer } } }
         ensures same { pass.new ≡ pass.old }
     {
         let removed = self.writer.page();
@@ -209,16 +209,16 @@ impl<R: Rows, A: Allocator> Places<R, A> {
             removed.chain().level(),
         );
         self.writer.restart_left(&low, pid, level);
-        self.stand = Stand::Write;
+        self.stand = StateKind::Write;
     }
 
     /// The operation is to leave with the reply, which isn't `Full`.
     pub(crate) fn leave(&mut self, reply: ShortReply)
-        ensures { self.new ≡ record self.old { stand = Stand.Leave; reply = reply; lacks = None } }
+        ensures { self.new ≡ record self.old { stand = StateKind.Leave; reply = reply; lacks = None } }
     {
         self.reply.put(reply);
         self.lacks = None;
-        self.stand = Stand::Leave;
+        self.stand = StateKind::Leave;
     }
 
     /// The leaf in the hand of the reader's round, or the removed one beside it.
@@ -244,22 +244,22 @@ impl<R: Rows, A: Allocator> Places<R, A> {
     )
         requires read { IsReadChain (R.has rows.now pass.old) (chain_of (leaf_read is_beside self.old.reader)) }
         ensures looks { pass.new ≡ pass.old }
-        ensures page { (pairs : List (List ℕ × List ℕ)) × ArePairsOf (found (leaf_read is_beside self.old.reader).chain) from.now (high_in (leaf_read is_beside self.old.reader).chain) pairs × (self.new ≡ record self.old { stand = Stand.Leave; reply = Reply.Page pairs (high_in (leaf_read is_beside self.old.reader).chain); lacks = None }) }
+        ensures page { (pairs : List (List ℕ × List ℕ)) × ArePairsOf (found (leaf_read is_beside self.old.reader).chain) from.now (high_in (leaf_read is_beside self.old.reader).chain) pairs × (self.new ≡ record self.old { stand = StateKind.Leave; reply = Reply.Page pairs (high_in (leaf_read is_beside self.old.reader).chain); lacks = None }) }
     {
         let leaf = self.leaf_read(is_beside).chain();
         let (pairs, next) = (leaf.pairs_from(rows, pass, from), leaf.high(rows, pass));
         self.reply.put_page(pairs, next);
         self.lacks = None;
-        self.stand = Stand::Leave;
+        self.stand = StateKind::Leave;
     }
 
     /// The operation is to leave with `Full`, since nothing of the kind is free.
     pub(crate) fn give_up(&mut self, kind: Kind)
-        ensures { self.new ≡ record self.old { stand = Stand.Leave; reply = Reply.Full; lacks = Some kind } }
+        ensures { self.new ≡ record self.old { stand = StateKind.Leave; reply = Reply.Full; lacks = Some kind } }
     {
         self.reply.put(ShortReply::bare(Which::Full));
         self.lacks = Some(kind);
-        self.stand = Stand::Leave;
+        self.stand = StateKind::Leave;
     }
 
     /// The change that is due where the writer's round has ended with one, and what comes once it has won.
@@ -284,7 +284,7 @@ impl<R: Rows, A: Allocator> Places<R, A> {
     {
         self.change = Change::new(task.limits(), spares, plan);
         self.then = then;
-        self.stand = Stand::Change;
+        self.stand = StateKind::Change;
     }
 
     /// The step that is wanted, with the record that is to be placed lent from where it lies.
@@ -296,19 +296,19 @@ impl<R: Rows, A: Allocator> Places<R, A> {
         ensures may { (task : TaskSeen) (k : Knowledge) (r : Recalled) → ShowsState task spares.now k r (state_of self.now) → MayStep task k (lent result) }
     {
         match self.stand {
-            Stand::Begun => unreachable!(),
-            Stand::Epoch => Step::Epoch,
-            Stand::Enter { epoch } => Step::Enter(epoch),
-            Stand::Read => reading(self.reader.asks()),
-            Stand::Write => reading(self.writer.asks()),
-            Stand::Change => self.change.wanted(spares),
-            Stand::Leave => Step::Leave,
+            StateKind::Begun => unreachable!(),
+            StateKind::Epoch => Step::Epoch,
+            StateKind::Enter { epoch } => Step::Enter(epoch),
+            StateKind::Read => reading(self.reader.asks()),
+            StateKind::Write => reading(self.writer.asks()),
+            StateKind::Change => self.change.wanted(spares),
+            StateKind::Leave => Step::Leave,
         }
     }
 
     /// Tells the reply with which the operation leaves.
     pub(crate) fn tell_reply(&self, reply: &mut Reply)
-        requires leaving { self.now.stand ≡ Stand.Leave }
+        requires leaving { self.now.stand ≡ StateKind.Leave }
         ensures { reply.new ≡ self.now.reply }
     {
         self.reply.tell(reply);
@@ -319,7 +319,7 @@ impl<R: Rows, A: Allocator> Places<R, A> {
         ensures { result ≡ lacks_at (state_of self.now) }
     {
         match self.stand {
-            Stand::Leave => self.lacks,
+            StateKind::Leave => self.lacks,
             _ => None,
         }
     }
@@ -338,7 +338,7 @@ impl<R: Rows, A: Allocator> Places<R, A> {
         found: RowAt<R>,
         rows: &R,
         pass: &mut R::Pass,
-    ) -> Option<ReadEnded>
+    ) -> Option<ReadEndKind>
         requires asked { read.wanted self.old.reader.round ≡ Row found.row }
         requires told { IsToldThere (R.has rows.now pass.old) (machine read.reading) self.old.reader.round (Content found.content) }
         ensures reads { ReadsOn self.old (Content found.content) self.new (option_map (reads.ended_read self.new.reader) result) }
@@ -372,7 +372,7 @@ impl<R: Rows, A: Allocator> Places<R, A> {
         found: RowAt<R>,
         rows: &R,
         pass: &mut R::Pass,
-    ) -> Option<WriteEnded>
+    ) -> Option<WriteEndKind>
         requires asked { write.wanted self.old.writer.round ≡ Row found.row }
         requires told { IsToldThere (R.has rows.now pass.old) (machine response.writing) self.old.writer.round (Content found.content) }
         ensures writes { WritesOn self.old (Content found.content) self.new (option_map (writes.ended_write self.new.writer) result) }
@@ -384,7 +384,7 @@ impl<R: Rows, A: Allocator> Places<R, A> {
     /// The change takes the answer to the step that it wanted, and tells how it has ended, once it has.
     pub(crate) fn change_next(&mut self, spares: &mut Spares, told: Told) -> Option<End>
         requires told { IsToldAt (state_of self.old) spares.old (answer_of told) }
-        requires changing { self.old.stand ≡ Stand.Change }
+        requires changing { self.old.stand ≡ StateKind.Change }
         ensures makes { TurnsInto (state_of self.old) spares.old (answer_of told) (state_of self.new) spares.new (changed (ended_with self.old.then result)) }
         ensures unlinks { (task : TaskSeen) (k : Knowledge) (r : Recalled) → ShowsState task spares.old k r (state_of self.old) → FitsLast task.limits k (wanted_at spares.old (state_of self.old)) (answer_of told) → UnlinksAfter task.limits k (ended_with self.old.then result) (learn_last k (wanted_at spares.old (state_of self.old)) (answer_of told)).limbo }
         ensures only { self.new ≡ record self.old { change = self.new.change } }

@@ -12,7 +12,7 @@ ghost use Rattle.op_machine.specs.machine.Bounded.{left_at, left_for, one_round}
 ghost use Rattle.op_machine.specs.machine.GoesLeft.{first_read, first_write};
 ghost use Rattle.op_machine.specs.machine.Outcomes as Outcome;
 ghost use Rattle.op_machine.specs.machine.Outcomes.{FacesRead, StandsForReader};
-ghost use Rattle.op_machine.specs.declared.places.Stand.TheVariants as Stand;
+ghost use Rattle.op_machine.specs.declared.places.StateKind.TheVariants as StateKind;
 ghost use Rattle.op_machine.specs.machine.Places.{HaveLimits, leaf_read, state_of};
 ghost use Rattle.op_machine.specs.machine.RoundSteps.{AfterReading};
 ghost use Rattle.op_machine.specs.machine.Shows.{ShowsState, wanted_at};
@@ -25,7 +25,7 @@ use crate::places::Places;
 use crate::short_reply::ShortReply;
 use crate::task::Task;
 use round_model::read_leaves_stood;
-use rounds::ReadEnded;
+use rounds::ReadEndKind;
 use row_search::{KeyWords, Rows};
 use std::alloc::Allocator;
 
@@ -52,7 +52,7 @@ impl Task {
     #[inline(never)]
     pub(crate) fn end_reading<R: Rows, A: Allocator>(
         &self,
-        ended: ReadEnded,
+        ended: ReadEndKind,
         places: &mut Places<R, A>,
         rows: &R,
         pass: &mut R::Pass,
@@ -69,10 +69,10 @@ impl Task {
     {
         read_leaves_stood();
         match ended {
-            ReadEnded::Again => self.begin_round(places),
-            ReadEnded::Removed => places.read_left(),
-            ReadEnded::Leaf => self.leave_over(false, places, rows, pass),
-            ReadEnded::Beside => self.leave_over(true, places, rows, pass),
+            ReadEndKind::Again => self.begin_round(places),
+            ReadEndKind::Removed => places.read_left(),
+            ReadEndKind::Leaf => self.leave_over(false, places, rows, pass),
+            ReadEndKind::Beside => self.leave_over(true, places, rows, pass),
         }
     }
 
@@ -86,7 +86,7 @@ impl Task {
     )
         requires read { IsReadChain (R.has rows.now pass.old) (chain_of (leaf_read is_beside places.old.reader)) }
         ensures looks { pass.new ≡ pass.old }
-        ensures leaves { places.new ≡ record places.old { stand = Stand.Leave; reply = places.new.reply; lacks = None } }
+        ensures leaves { places.new ≡ record places.old { stand = StateKind.Leave; reply = places.new.reply; lacks = None } }
         ensures may { (spares : Spares) (k : Knowledge) (head : ℕ) → StandsForReader self.now spares k head (leaf_read is_beside places.old.reader).chain → IsBetweenChanges self.now spares k × MayReply self.now.limits self.now.actor k places.new.reply }
         ensures answers { places.new.reply ≢ reply.Full }
     {

@@ -24,7 +24,7 @@ use crate::task::Task;
 use crate::then::Then;
 use bw_model::Command;
 use change_machine::{End, Spares, plans_may_be_linked};
-use rounds::{WriteEnded, WriteRound};
+use rounds::{WriteEndKind, WriteRound};
 use row_search::{KeyWords, Rows};
 use std::alloc::Allocator;
 use structure_changes::{After, Plan, plan_upkeep};
@@ -35,7 +35,7 @@ impl Task {
     pub(crate) fn end_writing<R: Rows, A: Allocator>(
         &mut self,
         spares: &Spares,
-        ended: WriteEnded,
+        ended: WriteEndKind,
         places: &mut Places<R, A>,
         rows: &R,
         pass: &mut R::Pass,
@@ -51,10 +51,10 @@ impl Task {
         ensures goes { AfterWriting self.old places.old.writer.round (Some (ended_write places.old.writer ended)) (state_of places.new) }
     {
         match ended {
-            WriteEnded::Again | WriteEnded::Done => self.begin_round(places),
-            WriteEnded::Removed => places.write_left(rows, pass),
-            WriteEnded::Due => self.begin_due(spares, places),
-            WriteEnded::Leaf => self.end_at_sought_leaf(spares, places, rows, pass),
+            WriteEndKind::Again | WriteEndKind::Done => self.begin_round(places),
+            WriteEndKind::Removed => places.write_left(rows, pass),
+            WriteEndKind::Due => self.begin_due(spares, places),
+            WriteEndKind::Leaf => self.end_at_sought_leaf(spares, places, rows, pass),
         }
     }
 

@@ -15,10 +15,10 @@ use Rattle.round_model.proofs.Reading.{can_see, treats_as, way_shows}
 use Rattle.rounds.specs.Descents.{PlacedDescent, sight_of}
 use Rattle.rounds.specs.Legs.{PlacedLeg}
 use Rattle.rounds.specs.ReadRounds.{PlacedRead, ended_read, read_goal}
-use Rattle.rounds.specs.declared.descents.Seen.{Seen}
-use Rattle.rounds.specs.declared.descents.Seen.TheVariants.{On, Empty, Whole}
-use Rattle.rounds.specs.declared.read_round.Going.{Going}
-use Rattle.rounds.specs.declared.read_round.ReadEnded.{ReadEnded}
+use Rattle.rounds.specs.declared.descents.SightKind.{SightKind}
+use Rattle.rounds.specs.declared.descents.SightKind.TheVariants.{More, Empty, Whole}
+use Rattle.rounds.specs.declared.read_round.ReadGoalKind.{ReadGoalKind}
+use Rattle.rounds.specs.declared.read_round.ReadEndKind.{ReadEndKind}
 
 -- an answer that fits the round fits its descent
 pub way_told : (round : reader.ReadRound) (told : Answer Record) → IsTold (machine reader.reading) round told → IsTold from_root.descending (reader.reading.way round) told
@@ -29,7 +29,7 @@ abbrev pub after : PlacedRead → PlacedDescent → PlacedRead
 after was now = record { round = record was.round { limits = now.way.limits; state = now.way.state }; page = now.page; aside = was.aside; met = was.met }
 
 module _ (was : PlacedRead) (now : PlacedDescent) (told : Answer Record) where
-  abbrev pub Moved : Seen → Type 0
+  abbrev pub Moved : SightKind → Type 0
   Moved seen = from_root.Responds (reader.reading.way was.round) told now.way (sight_of seen now.page)
 
   -- with the limits that it had
@@ -41,7 +41,7 @@ module _ (was : PlacedRead) (now : PlacedDescent) (told : Answer Record) where
   can_treat_now b limits t = subst (λ (l : Limits). reader.CanTreatRead (with_limits l) now.page) (sym limits) (can_see was.round now.way.state told (sight.Whole now.page) b t)
 
   -- the round reads on
-  pub goes_on : Moved On → now.way.limits ≡ was.round.limits → Responds reader.reading was.round told (after was now).round None
+  pub goes_on : Moved More → now.way.limits ≡ was.round.limits → Responds reader.reading was.round told (after was now).round None
   goes_on b limits =
       let same : (after was now).round ≡ with_limits was.round.limits = ap with_limits limits in
       inl (record { on = b; same = same; none = refl })
@@ -51,7 +51,7 @@ module _ (was : PlacedRead) (now : PlacedDescent) (told : Answer Record) where
   is_missing b = inr (record { sight = sight.Empty; finds = b; sees = refl })
 
   -- the round responds as it treats the page that is whole
-  pub treats_now : (new : PlacedRead) (result : Option ReadEnded) → Moved Whole → now.way.limits ≡ was.round.limits → reader.TreatsRead (after was now).round now.page new.round (option_map (ended_read new) result)
+  pub treats_now : (new : PlacedRead) (result : Option ReadEndKind) → Moved Whole → now.way.limits ≡ was.round.limits → reader.TreatsRead (after was now).round now.page new.round (option_map (ended_read new) result)
       → Responds reader.reading was.round told new.round (option_map (ended_read new) result)
   treats_now new result b limits treats =
       let there : reader.TreatsRead (with_limits was.round.limits) now.page new.round (option_map (ended_read new) result) =
@@ -59,9 +59,9 @@ module _ (was : PlacedRead) (now : PlacedDescent) (told : Answer Record) where
       inr (record { sight = sight.Whole now.page; finds = b; sees = treats_as was.round new.round was.round.state now.way.state now.page (option_map (ended_read new) result) there })
 
 -- the round whose fields these are
-abbrev pub placed : List ℕ → Going → Version → PlacedLeg → PlacedDescent → PlacedRead
-placed key going aside leg descent = record {
-  round = record { limits = descent.way.limits; key = key; goal = read_goal going aside; leg = leg.leg; state = descent.way.state };
+abbrev pub placed : List ℕ → ReadGoalKind → Version → PlacedLeg → PlacedDescent → PlacedRead
+placed key kind aside leg descent = record {
+  round = record { limits = descent.way.limits; key = key; goal = read_goal kind aside; leg = leg.leg; state = descent.way.state };
   page = descent.page;
   aside = aside;
   met = leg.page;

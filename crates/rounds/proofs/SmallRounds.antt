@@ -16,10 +16,10 @@ use Rattle.round_model.specs.Visits as sight
 use Rattle.rounds.specs.Descents.{sight_of, placed_state, asked_step}
 use Rattle.rounds.specs.ReadRounds.{AreReadFor, again_if, ended_read, read_goal}
 use Rattle.rounds.specs.declared.asked.Asked.TheVariants as asked
-use Rattle.rounds.specs.declared.descents.At.TheVariants.{Root, Slot, Row}
-use Rattle.rounds.specs.declared.descents.Seen.TheVariants.{On, Empty, Whole}
-use Rattle.rounds.specs.declared.read_round.Going.TheVariants.{Seek, Left}
-use Rattle.rounds.specs.declared.read_round.ReadEnded.TheVariants.{Removed, Beside}
+use Rattle.rounds.specs.declared.descents.WayStateKind.TheVariants.{Root, Slot, Row}
+use Rattle.rounds.specs.declared.descents.SightKind.TheVariants.{More, Empty, Whole}
+use Rattle.rounds.specs.declared.read_round.ReadGoalKind.TheVariants.{Seek, Left}
+use Rattle.rounds.specs.declared.read_round.ReadEndKind.TheVariants.{Removed, Beside}
 
 module _ (limits : Limits) (one : Record) (round : reader.ReadRound) (first second : Version) where
   -- slot 0, then the slot of page 5, then row 8 under one that was read from row 9 on
@@ -36,7 +36,7 @@ module _ (limits : Limits) (one : Record) (round : reader.ReadRound) (first seco
   asks_row_8 = refl
 
   -- the page that is whole is the one in hand
-  sees_nothing_yet : sight_of On first ≡ None
+  sees_nothing_yet : sight_of More first ≡ None
   sees_nothing_yet = refl
 
   sees_none : sight_of Empty first ≡ Some sight.Empty

@@ -11,8 +11,8 @@ use Rattle.round_model.specs.WriteRounds as writer
 use Rattle.round_model.specs.WriteEnds as end
 use Rattle.rounds.specs.Courses.{write_goal, kept_if}
 use Rattle.rounds.specs.WriteRounds.{AreReadToWrite, PlacedWrite, again_if, ended_write}
-use Rattle.rounds.specs.declared.course.Aim.TheVariants as aim
-use Rattle.rounds.specs.declared.write_ended.WriteEnded.TheVariants.{Removed, Due, Leaf}
+use Rattle.rounds.specs.declared.course.WriteGoalKind.TheVariants as kind
+use Rattle.rounds.specs.declared.write_end_kind.WriteEndKind.TheVariants.{Removed, Due, Leaf}
 
 module _ (round : writer.WriteRound) (first second third : Version) (plan : Plan) (after : After) where
   -- the first page is in hand, the second stands in the parent's place, the third in the left one's, and a change in the place of one
@@ -32,13 +32,13 @@ module _ (round : writer.WriteRound) (first second third : Version) (plan : Plan
   goes_on = refl
 
   -- to the left of page 5; to a page for the one in the left one's place, and for both
-  goes_left : write_goal (aim.Left 5) second third ≡ kept.Left 5
+  goes_left : write_goal (kind.Left 5) second third ≡ kept.Left 5
   goes_left = refl
 
-  for_one : write_goal aim.Merge second third ≡ kept.Merge third
+  for_one : write_goal kind.Merge second third ≡ kept.Merge third
   for_one = refl
 
-  for_both : write_goal aim.Unterm second third ≡ kept.Unterm second third
+  for_both : write_goal kind.Unterm second third ≡ kept.Unterm second third
   for_both = refl
 
   stands_there : kept_if false second ≡ None

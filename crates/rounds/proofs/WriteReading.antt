@@ -24,7 +24,7 @@ use Rattle.round_model.proofs.SeenPages.{seen_is_read}
 use Rattle.round_model.proofs.Seeking.{hand}
 use Rattle.rounds.specs.Descents.{PlacedDescent}
 use Rattle.rounds.specs.WriteRounds.{AreReadToWrite, IsGoalRead, PlacedWrite}
-use Rattle.rounds.specs.declared.descents.Seen.TheVariants as seen
+use Rattle.rounds.specs.declared.descents.SightKind.TheVariants as seen
 use Rattle.rounds.proofs.WriteSeeing.{Moved, after}
 
 module _ (is_there : ℕ → Record → Type 0) where

@@ -17,9 +17,9 @@ use Rattle.round_model.proofs.Writing.{can_see, treats_as, way_shows}
 use Rattle.rounds.specs.Courses.{PlacedCourse}
 use Rattle.rounds.specs.Descents.{PlacedDescent, sight_of}
 use Rattle.rounds.specs.WriteRounds.{PlacedWrite, ended_write}
-use Rattle.rounds.specs.declared.descents.Seen.{Seen}
-use Rattle.rounds.specs.declared.descents.Seen.TheVariants.{On, Empty, Whole}
-use Rattle.rounds.specs.declared.write_ended.WriteEnded.{WriteEnded}
+use Rattle.rounds.specs.declared.descents.SightKind.{SightKind}
+use Rattle.rounds.specs.declared.descents.SightKind.TheVariants.{More, Empty, Whole}
+use Rattle.rounds.specs.declared.write_end_kind.WriteEndKind.{WriteEndKind}
 
 -- an answer that fits the round fits its descent
 pub way_told : (round : writer.WriteRound) (told : Answer Record) → IsTold (machine response.writing) round told → IsTold from_root.descending (response.writing.way round) told
@@ -30,7 +30,7 @@ abbrev pub after : PlacedWrite → PlacedDescent → PlacedWrite
 after was now = record was { round = record was.round { limits = now.way.limits; state = now.way.state }; page = now.page }
 
 module _ (was : PlacedWrite) (now : PlacedDescent) (told : Answer Record) where
-  abbrev pub Moved : Seen → Type 0
+  abbrev pub Moved : SightKind → Type 0
   Moved seen = from_root.Responds (response.writing.way was.round) told now.way (sight_of seen now.page)
 
   -- with the limits that it had
@@ -42,7 +42,7 @@ module _ (was : PlacedWrite) (now : PlacedDescent) (told : Answer Record) where
   can_treat_now b limits t = subst (λ (l : Limits). response.CanTreatWrite (with_limits l) now.page) (sym limits) (can_see was.round now.way.state told (sight.Whole now.page) b t)
 
   -- the round reads on
-  pub goes_on : Moved On → now.way.limits ≡ was.round.limits → Responds response.writing was.round told (after was now).round None
+  pub goes_on : Moved More → now.way.limits ≡ was.round.limits → Responds response.writing was.round told (after was now).round None
   goes_on b limits =
       let same : (after was now).round ≡ with_limits was.round.limits = ap with_limits limits in
       inl (record { on = b; same = same; none = refl })
@@ -52,7 +52,7 @@ module _ (was : PlacedWrite) (now : PlacedDescent) (told : Answer Record) where
   is_missing b = inr (record { sight = sight.Empty; finds = b; sees = refl })
 
   -- the round responds as it treats the page that is whole
-  pub treats_now : (new : PlacedWrite) (result : Option WriteEnded) → Moved Whole → now.way.limits ≡ was.round.limits → response.TreatsWrite (after was now).round now.page new.round (option_map (ended_write new) result)
+  pub treats_now : (new : PlacedWrite) (result : Option WriteEndKind) → Moved Whole → now.way.limits ≡ was.round.limits → response.TreatsWrite (after was now).round now.page new.round (option_map (ended_write new) result)
       → Responds response.writing was.round told new.round (option_map (ended_write new) result)
   treats_now new result b limits treats =
       let there : response.TreatsWrite (with_limits was.round.limits) now.page new.round (option_map (ended_write new) result) =

@@ -2,8 +2,8 @@
 use Rattle.std.specs.Prelude.{Bool, true, false, Option, Some, None}
 use Rattle.structure_changes.specs.Versions.{Version}
 use Rattle.round_model.specs.Courses as kept
-use Rattle.rounds.specs.declared.course.Aim.{Aim}
-use Rattle.rounds.specs.declared.course.Aim.TheVariants.{Seek, Left, Merge, Unterm}
+use Rattle.rounds.specs.declared.course.WriteGoalKind.{WriteGoalKind}
+use Rattle.rounds.specs.declared.course.WriteGoalKind.TheVariants.{Seek, Left, Merge, Unterm}
 
 -- The course, and the pages that stand in the two places, whether they are kept or were before.
 pub record PlacedCourse : Type 0 where
@@ -16,8 +16,8 @@ abbrev pub kept_if : Bool → Version → Option Version
 kept_if false page = None
 kept_if true page = Some page
 
--- the goal that an aim is, where the pages in the two places are these
-abbrev pub write_goal : Aim → Version → Version → kept.WriteGoal
+-- the goal of a kind, where the pages in the two places are these
+abbrev pub write_goal : WriteGoalKind → Version → Version → kept.WriteGoal
 write_goal Seek parent left = kept.Seek
 write_goal (Left pid) parent left = kept.Left pid
 write_goal Merge parent left = kept.Merge left

@@ -11,10 +11,10 @@ use Rattle.round_model.specs.Visits as visit
 use Rattle.round_model.specs.Visits.{Sight}
 use Rattle.rounds.specs.declared.asked.Asked.{Asked}
 use Rattle.rounds.specs.declared.asked.Asked.TheVariants as asked
-use Rattle.rounds.specs.declared.descents.At.{At}
-use Rattle.rounds.specs.declared.descents.At.TheVariants.{Root, Slot, Row}
-use Rattle.rounds.specs.declared.descents.Seen.{Seen}
-use Rattle.rounds.specs.declared.descents.Seen.TheVariants.{On, Empty, Whole}
+use Rattle.rounds.specs.declared.descents.WayStateKind.{WayStateKind}
+use Rattle.rounds.specs.declared.descents.WayStateKind.TheVariants.{Root, Slot, Row}
+use Rattle.rounds.specs.declared.descents.SightKind.{SightKind}
+use Rattle.rounds.specs.declared.descents.SightKind.TheVariants.{More, Empty, Whole}
 
 -- The way from the root, and the page in hand, which is the one that was read whole last.
 pub record PlacedDescent : Type 0 where
@@ -22,13 +22,13 @@ pub record PlacedDescent : Type 0 where
   pub page : Version
 
 -- the state that a place is, with the records that were read of the page's chain
-abbrev pub placed_state : Limits → At → PlacedChain → from_root.WayState
+abbrev pub placed_state : Limits → WayStateKind → PlacedChain → from_root.WayState
 placed_state limits Root part = from_root.Root
 placed_state limits (Slot pid) part = from_root.Page (record { limits = limits; pid = pid; part = part.records; state = visit.Slot })
 placed_state limits (Row pid row) part = from_root.Page (record { limits = limits; pid = pid; part = part.records; state = visit.Row part.head row })
 
 -- by the row at which the page's chain begins
-abbrev pub IsSoundAt : Limits → ℕ → At → Type 0
+abbrev pub IsSoundAt : Limits → ℕ → WayStateKind → Type 0
 IsSoundAt limits head Root = ⊤
 IsSoundAt limits head (Slot pid) = visit.IsSoundState limits pid visit.Slot
 IsSoundAt limits head (Row pid row) = visit.IsSoundState limits pid (visit.Row head row)
@@ -39,7 +39,7 @@ asked_step (asked.Slot pid) = step.Slot pid
 asked_step (asked.Row row) = step.Row row
 
 -- what a visit found, where the page that is whole is in hand
-abbrev pub sight_of : Seen → Version → Option Sight
-sight_of On page = None
+abbrev pub sight_of : SightKind → Version → Option Sight
+sight_of More page = None
 sight_of Empty page = Some visit.Empty
 sight_of Whole page = Some (visit.Whole page)

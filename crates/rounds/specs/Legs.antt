@@ -2,8 +2,8 @@
 use Rattle.std.specs.Prelude.{None, Some, ⊤}
 use Rattle.structure_changes.specs.Versions.{Version}
 use Rattle.round_model.specs.ReadLegs as legs
-use Rattle.rounds.specs.declared.leg.On.{On}
-use Rattle.rounds.specs.declared.leg.On.TheVariants.{Top, Below, Round, Past, PastBelow}
+use Rattle.rounds.specs.declared.leg.LegKind.{LegKind}
+use Rattle.rounds.specs.declared.leg.LegKind.TheVariants.{Top, Below, Round, Past, PastBelow}
 
 -- The leg, and the page that stands in the place, whether it is kept or was before.
 pub record PlacedLeg : Type 0 where
@@ -11,7 +11,7 @@ pub record PlacedLeg : Type 0 where
   pub page : Version
 
 -- the leg, where the page in the place is the one above, or the removed one
-abbrev pub leg_of : On → Version → legs.Leg
+abbrev pub leg_of : LegKind → Version → legs.Leg
 leg_of Top page = legs.Down None
 leg_of Below page = legs.Down (Some page)
 leg_of Round page = legs.Round page

@@ -12,10 +12,10 @@ use Rattle.round_model.specs.ReadGoals.{ReadGoal}
 use Rattle.round_model.specs.ReadGoals as goal
 use Rattle.round_model.specs.ReadEnds.{ReadEnd}
 use Rattle.round_model.specs.ReadEnds as end
-use Rattle.rounds.specs.declared.read_round.Going.{Going}
-use Rattle.rounds.specs.declared.read_round.Going.TheVariants.{Seek, Left, Beyond}
-use Rattle.rounds.specs.declared.read_round.ReadEnded.{ReadEnded}
-use Rattle.rounds.specs.declared.read_round.ReadEnded.TheVariants.{Again, Removed, Leaf, Beside}
+use Rattle.rounds.specs.declared.read_round.ReadGoalKind.{ReadGoalKind}
+use Rattle.rounds.specs.declared.read_round.ReadGoalKind.TheVariants.{Seek, Left, Beyond}
+use Rattle.rounds.specs.declared.read_round.ReadEndKind.{ReadEndKind}
+use Rattle.rounds.specs.declared.read_round.ReadEndKind.TheVariants.{Again, Removed, Leaf, Beside}
 
 -- The round, the page in hand, which was read whole last, the page that is kept aside, and the one that stands in the place of the page
 -- above, or of the removed page that the round goes round.
@@ -26,13 +26,13 @@ pub record PlacedRead : Type 0 where
   pub met : Version
 
 -- where a round goes first, where the page to whose left it goes is the one that is kept aside
-abbrev pub read_goal : Going → Version → ReadGoal
+abbrev pub read_goal : ReadGoalKind → Version → ReadGoal
 read_goal Seek aside = goal.Seek
 read_goal Left aside = goal.Left aside
 read_goal Beyond aside = goal.Beyond
 
 -- an end with the pages that it is about, as they stand in the round
-abbrev pub ended_read : PlacedRead → ReadEnded → ReadEnd
+abbrev pub ended_read : PlacedRead → ReadEndKind → ReadEnd
 ended_read round Again = end.Again
 ended_read round Removed = end.Removed round.page
 ended_read round Leaf = end.Leaf round.page

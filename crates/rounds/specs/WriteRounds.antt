@@ -10,8 +10,8 @@ use Rattle.round_model.specs.Courses as goal
 use Rattle.round_model.specs.WriteRounds as rounds
 use Rattle.round_model.specs.WriteEnds.{WriteEnd}
 use Rattle.round_model.specs.WriteEnds as end
-use Rattle.rounds.specs.declared.write_ended.WriteEnded.{WriteEnded}
-use Rattle.rounds.specs.declared.write_ended.WriteEnded.TheVariants.{Again, Removed, Due, Leaf, Done}
+use Rattle.rounds.specs.declared.write_end_kind.WriteEndKind.{WriteEndKind}
+use Rattle.rounds.specs.declared.write_end_kind.WriteEndKind.TheVariants.{Again, Removed, Due, Leaf, Done}
 
 -- The round, the page in hand, which was read whole last, the pages that stand in the places of the parent and of the left page, and the change
 -- in the place of one that is due, with what comes once it has won.
@@ -24,7 +24,7 @@ pub record PlacedWrite : Type 0 where
   pub after : After
 
 -- an end with the pages that it is about and the change that is due, as they stand in the round
-abbrev pub ended_write : PlacedWrite → WriteEnded → WriteEnd
+abbrev pub ended_write : PlacedWrite → WriteEndKind → WriteEnd
 ended_write round Again = end.Again
 ended_write round Removed = end.Removed round.page
 ended_write round Due = end.Due round.plan round.after

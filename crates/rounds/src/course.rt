@@ -15,7 +15,7 @@ use structure_changes::PageInHand;
 
 /// What a writer's round reads pages for.
 #[derive(Clone, Copy)]
-pub(crate) enum Aim {
+pub(crate) enum WriteGoalKind {
     /// For the leaf of the key.
     Seek,
     /// For the page to the left of this removed one, which begins at the key.
@@ -29,7 +29,7 @@ pub(crate) enum Aim {
 /// Where a writer's round goes, with a place for the parent of the pages that are read, and one for the page to whose right the round
 /// has gone. Where such a page isn't kept, one from before stands in its place.
 pub(crate) struct Course<R: Rows, A: Allocator = Global> {
-    aim: Aim,
+    goal: WriteGoalKind,
     has_parent: bool,
     has_left: bool,
     parent: PageInHand<R, A>,
@@ -39,7 +39,7 @@ pub(crate) struct Course<R: Rows, A: Allocator = Global> {
 impl<R: Rows, A: Allocator> Drop for Course<R, A> {
     fn drop(self) {
         let Course {
-            aim: _,
+            goal: _,
             has_parent: _,
             has_left: _,
             parent: _,
@@ -53,7 +53,7 @@ impl<R: Rows, A: Allocator> Model for Course<R, A> {
 
     ghost Value = { PlacedCourse };
 
-    ghost view = { λ c. record { course = record { goal = write_goal c.aim c.parent c.left; parent = kept_if c.has_parent c.parent; left = kept_if c.has_left c.left }; parent = c.parent; left = c.left } };
+    ghost view = { λ c. record { course = record { goal = write_goal c.goal c.parent c.left; parent = kept_if c.has_parent c.parent; left = kept_if c.has_left c.left }; parent = c.parent; left = c.left } };
 }
 
 impl<R: Rows, A: Allocator + Copy> Course<R, A> {
@@ -63,7 +63,7 @@ impl<R: Rows, A: Allocator + Copy> Course<R, A> {
         ensures { IfOk result (λ course. course.course ≡ record { goal = down_to None; parent = None; left = None }) }
     {
         Ok(Course {
-            aim: Aim::Seek,
+            goal: WriteGoalKind::Seek,
             has_parent: false,
             has_left: false,
             parent: PageInHand::<R, A>::new(alloc)?,
@@ -77,32 +77,32 @@ impl<R: Rows, A: Allocator> Course<R, A> {
     pub(crate) fn restart(&mut self, removed: Option<u32>)
         ensures { self.new ≡ record self.old { course = record { goal = down_to removed; parent = None; left = None } } }
     {
-        self.aim = down(removed);
+        self.goal = down(removed);
         self.has_parent = false;
         self.has_left = false;
     }
 
     /// What pages are read for.
-    pub(crate) fn aim(&self) -> Aim
+    pub(crate) fn goal(&self) -> WriteGoalKind
         ensures { write_goal result self.now.parent self.now.left ≡ self.now.course.goal }
     {
-        self.aim
+        self.goal
     }
 
     /// Whether a leaf is sought.
     pub(crate) fn seeks_leaf(&self) -> bool
         ensures { Decides result (SeeksLeaf self.now.course.goal) }
     {
-        matches!(self.aim, Aim::Seek | Aim::Left(_))
+        matches!(self.goal, WriteGoalKind::Seek | WriteGoalKind::Left(_))
     }
 
     /// The removed page to whose left a leaf is sought.
     pub(crate) fn removed(&self) -> Option<u32>
         ensures { result ≡ removed_of self.now.course.goal }
     {
-        match self.aim {
-            Aim::Left(pid) => Some(pid),
-            Aim::Seek | Aim::Merge | Aim::Unterm => None,
+        match self.goal {
+            WriteGoalKind::Left(pid) => Some(pid),
+            WriteGoalKind::Seek | WriteGoalKind::Merge | WriteGoalKind::Unterm => None,
         }
     }
 
@@ -161,7 +161,7 @@ impl<R: Rows, A: Allocator> Course<R, A> {
         ensures way { descent.new.way ≡ descent.old.way }
     {
         self.restart(None);
-        self.aim = Aim::Merge;
+        self.goal = WriteGoalKind::Merge;
         descent.swap_page(&mut self.left);
     }
 
@@ -171,17 +171,17 @@ impl<R: Rows, A: Allocator> Course<R, A> {
         ensures way { descent.new.way ≡ descent.old.way }
     {
         self.restart(None);
-        self.aim = Aim::Unterm;
+        self.goal = WriteGoalKind::Unterm;
         descent.swap_page(&mut self.left);
     }
 }
 
 /// The aim of a round down to the page to the left of this removed page, or to the leaf of the key.
-fn down(removed: Option<u32>) -> Aim
+fn down(removed: Option<u32>) -> WriteGoalKind
     ensures { (parent left : Version) → write_goal result parent left ≡ down_to removed }
 {
     match removed {
-        None => Aim::Seek,
-        Some(pid) => Aim::Left(pid),
+        None => WriteGoalKind::Seek,
+        Some(pid) => WriteGoalKind::Left(pid),
     }
 }

@@ -22,7 +22,7 @@ use structure_changes::PageInHand;
 /// Where a descent stands: each state is named by what it reads, slot 0, a page's slot, or a row of a page, whose chain so far tells
 /// where it begins.
 #[derive(Clone, Copy)]
-pub(crate) enum At {
+pub(crate) enum WayStateKind {
     Root,
     Slot { pid: u32 },
     Row { pid: u32, row: u32 },
@@ -30,9 +30,9 @@ pub(crate) enum At {
 
 /// What an answer has shown.
 #[derive(Clone, Copy)]
-pub(crate) enum Seen {
+pub(crate) enum SightKind {
     /// The descent reads on.
-    On,
+    More,
     /// The slot of the page holds 0.
     Empty,
     /// The page is whole: it is the page in hand.
@@ -43,7 +43,7 @@ pub(crate) enum Seen {
 /// goes on. The records of the page that is read have places of their own, until it is whole and becomes the page in hand.
 pub(crate) struct Descent<R: Rows, A: Allocator = Global> {
     limits: Limits,
-    at: At,
+    state: WayStateKind,
     part: ChainPart<R, A>,
     page: PageInHand<R, A>,
 }
@@ -52,7 +52,7 @@ impl<R: Rows, A: Allocator> Drop for Descent<R, A> {
     fn drop(self) {
         let Descent {
             limits: _,
-            at: _,
+            state: _,
             part: _,
             page: _,
         } = self;
@@ -64,9 +64,9 @@ impl<R: Rows, A: Allocator> Model for Descent<R, A> {
 
     ghost Value = { PlacedDescent };
 
-    ghost view = { λ d. record { way = record { limits = d.limits; state = placed_state d.limits d.at d.part }; page = d.page } };
+    ghost view = { λ d. record { way = record { limits = d.limits; state = placed_state d.limits d.state d.part }; page = d.page } };
 
-    ghost invariant = { λ d. IsSoundAt d.limits d.part.head d.at };
+    ghost invariant = { λ d. IsSoundAt d.limits d.part.head d.state };
 }
 
 impl<R: Rows, A: Allocator + Copy> Descent<R, A> {
@@ -77,7 +77,7 @@ impl<R: Rows, A: Allocator + Copy> Descent<R, A> {
     {
         Ok(Descent {
             limits: *limits,
-            at: At::Root,
+            state: WayStateKind::Root,
             part: ChainPart::<R, A>::new(alloc)?,
             page: PageInHand::<R, A>::new(alloc)?,
         })
@@ -89,7 +89,7 @@ impl<R: Rows, A: Allocator> Descent<R, A> {
     pub(crate) fn restart(&mut self)
         ensures { self.new ≡ record self.old { way = record self.old.way { state = state.Root } } }
     {
-        self.at = At::Root;
+        self.state = WayStateKind::Root;
     }
 
     /// Goes back to the root of a tree of these limits.
@@ -97,7 +97,7 @@ impl<R: Rows, A: Allocator> Descent<R, A> {
         ensures { self.new ≡ record self.old { way = record { limits = limits.now; state = state.Root } } }
     {
         self.limits = *limits;
-        self.at = At::Root;
+        self.state = WayStateKind::Root;
     }
 
     /// How large the tree is.
@@ -114,7 +114,7 @@ impl<R: Rows, A: Allocator> Descent<R, A> {
         ensures { self.new ≡ record self.old { way = going_to pid self.old.way } }
     {
         self.part.restart(1);
-        self.at = At::Slot { pid };
+        self.state = WayStateKind::Slot { pid };
     }
 
     /// What the descent reads next.
@@ -123,10 +123,10 @@ impl<R: Rows, A: Allocator> Descent<R, A> {
         ensures within { ReadsWithin self.now.way.limits (asked_step result) }
         ensures may { (actor : ℕ) (k : Knowledge) → Shows self.now.way k → May actor k (asked_step result) }
     {
-        match self.at {
-            At::Root => Asked::Slot(0),
-            At::Slot { pid } => Asked::Slot(pid),
-            At::Row { row, .. } => Asked::Row(row),
+        match self.state {
+            WayStateKind::Root => Asked::Slot(0),
+            WayStateKind::Slot { pid } => Asked::Slot(pid),
+            WayStateKind::Row { row, .. } => Asked::Row(row),
         }
     }
 
@@ -147,23 +147,23 @@ impl<R: Rows, A: Allocator> Descent<R, A> {
     }
 
     /// Takes the number that was read in the slot that the descent asked for.
-    pub(crate) fn told(&mut self, number: u64) -> Seen
+    pub(crate) fn told(&mut self, number: u64) -> SightKind
         requires told { IsTold descending self.old.way (Number number) }
         ensures responds { Responds self.old.way (Number number) self.new.way (sight_of result self.new.page) }
         ensures limits { self.new.way.limits ≡ self.old.way.limits }
         ensures page { self.new.page ≡ self.old.page }
     {
-        match self.at {
-            At::Root => {
+        match self.state {
+            WayStateKind::Root => {
                 self.go_to(number as u32);
-                Seen::On
+                SightKind::More
             }
-            At::Slot { .. } if number == 0 => Seen::Empty,
-            At::Slot { pid } => {
+            WayStateKind::Slot { .. } if number == 0 => SightKind::Empty,
+            WayStateKind::Slot { pid } => {
                 self.begin(pid, number as u32);
-                Seen::On
+                SightKind::More
             }
-            At::Row { .. } => unreachable!(),
+            WayStateKind::Row { .. } => unreachable!(),
         }
     }
 
@@ -173,14 +173,14 @@ impl<R: Rows, A: Allocator> Descent<R, A> {
         requires page_below { pid < self.old.way.limits.pids }
         requires some { 0 < head }
         requires below { head < self.old.way.limits.rows }
-        ensures { self.new ≡ record self.old { way = record self.old.way { state = placed_state self.old.way.limits (At.Row pid head) (record { head = head; records = [] }) } } }
+        ensures { self.new ≡ record self.old { way = record self.old.way { state = placed_state self.old.way.limits (WayStateKind.Row pid head) (record { head = head; records = [] }) } } }
     {
         self.part.restart(head);
-        self.at = At::Row { pid, row: head };
+        self.state = WayStateKind::Row { pid, row: head };
     }
 
     /// Takes the record that was read in the row that the descent asked for. With the base the page is whole.
-    pub(crate) fn take_record(&mut self, found: RowAt<R>, rows: &R, pass: &mut R::Pass) -> Seen
+    pub(crate) fn take_record(&mut self, found: RowAt<R>, rows: &R, pass: &mut R::Pass) -> SightKind
         requires asked { wanted self.old.way ≡ step.Row found.row }
         requires told { IsTold descending self.old.way (Content found.content) }
         requires read { R.has rows.now pass.old found.row found.content }
@@ -188,21 +188,21 @@ impl<R: Rows, A: Allocator> Descent<R, A> {
         ensures limits { self.new.way.limits ≡ self.old.way.limits }
         ensures looks { pass.new ≡ pass.old }
     {
-        let At::Row { pid, .. } = self.at else {
+        let WayStateKind::Row { pid, .. } = self.state else {
             unreachable!()
         };
         let next = found.next(rows, pass);
         self.part.push(found);
         match next {
             Some(row) => {
-                self.at = At::Row { pid, row };
-                Seen::On
+                self.state = WayStateKind::Row { pid, row };
+                SightKind::More
             }
             None => {
                 self.page.receive(pid, &mut self.part);
                 // What has the part's place now are records of another page.
-                self.at = At::Root;
-                Seen::Whole
+                self.state = WayStateKind::Root;
+                SightKind::Whole
             }
         }
     }

@@ -11,7 +11,7 @@ use structure_changes::PageInHand;
 
 /// On which leg a round is.
 #[derive(Clone, Copy, PartialEq, Eq)]
-pub(crate) enum On {
+pub(crate) enum LegKind {
     /// Down, with no page above.
     Top,
     /// Down from the page above, which stands in the place.
@@ -26,13 +26,13 @@ pub(crate) enum On {
 
 /// The leg on which a round is, with a place for the page above, or for the removed page that the round goes round.
 pub(crate) struct Leg<R: Rows, A: Allocator = Global> {
-    on: On,
+    kind: LegKind,
     page: PageInHand<R, A>,
 }
 
 impl<R: Rows, A: Allocator> Drop for Leg<R, A> {
     fn drop(self) {
-        let Leg { on: _, page: _ } = self;
+        let Leg { kind: _, page: _ } = self;
     }
 }
 
@@ -41,7 +41,7 @@ impl<R: Rows, A: Allocator> Model for Leg<R, A> {
 
     ghost Value = { PlacedLeg };
 
-    ghost view = { λ l. record { leg = leg_of l.on l.page; page = l.page } };
+    ghost view = { λ l. record { leg = leg_of l.kind l.page; page = l.page } };
 }
 
 impl<R: Rows, A: Allocator + Copy> Leg<R, A> {
@@ -51,7 +51,7 @@ impl<R: Rows, A: Allocator + Copy> Leg<R, A> {
         ensures { IfOk result (λ leg. leg.leg ≡ Down None) }
     {
         Ok(Leg {
-            on: On::Top,
+            kind: LegKind::Top,
             page: PageInHand::<R, A>::new(alloc)?,
         })
     }
@@ -62,7 +62,7 @@ impl<R: Rows, A: Allocator> Leg<R, A> {
     pub(crate) fn restart(&mut self)
         ensures { self.new ≡ record self.old { leg = Down None } }
     {
-        self.on = On::Top;
+        self.kind = LegKind::Top;
     }
 
     /// The page that stands in the place.
@@ -77,7 +77,7 @@ impl<R: Rows, A: Allocator> Leg<R, A> {
         ensures round { result ≡ true → self.now.leg ≡ Round self.now.page }
         ensures plain { result ≡ false → IsPlain self.now.leg }
     {
-        self.on == On::Round
+        self.kind == LegKind::Round
     }
 
     /// Whether the page above stands in the place.
@@ -85,7 +85,7 @@ impl<R: Rows, A: Allocator> Leg<R, A> {
         ensures above { result ≡ true → above_of self.now.leg ≡ Some self.now.page }
         ensures none { result ≡ false → IsPlain self.now.leg → IsPlainWithout self.now.leg }
     {
-        matches!(self.on, On::Below | On::PastBelow)
+        matches!(self.kind, LegKind::Below | LegKind::PastBelow)
     }
 
     /// Keeps the page in hand as the page above, from which the round goes down; it is no more on its way round a removed page.
@@ -94,9 +94,9 @@ impl<R: Rows, A: Allocator> Leg<R, A> {
         ensures round { self.old.leg ≡ Round self.old.page → self.new.leg ≡ Past (Some descent.old.page) }
         ensures way { descent.new.way ≡ descent.old.way }
     {
-        self.on = match self.on {
-            On::Top | On::Below => On::Below,
-            On::Round | On::Past | On::PastBelow => On::PastBelow,
+        self.kind = match self.kind {
+            LegKind::Top | LegKind::Below => LegKind::Below,
+            LegKind::Round | LegKind::Past | LegKind::PastBelow => LegKind::PastBelow,
         };
         descent.swap_page(&mut self.page);
     }
@@ -105,10 +105,10 @@ impl<R: Rows, A: Allocator> Leg<R, A> {
     pub(crate) fn stay_on_level(&mut self)
         ensures { self.new ≡ record self.old { leg = level_on self.old.leg } }
     {
-        self.on = match self.on {
-            On::Top | On::Below => On::Top,
-            On::Round => On::Round,
-            On::Past | On::PastBelow => On::Past,
+        self.kind = match self.kind {
+            LegKind::Top | LegKind::Below => LegKind::Top,
+            LegKind::Round => LegKind::Round,
+            LegKind::Past | LegKind::PastBelow => LegKind::Past,
         };
     }
 
@@ -117,7 +117,7 @@ impl<R: Rows, A: Allocator> Leg<R, A> {
         ensures leg { self.new.leg ≡ Round descent.old.page }
         ensures way { descent.new.way ≡ descent.old.way }
     {
-        self.on = On::Round;
+        self.kind = LegKind::Round;
         descent.swap_page(&mut self.page);
     }
 
@@ -125,6 +125,6 @@ impl<R: Rows, A: Allocator> Leg<R, A> {
     pub(crate) fn pass(&mut self)
         ensures { self.new ≡ record self.old { leg = Past None } }
     {
-        self.on = On::Past;
+        self.kind = LegKind::Past;
     }
 }

@@ -1,7 +1,7 @@
 //! Rounds from the root to a page over records that are read where they lie: pages change places, and no row is copied.
 //!
 //! Look first at `ReadRound`, then at `WriteRound`. A round asks for a slot or a row (`Asked`), is told a number or takes a record, and
-//! ends at some time (`ReadEnded`, `WriteEnded`), with the pages of its end where they stand in it. `Descent` reads page after page; `Leg`
+//! ends at some time (`ReadEndKind`, `WriteEndKind`), with the pages of its end where they stand in it. `Descent` reads page after page; `Leg`
 //! and `read_round/detour` go round removed index pages of any level. A writer's round ends at the first change that is due.
 //!
 //! Called by `op_machine`. What each function does is defined in `round_model`, of which this is the code. It takes no step, links nothing,
@@ -14,12 +14,12 @@ mod descents;
 mod leg;
 mod read_round;
 mod way;
-mod write_ended;
+mod write_end_kind;
 mod write_round;
 
 pub use asked::Asked;
-pub(crate) use descents::{Descent, Seen};
+pub(crate) use descents::{Descent, SightKind};
 pub(crate) use leg::Leg;
-pub use read_round::{ReadEnded, ReadRound};
-pub use write_ended::WriteEnded;
+pub use read_round::{ReadEndKind, ReadRound};
+pub use write_end_kind::WriteEndKind;
 pub use write_round::WriteRound;

@@ -23,7 +23,7 @@ ghost use Rattle.rounds.specs.ReadRounds.{AreReadFor, CanGoOn, again_if, ended_r
 mod detour;
 
 use crate::way::{child_on_way, right_on_way};
-use crate::{Asked, Descent, Leg, Seen};
+use crate::{Asked, Descent, Leg, SightKind};
 use bw_model::{Key, Limits};
 use row_search::{KeyWords, RowAt, Rows};
 use std::alloc::{AllocError, Allocator, Global};
@@ -32,7 +32,7 @@ use structure_changes::PageInHand;
 
 /// How a reader's round ends. The pages that an end is about stand in the round.
 #[derive(Clone, Copy)]
-pub enum ReadEnded {
+pub enum ReadEndKind {
     /// A page that was named isn't there, or the round can't go round a removed index page: a new round begins.
     Again,
     /// The page in hand, which is on the way, is a removed leaf: a round to the left of it begins.
@@ -46,7 +46,7 @@ pub enum ReadEnded {
 
 /// Where a reader's round goes first.
 #[derive(Clone, Copy)]
-pub(crate) enum Going {
+pub(crate) enum ReadGoalKind {
     /// To the leaf of the key.
     Seek,
     /// To the leaf to the left of the page that is kept aside, which is removed.
@@ -58,7 +58,7 @@ pub(crate) enum Going {
 /// One round of a reader from the root to a leaf, and the next one in the same place.
 pub struct ReadRound<R: Rows, A: Allocator = Global> {
     key: KeyWords,
-    going: Going,
+    goal: ReadGoalKind,
     leg: Leg<R, A>,
     aside: PageInHand<R, A>,
     descent: Descent<R, A>,
@@ -68,7 +68,7 @@ impl<R: Rows, A: Allocator> Drop for ReadRound<R, A> {
     fn drop(self) {
         let ReadRound {
             key: _,
-            going: _,
+            goal: _,
             leg: _,
             aside: _,
             descent: _,
@@ -81,7 +81,7 @@ impl<R: Rows, A: Allocator> Model for ReadRound<R, A> {
 
     ghost Value = { PlacedRead };
 
-    ghost view = { λ r. record { round = record { limits = r.descent.way.limits; key = r.key; goal = read_goal r.going r.aside; leg = r.leg.leg; state = r.descent.way.state }; page = r.descent.page; aside = r.aside; met = r.leg.page } };
+    ghost view = { λ r. record { round = record { limits = r.descent.way.limits; key = r.key; goal = read_goal r.goal r.aside; leg = r.leg.leg; state = r.descent.way.state }; page = r.descent.page; aside = r.aside; met = r.leg.page } };
 }
 
 impl<R: Rows, A: Allocator + Copy> ReadRound<R, A> {
@@ -92,7 +92,7 @@ impl<R: Rows, A: Allocator + Copy> ReadRound<R, A> {
     {
         Ok(ReadRound {
             key: KeyWords::of(&Key::default()),
-            going: Going::Seek,
+            goal: ReadGoalKind::Seek,
             leg: Leg::<R, A>::new(alloc)?,
             aside: PageInHand::<R, A>::new(alloc)?,
             descent: Descent::<R, A>::new(alloc, limits)?,
@@ -113,7 +113,7 @@ impl<R: Rows, A: Allocator> ReadRound<R, A> {
         ensures { self.new ≡ record self.old { round = record { limits = self.old.round.limits; key = key.now; goal = goal.Seek; leg = Down None; state = Root } } }
     {
         self.key = KeyWords::of(key);
-        self.going = Going::Seek;
+        self.goal = ReadGoalKind::Seek;
         self.leg.restart();
         self.descent.restart();
     }
@@ -126,7 +126,7 @@ impl<R: Rows, A: Allocator> ReadRound<R, A> {
         ensures page { self.new.page ≡ self.old.aside }
     {
         self.descent.swap_page(&mut self.aside);
-        self.going = Going::Left;
+        self.goal = ReadGoalKind::Left;
         self.leg.restart();
         self.descent.restart();
     }
@@ -162,9 +162,9 @@ impl<R: Rows, A: Allocator> ReadRound<R, A> {
         ensures same { AsksTheSame self.old.round self.new.round }
     {
         match self.descent.told(number) {
-            Seen::On => false,
-            Seen::Empty => true,
-            Seen::Whole => unreachable!(),
+            SightKind::More => false,
+            SightKind::Empty => true,
+            SightKind::Whole => unreachable!(),
         }
     }
 
@@ -174,7 +174,7 @@ impl<R: Rows, A: Allocator> ReadRound<R, A> {
         found: RowAt<R>,
         rows: &R,
         pass: &mut R::Pass,
-    ) -> Option<ReadEnded>
+    ) -> Option<ReadEndKind>
         requires asked { wanted self.old.round ≡ Row found.row }
         requires told { IsToldThere (R.has rows.now pass.old) (machine reading) self.old.round (Content found.content) }
         ensures responds { Responds reading self.old.round (Content found.content) self.new.round (option_map (ended_read self.new) result) }
@@ -182,14 +182,14 @@ impl<R: Rows, A: Allocator> ReadRound<R, A> {
         ensures looks { pass.new ≡ pass.old }
     {
         match self.descent.take_record(found, rows, pass) {
-            Seen::On => None,
-            Seen::Whole => self.treat(rows, pass),
-            Seen::Empty => unreachable!(),
+            SightKind::More => None,
+            SightKind::Whole => self.treat(rows, pass),
+            SightKind::Empty => unreachable!(),
         }
     }
 
     /// Goes on from the page in hand, which was read now, or ends there.
-    fn treat(&mut self, rows: &R, pass: &mut R::Pass) -> Option<ReadEnded>
+    fn treat(&mut self, rows: &R, pass: &mut R::Pass) -> Option<ReadEndKind>
         requires can { CanTreatRead self.old.round self.old.page }
         requires read { AreReadFor (R.has rows.now pass.old) self.old.round self.old.page }
         ensures treats { TreatsRead self.old.round self.old.page self.new.round (option_map (ended_read self.new) result) }
@@ -207,7 +207,7 @@ impl<R: Rows, A: Allocator> ReadRound<R, A> {
     }
 
     /// Goes on from the page in hand, which isn't removed, or ends there.
-    fn go_on(&mut self, rows: &R, pass: &mut R::Pass) -> Option<ReadEnded>
+    fn go_on(&mut self, rows: &R, pass: &mut R::Pass) -> Option<ReadEndKind>
         requires can { CanGoOn self.old.round self.old.page }
         requires read { AreReadFor (R.has rows.now pass.old) self.old.round self.old.page }
         ensures treats { TreatsRead self.old.round self.old.page self.new.round (option_map (ended_read self.new) result) }
@@ -232,9 +232,9 @@ impl<R: Rows, A: Allocator> ReadRound<R, A> {
         ensures looks { pass.new ≡ pass.old }
         ensures leads { MatchOption result (StaysLeft (read_way self.now.round.goal self.now.round.key) self.now.page.chain) (LeadsRight (read_way self.now.round.goal self.now.round.key) self.now.page.chain) }
     {
-        match self.going {
-            Going::Left => self.right_to_the_left(rows, pass),
-            Going::Seek | Going::Beyond => {
+        match self.goal {
+            ReadGoalKind::Left => self.right_to_the_left(rows, pass),
+            ReadGoalKind::Seek | ReadGoalKind::Beyond => {
                 right_on_way(self.page().chain(), rows, pass, &self.key, false)
             }
         }
@@ -275,9 +275,9 @@ impl<R: Rows, A: Allocator> ReadRound<R, A> {
         ensures looks { pass.new ≡ pass.old }
         ensures leads { LeadsDown (read_way self.now.round.goal self.now.round.key) self.now.page.chain result }
     {
-        match self.going {
-            Going::Left => self.child_to_the_left(rows, pass),
-            Going::Seek | Going::Beyond => {
+        match self.goal {
+            ReadGoalKind::Left => self.child_to_the_left(rows, pass),
+            ReadGoalKind::Seek | ReadGoalKind::Beyond => {
                 child_on_way(self.page().chain(), rows, pass, &self.key, false)
             }
         }
@@ -298,7 +298,7 @@ impl<R: Rows, A: Allocator> ReadRound<R, A> {
     }
 
     /// Ends at the leaf where the way ends; to the left of a removed page, passes that page.
-    fn end(&mut self, rows: &R, pass: &mut R::Pass) -> Option<ReadEnded>
+    fn end(&mut self, rows: &R, pass: &mut R::Pass) -> Option<ReadEndKind>
         requires can { CanGoOn self.old.round self.old.page }
         requires read { AreReadFor (R.has rows.now pass.old) self.old.round self.old.page }
         requires ends { EndsHere (read_way self.old.round.goal self.old.round.key) self.old.page.chain }
@@ -306,15 +306,15 @@ impl<R: Rows, A: Allocator> ReadRound<R, A> {
         ensures same { AsksTheSame self.old.round self.new.round }
         ensures looks { pass.new ≡ pass.old }
     {
-        match self.going {
-            Going::Left => self.pass_removed(rows, pass),
-            Going::Seek | Going::Beyond => Some(ReadEnded::Leaf),
+        match self.goal {
+            ReadGoalKind::Left => self.pass_removed(rows, pass),
+            ReadGoalKind::Seek | ReadGoalKind::Beyond => Some(ReadEndKind::Leaf),
         }
     }
 
     /// Ends beside the removed page, or goes on to the right of it; where it was merged, goes on for the key.
     #[inline(never)]
-    fn pass_removed(&mut self, rows: &R, pass: &mut R::Pass) -> Option<ReadEnded>
+    fn pass_removed(&mut self, rows: &R, pass: &mut R::Pass) -> Option<ReadEndKind>
         requires can { CanGoOn (toward (goal.Left self.old.aside) self.old.round) self.old.page }
         requires read { IsReadPage (R.has rows.now pass.old) self.old.page }
         requires aside { IsReadPage (R.has rows.now pass.old) self.old.aside }
@@ -325,12 +325,12 @@ impl<R: Rows, A: Allocator> ReadRound<R, A> {
     {
         if self.is_beside(rows, pass) {
             return match right_on_way(self.aside.chain(), rows, pass, &self.key, false) {
-                None => Some(ReadEnded::Beside),
+                None => Some(ReadEndKind::Beside),
                 Some(right) => self.go_beyond(right),
             };
         }
         match right_on_way(self.descent.page().chain(), rows, pass, &self.key, false) {
-            None => Some(ReadEnded::Leaf),
+            None => Some(ReadEndKind::Leaf),
             Some(right) => self.go_beyond(right),
         }
     }
@@ -348,13 +348,13 @@ impl<R: Rows, A: Allocator> ReadRound<R, A> {
     }
 
     /// Goes on to a page on the way of the key, past the removed page.
-    fn go_beyond(&mut self, right: u32) -> Option<ReadEnded>
+    fn go_beyond(&mut self, right: u32) -> Option<ReadEndKind>
         requires some { 0 < right }
         requires below { right < self.old.round.limits.pids }
         ensures goes { self.new ≡ record self.old { round = going_to right (on (level_on self.old.round.leg) (toward goal.Beyond self.old.round)) } }
         ensures none { result ≡ None }
     {
-        self.going = Going::Beyond;
+        self.goal = ReadGoalKind::Beyond;
         self.leg.stay_on_level();
         self.descent.go_to(right);
         None

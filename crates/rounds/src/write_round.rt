@@ -22,9 +22,9 @@ ghost use Rattle.structure_changes.specs.Reads.{IsReadPage};
 mod due;
 
 use self::due::no_plan;
-use crate::course::{Aim, Course};
+use crate::course::{Course, WriteGoalKind};
 use crate::way::{child_on_way, right_on_way};
-use crate::{Asked, Descent, Seen, WriteEnded};
+use crate::{Asked, Descent, SightKind, WriteEndKind};
 use bw_model::{Key, Limits};
 use row_search::{KeyWords, RowAt, Rows};
 use std::alloc::{AllocError, Allocator, Global};
@@ -153,9 +153,9 @@ impl<R: Rows, A: Allocator> WriteRound<R, A> {
         ensures same { AsksTheSame self.old.round self.new.round }
     {
         match self.descent.told(number) {
-            Seen::On => false,
-            Seen::Empty => true,
-            Seen::Whole => unreachable!(),
+            SightKind::More => false,
+            SightKind::Empty => true,
+            SightKind::Whole => unreachable!(),
         }
     }
 
@@ -178,7 +178,7 @@ impl<R: Rows, A: Allocator> WriteRound<R, A> {
         found: RowAt<R>,
         rows: &R,
         pass: &mut R::Pass,
-    ) -> Option<WriteEnded>
+    ) -> Option<WriteEndKind>
         requires asked { wanted self.old.round ≡ Row found.row }
         requires told { IsToldThere (R.has rows.now pass.old) (machine writing) self.old.round (Content found.content) }
         ensures looks { pass.new ≡ pass.old }
@@ -186,14 +186,14 @@ impl<R: Rows, A: Allocator> WriteRound<R, A> {
         ensures same { AsksTheSame self.old.round self.new.round }
     {
         match self.descent.take_record(found, rows, pass) {
-            Seen::On => None,
-            Seen::Whole => self.treat(rows, pass),
-            Seen::Empty => unreachable!(),
+            SightKind::More => None,
+            SightKind::Whole => self.treat(rows, pass),
+            SightKind::Empty => unreachable!(),
         }
     }
 
     /// Goes on from the page in hand, which was read now, or ends there, by what it was read for.
-    fn treat(&mut self, rows: &R, pass: &mut R::Pass) -> Option<WriteEnded>
+    fn treat(&mut self, rows: &R, pass: &mut R::Pass) -> Option<WriteEndKind>
         requires read { AreReadToWrite (R.has rows.now pass.old) self.old.round self.old.page }
         requires can { CanTreatWrite self.old.round self.old.page }
         ensures looks { pass.new ≡ pass.old }
@@ -208,7 +208,7 @@ impl<R: Rows, A: Allocator> WriteRound<R, A> {
 
     /// Ends at the removed page, which was read again.
     #[inline(never)]
-    fn end_again(&mut self, rows: &R, pass: &mut R::Pass) -> WriteEnded
+    fn end_again(&mut self, rows: &R, pass: &mut R::Pass) -> WriteEndKind
         requires read { AreReadToWrite (R.has rows.now pass.old) self.old.round self.old.page }
         requires can { CanTreatWrite self.old.round self.old.page }
         requires again { ¬ SeeksLeaf self.old.round.goal }
@@ -216,15 +216,15 @@ impl<R: Rows, A: Allocator> WriteRound<R, A> {
         ensures treats { TreatsWrite self.old.round self.old.page self.new.round (Some (ended_write self.new result)) }
         ensures round { self.new.round ≡ self.old.round }
     {
-        match self.course.aim() {
-            Aim::Seek | Aim::Left(_) => unreachable!(),
-            Aim::Merge => self.end_merge(rows, pass),
-            Aim::Unterm => self.end_unterm(rows, pass),
+        match self.course.goal() {
+            WriteGoalKind::Seek | WriteGoalKind::Left(_) => unreachable!(),
+            WriteGoalKind::Merge => self.end_merge(rows, pass),
+            WriteGoalKind::Unterm => self.end_unterm(rows, pass),
         }
     }
 
     /// Ends at a removed page; else goes on from the page, or ends there.
-    fn meet(&mut self, rows: &R, pass: &mut R::Pass) -> Option<WriteEnded>
+    fn meet(&mut self, rows: &R, pass: &mut R::Pass) -> Option<WriteEndKind>
         requires read { AreReadToWrite (R.has rows.now pass.old) self.old.round self.old.page }
         requires can { CanTreatWrite self.old.round self.old.page }
         requires seeks { SeeksLeaf self.old.round.goal }
@@ -234,7 +234,7 @@ impl<R: Rows, A: Allocator> WriteRound<R, A> {
     {
         self.page().chain().was_read(rows, pass);
         if self.page().chain().is_removed() {
-            return Some(WriteEnded::Removed);
+            return Some(WriteEndKind::Removed);
         }
         if self.course.has_left() {
             return self.finish(rows, pass);
@@ -244,7 +244,7 @@ impl<R: Rows, A: Allocator> WriteRound<R, A> {
 
     /// Ends where a change is due that finishes the split of the left page; else treats the page as any other.
     #[inline(never)]
-    fn finish(&mut self, rows: &R, pass: &mut R::Pass) -> Option<WriteEnded>
+    fn finish(&mut self, rows: &R, pass: &mut R::Pass) -> Option<WriteEndKind>
         requires read { AreReadToWrite (R.has rows.now pass.old) self.old.round self.old.page }
         requires can { CanTreatWrite self.old.round self.old.page }
         requires seeks { SeeksLeaf self.old.round.goal }
@@ -261,7 +261,7 @@ impl<R: Rows, A: Allocator> WriteRound<R, A> {
     }
 
     /// Goes on to the right of a page that ends on the way; else settles what is due at the page.
-    fn decide(&mut self, rows: &R, pass: &mut R::Pass) -> Option<WriteEnded>
+    fn decide(&mut self, rows: &R, pass: &mut R::Pass) -> Option<WriteEndKind>
         requires read { AreReadToWrite (R.has rows.now pass.old) self.old.round self.old.page }
         requires can { CanTreatWrite self.old.round self.old.page }
         requires seeks { SeeksLeaf self.old.round.goal }
@@ -291,7 +291,7 @@ impl<R: Rows, A: Allocator> WriteRound<R, A> {
     }
 
     /// Ends where the page is to be consolidated or split; else ends at it, or goes down.
-    fn settle(&mut self, rows: &R, pass: &mut R::Pass) -> Option<WriteEnded>
+    fn settle(&mut self, rows: &R, pass: &mut R::Pass) -> Option<WriteEndKind>
         requires read { AreReadToWrite (R.has rows.now pass.old) self.old.round self.old.page }
         requires can { CanTreatWrite self.old.round self.old.page }
         requires here { IsHere self.old.round self.old.page }
@@ -309,7 +309,7 @@ impl<R: Rows, A: Allocator> WriteRound<R, A> {
     }
 
     /// Goes down from a page at which nothing is due, or ends there, where the round ends at its level.
-    fn go_on(&mut self, rows: &R, pass: &mut R::Pass) -> Option<WriteEnded>
+    fn go_on(&mut self, rows: &R, pass: &mut R::Pass) -> Option<WriteEndKind>
         requires read { AreReadToWrite (R.has rows.now pass.old) self.old.round self.old.page }
         requires can { CanTreatWrite self.old.round self.old.page }
         requires here { IsHere self.old.round self.old.page }
@@ -322,7 +322,7 @@ impl<R: Rows, A: Allocator> WriteRound<R, A> {
         let level = self.page().chain().level();
         let floor = self.floor();
         if level < floor {
-            return Some(WriteEnded::Again);
+            return Some(WriteEndKind::Again);
         }
         if level == floor {
             return self.end(rows, pass);
@@ -336,7 +336,7 @@ impl<R: Rows, A: Allocator> WriteRound<R, A> {
 
     /// Ends at a small index page where it is to be removed or its term to be held; else goes down.
     #[inline(never)]
-    fn tend(&mut self, rows: &R, pass: &mut R::Pass) -> Option<WriteEnded>
+    fn tend(&mut self, rows: &R, pass: &mut R::Pass) -> Option<WriteEndKind>
         requires read { AreReadToWrite (R.has rows.now pass.old) self.old.round self.old.page }
         requires can { CanTreatWrite self.old.round self.old.page }
         requires here { IsHere self.old.round self.old.page }
@@ -386,7 +386,7 @@ impl<R: Rows, A: Allocator> WriteRound<R, A> {
     }
 
     /// Ends at the leaf; to the left of a removed page, reads that one again where a change may be due.
-    fn end(&mut self, rows: &R, pass: &mut R::Pass) -> Option<WriteEnded>
+    fn end(&mut self, rows: &R, pass: &mut R::Pass) -> Option<WriteEndKind>
         requires read { AreReadToWrite (R.has rows.now pass.old) self.old.round self.old.page }
         requires can { CanTreatWrite self.old.round self.old.page }
         requires here { IsHere self.old.round self.old.page }
@@ -398,13 +398,13 @@ impl<R: Rows, A: Allocator> WriteRound<R, A> {
     {
         match self.course.removed() {
             Some(pid) => self.end_left(rows, pass, pid),
-            None => Some(WriteEnded::Leaf),
+            None => Some(WriteEndKind::Leaf),
         }
     }
 
     /// Reads the removed page again where it is the page's right, or the parent has its term; else nothing is due.
     #[inline(never)]
-    fn end_left(&mut self, rows: &R, pass: &mut R::Pass, pid: u32) -> Option<WriteEnded>
+    fn end_left(&mut self, rows: &R, pass: &mut R::Pass, pid: u32) -> Option<WriteEndKind>
         requires read { AreReadToWrite (R.has rows.now pass.old) self.old.round self.old.page }
         requires some { 0 < pid }
         requires below { pid < self.old.round.limits.pids }
@@ -419,7 +419,7 @@ impl<R: Rows, A: Allocator> WriteRound<R, A> {
             return None;
         }
         if !self.has_term(rows, pass, pid) {
-            return Some(WriteEnded::Done);
+            return Some(WriteEndKind::Done);
         }
         self.course.go_to_unterm(&mut self.descent);
         self.descent.go_to(pid);

@@ -19,15 +19,15 @@ use Rattle.change_machine.specs.declared.change.End.{End}
 use Rattle.change_machine.specs.declared.taking.Kind.{Kind}
 use Rattle.rounds.specs.ReadRounds.{PlacedRead}
 use Rattle.rounds.specs.WriteRounds.{PlacedWrite}
-use Rattle.op_machine.specs.declared.places.Stand.{Stand}
-use Rattle.op_machine.specs.declared.places.Stand.TheVariants.{Begun, Epoch, Enter, Read, Write, Change, Leave}
+use Rattle.op_machine.specs.declared.places.StateKind.{StateKind}
+use Rattle.op_machine.specs.declared.places.StateKind.TheVariants.{Begun, Epoch, Enter, Read, Write, Change, Leave}
 use Rattle.op_machine.specs.machine.States.{State}
 use Rattle.op_machine.specs.machine.States as at
 use Rattle.op_machine.specs.declared.then.Then.{Then}
 
 -- Where the operation stands, the rounds and the change, what comes after the change, and the reply with what ran out, each in its place.
 pub record OpPlaces : Type 0 where
-  pub stand : Stand
+  pub stand : StateKind
   pub reader : PlacedRead
   pub writer : PlacedWrite
   pub change : ChangeOf
@@ -35,7 +35,7 @@ pub record OpPlaces : Type 0 where
   pub reply : ReplyOf
   pub lacks : Option Kind
 
-abbrev pub state_at : Stand → read.ReadRound → write.WriteRound → ChangeOf → Then → ReplyOf → Option Kind → State
+abbrev pub state_at : StateKind → read.ReadRound → write.WriteRound → ChangeOf → Then → ReplyOf → Option Kind → State
 state_at Begun reader writer change then reply lacks = at.Begun
 state_at Epoch reader writer change then reply lacks = at.Epoch
 state_at (Enter epoch) reader writer change then reply lacks = at.Enter epoch

@@ -9,7 +9,7 @@ ghost use Rattle.round_model.specs.ReadRounds.{CanTreatRead, AsksTheSame, LacksL
 ghost use Rattle.round_model.specs.Ways.{LeadsOn, LeadsRight, StaysLeft};
 ghost use Rattle.rounds.specs.ReadRounds.{AreReadFor, IsOnLevelOf, IsReadGoal, IsReadLeg, LeadsLeft, ended_read};
 
-use super::{Going, ReadEnded, ReadRound};
+use super::{ReadEndKind, ReadGoalKind, ReadRound};
 use crate::way::{next_on_way, right_on_way};
 use row_search::{KeyWords, Rows};
 use std::alloc::Allocator;
@@ -17,7 +17,7 @@ use std::alloc::Allocator;
 impl<R: Rows, A: Allocator> ReadRound<R, A> {
     /// Ends at a removed leaf; goes round a removed index page, where the page above leads to the left of it.
     #[inline(never)]
-    pub(super) fn meet_removed(&mut self, rows: &R, pass: &mut R::Pass) -> Option<ReadEnded>
+    pub(super) fn meet_removed(&mut self, rows: &R, pass: &mut R::Pass) -> Option<ReadEndKind>
         requires can { CanTreatRead self.old.round self.old.page }
         requires read { AreReadFor (R.has rows.now pass.old) self.old.round self.old.page }
         requires plain { IsPlain self.old.round.leg }
@@ -28,10 +28,10 @@ impl<R: Rows, A: Allocator> ReadRound<R, A> {
     {
         self.page().chain().was_read(rows, pass);
         if self.page().chain().level() == 0 {
-            return Some(ReadEnded::Removed);
+            return Some(ReadEndKind::Removed);
         }
         match self.left_of_page(rows, pass) {
-            None => Some(ReadEnded::Again),
+            None => Some(ReadEndKind::Again),
             Some(left) => {
                 self.leg.go_round(&mut self.descent);
                 self.descent.go_to(left);
@@ -61,7 +61,7 @@ impl<R: Rows, A: Allocator> ReadRound<R, A> {
     /// On the way round a removed page, goes on to the right of the page in hand, or from the removed page, which it has to its right;
     /// where that one was merged, goes on from the page in hand.
     #[inline(never)]
-    pub(super) fn come_nearer(&mut self, rows: &R, pass: &mut R::Pass) -> Option<ReadEnded>
+    pub(super) fn come_nearer(&mut self, rows: &R, pass: &mut R::Pass) -> Option<ReadEndKind>
         requires can { CanTreatRead self.old.round self.old.page }
         requires read { AreReadFor (R.has rows.now pass.old) self.old.round self.old.page }
         requires round { self.old.round.leg ≡ Round self.old.met }
@@ -70,7 +70,7 @@ impl<R: Rows, A: Allocator> ReadRound<R, A> {
         ensures looks { pass.new ≡ pass.old }
     {
         if !self.is_of_level(rows, pass) {
-            return Some(ReadEnded::Again);
+            return Some(ReadEndKind::Again);
         }
         if let Some(right) = self.right_before(rows, pass) {
             self.descent.go_to(right);
@@ -174,12 +174,14 @@ impl<R: Rows, A: Allocator> ReadRound<R, A> {
         ensures leads { LeadsOn (read_way self.now.round.goal self.now.round.key) self.now.met.chain result }
     {
         let removed = self.leg.page().chain();
-        match self.going {
-            Going::Left => {
+        match self.goal {
+            ReadGoalKind::Left => {
                 let low = KeyWords::of(&self.aside.chain().low(rows, pass));
                 next_on_way(removed, rows, pass, &low, true)
             }
-            Going::Seek | Going::Beyond => next_on_way(removed, rows, pass, &self.key, false),
+            ReadGoalKind::Seek | ReadGoalKind::Beyond => next_on_way(
+                removed, rows, pass, &self.key, false,
+            ),
         }
     }
 }

@@ -15,7 +15,7 @@ ghost use Rattle.structure_changes.specs.Splits.{CanSplit};
 ghost use Rattle.structure_changes.specs.Upkeep.{IsUpkeep};
 ghost use Rattle.structure_changes.specs.declared.after.After.TheVariants.{Round};
 
-use crate::{WriteEnded, WriteRound};
+use crate::{WriteEndKind, WriteRound};
 use base_page::Content;
 use deltas::Record;
 use row_chain::Chain;
@@ -39,13 +39,13 @@ impl<R: Rows, A: Allocator> WriteRound<R, A> {
     }
 
     /// The round ends with this change, which is due, and with what comes once it has won.
-    pub(super) fn ends_due(&mut self, plan: Plan, after: After) -> WriteEnded
+    pub(super) fn ends_due(&mut self, plan: Plan, after: After) -> WriteEndKind
         ensures ends { ended_write self.new result ≡ end.Due plan after }
         ensures round { self.new.round ≡ self.old.round }
     {
         self.plan = plan;
         self.after = after;
-        WriteEnded::Due
+        WriteEndKind::Due
     }
 
     /// Whether the page has many deltas, or is a leaf with those that are due.
@@ -73,7 +73,7 @@ impl<R: Rows, A: Allocator> WriteRound<R, A> {
 
     /// Ends at a page that is to be consolidated.
     #[inline(never)]
-    pub(super) fn end_long(&mut self, rows: &R, pass: &mut R::Pass) -> WriteEnded
+    pub(super) fn end_long(&mut self, rows: &R, pass: &mut R::Pass) -> WriteEndKind
         requires read { IsReadPage (R.has rows.now pass.old) self.old.page }
         requires here { IsHere self.old.round self.old.page }
         requires long { IsLong self.old.round.limits self.old.round.due self.old.page.chain }
@@ -91,7 +91,7 @@ impl<R: Rows, A: Allocator> WriteRound<R, A> {
 
     /// Ends at a page that has few deltas and many items: it is to be split.
     #[inline(never)]
-    pub(super) fn end_wide(&mut self, rows: &R, pass: &mut R::Pass) -> WriteEnded
+    pub(super) fn end_wide(&mut self, rows: &R, pass: &mut R::Pass) -> WriteEndKind
         requires read { IsReadPage (R.has rows.now pass.old) self.old.page }
         requires here { IsHere self.old.round self.old.page }
         requires short { ¬ IsLong self.old.round.limits self.old.round.due self.old.page.chain }
@@ -154,7 +154,7 @@ impl<R: Rows, A: Allocator> WriteRound<R, A> {
 
     /// Ends where the removed page may come into its left page.
     #[inline(never)]
-    pub(super) fn end_merge(&mut self, rows: &R, pass: &mut R::Pass) -> WriteEnded
+    pub(super) fn end_merge(&mut self, rows: &R, pass: &mut R::Pass) -> WriteEndKind
         requires left { IsReadPage (R.has rows.now pass.old) self.old.left }
         requires read { IsReadPage (R.has rows.now pass.old) self.old.page }
         requires merges { self.old.round.goal ≡ goal.Merge self.old.left }
@@ -164,7 +164,7 @@ impl<R: Rows, A: Allocator> WriteRound<R, A> {
     {
         let left = self.left();
         match plan_merge(left, self.page(), rows, pass) {
-            None => WriteEnded::Done,
+            None => WriteEndKind::Done,
             Some(merge) => {
                 let plan = Plan::over(left, Record::Merge(merge));
                 self.ends_due(plan, After::Round)
@@ -174,7 +174,7 @@ impl<R: Rows, A: Allocator> WriteRound<R, A> {
 
     /// Ends where the parent may lose the removed page's term.
     #[inline(never)]
-    pub(super) fn end_unterm(&mut self, rows: &R, pass: &mut R::Pass) -> WriteEnded
+    pub(super) fn end_unterm(&mut self, rows: &R, pass: &mut R::Pass) -> WriteEndKind
         requires parent { IsReadPage (R.has rows.now pass.old) self.old.parent }
         requires left { IsReadPage (R.has rows.now pass.old) self.old.left }
         requires read { IsReadPage (R.has rows.now pass.old) self.old.page }
@@ -188,7 +188,7 @@ impl<R: Rows, A: Allocator> WriteRound<R, A> {
         let removed = self.page();
         removed.chain().was_read(rows, pass);
         match plan_unterm(parent, self.left(), removed, rows, pass) {
-            None => WriteEnded::Done,
+            None => WriteEndKind::Done,
             Some(unterm) => {
                 let plan = Plan::Unlink {
                     pid: parent.pid(),

@@ -3,7 +3,7 @@ use Rattle.bw_model.specs.Answers.{answer_of}
 use Rattle.op_machine.specs.machine.Outcomes.{Entered}
 use Rattle.op_machine.specs.machine.Places.{state_of}
 use Rattle.op_machine.specs.machine.Works.{TurnsInto}
-use Rattle.op_machine.specs.declared.places.Stand.TheVariants.{Enter}
+use Rattle.op_machine.specs.declared.places.StateKind.TheVariants.{Enter}
 use Rattle.op_machine.proofs.Going.{follows, has_entered}
 use Rattle.op_machine.proofs.InPlaces.{comes_to}
 use Rattle.op_machine.proofs.operation.Operation.turn.Goals as goal

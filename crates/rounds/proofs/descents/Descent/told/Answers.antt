@@ -1,6 +1,6 @@
 use Rattle.std.proofs.Common.{◌<◌, arith}
 use Rattle.rounds.specs.Descents.{placed_state}
-use Rattle.rounds.specs.declared.descents.At.TheVariants.{Slot}
+use Rattle.rounds.specs.declared.descents.WayStateKind.TheVariants.{Slot}
 use Rattle.rounds.proofs.Placed.{is_empty, root_within, starts}
 use Rattle.rounds.proofs.descents.Descent.told.Goals as goal
 

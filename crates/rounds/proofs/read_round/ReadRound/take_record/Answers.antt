@@ -4,7 +4,7 @@ use Rattle.round_model.specs.Machines.{IsToldThere}
 use Rattle.round_model.specs.ReadRounds.{reading}
 use Rattle.round_model.specs.Rounds.{machine}
 use Rattle.rounds.specs.ReadRounds.{PlacedRead}
-use Rattle.rounds.specs.declared.descents.Seen.TheVariants.{Whole}
+use Rattle.rounds.specs.declared.descents.SightKind.TheVariants.{Whole}
 use Rattle.rounds.proofs.Reading.{are_read}
 use Rattle.rounds.proofs.Seeing.{Moved, can_treat_now, placed, treats_now, way_told}
 use Rattle.rounds.proofs.WriteReading.{is_told, read_now}
@@ -12,7 +12,7 @@ use Rattle.rounds.proofs.read_round.ReadRound.take_record.Goals as goal
 
 pub take_record-requires : goal.take_record-requires
 take_record-requires g c =
-    let was : PlacedRead = placed c.self.inside.key c.self.inside.going c.self.inside.aside c.self.inside.leg c.self.inside.descent in
+    let was : PlacedRead = placed c.self.inside.key c.self.inside.goal c.self.inside.aside c.self.inside.leg c.self.inside.descent in
     let is_there = g.R.Rows.has c.args.rows.now c.args.pass.now in
     let told = Content c.args.found.content in
     let t : IsToldThere is_there (machine reading) was.round told = rw (← c.self.view_is) at c.requires.told in
@@ -24,7 +24,7 @@ take_record-requires g c =
 
 pub treat-requires : goal.treat-requires
 treat-requires g c =
-    let was : PlacedRead = placed c.self.inside.key c.self.inside.going c.self.inside.aside c.self.inside.leg c.self.inside.descent in
+    let was : PlacedRead = placed c.self.inside.key c.self.inside.goal c.self.inside.aside c.self.inside.leg c.self.inside.descent in
     let now = c.take_record.new.self in
     let is_there = g.R.Rows.has c.args.rows.now c.args.pass.now in
     let told = Content c.args.found.content in
@@ -38,7 +38,7 @@ treat-requires g c =
 
 pub returns-in-Whole-clause-responds : goal.returns-in-Whole-clause-responds
 returns-in-Whole-clause-responds g c =
-    let was : PlacedRead = placed c.self.inside.key c.self.inside.going c.self.inside.aside c.self.inside.leg c.self.inside.descent in
+    let was : PlacedRead = placed c.self.inside.key c.self.inside.goal c.self.inside.aside c.self.inside.leg c.self.inside.descent in
     let now = c.take_record.new.self in
     let told = Content c.args.found.content in
     let b : Moved was now told Whole = subst (Moved was now told) c.in-Whole.is c.take_record.ensures.responds in

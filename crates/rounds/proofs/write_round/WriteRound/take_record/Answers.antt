@@ -4,7 +4,7 @@ use Rattle.round_model.specs.WriteResponses.{writing}
 use Rattle.rounds.specs.WriteRounds.{PlacedWrite}
 use Rattle.rounds.proofs.WriteReading.{is_told, reads_now}
 use Rattle.rounds.proofs.WriteSeeing.{Moved, can_treat_now, placed, treats_now}
-use Rattle.rounds.specs.declared.descents.Seen.TheVariants.{Whole}
+use Rattle.rounds.specs.declared.descents.SightKind.TheVariants.{Whole}
 use Rattle.std.proofs.Common.{subst}
 use Rattle.rounds.proofs.write_round.WriteRound.take_record.Goals as goal
 

@@ -2,7 +2,7 @@
 
 /// How a writer's round ends. The pages that an end is about stand in the round, and so does a change that is due.
 #[derive(Clone, Copy)]
-pub enum WriteEnded {
+pub enum WriteEndKind {
     /// A page that was named isn't there: a new round begins.
     Again,
     /// The page in hand, which is on the way, is removed: a round to the left of it begins.
