@@ -38,7 +38,8 @@ module _ (items : List Item) (are : AreItems items) (passes : List ℕ → Bool)
         cc);
   }
 
-  module _ (i : ℕ) (d : Item) (lt : i < length items) (front : AllByRecursion (λ item. passes item.key ≡ true) (take (i + 1) items)) (back : AllByRecursion (λ item. passes item.key ≡ false) (drop (i + 1) items)) where
+  module _ (i : ℕ) (d : Item) (lt : i < length items) (front : AllByRecursion (λ item. passes item.key ≡ true) (take (i + 1) items))
+      (back : AllByRecursion (λ item. passes item.key ≡ false) (drop (i + 1) items)) where
     last_is : (e : Item) → (get_or items i e).key ≡ (get_or items i d).key
     last_is e = ap (λ (item : Item). item.key) (get_or_default items i e d lt)
 
@@ -114,7 +115,8 @@ module _ (page : Page) (is : IsPage page) (key : List ℕ) (place : ℕ) where
       let key_is : (get_or page.items place blank).key ≡ key = at.found blank in
       let last : not (is_below key (get_or page.items place blank).key) ≡ true = rw key_is (ap (λ o. not (is_lt o)) (itself key)) in
       let low = all-weaker _ _ (λ (item : Item) less. ap (λ o. not (is_lt o)) (above item.key key less)) (take place page.items) (below_place page.items is.ordered key place blank at) in
-      let front = subst (AllByRecursion (λ (item : Item). not (is_below key item.key) ≡ true)) (sym (take_more page.items place blank at.within)) (all-append _ (take place page.items) (get_or page.items place blank ∷ []) low (last, tt)) in
+      let front = subst (AllByRecursion (λ (item : Item). not (is_below key item.key) ≡ true)) (sym (take_more page.items place blank at.within))
+      (all-append _ (take place page.items) (get_or page.items place blank ∷ []) low (last, tt)) in
       let back = all-weaker _ _ (λ (item : Item) less. ap (λ o. not (is_lt o)) less) (drop (place + 1) page.items) (above_place page.items is.ordered key place blank at) in
       child_before page is (λ q. not (is_below key q)) (place + 1) (omega (arith, at.within)) front back r h
 

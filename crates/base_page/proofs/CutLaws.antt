@@ -81,7 +81,10 @@ module _ (page next : Page) (is : IsPage page) (is_next : IsPage next) (meets : 
   not_below q h = not_true (is_below q next.low) (and_left (not (is_below q next.low)) (is_under q next.high) h)
 
   all_before : AllBefore page.items next.items
-  all_before = all-weaker (Belongs page) _ (λ (item : Item) b. all-weaker (Belongs next) _ (λ (other : Item) c. below_reach item.key next.low other.key (below_next item b) (not_below other.key c.within)) next.items (all_belong next is_next)) page.items (all_belong page is)
+  all_before =
+      all-weaker (Belongs page) _ (λ (item : Item) b. all-weaker (Belongs next) _
+      (λ (other : Item) c. below_reach item.key next.low other.key (below_next item b) (not_below other.key c.within)) next.items (all_belong next is_next))
+      page.items (all_belong page is)
 
   pub AreItems-joined : length page.items + length next.items ≤ 24 → AreItems (page.items ++ next.items)
   AreItems-joined room = record {
@@ -111,8 +114,10 @@ module _ (page next : Page) (is : IsPage page) (is_next : IsPage next) (meets : 
       (λ yes. let both : true ≡ false = sym (ap is_lt (below-trans q page.low next.low (below_from q page.low yes) low_below)) ∙ h in cc)
       (λ not_yes. not_yes)
 
-  pub IsPage-joined : (right : Option ℕ) → next.level ≡ page.level → length page.items + length next.items ≤ 24 → IsPage (record page { high = next.high; right = right; items = page.items ++ next.items })
-  IsPage-joined right level room = IsPage-from_contents (record page { high = next.high; right = right; items = page.items ++ next.items }) (under_below page.low next.low next.high low_below is_next.spans) (AreItems-joined room)
+  pub IsPage-joined : (right : Option ℕ) → next.level ≡ page.level → length page.items + length next.items ≤ 24
+      → IsPage (record page { high = next.high; right = right; items = page.items ++ next.items })
+  IsPage-joined right level room =
+      IsPage-from_contents (record page { high = next.high; right = right; items = page.items ++ next.items }) (under_below page.low next.low next.high low_below is_next.spans) (AreItems-joined room)
       (λ q content h. either (is_in_range next.low next.high q)
       (λ yes.
       let b = belongs next is_next q content (sym (rw yes at (content_at-joined q)) ∙ h) in
@@ -123,7 +128,9 @@ module _ (page next : Page) (is : IsPage page) (is_next : IsPage next) (meets : 
       (λ outside.
       let b = belongs page is q content (sym (rw outside at (content_at-joined q)) ∙ h) in
       record {
-        within = and_both (not (is_below q page.low)) (is_under q next.high) (and_left (not (is_below q page.low)) (is_under q page.high) b.within) (under_below q next.low next.high (below_next (record { key = q; content = content }) b) is_next.spans);
+        within =
+            and_both (not (is_below q page.low)) (is_under q next.high) (and_left (not (is_below q page.low)) (is_under q page.high) b.within)
+            (under_below q next.low next.high (below_next (record { key = q; content = content }) b) is_next.spans);
         kind = b.kind;
       }))
 

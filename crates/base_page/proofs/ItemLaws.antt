@@ -121,7 +121,8 @@ of_content P (item ∷ items) q content all h = either (is_eq (key_cmp q item.ke
     subst P (λ i. record { key = sym key i; content = content_is i }) all.0)
     (λ no. of_content P items q content all.1 (rw no at h))
 
-pub all_contents : (P : Item → Type 0) (items : List Item) → Ascends items → ((q : List ℕ) (content : Content) → content_at items q ≡ Some content → P (record { key = q; content = content })) → AllByRecursion P items
+pub all_contents : (P : Item → Type 0) (items : List Item) → Ascends items
+    → ((q : List ℕ) (content : Content) → content_at items q ≡ Some content → P (record { key = q; content = content })) → AllByRecursion P items
 all_contents P [] asc f = tt
 all_contents P (item ∷ items) asc f =
     let here : content_at (item ∷ items) item.key ≡ Some item.content = rw (itself item.key) refl in (

@@ -33,7 +33,8 @@ IsPage-from page spans are all = record {
 pub belongs : (page : Page) → IsPage page → (q : List ℕ) (content : Content) → content_at page.items q ≡ Some content → Belongs page (record { key = q; content = content })
 belongs page is q content h = of_content (Belongs page) page.items q content (all_belong page is) h
 
-pub IsPage-from_contents : (page : Page) → IsTrue (is_under page.low page.high) → AreItems page.items → ((q : List ℕ) (content : Content) → content_at page.items q ≡ Some content → Belongs page (record { key = q; content = content })) → IsPage page
+pub IsPage-from_contents : (page : Page) → IsTrue (is_under page.low page.high) → AreItems page.items
+    → ((q : List ℕ) (content : Content) → content_at page.items q ≡ Some content → Belongs page (record { key = q; content = content })) → IsPage page
 IsPage-from_contents page spans are f = IsPage-from page spans are (all_contents (Belongs page) page.items (Ascends-from page.items are.ascending) f)
 
 module _ (page : Page) (is : IsPage page) (items : List Item) (are : AreItems items) (key : List ℕ) where
@@ -53,7 +54,8 @@ module _ (page : Page) (is : IsPage page) (items : List Item) (are : AreItems it
       (λ no. let b = belongs page is q found (sym (rw no at (contents q)) ∙ h) in record { within = b.within; kind = b.kind }))
 
 -- a page is as it was where nothing was to be held
-pub held_none : (items : List Item) (key : List ℕ) → child_in (content_at items key) ≡ None → (q : List ℕ) → content_at items q ≡ (if is_eq (key_cmp q key) then held (content_at items key) else content_at items q)
+pub held_none : (items : List Item) (key : List ℕ) → child_in (content_at items key) ≡ None → (q : List ℕ)
+    → content_at items q ≡ (if is_eq (key_cmp q key) then held (content_at items key) else content_at items q)
 held_none items key h q = either (is_eq (key_cmp q key))
     (λ yes. rw (yes, same q key yes) (sym (not_child (content_at items key) h)))
     (λ no. rw no refl)

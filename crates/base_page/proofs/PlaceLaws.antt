@@ -69,7 +69,8 @@ module _ (front back : List Item) (item : Item) (asc : Ascends (front ++ item �
   pub found_between : content_at (front ++ item ∷ back) item.key ≡ Some item.content
   found_between = middle_here front back item item.key (lacks_below front item.key below_item) (ap is_eq (itself item.key))
 
-  pub replaced : (content : Content) (q : List ℕ) → content_at (front ++ record { key = item.key; content = content } ∷ back) q ≡ (if is_eq (key_cmp q item.key) then Some content else content_at (front ++ item ∷ back) q)
+  pub replaced : (content : Content) (q : List ℕ)
+      → content_at (front ++ record { key = item.key; content = content } ∷ back) q ≡ (if is_eq (key_cmp q item.key) then Some content else content_at (front ++ item ∷ back) q)
   replaced content q = either (is_eq (key_cmp q item.key))
       (λ yes. middle_here front back (record { key = item.key; content = content }) q (apart q yes) yes ∙ rw yes refl)
       (λ no. middle_other front back (record { key = item.key; content = content }) q no ∙ sym (middle_other front back item q no) ∙ rw no refl)
@@ -102,10 +103,12 @@ module _ (front back : List Item) (item : Item) (below : AllBelow item.key front
       (λ no. middle_other front back item q no ∙ rw no refl)
 
   pub inserted_ascends : Ascends (front ++ back) → Ascends (front ++ item ∷ back)
-  inserted_ascends asc = joined front (item ∷ back) (front_ascends front back asc) (above, back_ascends front back asc) (all-both _ _ _ (λ (x : Item) less more. (less, more)) front below (before front back asc))
+  inserted_ascends asc =
+      joined front (item ∷ back) (front_ascends front back asc) (above, back_ascends front back asc) (all-both _ _ _ (λ (x : Item) less more. (less, more)) front below (before front back asc))
 
 -- the items around the place where a key stands
-pub split : (items : List Item) (key : List ℕ) (place : ℕ) (d : Item) → IsAt items key place → items ≡ take place items ++ record { key = key; content = (get_or items place d).content } ∷ drop (suc place) items
+pub split : (items : List Item) (key : List ℕ) (place : ℕ) (d : Item) → IsAt items key place
+    → items ≡ take place items ++ record { key = key; content = (get_or items place d).content } ∷ drop (suc place) items
 split items key place d at =
     let key_is : (get_or items place d).key ≡ key = at.found d in
     let item_is : get_or items place d ≡ record { key = key; content = (get_or items place d).content } = λ i. record { key = key_is i; content = (get_or items place d).content } in
@@ -120,9 +123,12 @@ module _ (items : List Item) (are : AreItems items) (key : List ℕ) (place : �
   around = subst Ascends (split items key place d at) (Ascends-from items are.ascending)
 
   pub content_at_place : content_at items key ≡ Some (get_or items place d).content
-  content_at_place = ap (λ (xs : List Item). content_at xs key) (split items key place d at) ∙ found_between (take place items) (drop (suc place) items) (record { key = key; content = (get_or items place d).content }) around
+  content_at_place =
+      ap (λ (xs : List Item). content_at xs key) (split items key place d at)
+      ∙ found_between (take place items) (drop (suc place) items) (record { key = key; content = (get_or items place d).content }) around
 
-  pub content_at-set : (content : Content) (q : List ℕ) → content_at (set items place (record { key = key; content = content })) q ≡ (if is_eq (key_cmp q key) then Some content else content_at items q)
+  pub content_at-set : (content : Content) (q : List ℕ)
+      → content_at (set items place (record { key = key; content = content })) q ≡ (if is_eq (key_cmp q key) then Some content else content_at items q)
   content_at-set content q =
       ap (λ (xs : List Item). content_at xs q) (set_split items place (record { key = key; content = content }) at.within)
       ∙ replaced (take place items) (drop (suc place) items) (record { key = key; content = (get_or items place d).content }) around content q
@@ -131,7 +137,9 @@ module _ (items : List Item) (are : AreItems items) (key : List ℕ) (place : �
   pub AreItems-set : (content : Content) → AreItems (set items place (record { key = key; content = content }))
   AreItems-set content = record {
     few = rw length-set are.few;
-    ascending = rw (set_split items place (record { key = key; content = content }) at.within) (IsAscending-from _ (replaced_ascends (take place items) (drop (suc place) items) (record { key = key; content = (get_or items place d).content }) around content));
+    ascending =
+        rw (set_split items place (record { key = key; content = content }) at.within)
+        (IsAscending-from _ (replaced_ascends (take place items) (drop (suc place) items) (record { key = key; content = (get_or items place d).content }) around content));
   }
 
   pub content_at-remove : (q : List ℕ) → content_at (remove items place) q ≡ (if is_eq (key_cmp q key) then None else content_at items q)
@@ -146,16 +154,21 @@ module _ (items : List Item) (are : AreItems items) (key : List ℕ) (place : �
 
 module _ (items : List Item) (key : List ℕ) (place : ℕ) (gap : IsGap items key place) where
   pub content_at_gap : content_at items key ≡ None
-  content_at_gap = ap (λ (xs : List Item). content_at xs key) (sym (take-append-drop place items)) ∙ lacks_gap (take place items) (drop place items) (record { key = key; content = Child 0 false }) gap.below gap.above
+  content_at_gap =
+      ap (λ (xs : List Item). content_at xs key) (sym (take-append-drop place items))
+      ∙ lacks_gap (take place items) (drop place items) (record { key = key; content = Child 0 false }) gap.below gap.above
 
-  pub content_at-insert : (content : Content) (q : List ℕ) → content_at (insert items place (record { key = key; content = content })) q ≡ (if is_eq (key_cmp q key) then Some content else content_at items q)
+  pub content_at-insert : (content : Content) (q : List ℕ)
+      → content_at (insert items place (record { key = key; content = content })) q ≡ (if is_eq (key_cmp q key) then Some content else content_at items q)
   content_at-insert content q = inserted (take place items) (drop place items) (record { key = key; content = content }) gap.below gap.above q
       ∙ ap (λ (xs : List Item). if is_eq (key_cmp q key) then Some content else content_at xs q) (take-append-drop place items)
 
   pub AreItems-insert : (content : Content) → AreItems items → length items < 24 → AreItems (insert items place (record { key = key; content = content }))
   AreItems-insert content are room = record {
     few = omega (arith, length-insert items place (record { key = key; content = content }) gap.within);
-    ascending = IsAscending-from _ (inserted_ascends (take place items) (drop place items) (record { key = key; content = content }) gap.below gap.above (subst Ascends (sym (take-append-drop place items)) (Ascends-from items are.ascending)));
+    ascending =
+        IsAscending-from _ (inserted_ascends (take place items) (drop place items) (record { key = key; content = content }) gap.below gap.above
+        (subst Ascends (sym (take-append-drop place items)) (Ascends-from items are.ascending)));
   }
 
 module _ (items : List Item) (are : AreItems items) (place : ℕ) where

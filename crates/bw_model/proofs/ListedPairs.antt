@@ -41,11 +41,15 @@ listed = record {
     equal_keys : (a b : List ℕ) → is_eq (key_cmp a b) ≡ true → a ≡ b
     equal_keys a b e = exact_bytes a b (only_equal (key_cmp a b) e)
 
-    tells : (key value : List ℕ) (a b : Bool) → is_eq (key_cmp key (codes "a")) ≡ a → (if b then None else (if a then Some (codes "3") else (if b then Some (codes "2") else (if a then Some (codes "1") else None)))) ≡ Some value → (key ≡ codes "a") × (value ≡ codes "3")
+    tells : (key value : List ℕ) (a b : Bool) → is_eq (key_cmp key (codes "a")) ≡ a
+        → (if b then None else (if a then Some (codes "3") else (if b then Some (codes "2") else (if a then Some (codes "1") else None)))) ≡ Some value
+        → (key ≡ codes "a") × (value ≡ codes "3")
     tells key value true true at e = cc
     tells key value true false at e = (equal_keys key (codes "a") at, cc)
     tells key value false true at e = cc
     tells key value false false at e = cc
 
     is_it : (key value : List ℕ) → logged_value small_log key ≡ Some value → Contains {X = List ℕ × List ℕ} ((codes "a", codes "3") ∷ []) (key, value)
-    is_it key value e = let same : (key ≡ codes "a") × (value ≡ codes "3") = tells key value (is_eq (key_cmp key (codes "a"))) (is_eq (key_cmp key (codes "b"))) refl e in rw (same.0, same.1) (0, lit< tt, refl)
+    is_it key value e =
+        let same : (key ≡ codes "a") × (value ≡ codes "3") = tells key value (is_eq (key_cmp key (codes "a"))) (is_eq (key_cmp key (codes "b"))) refl e in
+        rw (same.0, same.1) (0, lit< tt, refl)

@@ -50,7 +50,8 @@ line_last (b ∷ c ∷ bs) h some = rw (ne_eqb b 10 h.0, line_last (c ∷ bs) h.
 
 -- ---- steps
 
-pub one_line : {language : Language} (n : ℕ) (m : Trace) (q : List ℕ) (after : Trace) (u : List ℕ) → HasNoFeed q → Transcript language n m (q ∷ []) after u None → Weaves language n m q (10 ∷ []) (n + 1) after [] u
+pub one_line : {language : Language} (n : ℕ) (m : Trace) (q : List ℕ) (after : Trace) (u : List ℕ) → HasNoFeed q → Transcript language n m (q ∷ []) after u None
+    → Weaves language n m q (10 ∷ []) (n + 1) after [] u
 one_line n m q after u h t = record {
   lines = q ∷ [];
   splits = record { whole = sym (append-nil (q ++ 10 ∷ [])) ∙ sym (append-nil ((q ++ 10 ∷ []) ++ [])); each = (h, tt); open_end = tt };
@@ -76,7 +77,8 @@ no_bytes n m q h = record {
   count = omega arith;
 }
 
-pub stop_line : (language : Language) (n : ℕ) (m : Trace) (q more : List ℕ) (after : Trace) (u : List ℕ) (r : Option RefusedLine) → HasNoFeed q → Transcript language n m (q ∷ []) after u r → StopsAmong language n m q (10 ∷ more) after u r
+pub stop_line : (language : Language) (n : ℕ) (m : Trace) (q more : List ℕ) (after : Trace) (u : List ℕ) (r : Option RefusedLine) → HasNoFeed q
+    → Transcript language n m (q ∷ []) after u r → StopsAmong language n m q (10 ∷ more) after u r
 stop_line language n m q more after u r h t rest = (
   q ∷ [],
   lines_of (more ++ rest),
@@ -141,7 +143,8 @@ weaves_stops n m p bs n' m' q t tail m'' u r v s rest =
 
 -- ---- the end of the input
 
-pub end_whole : {language : Language} (m : Trace) (taken : List ℕ) (n : ℕ) (after : Trace) (t : List ℕ) → Weaves language 1 m [] taken n after [] t → Transcript language 1 m (lines_of taken) after t None
+pub end_whole : {language : Language} (m : Trace) (taken : List ℕ) (n : ℕ) (after : Trace) (t : List ℕ) → Weaves language 1 m [] taken n after [] t
+    → Transcript language 1 m (lines_of taken) after t None
 end_whole m taken n after t v =
     let e : lines_of taken ≡ v.lines = ap lines_of v.splits.whole ∙ lines_whole v.lines [] v.splits.each ∙ append-nil v.lines in
     rw e v.says
@@ -161,12 +164,14 @@ piece bytes i b h is =
     rw (sym is, sym d) (take-append-drop i bytes)
 
 pub stop_at : {language : Language} (n : ℕ) (m : Trace) (p bytes : List ℕ) (i b : ℕ) (n' : ℕ) (m' : Trace) (q t : List ℕ) (m'' : Trace) (u : List ℕ) (r : Option RefusedLine)
-    → i < length bytes → get_or bytes i 0 ≡ b → Weaves language n m p (take i bytes) n' m' q t → StopsAmong language n' m' q (b ∷ drop (i + 1) bytes) m'' u r → StopsAmong language n m p bytes m'' (t ++ u) r
+    → i < length bytes → get_or bytes i 0 ≡ b → Weaves language n m p (take i bytes) n' m' q t → StopsAmong language n' m' q (b ∷ drop (i + 1) bytes) m'' u r
+    → StopsAmong language n m p bytes m'' (t ++ u) r
 stop_at {language} n m p bytes i b n' m' q t m'' u r h is v s =
     subst (λ (bs : List ℕ). StopsAmong language n m p bs m'' (t ++ u) r) (piece bytes i b h is) (weaves_stops n m p (take i bytes) n' m' q t (b ∷ drop (i + 1) bytes) m'' u r v s)
 
 pub more_at : {language : Language} (n : ℕ) (m : Trace) (p bytes : List ℕ) (i b : ℕ) (n' : ℕ) (m' : Trace) (q t : List ℕ) (n'' : ℕ) (m'' : Trace) (q' u : List ℕ)
-    → i < length bytes → get_or bytes i 0 ≡ b → Weaves language n m p (take i bytes) n' m' q t → Weaves language n' m' q (b ∷ []) n'' m'' q' u → Weaves language n m p (take (i + 1) bytes) n'' m'' q' (t ++ u)
+    → i < length bytes → get_or bytes i 0 ≡ b → Weaves language n m p (take i bytes) n' m' q t → Weaves language n' m' q (b ∷ []) n'' m'' q' u
+    → Weaves language n m p (take (i + 1) bytes) n'' m'' q' (t ++ u)
 more_at {language} n m p bytes i b n' m' q t n'' m'' q' u h is v w =
     let e : take i bytes ++ b ∷ [] ≡ take (i + 1) bytes = rw (sym is) (sym (take_more bytes i 0 h)) in
     subst (λ (bs : List ℕ). Weaves language n m p bs n'' m'' q' (t ++ u)) e (weaves_then n m p (take i bytes) n' m' q t (b ∷ []) n'' m'' q' u v w)

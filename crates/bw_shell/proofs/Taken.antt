@@ -43,14 +43,16 @@ turn_told old new actor (Ok event) refused memory ok err = stepped old new actor
 turn_told old new actor (Err error) refused memory ok err = (refused_turn old (Step actor) error refused (λ h. (memory h).0), ap seen err)
 
 -- one step, and what it comes to
-pub step_told : (until : Option Link) (before : Trace) (actor : ℕ) (told : Result Event RunError) (after : Trace) (result : Result Progress Refusal) → TurnTold before actor told after → ToldAs until told result → StepTold until before actor result after
+pub step_told : (until : Option Link) (before : Trace) (actor : ℕ) (told : Result Event RunError) (after : Trace) (result : Result Progress Refusal)
+    → TurnTold before actor told after → ToldAs until told result → StepTold until before actor result after
 step_told until before actor (Ok event) after (Ok progress) took comes = (event, took, comes)
 step_told until before actor (Ok event) after (Err refusal) took comes = absurd comes
 step_told until before actor (Err error) after (Ok progress) took comes = absurd comes
 step_told until before actor (Err error) after (Err refusal) took comes = (subst (Refuses before (Step actor)) (sym comes) took.0, took.1)
 
 -- turns that went on, and one that stops them
-pub steps_told : (until : Option Link) (before : Trace) (actor n limit : ℕ) (mid : Trace) (told : Result Event RunError) (after : Trace) (result : Result Progress Refusal) → StepsOn until before actor n mid → n < limit
+pub steps_told : (until : Option Link) (before : Trace) (actor n limit : ℕ) (mid : Trace) (told : Result Event RunError) (after : Trace) (result : Result Progress Refusal)
+    → StepsOn until before actor n mid → n < limit
     → TurnTold mid actor told after → (IsUnderWay until told → ⊥) → ToldAs until told result → TurnsTold until before actor limit result after
 steps_told until before actor n limit mid (Ok event) after (Ok GoesOn) on lt took stops comes = absurd (stops comes)
 steps_told until before actor n limit mid (Ok event) after (Ok Linked) on lt took stops comes = (n, lt, mid, on, (event, took, comes))
@@ -61,6 +63,7 @@ steps_told until before actor n limit mid (Err error) after (Err refusal) on lt 
     (n, lt, subst (StepsOn until before actor n) (sym took.1) on, subst (λ (t : Trace). Refuses t (Step actor) refusal) (sym took.1) (subst (Refuses mid (Step actor)) (sym comes) took.0))
 
 -- a turn that goes on
-pub goes_told : (until : Option Link) (before : Trace) (actor : ℕ) (told : Result Event RunError) (after : Trace) → TurnTold before actor told after → IsUnderWay until told → StepTold until before actor (Ok GoesOn) after
+pub goes_told : (until : Option Link) (before : Trace) (actor : ℕ) (told : Result Event RunError) (after : Trace) → TurnTold before actor told after
+    → IsUnderWay until told → StepTold until before actor (Ok GoesOn) after
 goes_told until before actor (Ok event) after took going = (event, took, going)
 goes_told until before actor (Err error) after took going = absurd going

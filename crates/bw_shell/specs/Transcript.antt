@@ -120,7 +120,8 @@ unfoldable pub Transcript : Language → ℕ → Trace → List (List ℕ) → T
 Transcript language n before [] after text refused = (after ≡ before) × (text ≡ []) × (refused ≡ None)
 Transcript language n before ([] ∷ lines) after text refused = Transcript language (n + 1) before lines after text refused
 Transcript language n before ((b ∷ bs) ∷ lines) after text refused =
-    ((request : Request) × (mid : Trace) × (shown : List ℕ) × (rest : List ℕ) × Says language (b ∷ bs) request × IsShortRequest request × Performs before request mid shown × Transcript language (n + 1) mid lines after rest refused × (text ≡ shown ++ rest))
+    ((request : Request) × (mid : Trace) × (shown : List ℕ) × (rest : List ℕ) × Says language (b ∷ bs) request × IsShortRequest request × Performs before
+    request mid shown × Transcript language (n + 1) mid lines after rest refused × (text ≡ shown ++ rest))
     ⊎ ((refusal : Refusal) × RefusesLine language before (b ∷ bs) refusal after text × (refused ≡ Some (record { number = n; refusal = refusal })))
 
 -- what one turn answers

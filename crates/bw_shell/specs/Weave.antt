@@ -22,7 +22,8 @@ pub record Weaves (language : Language) (n : ℕ) (before : Trace) (part bytes :
 
 -- Whatever follows the bytes, the text is a transcript of the first lines.
 abbrev pub StopsAmong : Language → ℕ → Trace → List ℕ → List ℕ → Trace → List ℕ → Option RefusedLine → Type 0
-StopsAmong language n before part bytes after text refused = (rest : List ℕ) → (front : List (List ℕ)) × (others : List (List ℕ)) × (lines_of ((part ++ bytes) ++ rest) ≡ front ++ others) × Transcript language n before front after text refused
+StopsAmong language n before part bytes after text refused =
+    (rest : List ℕ) → (front : List (List ℕ)) × (others : List (List ℕ)) × (lines_of ((part ++ bytes) ++ rest) ≡ front ++ others) × Transcript language n before front after text refused
 
 -- what is asked for was run, and this is shown
 abbrev pub RequestRuns : Trace → Request → Trace → Sink → Sink → Result (Unit {0}) Refusal → Type 0
@@ -73,7 +74,8 @@ IsTranscriptOf language limits left taken read_failed after text refused write_f
     × IsOneMap after × (text ≡ printed ++ last_line line) × (refused ≡ is_some line))
 
 -- The whole run: what is taken from the reader, the core's trace, the text for them, and how much of it was written.
-pub record IsWholeRun (language : Language) (limits : Limits) (in_old in_new : Option (List ℕ)) (read_failed : Bool) (out_old out_new : Option (List ℕ)) (write_failed : Bool) (status : ℕ) : Type 0 where
+pub record IsWholeRun (language : Language) (limits : Limits) (in_old in_new : Option (List ℕ)) (read_failed : Bool) (out_old out_new : Option (List ℕ)) (write_failed : Bool) (status : ℕ) : Type
+    0 where
   pub taken : List ℕ
   pub after : Trace
   pub text : List ℕ

@@ -49,7 +49,8 @@ module _ {M : Type 1} {𝓤 : Ura M} (𝓛 : Logic 𝓤) where
   copies = record {
     twice = λ d vs. qed 𝓛 (‵ (K.own_val d vs) ∷ []) ∵ fsplit ! $ peeks ! Data (Is Data) (shows 𝓛 Data) (d.at, tt) vs (λ is. move ! (1 ∷ []) $
         use1 𝓛 (‵ (maybe_lent B d.at d.value) ⊛ ‵ (maybe_lent B d.at d.value)) (lent_twice d.at d.value) $ split ! $ move ! (2 ∷ 0 ∷ []) $ fjoin ! $
-        use0 𝓛 (‵ (Data.own_val (d.at, tt) (word d.at ∷ []))) (made d.at) $ rewrite ! 0 (λ (ws : List Val). ‵ (Data.own_val (d.at, tt) ws)) (sym (told d.at vs is)) refl $ move ! (0 ∷ 2 ∷ []) $ fjoin ! $ done !);
+        use0 𝓛 (‵ (Data.own_val (d.at, tt) (word d.at ∷ []))) (made d.at) $ rewrite ! 0 (λ (ws : List Val). ‵ (Data.own_val (d.at, tt) ws))
+        (sym (told d.at vs is)) refl $ move ! (0 ∷ 2 ∷ []) $ fjoin ! $ done !);
   }
 
   pub tells : Tells K (Is K) (λ d. lowers.lowered d ∷ [])

@@ -29,7 +29,8 @@ module _ (actor : ℕ) (limits : Limits) (k : Knowledge) (plan : Plan) (spares :
   abbrev pub FollowsTo : State → Answer Record → Moved → Type 0
   FollowsTo state told now = Follows actor k (learn k (wanted_at plan spares state) told) (change state) told (change now.state) now.spares now.end
 
-  decided : (won : Bool) → IsSoundChange (change state.Link) spares → IsTarget limits plan → Shows actor (change state.Link) spares k → Fits limits k (wanted_at plan spares state.Link) (answer.Whether won) → FollowsTo state.Link (answer.Whether won) (decided_by plan spares won)
+  decided : (won : Bool) → IsSoundChange (change state.Link) spares → IsTarget limits plan → Shows actor (change state.Link) spares k
+      → Fits limits k (wanted_at plan spares state.Link) (answer.Whether won) → FollowsTo state.Link (answer.Whether won) (decided_by plan spares won)
   decided true sound target h fits =
       let may = may_link actor limits k plan spares sound.room sound.state h.may h.keeps h.are target h.stands.0 h.stands.1 in
       won_at actor limits k spares sound.room h.are plan sound.state target h.may h.keeps may h.stands.0 h.stands.1 fits
@@ -39,7 +40,8 @@ module _ (actor : ℕ) (limits : Limits) (k : Knowledge) (plan : Plan) (spares :
       lost true is = rw is (lost_ready actor limits k plan spares sound.room sound.state h.may h.keeps h.are h.stands.0)
       lost false is = rw is (lost_bare actor limits k plan spares sound.room sound.state h.may h.keeps h.are is h.stands.0)
 
-  follows_at : (state : State) (told : Answer Record) → IsSoundChange (change state) spares → IsTarget limits plan → Shows actor (change state) spares k → Fits limits k (wanted_at plan spares state) told → FollowsTo state told (moved limits plan spares state told)
+  follows_at : (state : State) (told : Answer Record) → IsSoundChange (change state) spares → IsTarget limits plan → Shows actor (change state) spares k
+      → Fits limits k (wanted_at plan spares state) told → FollowsTo state told (moved limits plan spares state told)
   follows_at (state.Taking taking) told sound target h fits = finds actor limits k plan spares h.may h.keeps h.are h.stands.0 taking told sound.state.1 h.stands.1 fits
   follows_at state.Base told sound target h fits = base_placed actor limits k plan spares sound.room sound.state.0 h.may h.keeps h.are told sound.state.1 h.stands
   follows_at state.Ready told sound target h fits = slot_set actor limits k plan spares sound.room sound.state.0 h.may h.keeps h.are told sound.state.1 h.stands.0 h.stands.1 fits
@@ -51,11 +53,13 @@ module _ (actor : ℕ) (limits : Limits) (k : Knowledge) (plan : Plan) (spares :
   follows_at state.Clear told sound target h fits = cleared_so actor limits k spares plan told sound.state target h fits
 
 -- the same of a change that has gone on so
-module _ (old new : Change) (had has : Spares) (told : Answer Record) (end : Option End) (is : moved old.limits old.plan had old.state told ≡ record { state = new.state; spares = has; end = end }) (same : HasNewState old new) where
+module _ (old new : Change) (had has : Spares) (told : Answer Record) (end : Option End)
+    (is : moved old.limits old.plan had old.state told ≡ record { state = new.state; spares = has; end = end }) (same : HasNewState old new) where
   pub only_state : bare new ≡ bare (record old { state = new.state })
   only_state = λ i. bare_at (same.limits i) (same.plan i) new.state
 
-  pub follows : (actor : ℕ) (k : Knowledge) → IsSoundChange old had → IsTarget old.limits old.plan → Shows actor old had k → Fits old.limits k (wanted old had) told → Follows actor k (learn k (wanted old had) told) old told new has end
+  pub follows : (actor : ℕ) (k : Knowledge) → IsSoundChange old had → IsTarget old.limits old.plan → Shows actor old had k
+      → Fits old.limits k (wanted old had) told → Follows actor k (learn k (wanted old had) told) old told new has end
   follows actor k sound target h fits =
       let at_state = follows_at actor old.limits k old.plan had old.state told (sound_bare old had sound) target (shows_bare actor old had k h) fits in
       follows_bare actor k (learn k (wanted old had) told) old told new has end

@@ -32,7 +32,8 @@ some_page limits (Root left root) is target = cc
 some_page limits (Unlink pid head unterm removal) is target = (target.1.0, target.2)
 
 -- a change that is to clear a page may do so
-pub may_end : (actor : ℕ) (change : Change) (spares : Spares) (k : Knowledge) → change.state ≡ state.Clear → IsSoundChange change spares → IsTarget change.limits change.plan → Shows actor change spares k
+pub may_end : (actor : ℕ) (change : Change) (spares : Spares) (k : Knowledge) → change.state ≡ state.Clear → IsSoundChange change spares
+    → IsTarget change.limits change.plan → Shows actor change spares k
     → (k.inside ≡ true) × MayExchange actor k (cleared_page change.plan) (cleared_row change.plan) 0
 may_end actor change spares k is sound target shows =
     let clears_it : clears change.plan ≡ true = rw is at sound.state in
@@ -42,7 +43,8 @@ may_end actor change spares k is sound target shows =
 
 module _ (actor : ℕ) (limits : Limits) (k : Knowledge) (spares : Spares) where
   -- what is known then
-  pub cleared_so : (plan : Plan) (told : Answer Record) → clears plan ≡ true → IsTarget limits plan → Shows actor (bare_at limits plan state.Clear) spares k → Fits limits k (wanted_at plan spares state.Clear) told
+  pub cleared_so : (plan : Plan) (told : Answer Record) → clears plan ≡ true → IsTarget limits plan → Shows actor (bare_at limits plan state.Clear) spares k
+      → Fits limits k (wanted_at plan spares state.Clear) told
       → ChangeIsOver k (learn k (wanted_at plan spares state.Clear) told) (bare_at limits plan state.Clear) told spares end.Won
   cleared_so (Install pid head content) told is target h fits = cc
   cleared_so (Split pid plan) told is target h fits = cc

@@ -44,8 +44,10 @@ installs_still actor k now pid head content like may = λ later row more some pl
 -- what may be linked stays so
 still_links : (actor : ℕ) (k now : Knowledge) (plan : Plan) → IsLike k.asked.linked k now → MayLinkAs actor k plan → MayLinkAs actor now plan
 still_links actor k now (Install pid head content) like links = installs_still actor k now pid head content like links
-still_links actor k now (Split pid plan) like links = λ later right base row more is some ready written placed bare. links later right base row (like_on k now later k.asked.linked like (rw (← like.linked_now) more)) is some ready written placed bare
-still_links actor k now (Root left root) like links = λ later new base more is ready written. links later new base (like_on k now later k.asked.linked like (rw (← like.linked_now) more)) is ready written
+still_links actor k now (Split pid plan) like links =
+    λ later right base row more is some ready written placed bare. links later right base row (like_on k now later k.asked.linked like (rw (← like.linked_now) more)) is some ready written placed bare
+still_links actor k now (Root left root) like links =
+    λ later new base more is ready written. links later new base (like_on k now later k.asked.linked like (rw (← like.linked_now) more)) is ready written
 still_links actor k now (Unlink pid head unterm removal) like links = (
   installs_still actor k now pid head (kind.Unterm unterm) like links.0,
   removed_still k now unterm.child removal like.read links.1,
@@ -83,13 +85,16 @@ two_apart own (a ∷ b ∷ []) some few h = apart b a h.1.0
 two_apart own (a ∷ b ∷ c ∷ rows) some few h = absurd (omega (arith, few))
 
 -- no own page has a row in its slot but the one that is moved, which has none
-pub unset_then : (own : Belongings) (spares : Spares) (pid : ℕ) (o : OwnPage) → AreTheSpares own spares → spares.pid ≡ Some pid → ((row : ℕ) → o ≡ Ready row → ⊥) → AreUnset (record own { pages = replaced_at pid o own.pages })
+pub unset_then : (own : Belongings) (spares : Spares) (pid : ℕ) (o : OwnPage) → AreTheSpares own spares → spares.pid ≡ Some pid
+    → ((row : ℕ) → o ≡ Ready row → ⊥) → AreUnset (record own { pages = replaced_at pid o own.pages })
 unset_then own spares pid o are is bare = λ page row e. elim (cases_eq page pid) [
   | inl same ↦ bare row (sym (replaced_same pid o own.pages) ∙ ap (replaced_at pid o own.pages) (sym same) ∙ e)
-  | inr other ↦ other (let i : own.pages page ≡ Ready row = sym (replaced_other pid o own.pages page other) ∙ e in let there : spares.pid ≡ Some page = are.all_pages page (subst IsUnlinked (sym i) tt) in cc)
+  | inr other ↦ other
+      (let i : own.pages page ≡ Ready row = sym (replaced_other pid o own.pages page other) ∙ e in let there : spares.pid ≡ Some page = are.all_pages page (subst IsUnlinked (sym i) tt) in cc)
 ]
 
-module _ (actor : ℕ) (limits : Limits) (k : Knowledge) (plan : Plan) (spares : Spares) (room : HaveRoom limits spares) (enough : AreEnough plan spares) (may : MayChange actor k plan) (keeps : KeepsSpare plan spares.pid) (are : AreTheSpares k.own spares) where
+module _ (actor : ℕ) (limits : Limits) (k : Knowledge) (plan : Plan) (spares : Spares) (room : HaveRoom limits spares) (enough : AreEnough plan spares)
+    (may : MayChange actor k plan) (keeps : KeepsSpare plan spares.pid) (are : AreTheSpares k.own spares) where
   needed : 1 ≤ rows_needed plan
   needed = by_plan plan
     where
@@ -166,7 +171,8 @@ module _ (actor : ℕ) (limits : Limits) (k : Knowledge) (plan : Plan) (spares :
       placed (Unlink pid head unterm removal) = replaced_same (last_row spares) (Written (kind.Unterm unterm)) k.own.rows
 
   -- what is known once the new page's slot is set
-  pub set_learnt : (told : Answer Record) → needs_pid plan ≡ true → AreUnset k.own → Fits limits k (wanted_at plan spares state.Ready) told → learn k (wanted_at plan spares state.Ready) told ≡ set_page (pid_of spares) (Ready (base_row plan spares)) k
+  pub set_learnt : (told : Answer Record) → needs_pid plan ≡ true → AreUnset k.own → Fits limits k (wanted_at plan spares state.Ready) told
+      → learn k (wanted_at plan spares state.Ready) told ≡ set_page (pid_of spares) (Ready (base_row plan spares)) k
   set_learnt told needs bare fits =
       let empty = empty_page (k.own.pages (pid_of spares)) (pid_own needs).1 (bare (pid_of spares)) in
       rw (ready_went k limits (pid_of spares) (base_row plan spares) told (pid_own needs).0 fits) (ready_learnt k (pid_of spares) (base_row plan spares) (pid_own needs).0 base_is.1 empty)
@@ -190,7 +196,8 @@ module _ (actor : ℕ) (limits : Limits) (k : Knowledge) (plan : Plan) (spares :
       like : IsLike k.asked.linked k now
       like = record { inside = refl; read = refl; command = refl; linked_now = refl }
 
-      stands : (plan : Plan) → needs_pid plan ≡ true → k.own.rows (base_row plan spares) ≡ Written (new_base plan) → ShowsState plan spares (set_page (pid_of spares) (Ready (base_row plan spares)) k) (after_ready plan)
+      stands : (plan : Plan) → needs_pid plan ≡ true → k.own.rows (base_row plan spares) ≡ Written (new_base plan)
+          → ShowsState plan spares (set_page (pid_of spares) (Ready (base_row plan spares)) k) (after_ready plan)
       stands (Install pid head content) needs base = cc
       stands (Unlink pid head unterm removal) needs base = cc
       stands (Split pid plan) needs base = (replaced_same (pid_of spares) (Ready (base_row (Split pid plan) spares)) k.own.pages, base)
@@ -261,14 +268,19 @@ module _ (actor : ℕ) (limits : Limits) (k : Knowledge) (plan : Plan) (spares :
   pub may_link : IsTarget limits plan → StandsReady plan spares k.own → IsPlaced plan spares k.own → MayExchange actor k (slot_of plan) (head_of plan) (linked_number plan spares)
   may_link target ready placed = links plan enough.rows may.links pid_room target ready placed
     where
-      links : (plan : Plan) → rows_needed plan ≤ length spares.rows → MayLinkAs actor k plan → (needs_pid plan ≡ true → IsPid (pid_of spares)) → IsTarget limits plan → StandsReady plan spares k.own → IsPlaced plan spares k.own → MayExchange actor k (slot_of plan) (head_of plan) (linked_number plan spares)
+      links : (plan : Plan) → rows_needed plan ≤ length spares.rows → MayLinkAs actor k plan → (needs_pid plan ≡ true → IsPid (pid_of spares))
+          → IsTarget limits plan → StandsReady plan spares k.own → IsPlaced plan spares k.own
+          → MayExchange actor k (slot_of plan) (head_of plan) (linked_number plan spares)
       links (Install pid head content) some may is target ready placed = may k (last_row spares) (like_self k) last_is.1 placed (row_free (Install pid head content) some target.page ready)
-      links (Split pid plan) some may is target ready placed = may k (pid_of spares) (first_row spares) (last_row spares) (like_self k) (is refl) last_is.1 ready.0 ready.1 placed (row_free (Split pid plan) some target.page ready)
+      links (Split pid plan) some may is target ready placed =
+          may k (pid_of spares) (first_row spares) (last_row spares) (like_self k) (is refl) last_is.1 ready.0 ready.1 placed (row_free (Split pid plan) some target.page ready)
       links (Root left root) some may is target ready placed = may k (pid_of spares) (last_row spares) (like_self k) (is refl) ready.0 ready.1
-      links (Unlink pid head unterm removal) some may is target ready placed = may.0 k (last_row spares) (like_self k) last_is.1 placed (row_free (Unlink pid head unterm removal) some target.0.page ready)
+      links (Unlink pid head unterm removal) some may is target ready placed =
+          may.0 k (last_row spares) (like_self k) last_is.1 placed (row_free (Unlink pid head unterm removal) some target.0.page ready)
 
 -- a change whose deciding exchange is wanted may ask for it
-pub may_decide : (actor : ℕ) (change : Change) (spares : Spares) (k : Knowledge) → change.state ≡ state.Link → IsSoundChange change spares → IsTarget change.limits change.plan → Shows actor change spares k
+pub may_decide : (actor : ℕ) (change : Change) (spares : Spares) (k : Knowledge) → change.state ≡ state.Link → IsSoundChange change spares
+    → IsTarget change.limits change.plan → Shows actor change spares k
     → (k.inside ≡ true) × MayExchange actor k (slot_of change.plan) (head_of change.plan) (linked_number change.plan spares)
 may_decide actor change spares k is sound target shows =
     let enough : AreEnough change.plan spares = rw is at sound.state in

@@ -34,7 +34,8 @@ module _ (k : Knowledge) where
   cleared_learnt zero row p e = absurd (omega (arith, p))
   cleared_learnt (suc page) row p e = rw e refl
 
-  pub over_learnt : (page old row : ℕ) (content : Record) → 0 < page → 0 < row → k.own.pages page ≡ Other → k.own.rows row ≡ Written content → exchanged page old row k ≡ linked_over (Written content) old row k
+  pub over_learnt : (page old row : ℕ) (content : Record) → 0 < page → 0 < row → k.own.pages page ≡ Other → k.own.rows row ≡ Written content
+      → exchanged page old row k ≡ linked_over (Written content) old row k
   over_learnt zero old row content p r e w = absurd (omega (arith, p))
   over_learnt (suc page) old zero content p r e w = absurd (omega (arith, r))
   over_learnt (suc page) old (suc row) content p r e w = rw (e, w) refl
@@ -73,7 +74,8 @@ module _ (k : Knowledge) where
     undo_went page row (answer.Content content) p r e fits = absurd fits
     undo_went page row answer.Done p r e fits = absurd fits
 
-    pub clear_went : (page row : ℕ) (told : Answer Record) → 0 < page → 0 < row → k.own.pages page ≡ Gone → ReadsRemoved k page row → Fits limits k (step.Exchange page row 0) told → told ≡ answer.Whether true
+    pub clear_went : (page row : ℕ) (told : Answer Record) → 0 < page → 0 < row → k.own.pages page ≡ Gone → ReadsRemoved k page row
+        → Fits limits k (step.Exchange page row 0) told → told ≡ answer.Whether true
     clear_went page row (answer.Whether b) p r e read fits = ap answer.Whether (gone page row p r e read fits)
       where
         gone : (page row : ℕ) → 0 < page → 0 < row → k.own.pages page ≡ Gone → ReadsRemoved k page row → Fits limits k (step.Exchange page row 0) (answer.Whether b) → b ≡ true
@@ -86,7 +88,8 @@ module _ (k : Knowledge) where
     clear_went page row answer.Done p r e read fits = absurd fits
 
     -- what is taken out was in no limbo
-    pub clear_fresh : (page row : ℕ) → 0 < page → 0 < row → k.own.pages page ≡ Gone → Fits limits k (step.Exchange page row 0) (answer.Whether true) → (k.limbo.pids page ≡ Absent) × AreOutOfLimbo limits k row
+    pub clear_fresh : (page row : ℕ) → 0 < page → 0 < row → k.own.pages page ≡ Gone → Fits limits k (step.Exchange page row 0) (answer.Whether true)
+        → (k.limbo.pids page ≡ Absent) × AreOutOfLimbo limits k row
     clear_fresh zero row p r e fits = absurd (omega (arith, p))
     clear_fresh (suc page) zero p r e fits = absurd (omega (arith, r))
     clear_fresh (suc page) (suc row) p r e fits = fits.2 refl e
@@ -110,7 +113,8 @@ content_in_row other Taken = other
 content_in_row other (Written content) = content
 
 -- a split isn't linked where no own page has a row in its slot
-pub no_split : (actor : ℕ) (k : Knowledge) (page old new : ℕ) (split : Split) → 0 < page → 0 < old → 0 < new → MayExchange actor k page old new → k.own.rows new ≡ Written (kind.Split split) → AreUnset k.own → ⊥
+pub no_split : (actor : ℕ) (k : Knowledge) (page old new : ℕ) (split : Split) → 0 < page → 0 < old → 0 < new → MayExchange actor k page old new
+    → k.own.rows new ≡ Written (kind.Split split) → AreUnset k.own → ⊥
 unfolding content_in_row
 no_split actor k zero old new split p o n may e bare = absurd (omega (arith, p))
 no_split actor k (suc page) zero new split p o n may e bare = absurd (omega (arith, o))

@@ -27,13 +27,15 @@ sound_bare change spares h = record { room = h.room; state = h.state }
 pub shows_bare : (actor : ℕ) (change : Change) (spares : Spares) (k : Knowledge) → Shows actor change spares k → Shows actor (bare change) spares k
 shows_bare actor change spares k h = record { may = h.may; keeps = h.keeps; are = h.are; stands = h.stands }
 
-pub follows_bare : (actor : ℕ) (k now : Knowledge) (old : Change) (told : Answer Record) (new : Change) (has : Spares) (end : Option End) → Follows actor k now (bare old) told (bare new) has end → Follows actor k now old told new has end
+pub follows_bare : (actor : ℕ) (k now : Knowledge) (old : Change) (told : Answer Record) (new : Change) (has : Spares) (end : Option End)
+    → Follows actor k now (bare old) told (bare new) has end → Follows actor k now old told new has end
 follows_bare actor k now old told new has None h = record { shows = record { may = h.shows.may; keeps = h.shows.keeps; are = h.shows.are; stands = h.shows.stands }; like = h.like }
 follows_bare actor k now old told new has (Some Won) h = record { like = h.like; rest = h.rest; decided = h.decided }
 follows_bare actor k now old told new has (Some Lost) h = record { like = h.like; rest = h.rest; decided = h.decided }
 follows_bare actor k now old told new has (Some (Full which)) h = record { like = h.like; rest = h.rest; decided = h.decided }
 
-pub spends_bare : (after : ℕ) (r : Recalled) (old : Change) (had : Spares) (told : Answer Record) (new : Change) (has : Spares) (end : Option End) → SpendsTo after r (bare old) had told (bare new) has end → SpendsTo after r old had told new has end
+pub spends_bare : (after : ℕ) (r : Recalled) (old : Change) (had : Spares) (told : Answer Record) (new : Change) (has : Spares) (end : Option End)
+    → SpendsTo after r (bare old) had told (bare new) has end → SpendsTo after r old had told new has end
 spends_bare after r old had told new has None h = (record { at = h.0.at; apart = h.0.apart }, h.1)
 spends_bare after r old had told new has (Some Won) h = h
 spends_bare after r old had told new has (Some Lost) h = h

@@ -106,15 +106,18 @@ module _ (k : Knowledge) where
       TakesOutTo state told = TakesOut limits k (learn k (wanted_at plan spares state) told) plan (moved limits plan spares state told).end
 
 -- the exchange that decides won
-won_outs : (k : Knowledge) (limits : Limits) (plan : Plan) (spares : Spares) → 0 < last_row spares → IsTarget limits plan → StandsReady plan spares k.own → IsPlaced plan spares k.own → Fits limits k (wanted_at plan spares state.Link) (answer.Whether true)
+won_outs : (k : Knowledge) (limits : Limits) (plan : Plan) (spares : Spares) → 0 < last_row spares → IsTarget limits plan → StandsReady plan spares k.own
+    → IsPlaced plan spares k.own → Fits limits k (wanted_at plan spares state.Link) (answer.Whether true)
     → TakesOutTo k limits plan spares state.Link (answer.Whether true)
 won_outs k limits (Install pid head content) spares row target ready placed fits = record {
   limbo = linked_outs k limits pid head (last_row spares) content target.page target.linked row placed fits;
   fresh = fresh_over k limits content pid head (last_row spares) target.page target.linked row fits;
 }
-won_outs k limits (Split pid plan) spares row target ready placed fits = record { limbo = linked_outs k limits pid plan.next (last_row spares) (kind.Split (split_to plan (pid_of spares))) target.page target.linked row placed fits; fresh = tt }
+won_outs k limits (Split pid plan) spares row target ready placed fits = record
+    { limbo = linked_outs k limits pid plan.next (last_row spares) (kind.Split (split_to plan (pid_of spares))) target.page target.linked row placed fits; fresh = tt }
 won_outs k limits (Root left root) spares row target ready placed fits = rw (rooted_learnt k left (pid_of spares) (last_row spares) ready.0) (record { limbo = refl; fresh = tt })
-won_outs k limits (Unlink pid head unterm removal) spares row target ready placed fits = record { limbo = linked_outs k limits pid head (last_row spares) (kind.Unterm unterm) target.0.page target.0.linked row placed fits; fresh = tt }
+won_outs k limits (Unlink pid head unterm removal) spares row target ready placed fits = record
+    { limbo = linked_outs k limits pid head (last_row spares) (kind.Unterm unterm) target.0.page target.0.linked row placed fits; fresh = tt }
 
 -- it lost
 lost_outs : (k : Knowledge) (limits : Limits) (plan : Plan) (spares : Spares) → TakesOutTo k limits plan spares state.Link (answer.Whether false)
@@ -127,7 +130,8 @@ module _ (actor : ℕ) (limits : Limits) (k : Knowledge) (spares : Spares) where
   abbrev change : Plan → State → Change
   change plan state = bare_at limits plan state
 
-  decided_outs : (plan : Plan) (won : Bool) → IsSoundChange (change plan state.Link) spares → IsTarget limits plan → Shows actor (change plan state.Link) spares k → Fits limits k (wanted_at plan spares state.Link) (answer.Whether won)
+  decided_outs : (plan : Plan) (won : Bool) → IsSoundChange (change plan state.Link) spares → IsTarget limits plan
+      → Shows actor (change plan state.Link) spares k → Fits limits k (wanted_at plan spares state.Link) (answer.Whether won)
       → TakesOutTo k limits plan spares state.Link (answer.Whether won)
   decided_outs plan true sound target h fits =
       let row = (last_is actor limits k plan spares sound.room sound.state h.may h.keeps h.are).1 in
@@ -135,7 +139,8 @@ module _ (actor : ℕ) (limits : Limits) (k : Knowledge) (spares : Spares) where
   decided_outs plan false sound target h fits = lost_outs k limits plan spares
 
   -- a page whose term is out was cleared
-  cleared_outs : (plan : Plan) (told : Answer Record) → clears plan ≡ true → IsTarget limits plan → Shows actor (change plan state.Clear) spares k → Fits limits k (wanted_at plan spares state.Clear) told
+  cleared_outs : (plan : Plan) (told : Answer Record) → clears plan ≡ true → IsTarget limits plan → Shows actor (change plan state.Clear) spares k
+      → Fits limits k (wanted_at plan spares state.Clear) told
       → TakesOutTo k limits plan spares state.Clear told
   cleared_outs (Install pid head content) told is target h fits = cc
   cleared_outs (Split pid plan) told is target h fits = cc
@@ -146,11 +151,14 @@ module _ (actor : ℕ) (limits : Limits) (k : Knowledge) (spares : Spares) where
       let fresh = clear_fresh k limits unterm.child removal page target.2 h.stands.1 (rw is_told at fits) in
       rw (is_told, cleared_learnt k unterm.child removal page h.stands.1) (record { limbo = refl; fresh = (page, target.1.1, fresh.0, fresh.1) })
 
-  outs_at : (plan : Plan) (state : State) (told : Answer Record) → IsSoundChange (change plan state) spares → IsTarget limits plan → Shows actor (change plan state) spares k → Fits limits k (wanted_at plan spares state) told
+  outs_at : (plan : Plan) (state : State) (told : Answer Record) → IsSoundChange (change plan state) spares → IsTarget limits plan
+      → Shows actor (change plan state) spares k → Fits limits k (wanted_at plan spares state) told
       → TakesOutTo k limits plan spares state told
-  outs_at plan (state.Taking taking) told sound target h fits = taking_outs k limits plan spares (learn k (wanted_number taking) told) (number_limbo k taking told) (state.Taking taking) (found_after limits taking told)
+  outs_at plan (state.Taking taking) told sound target h fits =
+      taking_outs k limits plan spares (learn k (wanted_number taking) told) (number_limbo k taking told) (state.Taking taking) (found_after limits taking told)
   outs_at plan state.Base told sound target h fits = record { limbo = refl; fresh = tt }
-  outs_at plan state.Ready told sound target h fits = rw (set_learnt actor limits k plan spares sound.room sound.state.0 h.may h.keeps h.are told sound.state.1 h.stands.0 fits) (record { limbo = refl; fresh = tt })
+  outs_at plan state.Ready told sound target h fits =
+      rw (set_learnt actor limits k plan spares sound.room sound.state.0 h.may h.keeps h.are told sound.state.1 h.stands.0 fits) (record { limbo = refl; fresh = tt })
   outs_at plan state.Place told sound target h fits = record { limbo = refl; fresh = tt }
   outs_at plan state.Link told sound target h fits =
       let is = went k limits (slot_of plan) (head_of plan) (linked_number plan spares) told fits in
@@ -161,7 +169,10 @@ module _ (actor : ℕ) (limits : Limits) (k : Knowledge) (spares : Spares) where
   outs_at plan state.Clear told sound target h fits = cleared_outs plan told sound.state target h fits
 
 -- the same of a change that has gone on so
-module _ (old new : Change) (had has : Spares) (told : Answer Record) (end : Option End) (is : moved old.limits old.plan had old.state told ≡ record { state = new.state; spares = has; end = end }) where
+module _ (old new : Change) (had has : Spares) (told : Answer Record) (end : Option End)
+    (is : moved old.limits old.plan had old.state told ≡ record { state = new.state; spares = has; end = end }) where
   pub outs : (actor : ℕ) (k : Knowledge) → IsSoundChange old had → IsTarget old.limits old.plan → Shows actor old had k → Fits old.limits k (wanted old had) told
       → TakesOut old.limits k (learn k (wanted old had) told) old.plan end
-  outs actor k sound target h fits = subst (λ (now : Moved). TakesOut old.limits k (learn k (wanted old had) told) old.plan now.end) is (outs_at actor old.limits k had old.plan old.state told (sound_bare old had sound) target (shows_bare actor old had k h) fits)
+  outs actor k sound target h fits =
+      subst (λ (now : Moved). TakesOut old.limits k (learn k (wanted old had) told) old.plan now.end) is
+      (outs_at actor old.limits k had old.plan old.state told (sound_bare old had sound) target (shows_bare actor old had k h) fits)

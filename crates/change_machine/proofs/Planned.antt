@@ -62,7 +62,8 @@ module _ (actor : ℕ) (k : Knowledge) where
       is = may.is;
     }
 
-    update_link : (now : Knowledge) (content : Record) (update : Update) → content ≡ update_record update page.head → MayUpdate actor now page.head page.chain content → MayLink actor now page.pid page.head page.chain content
+    update_link : (now : Knowledge) (content : Record) (update : Update) → content ≡ update_record update page.head
+        → MayUpdate actor now page.head page.chain content → MayLink actor now page.pid page.head page.chain content
     update_link now content (set of key value) is may = rw is (rw is at may)
     update_link now content (unset of key) is may = rw is (rw is at may)
 
@@ -71,26 +72,36 @@ module _ (actor : ℕ) (k : Knowledge) where
         let due_still = update_still now content like due in
         linked_so now row content like fits (update_link now content due_still.update due_still.is due_still) some placed bare
 
-    pub term_may : (child : Version) (term : Term) → ((now : Knowledge) → HasSeen now child → IsAfter now page child → MayPost now page.pid page.head page.chain (kind.Term term)) → IsTermPlan page child term → HasSeen k child → IsAfter k page child → MayInstall actor k page.pid page.head (kind.Term term)
+    pub term_may : (child : Version) (term : Term)
+        → ((now : Knowledge) → HasSeen now child → IsAfter now page child → MayPost now page.pid page.head page.chain (kind.Term term))
+        → IsTermPlan page child term → HasSeen k child → IsAfter k page child → MayInstall actor k page.pid page.head (kind.Term term)
     term_may child term due is met order = λ now row like some placed bare.
         linked_so now row (kind.Term term) like is.fits (due now (seen_still k now child like.read met) (rw like.read order)) some placed bare
 
-    pub split_may : (plan : SplitPlan) → ((now : Knowledge) (right base : ℕ) → now.own.pages right ≡ Ready base → now.own.rows base ≡ Written (kind.Base plan.upper) → MaySplit now page.head page.chain (kind.Split (split_to plan right))) → IsSplitPlan page plan → MayDivide actor k page.pid plan
+    pub split_may : (plan : SplitPlan)
+        → ((now : Knowledge) (right base : ℕ) → now.own.pages right ≡ Ready base → now.own.rows base ≡ Written (kind.Base plan.upper) → MaySplit now page.head
+        page.chain (kind.Split (split_to plan right)))
+        → IsSplitPlan page plan → MayDivide actor k page.pid plan
     split_may plan due is = λ now right base row like pid some ready written placed bare.
         rw is.over (linked_so now row (kind.Split (split_to plan right)) like (is.fits right pid) (due now right base ready written) some placed bare)
 
     pub hold_may : (hold : Hold) → MayHold page.head page.chain (kind.Hold hold) → FitsOn page.chain (kind.Hold hold) → MayInstall actor k page.pid page.head (kind.Hold hold)
     hold_may hold due fits = λ now row like some placed bare. linked_so now row (kind.Hold hold) like fits due some placed bare
 
-    pub remove_may : (remove : Remove) (parent : Version) → ((now : Knowledge) → HasSeen now parent → MayRemove now page.pid page.head page.chain (kind.Remove remove)) → FitsOn page.chain (kind.Remove remove) → HasSeen k parent → MayInstall actor k page.pid page.head (kind.Remove remove)
+    pub remove_may : (remove : Remove) (parent : Version)
+        → ((now : Knowledge) → HasSeen now parent → MayRemove now page.pid page.head page.chain (kind.Remove remove)) → FitsOn page.chain (kind.Remove remove)
+        → HasSeen k parent → MayInstall actor k page.pid page.head (kind.Remove remove)
     remove_may remove parent due fits above = λ now row like some placed bare.
         linked_so now row (kind.Remove remove) like fits (due now (seen_still k now parent like.read above)) some placed bare
 
-    pub merge_may : (merge : Merge) (removed : Version) → ((now : Knowledge) → HasSeen now removed → MayMerge now page.head page.chain (kind.Merge merge)) → FitsOn page.chain (kind.Merge merge) → HasSeen k removed → MayInstall actor k page.pid page.head (kind.Merge merge)
+    pub merge_may : (merge : Merge) (removed : Version) → ((now : Knowledge) → HasSeen now removed → MayMerge now page.head page.chain (kind.Merge merge))
+        → FitsOn page.chain (kind.Merge merge) → HasSeen k removed → MayInstall actor k page.pid page.head (kind.Merge merge)
     merge_may merge removed due fits met = λ now row like some placed bare.
         linked_so now row (kind.Merge merge) like fits (due now (seen_still k now removed like.read met)) some placed bare
 
-    pub unterm_may : (left : Version) (unterm : Unterm) → ((now : Knowledge) → HasSeen now left → IsAfter now page left → MayUnterm now page.pid page.head page.chain (kind.Unterm unterm)) → FitsOn page.chain (kind.Unterm unterm) → HasSeen k left → IsAfter k page left → MayInstall actor k page.pid page.head (kind.Unterm unterm)
+    pub unterm_may : (left : Version) (unterm : Unterm)
+        → ((now : Knowledge) → HasSeen now left → IsAfter now page left → MayUnterm now page.pid page.head page.chain (kind.Unterm unterm))
+        → FitsOn page.chain (kind.Unterm unterm) → HasSeen k left → IsAfter k page left → MayInstall actor k page.pid page.head (kind.Unterm unterm)
     unterm_may left unterm due fits met order = λ now row like some placed bare.
         linked_so now row (kind.Unterm unterm) like fits (due now (seen_still k now left like.read met) (rw like.read order)) some placed bare
 

@@ -74,10 +74,12 @@ found_of limits (Take kind number whole) (answer.Number n) = tt
 found_of limits (Take kind number whole) answer.Done = tt
 
 -- what a taking finds is there
-found_sound : (limits : Limits) (k : Knowledge) (taking : Taking) (told : Answer Record) → Fits limits k (wanted_number taking) told → IsSoundTaking limits taking → IsSoundFound limits (found_after limits taking told)
+found_sound : (limits : Limits) (k : Knowledge) (taking : Taking) (told : Answer Record) → Fits limits k (wanted_number taking) told
+    → IsSoundTaking limits taking → IsSoundFound limits (found_after limits taking told)
 found_sound limits k (Bits kind word whole) (answer.Number zero) fits sound = go (ltb (suc word) (count_of limits kind / 64)) refl whole
   where
-    go : (more : Bool) → ltb (suc word) (count_of limits kind / 64) ≡ more → (whole : Bool) → IsSoundFound limits (if more then Not (Bits kind (suc word) whole) else if whole then Full kind else Not (Bits kind 0 true))
+    go : (more : Bool) → ltb (suc word) (count_of limits kind / 64) ≡ more → (whole : Bool)
+        → IsSoundFound limits (if more then Not (Bits kind (suc word) whole) else if whole then Full kind else Not (Bits kind 0 true))
     go true is whole = let some = ltb-true (suc word) (count_of limits kind / 64) is in omega (arith, some)
     go false is true = tt
     go false is false = let some = some_numbers limits kind in omega (arith, some)
@@ -103,8 +105,10 @@ two_at_most (Unlink pid head unterm removal) = omega arith
 
 module _ (limits : Limits) (plan : Plan) where
   -- a number that was taken is a spare that there is
-  room_taken : (spares : Spares) (kind : Kind) (number : ℕ) → HaveRoom limits spares → IsNeededNext plan spares kind → (0 < number) × (number < count_of limits kind) → HaveRoom limits (with_number kind number spares)
-  room_taken spares Pid pid room missing there = record { pid = ((there.0, (let few = limits.allowed.few_pids in let below = there.1 in omega (arith, few, below))), there.1); rows = room.rows; few = room.few }
+  room_taken : (spares : Spares) (kind : Kind) (number : ℕ) → HaveRoom limits spares → IsNeededNext plan spares kind
+      → (0 < number) × (number < count_of limits kind) → HaveRoom limits (with_number kind number spares)
+  room_taken spares Pid pid room missing there = record
+      { pid = ((there.0, (let few = limits.allowed.few_pids in let below = there.1 in omega (arith, few, below))), there.1); rows = room.rows; few = room.few }
   room_taken spares Row row room missing there = record {
     pid = room.pid;
     rows = All-push (λ row. row < limits.rows) spares.rows row room.rows there.1;
@@ -153,7 +157,8 @@ module _ (limits : Limits) (plan : Plan) where
   abbrev pub StaysSound : Moved → Type 0
   StaysSound now = HaveRoom limits now.spares × IfNone now.end (IsSoundState limits plan now.spares now.state)
 
-  found_stays : (spares : Spares) (state : State) (found : Found) → HaveRoom limits spares → (kind : Kind) → IsNeededNext plan spares kind → IsTarget limits plan → IsSoundFound limits found → IsFoundOf kind found → StaysSound (moved_by limits plan spares state found)
+  found_stays : (spares : Spares) (state : State) (found : Found) → HaveRoom limits spares → (kind : Kind) → IsNeededNext plan spares kind
+      → IsTarget limits plan → IsSoundFound limits found → IsFoundOf kind found → StaysSound (moved_by limits plan spares state found)
   found_stays spares state (Not taking) room kind missing target sound of = (room, (sound, rw of missing))
   found_stays spares state (Taken other number) room kind missing target sound of =
       let there = room_taken spares other number room (rw of missing) sound in
@@ -166,8 +171,10 @@ module _ (limits : Limits) (plan : Plan) where
   after_ready_sound spares (Root left root) is target enough needs = enough
   after_ready_sound spares (Unlink pid head unterm removal) is target enough needs = cc
 
-  stays_at : (spares : Spares) (state : State) (told : Answer Record) (k : Knowledge) → Fits limits k (wanted_at plan spares state) told → HaveRoom limits spares → IsSoundState limits plan spares state → IsTarget limits plan → StaysSound (moved limits plan spares state told)
-  stays_at spares (state.Taking taking) told k fits room sound target = found_stays spares (state.Taking taking) (found_after limits taking told) room (kind_of taking) sound.1 target (found_sound limits k taking told fits sound.0) (found_of limits taking told)
+  stays_at : (spares : Spares) (state : State) (told : Answer Record) (k : Knowledge) → Fits limits k (wanted_at plan spares state) told
+      → HaveRoom limits spares → IsSoundState limits plan spares state → IsTarget limits plan → StaysSound (moved limits plan spares state told)
+  stays_at spares (state.Taking taking) told k fits room sound target =
+      found_stays spares (state.Taking taking) (found_after limits taking told) room (kind_of taking) sound.1 target (found_sound limits k taking told fits sound.0) (found_of limits taking told)
   stays_at spares state.Base told k fits room sound target = (room, sound)
   stays_at spares state.Ready told k fits room sound target = (room, after_ready_sound spares plan refl target sound.0 sound.1)
   stays_at spares state.Place told k fits room sound target = (room, sound.0)
@@ -187,7 +194,9 @@ module _ (limits : Limits) (plan : Plan) where
   stays_at spares state.Undo told k fits room sound target = (room, tt)
   stays_at spares state.Clear told k fits room sound target = (room, tt)
 
-module _ (old new : Change) (had has : Spares) (told : Answer Record) (end : Option End) (is : moved old.limits old.plan had old.state told ≡ record { state = new.state; spares = has; end = end }) (same : HasNewState old new) (k : Knowledge) (fits : Fits old.limits k (wanted old had) told) (sound : IsSoundChange old had) (target : IsTarget old.limits old.plan) where
+module _ (old new : Change) (had has : Spares) (told : Answer Record) (end : Option End)
+    (is : moved old.limits old.plan had old.state told ≡ record { state = new.state; spares = has; end = end }) (same : HasNewState old new) (k : Knowledge)
+    (fits : Fits old.limits k (wanted old had) told) (sound : IsSoundChange old had) (target : IsTarget old.limits old.plan) where
   stays : HaveRoom old.limits has × IfNone end (IsSoundState old.limits old.plan has new.state)
   stays = subst (λ (now : Moved). StaysSound old.limits old.plan now) is (stays_at old.limits old.plan had old.state told k fits sound.room sound.state target)
 

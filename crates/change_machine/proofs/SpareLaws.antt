@@ -58,7 +58,8 @@ only : (row r : ℕ) → Contains (row ∷ []) r → row ≡ r
 only row r h = elim (Contains-push_cases [] row r h) [ inl there ↦ absurd (let below = there.1 in omega (arith, below)) | inr same ↦ same ]
 
 -- what is known of a spare PID holds where its page stays
-kept : (pid : Option ℕ) (old new : ℕ → OwnPage) → ((page : ℕ) → pid ≡ Some page → new page ≡ old page) → IfSome pid (λ page. (0 < page) × IsUnlinked (old page)) → IfSome pid (λ page. (0 < page) × IsUnlinked (new page))
+kept : (pid : Option ℕ) (old new : ℕ → OwnPage) → ((page : ℕ) → pid ≡ Some page → new page ≡ old page) → IfSome pid (λ page. (0 < page) × IsUnlinked (old page))
+    → IfSome pid (λ page. (0 < page) × IsUnlinked (new page))
 kept None old new same h = tt
 kept (Some page) old new same h = (h.0, subst IsUnlinked (sym (same page refl)) h.1)
 
@@ -66,7 +67,9 @@ module _ (own : Belongings) (spares : Spares) (h : AreTheSpares own spares) wher
   -- a row is taken
   pub row_taken : (row : ℕ) → 0 < row → own.rows row ≡ Foreign → AreTheSpares (record own { rows = replaced_at row Taken own.rows }) (record spares { rows = spares.rows ++ row ∷ [] })
   row_taken row some e = record {
-    rows = spare_kept (replaced_at row Taken own.rows) row spares.rows ((subst IsOwn (sym (replaced_same row Taken own.rows)) tt, some), new_foreign own.rows row spares.rows e h.rows, spare_placed own.rows row Taken spares.rows tt h.rows);
+    rows =
+        spare_kept (replaced_at row Taken own.rows) row spares.rows
+        ((subst IsOwn (sym (replaced_same row Taken own.rows)) tt, some), new_foreign own.rows row spares.rows e h.rows, spare_placed own.rows row Taken spares.rows tt h.rows);
     all_rows = λ r is. elim (cases_eq r row) [
       | inl same ↦ subst (λ n. Contains (spares.rows ++ row ∷ []) n) (sym same) (Contains-push spares.rows row)
       | inr other ↦ Contains-append_left spares.rows (row ∷ []) r (h.all_rows r (subst IsOwn (replaced_other row Taken own.rows r other) is))

@@ -35,14 +35,16 @@ is_taken limits (Take Row m whole) (Whether true) n e = cc
 is_taken limits (Take kind m whole) (Whether false) n e = cc
 is_taken limits (Bits kind word whole) (Number zero) n e = go (ltb (suc word) (count_of limits kind / 64)) whole e
   where
-    go : (t whole : Bool) → (if t then Not (Bits kind (suc word) whole) else if whole then Full kind else Not (Bits kind 0 true)) ≡ Taken Pid n → pid_taken (wanted_number (Bits kind word whole)) (Number zero) ≡ Some n
+    go : (t whole : Bool) → (if t then Not (Bits kind (suc word) whole) else if whole then Full kind else Not (Bits kind 0 true)) ≡ Taken Pid n
+        → pid_taken (wanted_number (Bits kind word whole)) (Number zero) ≡ Some n
     go true whole f = cc
     go false true f = cc
     go false false f = cc
 is_taken limits (Bits kind word whole) (Number (suc bits)) n e = cc
 is_taken limits taking told n e = cc
 
-by_found : (limits : Limits) (plan : Plan) (spares : Spares) (at : State) (taken : Option ℕ) (found : Found) → ((n : ℕ) → found ≡ Taken Pid n → taken ≡ Some n) → IsPidFrom spares.pid taken (moved_by limits plan spares at found).spares.pid
+by_found : (limits : Limits) (plan : Plan) (spares : Spares) (at : State) (taken : Option ℕ) (found : Found) → ((n : ℕ) → found ≡ Taken Pid n → taken ≡ Some n)
+    → IsPidFrom spares.pid taken (moved_by limits plan spares at found).spares.pid
 by_found limits plan spares at taken (Not taking) new = same_pid spares.pid taken
 by_found limits plan spares at taken (Taken Pid n) new = inr (new n refl)
 by_found limits plan spares at taken (Taken Row n) new = same_pid spares.pid taken
@@ -58,8 +60,10 @@ by_deciding (Split pid plan) spares taken false = same_pid spares.pid taken
 by_deciding (Root left root) spares taken false = same_pid spares.pid taken
 by_deciding (Unlink pid head unterm removal) spares taken false = same_pid spares.pid taken
 
-by_state : (limits : Limits) (plan : Plan) (spares : Spares) (at : State) (told : Answer Record) → IsPidFrom spares.pid (pid_taken (wanted_at plan spares at) told) (moved limits plan spares at told).spares.pid
-by_state limits plan spares (state.Taking taking) told = by_found limits plan spares (state.Taking taking) (pid_taken (wanted_number taking) told) (found_after limits taking told) (is_taken limits taking told)
+by_state : (limits : Limits) (plan : Plan) (spares : Spares) (at : State) (told : Answer Record)
+    → IsPidFrom spares.pid (pid_taken (wanted_at plan spares at) told) (moved limits plan spares at told).spares.pid
+by_state limits plan spares (state.Taking taking) told =
+    by_found limits plan spares (state.Taking taking) (pid_taken (wanted_number taking) told) (found_after limits taking told) (is_taken limits taking told)
 by_state limits plan spares state.Base told = same_pid spares.pid _
 by_state limits plan spares state.Ready told = same_pid spares.pid _
 by_state limits plan spares state.Place told = same_pid spares.pid _
@@ -68,5 +72,6 @@ by_state limits plan spares state.Undo told = same_pid spares.pid _
 by_state limits plan spares state.Clear told = same_pid spares.pid _
 
 -- what a change's next step makes of the spare PID
-pub pid_from : (old : Change) (spares : Spares) (told : Answer Record) (now : Moved) → moved old.limits old.plan spares old.state told ≡ now → IsPidFrom spares.pid (pid_taken (wanted old spares) told) now.spares.pid
+pub pid_from : (old : Change) (spares : Spares) (told : Answer Record) (now : Moved) → moved old.limits old.plan spares old.state told ≡ now
+    → IsPidFrom spares.pid (pid_taken (wanted old spares) told) now.spares.pid
 pid_from old spares told now is = subst (λ (m : Moved). IsPidFrom spares.pid (pid_taken (wanted old spares) told) m.spares.pid) is (by_state old.limits old.plan spares old.state told)

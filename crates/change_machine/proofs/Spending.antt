@@ -88,7 +88,8 @@ few_missing plan spares = let one = one_pid (needs_pid plan) spares.pid in let t
     two_rows (Unlink pid head unterm removal) = omega arith
 
 -- how many steps a change takes at most from its first state on
-pub left_first : (limits : Limits) (after : ℕ) (plan : Plan) (spares : Spares) → steps_left_at limits after plan spares (first_state limits plan spares) ≤ most_reads limits * numbers_missing plan spares + 5
+pub left_first : (limits : Limits) (after : ℕ) (plan : Plan) (spares : Spares)
+    → steps_left_at limits after plan spares (first_state limits plan spares) ≤ most_reads limits * numbers_missing plan spares + 5
 left_first limits after plan spares = at_first (needs_pid plan && not (is_some spares.pid)) refl (ltb (length spares.rows) (rows_needed plan)) refl
   where
     some_missing : (needs : Bool) (pid : Option ℕ) → (needs && not (is_some pid)) ≡ true → pids_missing needs pid ≡ 1
@@ -103,9 +104,19 @@ left_first limits after plan spares = at_first (needs_pid plan && not (is_some s
     at_place (Unlink pid head unterm removal) = omega arith
 
     at_first : (pid : Bool) → (needs_pid plan && not (is_some spares.pid)) ≡ pid → (row : Bool) → ltb (length spares.rows) (rows_needed plan) ≡ row
-        → steps_left_at limits after plan spares (if pid then state.Taking (begun_at limits Pid (head_of plan)) else if row then state.Taking (begun_at limits Row (head_of plan)) else after_taking plan) ≤ most_reads limits * numbers_missing plan spares + 5
-    at_first true pid row e = let one = some_missing (needs_pid plan) spares.pid pid in let few = few_left limits (first_word limits Pid (head_of plan)) (first_word limits Pid (head_of plan) == 0) in let more = reads_more limits (numbers_missing plan spares) (omega (arith, one)) in omega (arith, one, few, more)
-    at_first false pid true e = let some = ltb-true (length spares.rows) (rows_needed plan) e in let few = few_left limits (first_word limits Row (head_of plan)) (first_word limits Row (head_of plan) == 0) in let more = reads_more limits (numbers_missing plan spares) (omega (arith, some)) in omega (arith, some, few, more)
+        → steps_left_at limits after plan spares
+        (if pid then state.Taking (begun_at limits Pid (head_of plan)) else if row then state.Taking (begun_at limits Row (head_of plan)) else after_taking plan)
+        ≤ most_reads limits * numbers_missing plan spares + 5
+    at_first true pid row e =
+        let one = some_missing (needs_pid plan) spares.pid pid in
+        let few = few_left limits (first_word limits Pid (head_of plan)) (first_word limits Pid (head_of plan) == 0) in
+        let more = reads_more limits (numbers_missing plan spares) (omega (arith, one)) in
+        omega (arith, one, few, more)
+    at_first false pid true e =
+        let some = ltb-true (length spares.rows) (rows_needed plan) e in
+        let few = few_left limits (first_word limits Row (head_of plan)) (first_word limits Row (head_of plan) == 0) in
+        let more = reads_more limits (numbers_missing plan spares) (omega (arith, some)) in
+        omega (arith, some, few, more)
     at_first false pid false e = let few = at_place plan in omega (arith, few)
 
 pub few_first : (limits : Limits) (after : ℕ) (plan : Plan) (spares : Spares) → steps_left_at limits after plan spares (first_state limits plan spares) ≤ few_steps limits
@@ -124,7 +135,8 @@ recalls_first limits r plan spares h = at_first (needs_pid plan && not (is_some 
     at_place (Root left root) = h
     at_place (Unlink pid head unterm removal) = h
 
-    at_first : (pid row : Bool) → RecallsAt r plan (if pid then state.Taking (begun_at limits Pid (head_of plan)) else if row then state.Taking (begun_at limits Row (head_of plan)) else after_taking plan)
+    at_first : (pid row : Bool)
+        → RecallsAt r plan (if pid then state.Taking (begun_at limits Pid (head_of plan)) else if row then state.Taking (begun_at limits Row (head_of plan)) else after_taking plan)
     at_first true row = h
     at_first false true = h
     at_first false false = at_place plan
@@ -137,12 +149,14 @@ module _ (limits : Limits) (plan : Plan) (spares : Spares) (after : ℕ) (r : Re
   SpendsSo state told now = SpendsTo after r (change state) spares told (change now.state) now.spares now.end
 
   -- a word was read
-  word_head : (kind : Kind) (word : ℕ) (whole : Bool) (bits : ℕ) → WasHead r (slot_of plan) (head_of plan) → WasHead (recall r (wanted_number (Bits kind word whole)) (answer.Number bits)) (slot_of plan) (head_of plan)
+  word_head : (kind : Kind) (word : ℕ) (whole : Bool) (bits : ℕ) → WasHead r (slot_of plan) (head_of plan)
+      → WasHead (recall r (wanted_number (Bits kind word whole)) (answer.Number bits)) (slot_of plan) (head_of plan)
   word_head Pid word whole bits h = h
   word_head Row word whole bits h = h
 
   empty_word : (kind : Kind) (word : ℕ) (whole : Bool) → 64 * word < count_of limits kind → WasHead r (slot_of plan) (head_of plan)
-      → SpendsSo (state.Taking (Bits kind word whole)) (answer.Number 0) (moved_by limits plan spares (state.Taking (Bits kind word whole)) (found_after limits (Bits kind word whole) (answer.Number 0)))
+      → SpendsSo (state.Taking (Bits kind word whole)) (answer.Number 0)
+      (moved_by limits plan spares (state.Taking (Bits kind word whole)) (found_after limits (Bits kind word whole) (answer.Number 0)))
   empty_word kind word whole below h = go (ltb (suc word) (count_of limits kind / 64)) whole
     where
       after_word : Bool → Bool → Moved
@@ -157,40 +171,57 @@ module _ (limits : Limits) (plan : Plan) (spares : Spares) (after : ℕ) (r : Re
       go false true = let f = few in omega (arith, f)
       go false false = (record { at = word_head kind word false 0 h; apart = apart }, inl (let f = few in let are = reads_are limits in omega (arith, f, are)))
 
-  free_then : (kind : Kind) (word : ℕ) (whole : Bool) (bits number : ℕ) → number / 64 ≡ word → bit_at bits (number % 64) ≡ 1 → WasFree (recalled_words (recall r (wanted_number (Bits kind word whole)) (answer.Number bits)) kind) number
+  free_then : (kind : Kind) (word : ℕ) (whole : Bool) (bits number : ℕ) → number / 64 ≡ word → bit_at bits (number % 64) ≡ 1
+      → WasFree (recalled_words (recall r (wanted_number (Bits kind word whole)) (answer.Number bits)) kind) number
   free_then Pid word whole bits number place free = (bits, rw place (replaced_same word (Some bits) r.pids), free)
   free_then Row word whole bits number place free = (bits, rw place (replaced_same word (Some bits) r.rows), free)
 
   some_word : (kind : Kind) (word : ℕ) (whole : Bool) (bits : ℕ) → 64 * word < count_of limits kind → FitsWord (count_of limits kind) word (suc bits) → WasHead r (slot_of plan) (head_of plan)
-      → SpendsSo (state.Taking (Bits kind word whole)) (answer.Number (suc bits)) (moved_by limits plan spares (state.Taking (Bits kind word whole)) (found_after limits (Bits kind word whole) (answer.Number (suc bits))))
+      → SpendsSo (state.Taking (Bits kind word whole)) (answer.Number (suc bits))
+      (moved_by limits plan spares (state.Taking (Bits kind word whole)) (found_after limits (Bits kind word whole) (answer.Number (suc bits))))
   some_word kind word whole bits below fits h =
       let few = few_words limits kind word below in
-      let lowest = in_word (count_of limits kind) word bits fits in
-      (record { at = (word_head kind word whole (suc bits) h, free_then kind word whole (suc bits) (64 * word + trailing_zeros w64 (suc bits)) lowest.0 lowest.1); apart = apart }, inl (more_left whole few))
+      let lowest = in_word (count_of limits kind) word bits fits in (
+        record
+            { at = (word_head kind word whole (suc bits) h, free_then kind word whole (suc bits) (64 * word + trailing_zeros w64 (suc bits)) lowest.0 lowest.1); apart = apart },
+        inl (more_left whole few),
+      )
     where
-      more_left : (all : Bool) → word < most_words limits → steps_left_at limits after plan spares (state.Taking (Take kind (64 * word + trailing_zeros w64 (suc bits)) all)) < steps_left_at limits after plan spares (state.Taking (Bits kind word all))
+      more_left : (all : Bool) → word < most_words limits
+          → steps_left_at limits after plan spares (state.Taking (Take kind (64 * word + trailing_zeros w64 (suc bits)) all)) < steps_left_at limits after plan
+          spares (state.Taking (Bits kind word all))
       more_left true few = omega (arith, few)
       more_left false few = let are = reads_are limits in omega (arith, few, are)
 
   missed : (kind : Kind) (number : ℕ) (whole : Bool) → WasHead r (slot_of plan) (head_of plan) → WasFree (recalled_words r kind) number
-      → SpendsSo (state.Taking (Take kind number whole)) (answer.Whether false) (moved_by limits plan spares (state.Taking (Take kind number whole)) (found_after limits (Take kind number whole) (answer.Whether false)))
+      → SpendsSo (state.Taking (Take kind number whole)) (answer.Whether false)
+      (moved_by limits plan spares (state.Taking (Take kind number whole)) (found_after limits (Take kind number whole) (answer.Whether false)))
   missed Pid number true h free = (record { at = h; apart = apart }, inr (free, (let few = few_left limits (number / 64) true in omega (arith, few))))
   missed Pid number false h free = (record { at = h; apart = apart }, inr (free, (let few = few_left limits (number / 64) false in omega (arith, few))))
   missed Row number true h free = (record { at = h; apart = apart }, inr (free, (let few = few_left limits (number / 64) true in omega (arith, few))))
   missed Row number false h free = (record { at = h; apart = apart }, inr (free, (let few = few_left limits (number / 64) false in omega (arith, few))))
 
-  took : (kind : Kind) (number : ℕ) (whole : Bool) → IsNeededNext plan spares kind → WasHead r (slot_of plan) (head_of plan) → IsApart plan (pid_taken (wanted_number (Take kind number whole)) (answer.Whether true))
-      → SpendsSo (state.Taking (Take kind number whole)) (answer.Whether true) (moved_by limits plan spares (state.Taking (Take kind number whole)) (found_after limits (Take kind number whole) (answer.Whether true)))
+  took : (kind : Kind) (number : ℕ) (whole : Bool) → IsNeededNext plan spares kind → WasHead r (slot_of plan) (head_of plan)
+      → IsApart plan (pid_taken (wanted_number (Take kind number whole)) (answer.Whether true))
+      → SpendsSo (state.Taking (Take kind number whole)) (answer.Whether true)
+      (moved_by limits plan spares (state.Taking (Take kind number whole)) (found_after limits (Take kind number whole) (answer.Whether true)))
   took Pid number whole missing h far =
       let less = fewer_missing plan spares Pid number missing in
-      let first = left_first limits after plan (with_number Pid number spares) in
-      (record { at = recalls_first limits (recall r (wanted_number (Take Pid number whole)) (answer.Whether true)) plan (with_number Pid number spares) h; apart = far }, inl (let same = reads_same limits _ _ less in omega (arith, less, first, same)))
+      let first = left_first limits after plan (with_number Pid number spares) in (
+        record
+            { at = recalls_first limits (recall r (wanted_number (Take Pid number whole)) (answer.Whether true)) plan (with_number Pid number spares) h; apart = far },
+        inl (let same = reads_same limits _ _ less in omega (arith, less, first, same)),
+      )
   took Row number whole missing h far =
       let less = fewer_missing plan spares Row number missing in
-      let first = left_first limits after plan (with_number Row number spares) in
-      (record { at = recalls_first limits (recall r (wanted_number (Take Row number whole)) (answer.Whether true)) plan (with_number Row number spares) h; apart = apart }, inl (let same = reads_same limits _ _ less in omega (arith, less, first, same)))
+      let first = left_first limits after plan (with_number Row number spares) in (
+        record
+            { at = recalls_first limits (recall r (wanted_number (Take Row number whole)) (answer.Whether true)) plan (with_number Row number spares) h; apart = apart },
+        inl (let same = reads_same limits _ _ less in omega (arith, less, first, same)),
+      )
 
-  takes : (taking : Taking) (told : Answer Record) → (k : Knowledge) → Fits limits k (wanted_number taking) told → IsSoundTaking limits taking → IsNeededNext plan spares (kind_of taking) → RecallsAt r plan (state.Taking taking) → IsApart plan (pid_taken (wanted_number taking) told)
+  takes : (taking : Taking) (told : Answer Record) → (k : Knowledge) → Fits limits k (wanted_number taking) told → IsSoundTaking limits taking
+      → IsNeededNext plan spares (kind_of taking) → RecallsAt r plan (state.Taking taking) → IsApart plan (pid_taken (wanted_number taking) told)
       → SpendsSo (state.Taking taking) told (moved_by limits plan spares (state.Taking taking) (found_after limits taking told))
   takes (Bits kind word whole) (answer.Number zero) k fits sound missing h far = empty_word kind word whole sound h
   takes (Bits Pid word whole) (answer.Number (suc bits)) k fits sound missing h far = some_word Pid word whole bits sound fits h
@@ -221,7 +252,8 @@ module _ (limits : Limits) (plan : Plan) (spares : Spares) (after : ℕ) (r : Re
   slot_apart (Split pid plan) needs far some = λ e. far (sym e)
   slot_apart (Root left root) needs far some = λ e. let is : 0 ≡ pid_of spares = e in omega (arith, some, is)
 
-  set : AreEnough plan spares → needs_pid plan ≡ true → HaveRoom limits spares → (told : Answer Record) → WasHead r (slot_of plan) (head_of plan) → SpendsSo state.Ready told (record { state = after_ready plan; spares = spares; end = None })
+  set : AreEnough plan spares → needs_pid plan ≡ true → HaveRoom limits spares → (told : Answer Record) → WasHead r (slot_of plan) (head_of plan)
+      → SpendsSo state.Ready told (record { state = after_ready plan; spares = spares; end = None })
   set enough needs room told h =
       let is = some_pid spares.pid (enough.pid needs) in
       let some = (rw is at room.pid).0.0 in
@@ -229,7 +261,8 @@ module _ (limits : Limits) (plan : Plan) (spares : Spares) (after : ℕ) (r : Re
       let still : WasHead (recall r (wanted_at plan spares state.Ready) told) (slot_of plan) (head_of plan) = (h.0, replaced_other (pid_of spares) None r.heads (slot_of plan) other ∙ h.1) in
       (record { at = at_next plan still; apart = apart }, inl (less plan))
     where
-      at_next : (other : Plan) → WasHead (recall r (wanted_at plan spares state.Ready) told) (slot_of plan) (head_of plan) → RecallsAt (recall r (wanted_at plan spares state.Ready) told) plan (after_ready other)
+      at_next : (other : Plan) → WasHead (recall r (wanted_at plan spares state.Ready) told) (slot_of plan) (head_of plan)
+          → RecallsAt (recall r (wanted_at plan spares state.Ready) told) plan (after_ready other)
       at_next (Install pid head content) h = h
       at_next (Split pid plan) h = h
       at_next (Root left root) h = h
@@ -253,7 +286,8 @@ module _ (limits : Limits) (plan : Plan) (spares : Spares) (after : ℕ) (r : Re
       lost true is = rw is (record { at = tt; apart = apart }, inr (h, omega arith))
       lost false is = rw is (inl h)
 
-  spends_at : (state : State) (told : Answer Record) (k : Knowledge) → Fits limits k (wanted_at plan spares state) told → IsSoundChange (change state) spares → RecallsAt r plan state → IsApart plan (pid_taken (wanted_at plan spares state) told) → SpendsSo state told (moved limits plan spares state told)
+  spends_at : (state : State) (told : Answer Record) (k : Knowledge) → Fits limits k (wanted_at plan spares state) told → IsSoundChange (change state) spares
+      → RecallsAt r plan state → IsApart plan (pid_taken (wanted_at plan spares state) told) → SpendsSo state told (moved limits plan spares state told)
   spends_at (state.Taking taking) told k fits sound h far = takes taking told k fits sound.state.0 sound.state.1 h far
   spends_at state.Base told k fits sound h far = (record { at = h; apart = apart }, inl (omega arith))
   spends_at state.Ready told k fits sound h far = set sound.state.0 sound.state.1 sound.room told h
@@ -262,7 +296,8 @@ module _ (limits : Limits) (plan : Plan) (spares : Spares) (after : ℕ) (r : Re
   spends_at state.Undo told k fits sound h far = inr (omega arith)
   spends_at state.Clear told k fits sound h far = inr (sound.state, omega arith)
 
-module _ (old new : Change) (had has : Spares) (told : Answer Record) (end : Option End) (is : moved old.limits old.plan had old.state told ≡ record { state = new.state; spares = has; end = end }) (same : HasNewState old new) where
+module _ (old new : Change) (had has : Spares) (told : Answer Record) (end : Option End)
+    (is : moved old.limits old.plan had old.state told ≡ record { state = new.state; spares = has; end = end }) (same : HasNewState old new) where
   pub spends : (k : Knowledge) → Fits old.limits k (wanted old had) told → IsSoundChange old had → Spends old had told new has end
   spends k fits sound = λ after r h far.
       let at_state = spends_at old.limits old.plan had after r h.apart old.state told k fits (sound_bare old had sound) h.at far in

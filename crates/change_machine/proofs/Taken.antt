@@ -38,7 +38,8 @@ none_free words word below le full = elim (cases_eq below word) [
 ]
 
 -- the lowest free number of a word is of the word, at a bit that is set
-pub in_word : (limit word bits : ℕ) → FitsWord limit word (suc bits) → ((64 * word + trailing_zeros w64 (suc bits)) / 64 ≡ word) × (bit_at (suc bits) ((64 * word + trailing_zeros w64 (suc bits)) % 64) ≡ 1)
+pub in_word : (limit word bits : ℕ) → FitsWord limit word (suc bits)
+    → ((64 * word + trailing_zeros w64 (suc bits)) / 64 ≡ word) × (bit_at (suc bits) ((64 * word + trailing_zeros w64 (suc bits)) % 64) ≡ 1)
 in_word limit word bits fits =
     let lowest = bit_at-trailing_zeros w64 (suc bits) (omega arith) fits.fits in
     let within = lowest.0 in
@@ -54,8 +55,10 @@ none_below word = by_test (word == 0) refl
     by_test false is = refl
 
 -- where all that is known stands, a change begins with the first number that is missing, or with its first place
-pub shows_first : (actor : ℕ) (limits : Limits) (k : Knowledge) (plan : Plan) (spares : Spares) → MayChange actor k plan → KeepsSpare plan spares.pid → AreTheSpares k.own spares → AreUnset k.own → Shows actor (bare_at limits plan (first_state limits plan spares)) spares k
-shows_first actor limits k plan spares may keeps are bare = record { may = may; keeps = keeps; are = are; stands = at_first (needs_pid plan && not (is_some spares.pid)) (ltb (length spares.rows) (rows_needed plan)) }
+pub shows_first : (actor : ℕ) (limits : Limits) (k : Knowledge) (plan : Plan) (spares : Spares) → MayChange actor k plan → KeepsSpare plan spares.pid
+    → AreTheSpares k.own spares → AreUnset k.own → Shows actor (bare_at limits plan (first_state limits plan spares)) spares k
+shows_first actor limits k plan spares may keeps are bare = record
+    { may = may; keeps = keeps; are = are; stands = at_first (needs_pid plan && not (is_some spares.pid)) (ltb (length spares.rows) (rows_needed plan)) }
   where
     at_place : (plan : Plan) → ShowsState plan spares k (after_taking plan)
     at_place (Install pid head content) = bare
@@ -63,12 +66,14 @@ shows_first actor limits k plan spares may keeps are bare = record { may = may; 
     at_place (Root left root) = bare
     at_place (Unlink pid head unterm removal) = bare
 
-    at_first : (pid row : Bool) → ShowsState plan spares k (if pid then state.Taking (begun_at limits Pid (head_of plan)) else if row then state.Taking (begun_at limits Row (head_of plan)) else after_taking plan)
+    at_first : (pid row : Bool)
+        → ShowsState plan spares k (if pid then state.Taking (begun_at limits Pid (head_of plan)) else if row then state.Taking (begun_at limits Row (head_of plan)) else after_taking plan)
     at_first true row = (bare, λ below lt. absurd (let none = none_below (first_word limits Pid (head_of plan)) in omega (arith, lt, none)))
     at_first false true = (bare, λ below lt. absurd (let none = none_below (first_word limits Row (head_of plan)) in omega (arith, lt, none)))
     at_first false false = at_place plan
 
-module _ (actor : ℕ) (limits : Limits) (k : Knowledge) (plan : Plan) (spares : Spares) (may : MayChange actor k plan) (keeps : KeepsSpare plan spares.pid) (are : AreTheSpares k.own spares) (bare : AreUnset k.own) where
+module _ (actor : ℕ) (limits : Limits) (k : Knowledge) (plan : Plan) (spares : Spares) (may : MayChange actor k plan) (keeps : KeepsSpare plan spares.pid)
+    (are : AreTheSpares k.own spares) (bare : AreUnset k.own) where
   abbrev pub change : State → Change
   change state = bare_at limits plan state
 
@@ -86,7 +91,8 @@ module _ (actor : ℕ) (limits : Limits) (k : Knowledge) (plan : Plan) (spares :
   own_word Pid word whole bits = refl
   own_word Row word whole bits = refl
 
-  full_then : (kind : Kind) (word : ℕ) (whole : Bool) → AreFull k.asked kind (if whole then word else 0) → AreFull (learn k (wanted_number (Bits kind word whole)) (answer.Number 0)).asked kind (if whole then suc word else 0)
+  full_then : (kind : Kind) (word : ℕ) (whole : Bool) → AreFull k.asked kind (if whole then word else 0)
+      → AreFull (learn k (wanted_number (Bits kind word whole)) (answer.Number 0)).asked kind (if whole then suc word else 0)
   full_then Pid word true full = λ below lt. none_free k.asked.no_pids word below (omega (arith, lt)) full
   full_then Row word true full = λ below lt. none_free k.asked.no_rows word below (omega (arith, lt)) full
   full_then kind word false full = λ below lt. absurd (omega (arith, lt))
@@ -105,23 +111,31 @@ module _ (actor : ℕ) (limits : Limits) (k : Knowledge) (plan : Plan) (spares :
       after : Bool → Bool → Moved
       after more all = moved_by limits plan spares (state.Taking (Bits kind word whole)) (if more then Not (Bits kind (suc word) whole) else if all then Full kind else Not (Bits kind 0 true))
 
-      goes_on : (next : ℕ) (all : Bool) → AreFull now.asked kind (if all then next else 0) → Follows actor k now (change (state.Taking (Bits kind word whole))) (answer.Number 0) (change (state.Taking (Bits kind next all))) spares None
+      goes_on : (next : ℕ) (all : Bool) → AreFull now.asked kind (if all then next else 0)
+          → Follows actor k now (change (state.Taking (Bits kind word whole))) (answer.Number 0) (change (state.Taking (Bits kind next all))) spares None
       goes_on next all so_far = record {
-        shows = record { may = still_may actor k now plan (like_word kind word whole 0) may; keeps = keeps; are = rw (own_word kind word whole 0) are; stands = (rw (own_word kind word whole 0) bare, so_far) };
+        shows = record
+            { may = still_may actor k now plan (like_word kind word whole 0) may; keeps = keeps; are = rw (own_word kind word whole 0) are; stands = (rw (own_word kind word whole 0) bare, so_far) };
         like = like_word kind word whole 0;
       }
 
-      go : (more : Bool) → ltb (suc word) (count_of limits kind / 64) ≡ more → (all : Bool) → all ≡ whole → Follows actor k now (change (state.Taking (Bits kind word whole))) (answer.Number 0) (change (after more all).state) (after more all).spares (after more all).end
+      go : (more : Bool) → ltb (suc word) (count_of limits kind / 64) ≡ more → (all : Bool) → all ≡ whole
+          → Follows actor k now (change (state.Taking (Bits kind word whole))) (answer.Number 0) (change (after more all).state) (after more all).spares (after more all).end
       go true is all same = goes_on (suc word) whole (full_then kind word whole full)
       go false is false same = goes_on 0 true (λ below lt. absurd (omega (arith, lt)))
       go false is true same = record {
         like = rw ((unlinked plan k.asked.linked).1 kind) (like_word kind word whole 0);
         rest = rw (own_word kind word whole 0) (record { are = are; unset = bare });
-        decided = (missing, λ below lt. subst (λ (b : Bool). AreFull now.asked kind (if b then suc word else 0)) (sym same) (full_then kind word whole full) below (let last = ltb-false (suc word) (count_of limits kind / 64) is in omega (arith, lt, last)));
+        decided = (
+          missing,
+          λ below lt. subst (λ (b : Bool). AreFull now.asked kind (if b then suc word else 0)) (sym same) (full_then kind word whole full) below
+              (let last = ltb-false (suc word) (count_of limits kind / 64) is in omega (arith, lt, last)),
+        );
       }
 
   -- a word with a free number
-  pub some_word : (kind : Kind) (word : ℕ) (whole : Bool) (bits : ℕ) → (64 * word + trailing_zeros w64 (suc bits)) / 64 ≡ word → AreFull k.asked kind (if whole then word else 0) → Finds (Bits kind word whole) (answer.Number (suc bits))
+  pub some_word : (kind : Kind) (word : ℕ) (whole : Bool) (bits : ℕ) → (64 * word + trailing_zeros w64 (suc bits)) / 64 ≡ word
+      → AreFull k.asked kind (if whole then word else 0) → Finds (Bits kind word whole) (answer.Number (suc bits))
   some_word kind word whole bits place full = record {
     shows = record {
       may = still_may actor k (learn k (wanted_number (Bits kind word whole)) (answer.Number (suc bits))) plan (like_word kind word whole (suc bits)) may;
@@ -175,7 +189,8 @@ module _ (actor : ℕ) (limits : Limits) (k : Knowledge) (plan : Plan) (spares :
       like = record { inside = refl; read = refl; command = refl; linked_now = refl }
 
   -- whatever the answer, the taking goes on as it says
-  pub finds : (taking : Taking) (told : Answer Record) → IsNeededNext plan spares (kind_of taking) → AreFull k.asked (kind_of taking) (word_read taking) → Fits limits k (wanted_number taking) told → Finds taking told
+  pub finds : (taking : Taking) (told : Answer Record) → IsNeededNext plan spares (kind_of taking) → AreFull k.asked (kind_of taking) (word_read taking)
+      → Fits limits k (wanted_number taking) told → Finds taking told
   finds (Bits kind word whole) (answer.Number zero) missing full fits = empty_word kind word whole missing full
   finds (Bits Pid word whole) (answer.Number (suc bits)) missing full fits = some_word Pid word whole bits (in_word limits.pids word bits fits).0 full
   finds (Bits Row word whole) (answer.Number (suc bits)) missing full fits = some_word Row word whole bits (in_word limits.rows word bits fits).0 full

@@ -52,8 +52,10 @@ unset_gone own page o unset bare = λ other row e. elim (cases_eq other page) [
 
 module _ (actor : ℕ) (limits : Limits) (k : Knowledge) (spares : Spares) (room : HaveRoom limits spares) (are : AreTheSpares k.own spares) where
   -- a record is linked over a page's newest row
-  over_row : (pid head : ℕ) (content : Record) → 1 ≤ length spares.rows → IsTarget limits (Install pid head content) → KeepsSparePage content spares.pid → MayExchange actor k pid head (last_row spares) → AreUnset k.own → k.own.rows (last_row spares) ≡ Written content
-      → ChangeIsOver k (linked_over (Written content) head (last_row spares) k) (bare_at limits (Install pid head content) state.Link) (answer.Whether true) (unused (Install pid head content) spares) end.Won
+  over_row : (pid head : ℕ) (content : Record) → 1 ≤ length spares.rows → IsTarget limits (Install pid head content) → KeepsSparePage content spares.pid
+      → MayExchange actor k pid head (last_row spares) → AreUnset k.own → k.own.rows (last_row spares) ≡ Written content
+      → ChangeIsOver k (linked_over (Written content) head (last_row spares) k) (bare_at limits (Install pid head content) state.Link) (answer.Whether true)
+      (unused (Install pid head content) spares) end.Won
   over_row pid head content some target kept may bare placed = by_content content kept placed
     where
       front : List ℕ
@@ -63,26 +65,38 @@ module _ (actor : ℕ) (limits : Limits) (k : Knowledge) (spares : Spares) (room
       linked = last_linked k.own spares are (last_row spares) front (rows_last spares.rows some room.few)
 
       by_content : (content : Record) → KeepsSparePage content spares.pid → k.own.rows (last_row spares) ≡ Written content
-          → ChangeIsOver k (linked_over (Written content) head (last_row spares) k) (bare_at limits (Install pid head content) state.Link) (answer.Whether true) (unused (Install pid head content) spares) end.Won
-      by_content (kind.Base base) kept placed = record { like = record { inside = refl; read = refl; command = refl; linked_now = refl }; rest = record { are = linked; unset = bare }; decided = (refl, refl) }
-      by_content (kind.Put put) kept placed = record { like = record { inside = refl; read = refl; command = refl; linked_now = refl }; rest = record { are = linked; unset = bare }; decided = (refl, refl) }
-      by_content (kind.Delete delete) kept placed = record { like = record { inside = refl; read = refl; command = refl; linked_now = refl }; rest = record { are = linked; unset = bare }; decided = (refl, refl) }
-      by_content (kind.Split split) kept placed = absurd (no_split actor k pid head (last_row spares) split target.page target.linked (own_last k.own.rows spares.rows some room.few are.rows).1 may placed bare)
-      by_content (kind.Term term) kept placed = record { like = record { inside = refl; read = refl; command = refl; linked_now = refl }; rest = record { are = linked; unset = bare }; decided = (refl, refl) }
-      by_content (kind.Hold hold) kept placed = record { like = record { inside = refl; read = refl; command = refl; linked_now = refl }; rest = record { are = linked; unset = bare }; decided = (refl, refl) }
-      by_content (kind.Remove remove) kept placed = record { like = record { inside = refl; read = refl; command = refl; linked_now = refl }; rest = record { are = linked; unset = bare }; decided = (refl, refl) }
-      by_content (kind.Merge merge) kept placed = record { like = record { inside = refl; read = refl; command = refl; linked_now = refl }; rest = record { are = linked; unset = bare }; decided = (refl, refl) }
+          → ChangeIsOver k (linked_over (Written content) head (last_row spares) k) (bare_at limits (Install pid head content) state.Link) (answer.Whether true)
+          (unused (Install pid head content) spares) end.Won
+      by_content (kind.Base base) kept placed = record
+          { like = record { inside = refl; read = refl; command = refl; linked_now = refl }; rest = record { are = linked; unset = bare }; decided = (refl, refl) }
+      by_content (kind.Put put) kept placed = record
+          { like = record { inside = refl; read = refl; command = refl; linked_now = refl }; rest = record { are = linked; unset = bare }; decided = (refl, refl) }
+      by_content (kind.Delete delete) kept placed = record
+          { like = record { inside = refl; read = refl; command = refl; linked_now = refl }; rest = record { are = linked; unset = bare }; decided = (refl, refl) }
+      by_content (kind.Split split) kept placed =
+          absurd (no_split actor k pid head (last_row spares) split target.page target.linked (own_last k.own.rows spares.rows some room.few are.rows).1 may placed bare)
+      by_content (kind.Term term) kept placed = record
+          { like = record { inside = refl; read = refl; command = refl; linked_now = refl }; rest = record { are = linked; unset = bare }; decided = (refl, refl) }
+      by_content (kind.Hold hold) kept placed = record
+          { like = record { inside = refl; read = refl; command = refl; linked_now = refl }; rest = record { are = linked; unset = bare }; decided = (refl, refl) }
+      by_content (kind.Remove remove) kept placed = record
+          { like = record { inside = refl; read = refl; command = refl; linked_now = refl }; rest = record { are = linked; unset = bare }; decided = (refl, refl) }
+      by_content (kind.Merge merge) kept placed = record
+          { like = record { inside = refl; read = refl; command = refl; linked_now = refl }; rest = record { are = linked; unset = bare }; decided = (refl, refl) }
       by_content (kind.Unterm unterm) kept placed = record {
         like = record { inside = refl; read = refl; command = refl; linked_now = refl };
         rest = record {
-          are = page_gone (record k.own { rows = replaced_at (last_row spares) Foreign k.own.rows }) (record spares { rows = front }) linked unterm.child Gone (kept_apart unterm.child unterm spares.pid kept) (λ gone. gone);
+          are =
+              page_gone (record k.own { rows = replaced_at (last_row spares) Foreign k.own.rows }) (record spares { rows = front }) linked unterm.child Gone
+              (kept_apart unterm.child unterm spares.pid kept) (λ gone. gone);
           unset = unset_gone k.own unterm.child Gone (λ row e. cc) bare;
         };
         decided = (refl, refl);
       }
 
   -- a term is out, and its page is to be cleared
-  term_out : (pid head : ℕ) (unterm : Unterm) (removal : ℕ) → 1 ≤ length spares.rows → MayChange actor k (Unlink pid head unterm removal) → KeepsSparePage (kind.Unterm unterm) spares.pid → AreUnset k.own
+  term_out : (pid head : ℕ) (unterm : Unterm) (removal : ℕ) → 1 ≤ length spares.rows → MayChange actor k (Unlink pid head unterm removal)
+      → KeepsSparePage (kind.Unterm unterm) spares.pid → AreUnset k.own
       → ChangesOn actor k (handed_page unterm.child Gone (last_row spares) k) (bare_at limits (Unlink pid head unterm removal) state.Clear) (unused (Unlink pid head unterm removal) spares)
   term_out pid head unterm removal some may kept bare =
       let front = take (length spares.rows - 1) spares.rows in
@@ -91,7 +105,9 @@ module _ (actor : ℕ) (limits : Limits) (k : Knowledge) (spares : Spares) (room
         shows = record {
           may = still_may actor k (handed_page unterm.child Gone (last_row spares) k) (Unlink pid head unterm removal) (record { inside = refl; read = refl; command = refl; linked_now = refl }) may;
           keeps = kept;
-          are = page_gone (record k.own { rows = replaced_at (last_row spares) Foreign k.own.rows }) (record spares { rows = front }) linked unterm.child Gone (kept_apart unterm.child unterm spares.pid kept) (λ gone. gone);
+          are =
+              page_gone (record k.own { rows = replaced_at (last_row spares) Foreign k.own.rows }) (record spares { rows = front }) linked unterm.child Gone
+              (kept_apart unterm.child unterm spares.pid kept) (λ gone. gone);
           stands = (unset_gone k.own unterm.child Gone (λ row e. cc) bare, replaced_same unterm.child Gone k.own.pages);
         };
         like = record { inside = refl; read = refl; command = refl; linked_now = refl };
@@ -99,9 +115,12 @@ module _ (actor : ℕ) (limits : Limits) (k : Knowledge) (spares : Spares) (room
 
   -- what follows where the exchange that decides has won
   abbrev WonTo : Plan → Moved → Type 0
-  WonTo plan now = Follows actor k (learn k (wanted_at plan spares state.Link) (answer.Whether true)) (bare_at limits plan state.Link) (answer.Whether true) (bare_at limits plan now.state) now.spares now.end
+  WonTo plan now =
+      Follows actor k (learn k (wanted_at plan spares state.Link) (answer.Whether true)) (bare_at limits plan state.Link) (answer.Whether true) (bare_at limits plan now.state) now.spares now.end
 
-  pub won_at : (plan : Plan) → AreEnough plan spares → IsTarget limits plan → MayChange actor k plan → KeepsSpare plan spares.pid → MayExchange actor k (slot_of plan) (head_of plan) (linked_number plan spares) → StandsReady plan spares k.own → IsPlaced plan spares k.own → Fits limits k (wanted_at plan spares state.Link) (answer.Whether true)
+  pub won_at : (plan : Plan) → AreEnough plan spares → IsTarget limits plan → MayChange actor k plan → KeepsSpare plan spares.pid
+      → MayExchange actor k (slot_of plan) (head_of plan) (linked_number plan spares) → StandsReady plan spares k.own → IsPlaced plan spares k.own
+      → Fits limits k (wanted_at plan spares state.Link) (answer.Whether true)
       → WonTo plan (decided_by plan spares true)
   won_at (Install pid head content) enough target change keeps may ready placed fits =
       let row = (own_last k.own.rows spares.rows enough.rows room.few are.rows).1 in
@@ -114,7 +133,8 @@ module _ (actor : ℕ) (limits : Limits) (k : Knowledge) (spares : Spares) (room
       let rows = rows_two spares.rows enough.rows room.few in
       let first = first_linked k.own spares are (first_row spares) (last_row spares ∷ []) rows.0 in
       let rest = last_linked (record k.own { rows = replaced_at (first_row spares) Foreign k.own.rows }) (record spares { rows = last_row spares ∷ [] }) first (last_row spares) [] refl in
-      let bare = page_linked (record k.own { rows = replaced_at (last_row spares) Foreign (replaced_at (first_row spares) Foreign k.own.rows) }) (record spares { rows = [] }) rest (pid_of spares) is in
+      let bare = page_linked (record k.own { rows = replaced_at (last_row spares) Foreign (replaced_at (first_row spares) Foreign k.own.rows) })
+      (record spares { rows = [] }) rest (pid_of spares) is in
       rw (over_learnt k pid plan.next (last_row spares) (kind.Split (split_to plan (pid_of spares))) target.page row other placed, ready.0, rows.1) (record {
         like = record { inside = refl; read = refl; command = refl; linked_now = refl };
         rest = record { are = bare; unset = unset_then k.own spares (pid_of spares) Other are is (λ row e. cc) };

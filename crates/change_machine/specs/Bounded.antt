@@ -79,7 +79,8 @@ IsPidFrom old taken (Some pid) = (old ≡ Some pid) ⊎ (taken ≡ Some pid)
 -- A change that goes on recalls what it has read, and has fewer steps left, or a cause paid for more. Where it has ended, a cause
 -- paid, or what has to be left is left: a page is cleared by what its exchange that decides has paid.
 abbrev pub SpendsTo : ℕ → Recalled → Change → Spares → Answer Record → Change → Spares → Option End → Type 0
-SpendsTo after r old had told new has None = Recalls new has (recall r (wanted old had) told) × IsSpentWith (worth old.limits after) r (wanted old had) told (steps_left after old had) (steps_left after new has)
+SpendsTo after r old had told new has None =
+    Recalls new has (recall r (wanted old had) told) × IsSpentWith (worth old.limits after) r (wanted old had) told (steps_left after old had) (steps_left after new has)
 SpendsTo after r old had told new has (Some Won) = IsPaid r (wanted old had) told ⊎ ((clears old.plan ≡ true) × (after < steps_left after old had))
 SpendsTo after r old had told new has (Some Lost) = IsPaid r (wanted old had) told ⊎ (after < steps_left after old had)
 SpendsTo after r old had told new has (Some (Full kind)) = 0 < steps_left after old had

@@ -152,12 +152,14 @@ MayInstall actor k pid head content = (now : Knowledge) (row : ℕ) → IsLike k
 
 -- The actor may link the split once it has a page of its own with the upper part, whichever that is, and has placed the split.
 abbrev pub MayDivide : ℕ → Knowledge → ℕ → SplitPlan → Type 0
-MayDivide actor k pid plan = (now : Knowledge) (right base row : ℕ) → IsLike k.asked.linked k now → IsPid right → 0 < row → now.own.pages right ≡ Ready base → now.own.rows base ≡ Written (kind.Base plan.upper)
+MayDivide actor k pid plan =
+    (now : Knowledge) (right base row : ℕ) → IsLike k.asked.linked k now → IsPid right → 0 < row → now.own.pages right ≡ Ready base → now.own.rows base ≡ Written (kind.Base plan.upper)
     → now.own.rows row ≡ Written (kind.Split (split_to plan right)) → IsUnset now row → MayExchange actor now pid plan.next row
 
 -- The actor may link a page of its own as the root once it has this base.
 abbrev pub MayRaise : ℕ → Knowledge → ℕ → Record → Type 0
-MayRaise actor k left root = (now : Knowledge) (new base : ℕ) → IsLike k.asked.linked k now → IsPid new → now.own.pages new ≡ Ready base → now.own.rows base ≡ Written root → MayExchange actor now 0 left new
+MayRaise actor k left root =
+    (now : Knowledge) (new base : ℕ) → IsLike k.asked.linked k now → IsPid new → now.own.pages new ≡ Ready base → now.own.rows base ≡ Written root → MayExchange actor now 0 left new
 
 abbrev pub MayLinkAs : ℕ → Knowledge → Plan → Type 0
 MayLinkAs actor k (Install pid head content) = MayInstall actor k pid head content

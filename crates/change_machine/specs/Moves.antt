@@ -39,7 +39,9 @@ after_ready (Unlink pid head unterm removal) = Place
 
 -- First a PID is taken, if one is missing, then rows.
 abbrev pub first_state : Limits → Plan → Spares → State
-first_state limits plan spares = if needs_pid plan && not (is_some spares.pid) then Taking (begun_at limits Pid (head_of plan)) else if ltb (length spares.rows) (rows_needed plan) then Taking (begun_at limits Row (head_of plan)) else after_taking plan
+first_state limits plan spares =
+    if needs_pid plan && not (is_some spares.pid) then Taking (begun_at limits Pid (head_of plan)) else if ltb (length spares.rows) (rows_needed plan) then
+    Taking (begun_at limits Row (head_of plan)) else after_taking plan
 
 -- A number that was taken is the last spare of its kind.
 abbrev pub with_number : Kind → ℕ → Spares → Spares

@@ -70,7 +70,8 @@ tested_in words word n is =
     rw (is, one_shl (n % 64) 64 below) (tested (slice_index words (n / 64)) (n % 64))
 
 -- one bit cleared
-pub taken : (words : List ℕ) (word n : ℕ) → word ≡ n / 64 → n < 64 * length words → is_bit_set (set words word (bit_and (slice_index words word) (bit_not w64 (bit_of n)))) ≡ replaced_at n false (is_bit_set words)
+pub taken : (words : List ℕ) (word n : ℕ) → word ≡ n / 64 → n < 64 * length words
+    → is_bit_set (set words word (bit_and (slice_index words word) (bit_not w64 (bit_of n)))) ≡ replaced_at n false (is_bit_set words)
 taken words word n is within = λ d k. at k d
   where
     cleared : List ℕ
@@ -105,7 +106,9 @@ freed words word more within = λ d k. at k d
     set_in = set words word (bit_or (slice_index words word) more)
 
     either : (old new : ℕ) → old < 2 → new < 2 → eqb (max old new) 1 ≡ (eqb old 1 || (true && eqb new 1))
-    either old new o n = by_bit old o (λ b. eqb (max b new) 1 ≡ (eqb b 1 || (true && eqb new 1))) (by_bit new n (λ b. eqb (max 0 b) 1 ≡ (false || (true && eqb b 1))) refl refl) (by_bit new n (λ b. eqb (max 1 b) 1 ≡ (true || (true && eqb b 1))) refl refl)
+    either old new o n =
+        by_bit old o (λ b. eqb (max b new) 1 ≡ (eqb b 1 || (true && eqb new 1))) (by_bit new n (λ b. eqb (max 0 b) 1 ≡ (false || (true && eqb b 1))) refl refl)
+        (by_bit new n (λ b. eqb (max 1 b) 1 ≡ (true || (true && eqb b 1))) refl refl)
 
     or_false : (f : Bool) → f ≡ (f || false)
     or_false true = refl
@@ -113,12 +116,16 @@ freed words word more within = λ d k. at k d
 
     at : (k : ℕ) → is_bit_set set_in k ≡ (is_bit_set words k || is_among word more k)
     at k = elim (same_or_not (k / 64) word) [
-      | inl same ↦ rw (same, get_or-set_same words word (bit_or (slice_index words word) more) 0 within, eq-eqb word word refl, bit_at_or (slice_index words word) more (k % 64)) (either _ _ (bit_at-lt (slice_index words word) (k % 64)) (bit_at-lt more (k % 64)))
-      | inr other ↦ rw (get_or-set_other words word (k / 64) (bit_or (slice_index words word) more) 0 other, ne_eqb (k / 64) word other) (or_false (eqb (bit_at (slice_index words (k / 64)) (k % 64)) 1))
+      | inl same ↦ rw
+          (same, get_or-set_same words word (bit_or (slice_index words word) more) 0 within, eq-eqb word word refl, bit_at_or (slice_index words word) more (k % 64))
+          (either _ _ (bit_at-lt (slice_index words word) (k % 64)) (bit_at-lt more (k % 64)))
+      | inr other ↦ rw (get_or-set_other words word (k / 64) (bit_or (slice_index words word) more) 0 other, ne_eqb (k / 64) word other)
+          (or_false (eqb (bit_at (slice_index words (k / 64)) (k % 64)) 1))
     ]
 
 -- all numbers from 2 on, up to the count, are free
-pub opened : (count : ℕ) (words : List ℕ) → words ≡ replicate (count / 64) 18446744073709551615 → count % 64 ≡ 0 → 64 ≤ count → is_bit_set (set words 0 18446744073709551612) ≡ (λ n. nat_le 2 n && nat_lt n count)
+pub opened : (count : ℕ) (words : List ℕ) → words ≡ replicate (count / 64) 18446744073709551615 → count % 64 ≡ 0 → 64 ≤ count
+    → is_bit_set (set words 0 18446744073709551612) ≡ (λ n. nat_le 2 n && nat_lt n count)
 opened count words all whole some = λ d n. at n d
   where
     long : length words ≡ count / 64
@@ -155,29 +162,38 @@ opened count words all whole some = λ d n. at n d
         inside n lt (inr other) =
             let below : n % 64 < 64 = omega arith in
             let within : n / 64 < count / 64 = omega arith in
-            let word : slice_index (set words 0 18446744073709551612) (n / 64) ≡ 18446744073709551615 = get_or-set_other words 0 (n / 64) 18446744073709551612 0 other ∙ rw all (get_or-replicate (count / 64) (n / 64) 18446744073709551615 0 within) in
+            let word : slice_index (set words 0 18446744073709551612) (n / 64) ≡ 18446744073709551615 = get_or-set_other words 0 (n / 64) 18446744073709551612 0
+            other ∙ rw all (get_or-replicate (count / 64) (n / 64) 18446744073709551615 0 within) in
             rw (word, bit_at_ones 64 (n % 64) below, le_true 2 n (omega arith)) refl
 
 -- a record placed
-pub with_record : (limits : Limits) (slots : List ℕ) (rows : List (Option Record)) (pid_bits row_bits : List ℕ) (epoch : ℕ) (announced : List ℕ) (place row : ℕ) (content : Record) → place ≡ row → row < length rows
+pub with_record : (limits : Limits) (slots : List ℕ) (rows : List (Option Record)) (pid_bits row_bits : List ℕ) (epoch : ℕ) (announced : List ℕ) (place row : ℕ) (content : Record)
+    → place ≡ row → row < length rows
     → memory_in (record { limits = limits; slots = slots; rows = set rows place (Some content); pid_bits = pid_bits; row_bits = row_bits; epoch = epoch; announced = announced })
-    ≡ record (memory_in (record { limits = limits; slots = slots; rows = rows; pid_bits = pid_bits; row_bits = row_bits; epoch = epoch; announced = announced })) { rows = replaced_at row (Some content) (λ r. get_or rows r None) }
+    ≡ record
+    (memory_in (record { limits = limits; slots = slots; rows = rows; pid_bits = pid_bits; row_bits = row_bits; epoch = epoch; announced = announced }))
+    { rows = replaced_at row (Some content) (λ r. get_or rows r None) }
 with_record limits slots rows pid_bits row_bits epoch announced place row content is within =
-    rw is (ap (λ (f : ℕ → Option Record). record (memory_in (record { limits = limits; slots = slots; rows = rows; pid_bits = pid_bits; row_bits = row_bits; epoch = epoch; announced = announced })) { rows = f }) (put rows None row (Some content) within))
+    rw is (ap (λ (f : ℕ → Option Record). record
+    (memory_in (record { limits = limits; slots = slots; rows = rows; pid_bits = pid_bits; row_bits = row_bits; epoch = epoch; announced = announced }))
+    { rows = f }) (put rows None row (Some content) within))
 
 -- other words of free bits
 module _ (limits : Limits) (slots : List ℕ) (rows : List (Option Record)) (epoch : ℕ) (announced words others : List ℕ) (free : ℕ → Bool) (is : is_bit_set words ≡ free) where
   abbrev table_of : List ℕ → List ℕ → CoreTable
   table_of pid_bits row_bits = record { limits = limits; slots = slots; rows = rows; pid_bits = pid_bits; row_bits = row_bits; epoch = epoch; announced = announced }
 
-  pub with_pids : memory_in (record { limits = limits; slots = slots; rows = rows; pid_bits = words; row_bits = others; epoch = epoch; announced = announced }) ≡ record (memory_in (table_of words others)) { free_pids = free }
+  pub with_pids : memory_in (record { limits = limits; slots = slots; rows = rows; pid_bits = words; row_bits = others; epoch = epoch; announced = announced })
+      ≡ record (memory_in (table_of words others)) { free_pids = free }
   with_pids = ap (λ (f : ℕ → Bool). record (memory_in (table_of words others)) { free_pids = f }) is
 
-  pub with_rows : memory_in (record { limits = limits; slots = slots; rows = rows; pid_bits = others; row_bits = words; epoch = epoch; announced = announced }) ≡ record (memory_in (table_of others words)) { free_rows = free }
+  pub with_rows : memory_in (record { limits = limits; slots = slots; rows = rows; pid_bits = others; row_bits = words; epoch = epoch; announced = announced })
+      ≡ record (memory_in (table_of others words)) { free_rows = free }
   with_rows = ap (λ (f : ℕ → Bool). record (memory_in (table_of others words)) { free_rows = f }) is
 
 -- The table that a memory opens with.
-pub opening_is : (limits : Limits) (slots : List ℕ) (rows : List (Option Record)) (pid_bits row_bits announced : List ℕ) → slots ≡ set (set (replicate limits.pids 0) 0 1) 1 1 → rows ≡ set (replicate limits.rows None) 1 (Some (Base empty_leaf))
+pub opening_is : (limits : Limits) (slots : List ℕ) (rows : List (Option Record)) (pid_bits row_bits announced : List ℕ)
+    → slots ≡ set (set (replicate limits.pids 0) 0 1) 1 1 → rows ≡ set (replicate limits.rows None) 1 (Some (Base empty_leaf))
     → is_bit_set pid_bits ≡ (λ n. nat_le 2 n && nat_lt n limits.pids) → is_bit_set row_bits ≡ (λ n. nat_le 2 n && nat_lt n limits.rows) → announced ≡ replicate limits.actors 0
     → memory_in (record { limits = limits; slots = slots; rows = rows; pid_bits = pid_bits; row_bits = row_bits; epoch = limits.epoch; announced = announced }) ≡ opening limits
 opening_is limits slots rows pid_bits row_bits announced linked placed pids frees outside =

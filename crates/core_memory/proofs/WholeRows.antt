@@ -41,7 +41,8 @@ none_past (x ∷ xs) zero past = absurd (omega arith)
 none_past (x ∷ xs) (suc at) past = none_past xs at (omega arith)
 
 -- behind them its words are 0
-pub word_past : (words : List ℕ) (content : Record) (at : ℕ) → record_of words ≡ content → IsSpelling (record_of words) (whole words) → length words ≤ at → let none : ℕ = 0 in none ≡ get_or (words_of content) at none
+pub word_past : (words : List ℕ) (content : Record) (at : ℕ) → record_of words ≡ content → IsSpelling (record_of words) (whole words) → length words ≤ at → let none : ℕ = 0
+    in none ≡ get_or (words_of content) at none
 word_past words content at is spelled past = none_past words at past ∙ word_of_whole words content at is spelled
 
 -- what spells a record spells it by the record's own words

@@ -56,7 +56,8 @@ split_names_above = refl
 split_spares_below : names (Split (record { level = 0; next = 11; separator = k09; page = 2 })) k08 ≡ false
 split_spares_below = refl
 
-split_ends_there : (high_after (Split (record { level = 0; next = 11; separator = k09; page = 2 })) None ≡ Some k09) × (right_after (Split (record { level = 0; next = 11; separator = k09; page = 2 })) None ≡ Some 2)
+split_ends_there : (high_after (Split (record { level = 0; next = 11; separator = k09; page = 2 })) None ≡ Some k09) ×
+    (right_after (Split (record { level = 0; next = 11; separator = k09; page = 2 })) None ≡ Some 2)
 split_ends_there = (refl, refl)
 
 term_says : content_said (Term (record { level = 1; next = 5; separator = k09; child = 2 })) k09 ≡ Some (Child 2 false)

@@ -32,7 +32,8 @@ second false true e = refl
 second false false e = e
 
 -- one entry more
-may_go_more : (entries : List Entry) (i : ℕ) (d : Entry) (n : ℕ) → i < length entries → may_go (take (i + 1) entries) n ≡ (may_go (take i entries) n || ((eqb (get_or entries i d).number n) && is_passed (get_or entries i d).stage))
+may_go_more : (entries : List Entry) (i : ℕ) (d : Entry) (n : ℕ) → i < length entries
+    → may_go (take (i + 1) entries) n ≡ (may_go (take i entries) n || ((eqb (get_or entries i d).number n) && is_passed (get_or entries i d).stage))
 may_go_more entries i d n lt = list_any_more (λ (entry : Entry). eqb entry.number n && is_passed entry.stage) entries i d lt
 
 -- An entry that may not be freed changes nothing.
@@ -45,7 +46,9 @@ may_go_other entries i d n lt other = may_go_more entries i d n lt ∙ rw (ne_eq
 
 -- One that may be freed is there afterwards,
 may_go_own : (entries : List Entry) (i : ℕ) (d : Entry) → i < length entries → is_passed (get_or entries i d).stage ≡ true → may_go (take (i + 1) entries) (get_or entries i d).number ≡ true
-may_go_own entries i d lt passed = may_go_more entries i d (get_or entries i d).number lt ∙ rw (passed, eq-eqb (get_or entries i d).number (get_or entries i d).number refl) (or_true (may_go (take i entries) (get_or entries i d).number))
+may_go_own entries i d lt passed =
+    may_go_more entries i d (get_or entries i d).number lt
+    ∙ rw (passed, eq-eqb (get_or entries i d).number (get_or entries i d).number refl) (or_true (may_go (take i entries) (get_or entries i d).number))
 
 -- as is what was there before;
 may_go_still : (entries : List Entry) (i : ℕ) (d : Entry) (n : ℕ) → i < length entries → may_go (take i entries) n ≡ true → may_go (take (i + 1) entries) n ≡ true
@@ -59,14 +62,16 @@ may_go_from entries i d n lt there =
       | inr own ↦ inr (eqb-true (get_or entries i d).number n (both (eqb (get_or entries i d).number n) (is_passed (get_or entries i d).stage) own))
     ]
 
-pub first_same : (entries : List Entry) (i : ℕ) (d : Entry) (first : Option ℕ) → i < length entries → is_passed (get_or entries i d).stage ≡ false → IsFirstPlace (take i entries) first → IsFirstPlace (take (i + 1) entries) first
+pub first_same : (entries : List Entry) (i : ℕ) (d : Entry) (first : Option ℕ) → i < length entries → is_passed (get_or entries i d).stage ≡ false
+    → IsFirstPlace (take i entries) first → IsFirstPlace (take (i + 1) entries) first
 first_same entries i d None lt stays is = λ n. may_go_same entries i d n lt stays ∙ is n
 first_same entries i d (Some word) lt stays is = record {
   some = (is.some.0, is.some.1, may_go_still entries i d is.some.0 lt is.some.2);
   first = λ n there. is.first n (sym (may_go_same entries i d n lt stays) ∙ there);
 }
 
-pub first_more : (entries : List Entry) (i : ℕ) (d : Entry) (first : Option ℕ) → i < length entries → is_passed (get_or entries i d).stage ≡ true → IsFirstPlace (take i entries) first → IsFirstWord (take (i + 1) entries) (lower first ((get_or entries i d).number / 64))
+pub first_more : (entries : List Entry) (i : ℕ) (d : Entry) (first : Option ℕ) → i < length entries → is_passed (get_or entries i d).stage ≡ true
+    → IsFirstPlace (take i entries) first → IsFirstWord (take (i + 1) entries) (lower first ((get_or entries i d).number / 64))
 first_more entries i d None lt passed is = record {
   some = ((get_or entries i d).number, refl, may_go_own entries i d lt passed);
   first = λ n there. elim (may_go_from entries i d n lt there) [
@@ -96,7 +101,8 @@ bit_of n = 1 * 2 ^ (n % 64) % 2 ^ 64
 abbrev goes_with : ℕ → Entry → Bool
 goes_with word entry = eqb (entry.number / 64) word && is_passed entry.stage
 
-pub bits_more : (entries : List Entry) (i : ℕ) (d : Entry) (word bits : ℕ) → i < length entries → goes_with word (get_or entries i d) ≡ true → AreBitsOf (take i entries) word bits → AreBitsOf (take (i + 1) entries) word (bit_or bits (bit_of (get_or entries i d).number))
+pub bits_more : (entries : List Entry) (i : ℕ) (d : Entry) (word bits : ℕ) → i < length entries → goes_with word (get_or entries i d) ≡ true
+    → AreBitsOf (take i entries) word bits → AreBitsOf (take (i + 1) entries) word (bit_or bits (bit_of (get_or entries i d).number))
 bits_more entries i d word bits lt goes is = λ n. at n (cases_eq (n / 64) word) (cases_eq (get_or entries i d).number n)
   where
     own : ℕ
@@ -118,7 +124,8 @@ bits_more entries i d word bits lt goes is = λ n. at n (cases_eq (n / 64) word)
         let apart : n % 64 ≢ own % 64 = λ e. other (omega (arith, e, here, place)) in
         rw (bit_at_set_other w64 bits (own % 64) small (n % 64) apart, may_go_other entries i d n lt other) (is n)
 
-pub bits_same : (entries : List Entry) (i : ℕ) (d : Entry) (word bits : ℕ) → i < length entries → goes_with word (get_or entries i d) ≡ false → AreBitsOf (take i entries) word bits → AreBitsOf (take (i + 1) entries) word bits
+pub bits_same : (entries : List Entry) (i : ℕ) (d : Entry) (word bits : ℕ) → i < length entries → goes_with word (get_or entries i d) ≡ false
+    → AreBitsOf (take i entries) word bits → AreBitsOf (take (i + 1) entries) word bits
 bits_same entries i d word bits lt stays is = λ n. at n (cases_eq own n) (cases_eq (own / 64) word)
   where
     own : ℕ

@@ -28,7 +28,9 @@ all_may_go list is n there i d lt same = here (cases_lt i found.0) (cases_lt fou
     found = Any-from_list_any (λ (entry : Entry). eqb entry.number n && is_passed entry.stage) list.entries there
 
     numbered : (get_or list.entries found.0 d).number ≡ n
-    numbered = ap (λ (entry : Entry). entry.number) (get_or_default list.entries found.0 d found.1 found.2 ∙ found.3) ∙ eqb-true found.1.number n (both (eqb found.1.number n) (is_passed found.1.stage) found.4)
+    numbered =
+        ap (λ (entry : Entry). entry.number) (get_or_default list.entries found.0 d found.1 found.2 ∙ found.3)
+        ∙ eqb-true found.1.number n (both (eqb found.1.number n) (is_passed found.1.stage) found.4)
 
     passed : is_passed (get_or list.entries found.0 d).stage ≡ true
     passed = ap (λ (entry : Entry). is_passed entry.stage) (get_or_default list.entries found.0 d found.1 found.2 ∙ found.3) ∙ second (eqb found.1.number n) (is_passed found.1.stage) found.4
@@ -41,7 +43,8 @@ all_may_go list is n there i d lt same = here (cases_lt i found.0) (cases_lt fou
     here (inr after) (inl later) = absurd (is.once found.0 i d later lt (numbered ∙ sym own))
     here (inr after) (inr before) = let at : i ≡ found.0 = omega (arith, after, before) in rw at passed
 
-pub gone : (list : LimboList) → IsLimboList list → (word bits : ℕ) → AreBitsOf list.entries word bits → (n : ℕ) → IsTrue (is_among word bits n) → IsFalse (is_in (record list { entries = without word list.entries }) n)
+pub gone : (list : LimboList) → IsLimboList list → (word bits : ℕ) → AreBitsOf list.entries word bits → (n : ℕ) → IsTrue (is_among word bits n)
+    → IsFalse (is_in (record list { entries = without word list.entries }) n)
 gone list is word bits exact n among = list_any_none (λ (entry : Entry). eqb entry.number n) (filter kept list.entries) none
   where
     kept : Entry → Bool
@@ -65,7 +68,8 @@ gone list is word bits exact n among = list_any_none (λ (entry : Entry). eqb en
       | inl same ↦ absurd (differ (rw (same.1, place, passes i d lt same.0) at (filter_passes kept list.entries i d lt)))
     ]
 
-pub hands_on : (list : LimboList) → IsLimboList list → (word bits : ℕ) → IsFirstWord list.entries word → AreBitsOf list.entries word bits → HandsOn list word bits (record list { entries = without word list.entries })
+pub hands_on : (list : LimboList) → IsLimboList list → (word bits : ℕ) → IsFirstWord list.entries word → AreBitsOf list.entries word bits
+    → HandsOn list word bits (record list { entries = without word list.entries })
 hands_on list is word bits first exact = record {
   first = first;
   exact = exact;

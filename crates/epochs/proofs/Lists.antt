@@ -21,7 +21,9 @@ abbrev IsWithin : ℕ → Entry → Type 0
 IsWithin limit entry = entry.number < limit
 
 -- Other entries with the same numbers are a list as well.
-pub renewed_is_list : (list : LimboList) (entries : List Entry) → length entries ≡ length list.entries → ((i : ℕ) (d : Entry) → i < length list.entries → (get_or entries i d).number ≡ (get_or list.entries i d).number) → IsLimboList list → IsLimboList (record list { entries = entries })
+pub renewed_is_list : (list : LimboList) (entries : List Entry) → length entries ≡ length list.entries
+    → ((i : ℕ) (d : Entry) → i < length list.entries → (get_or entries i d).number ≡ (get_or list.entries i d).number) → IsLimboList list
+    → IsLimboList (record list { entries = entries })
 renewed_is_list list entries long same is = record {
   small = is.small;
   once = λ i j d before within.
@@ -76,7 +78,8 @@ added_is_list list number is new = record {
 
 few : (list : LimboList) → IsLimboList list → length list.entries ≤ list.limit
 few list is =
-    let short : length (map number list.entries) ≤ list.limit = length-le_from_distinct_below (map number list.entries) list.limit (IsDistinct-from_AllPairs Decides-eqb (map number list.entries) differ) below in
+    let short : length (map number list.entries) ≤ list.limit = length-le_from_distinct_below (map number list.entries) list.limit
+    (IsDistinct-from_AllPairs Decides-eqb (map number list.entries) differ) below in
     rw (length-map list.entries number) at short
   where
     number : Entry → ℕ

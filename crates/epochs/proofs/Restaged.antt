@@ -32,7 +32,8 @@ module _ (stage_after : Stage → Stage) (most : ℕ) (entries : List Entry) (fe
   at_front i d lt =
       let within : i < length (restaged stage_after (take most entries)) = rw front_long lt in
       let short : i < length (take most entries) = rw (length-take-le most entries few) lt in
-      get_or_append_left (restaged stage_after (take most entries)) (drop most entries) d i within ∙ get_or-map (with_stage stage_after) (take most entries) i d d short ∙ ap (with_stage stage_after) (get_or-take most entries i d lt)
+      get_or_append_left (restaged stage_after (take most entries)) (drop most entries) d i within ∙ get_or-map (with_stage stage_after) (take most entries) i d
+      d short ∙ ap (with_stage stage_after) (get_or-take most entries i d lt)
 
   pub at_back : (i : ℕ) (d : Entry) → most ≤ i → get_or (first_restaged most stage_after entries) i d ≡ get_or entries i d
   at_back i d le =
@@ -40,7 +41,8 @@ module _ (stage_after : Stage → Stage) (most : ℕ) (entries : List Entry) (fe
       get_or-append_right (restaged stage_after (take most entries)) (drop most entries) most i d front_long le ∙ get_or-drop most entries (i - most) d ∙ ap (λ k. get_or entries k d) place
 
   -- what no other stage changes stays
-  pub stays : {X : Type 0} (P : Entry → X) → ((entry : Entry) → P (with_stage stage_after entry) ≡ P entry) → (i : ℕ) (d : Entry) → P (get_or (first_restaged most stage_after entries) i d) ≡ P (get_or entries i d)
+  pub stays : {X : Type 0} (P : Entry → X) → ((entry : Entry) → P (with_stage stage_after entry) ≡ P entry) → (i : ℕ) (d : Entry)
+      → P (get_or (first_restaged most stage_after entries) i d) ≡ P (get_or entries i d)
   stays P same i d = elim (cases_lt i most) [
     | inl lt ↦ ap P (at_front i d lt) ∙ same (get_or entries i d)
     | inr le ↦ ap P (at_back i d le)
@@ -50,14 +52,18 @@ pub all_first : (stage_after : Stage → Stage) (entries : List Entry) (most : �
 all_first stage_after entries most all = rw (take_all most entries all, drop_all most entries all) (append-nil (restaged stage_after entries))
 
 -- one entry more has its new stage
-pub restaged_next : (stage_after : Stage → Stage) (before queue after : Queue) (place : ℕ) (stage : Stage) (d : Entry) → place < length before.entries → queue ≡ record before { entries = first_restaged place stage_after before.entries } → stage ≡ stage_after (get_or queue.entries place d).stage → after ≡ record queue { entries = set queue.entries place (record (get_or queue.entries place d) { stage = stage }) }
+pub restaged_next : (stage_after : Stage → Stage) (before queue after : Queue) (place : ℕ) (stage : Stage) (d : Entry) → place < length before.entries
+    → queue ≡ record before { entries = first_restaged place stage_after before.entries } → stage ≡ stage_after (get_or queue.entries place d).stage
+    → after ≡ record queue { entries = set queue.entries place (record (get_or queue.entries place d) { stage = stage }) }
     → after ≡ record before { entries = first_restaged (place + 1) stage_after before.entries }
 restaged_next stage_after before queue after place stage d lt was staged is =
     let entries : queue.entries ≡ first_restaged place stage_after before.entries = ap (λ (queue : Queue). queue.entries) was in
     let room : queue.room ≡ before.room = ap (λ (queue : Queue). queue.room) was in
     let few : place ≤ length before.entries = omega (arith, lt) in
     let long : length queue.entries ≡ length before.entries = ap length entries ∙ first_long stage_after place before.entries few in
-    let next : set queue.entries place (with_stage stage_after (get_or queue.entries place d)) ≡ first_restaged (place + 1) stage_after before.entries = map_over_more (with_stage stage_after) before.entries queue.entries place (get_or queue.entries place d) lt entries (get_or_default queue.entries place d (get_or queue.entries place d) (rw long lt)) in
+    let next : set queue.entries place (with_stage stage_after (get_or queue.entries place d)) ≡ first_restaged (place + 1) stage_after before.entries = map_over_more
+    (with_stage stage_after) before.entries queue.entries place (get_or queue.entries place d) lt entries
+    (get_or_default queue.entries place d (get_or queue.entries place d) (rw long lt)) in
     is ∙ rw (staged, next, room) refl
 
 -- ---- stamps
@@ -79,16 +85,21 @@ stamped_passed epoch (Passed stamp) = refl
 -- what has a stamp keeps it
 pub first_stamped : (epoch from : ℕ) (entries : List Entry) → from ≤ length entries → AreStamped (take from entries) → first_restaged from (stamped_by epoch) entries ≡ entries
 first_stamped epoch from entries few stamped =
-    let same : restaged (stamped_by epoch) (take from entries) ≡ take from entries = map_fixed (with_stage (stamped_by epoch)) (take from entries) (λ i d lt. ap (λ (stage : Stage). record (get_or (take from entries) i d) { stage = stage }) (keeps_stamp epoch (get_or (take from entries) i d).stage (stamped i d lt))) in
+    let same : restaged (stamped_by epoch) (take from entries) ≡ take from entries = map_fixed (with_stage (stamped_by epoch)) (take from entries)
+    (λ i d lt. ap (λ (stage : Stage). record (get_or (take from entries) i d) { stage = stage }) (keeps_stamp epoch (get_or (take from entries) i d).stage (stamped i d lt)))
+    in
     rw same (take-append-drop from entries)
 
 -- All before an entry with a stamp have one.
-pub stamped_before : (entries : List Entry) → AreLastUnstamped entries → (place : ℕ) (d : Entry) → place < length entries → is_unstamped (get_or entries place d).stage ≡ false → AreStamped (take (place + 1) entries)
+pub stamped_before : (entries : List Entry) → AreLastUnstamped entries → (place : ℕ) (d : Entry) → place < length entries
+    → is_unstamped (get_or entries place d).stage ≡ false → AreStamped (take (place + 1) entries)
 stamped_before entries last place d lt stamped i e within =
     let before : i < place + 1 = rw (length-take-le (place + 1) entries (omega (arith, lt))) at within in
     rw (get_or-take (place + 1) entries i e before) (elim (cases_lt i place) [
       | inl earlier ↦ elim (cases_Bool (is_unstamped (get_or entries i e).stage)) [
-        | inl unstamped ↦ absurd (let h : is_unstamped (get_or entries place e).stage ≡ true = last i place e earlier lt unstamped in let same : get_or entries place d ≡ get_or entries place e = get_or_default entries place d e lt in let k : is_unstamped (get_or entries place e).stage ≡ false = rw same at stamped in let z : true ≡ false = sym h ∙ k in cc)
+        | inl unstamped ↦ absurd (let h : is_unstamped (get_or entries place e).stage ≡ true = last i place e earlier lt unstamped in let same : get_or entries
+            place d ≡ get_or entries place e = get_or_default entries place d e lt in let k : is_unstamped (get_or entries place e).stage ≡ false = rw same at
+            stamped in let z : true ≡ false = sym h ∙ k in cc)
         | inr has ↦ has
       ]
       | inr later ↦
@@ -109,9 +120,12 @@ stamped_kept limit compared epoch queue kept = record {
   room = kept.room;
   front = rw long kept.front;
   others = λ i d lt.
-      let short : i < length (drop compared queue.entries) = (let a = length-drop compared (restaged stage queue.entries) in let b = length-drop compared queue.entries in omega (arith, a, b, lt, long)) in
+      let short : i < length (drop compared queue.entries) = (let a = length-drop compared (restaged stage queue.entries) in let b = length-drop compared
+      queue.entries in omega (arith, a, b, lt, long)) in
       let within : compared + i < length queue.entries = (let b = length-drop compared queue.entries in omega (arith, b, short)) in
-      ap (λ (entry : Entry). is_passed entry.stage) (get_or-drop compared (restaged stage queue.entries) i d ∙ at (compared + i) d within) ∙ stamped_passed epoch (get_or queue.entries (compared + i) d).stage ∙ ap (λ (entry : Entry). is_passed entry.stage) (sym (get_or-drop compared queue.entries i d)) ∙ kept.others i d short;
+      ap (λ (entry : Entry). is_passed entry.stage) (get_or-drop compared (restaged stage queue.entries) i d ∙ at (compared + i) d within) ∙ stamped_passed
+      epoch (get_or queue.entries (compared + i) d).stage ∙ ap (λ (entry : Entry). is_passed entry.stage) (sym (get_or-drop compared queue.entries i d)) ∙
+      kept.others i d short;
   last = λ i j d before within.
       let lt : i < length queue.entries = omega (arith, before, within, long) in
       λ unstamped. absurd (let h : false ≡ true = sym (has_stamp epoch (get_or queue.entries i d).stage) ∙ ap (λ (entry : Entry). is_unstamped entry.stage) (sym (at i d lt)) ∙ unstamped in cc);
@@ -126,7 +140,9 @@ stamped_kept limit compared epoch queue kept = record {
     at : (i : ℕ) (d : Entry) → i < length queue.entries → get_or (restaged stage queue.entries) i d ≡ with_stage stage (get_or queue.entries i d)
     at i d lt = get_or-map (with_stage stage) queue.entries i d d lt
 
-pub compared_kept : (limit compared most now : ℕ) (announces : List ℕ) (queue : Queue) → most ≤ length queue.entries → most ≤ now → compared ≤ now → now ≤ length queue.entries → IsKeptList limit compared queue → IsKeptList limit now (record queue { entries = first_restaged most (compared_with announces) queue.entries })
+pub compared_kept : (limit compared most now : ℕ) (announces : List ℕ) (queue : Queue) → most ≤ length queue.entries → most ≤ now → compared ≤ now
+    → now ≤ length queue.entries → IsKeptList limit compared queue
+    → IsKeptList limit now (record queue { entries = first_restaged most (compared_with announces) queue.entries })
 compared_kept limit compared most now announces queue few above over within kept = record {
   list = renewed_is_list (record { limit = limit; entries = queue.entries }) after long (λ i d lt. stays stage most queue.entries few (λ (entry : Entry). entry.number) (λ entry. refl) i d) kept.list;
   room = kept.room;
@@ -136,7 +152,9 @@ compared_kept limit compared most now announces queue few above over within kept
       let b = length-drop compared queue.entries in
       let short : now - compared + i < length (drop compared queue.entries) = omega (arith, a, b, lt, long, over) in
       let place : compared + (now - compared + i) ≡ now + i = omega (arith, over) in
-      let same : get_or (drop now after) i d ≡ get_or (drop compared queue.entries) (now - compared + i) d = get_or-drop now after i d ∙ at_back stage most queue.entries few (now + i) d (omega (arith, above)) ∙ ap (λ k. get_or queue.entries k d) (sym place) ∙ sym (get_or-drop compared queue.entries (now - compared + i) d) in
+      let same : get_or (drop now after) i d ≡ get_or (drop compared queue.entries) (now - compared + i) d = get_or-drop now after i d ∙ at_back stage most
+      queue.entries few (now + i) d (omega (arith, above)) ∙ ap (λ k. get_or queue.entries k d) (sym place) ∙ sym
+      (get_or-drop compared queue.entries (now - compared + i) d) in
       rw same (kept.others (now - compared + i) d short);
   last = λ i j d before lt unstamped.
       unstamped_same j d ∙ kept.last i j d before (rw long at lt) (sym (unstamped_same i d) ∙ unstamped);

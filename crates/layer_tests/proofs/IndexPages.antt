@@ -16,7 +16,8 @@ use Rattle.traces.specs.chain.Fitted.{IsPageChain}
 abbrev page_of : ℕ → List ℕ → Option (List ℕ) → Option ℕ → ℕ → Page
 page_of level low high right child = record { level = level; low = low; high = high; right = right; removed = false; items = record { key = low; content = Child child false } ∷ [] }
 
-one_is_page : (level : ℕ) (low : List ℕ) (high : Option (List ℕ)) (right : Option ℕ) (child : ℕ) → 0 < level → IsTrue (is_under low high) → IsTrue (is_in_range low high low) → IsPage (page_of level low high right child)
+one_is_page : (level : ℕ) (low : List ℕ) (high : Option (List ℕ)) (right : Option ℕ) (child : ℕ) → 0 < level → IsTrue (is_under low high)
+    → IsTrue (is_in_range low high low) → IsPage (page_of level low high right child)
 unfolding IsStrictlySortedBy
 one_is_page level low high right child index spans within = record {
   spans = spans;

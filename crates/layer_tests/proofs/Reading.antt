@@ -18,7 +18,8 @@ module _ (seen : ℕ → Option Record) where
   lies_behind [] head row w is = ap (λ n. n ∷ []) is
   lies_behind (newest ∷ under) head row w is = ap (λ (rows : List ℕ). head ∷ rows) (deeper (next_row newest) (λ below. lies_behind under below row w) is.1)
     where
-      deeper : (next : Option ℕ) → ((below : ℕ) → IsFront seen below under row → chain_rows below (under ++ w ∷ []) ≡ chain_rows below under ++ row ∷ []) → MatchOption next ⊥ (λ below. IsFront seen below under row)
+      deeper : (next : Option ℕ) → ((below : ℕ) → IsFront seen below under row → chain_rows below (under ++ w ∷ []) ≡ chain_rows below under ++ row ∷ [])
+          → MatchOption next ⊥ (λ below. IsFront seen below under row)
           → chain_rows (unwrap_or next 0) (under ++ w ∷ []) ≡ chain_rows (unwrap_or next 0) under ++ row ∷ []
       deeper None on is = absurd is
       deeper (Some below) on is = on below is
@@ -50,7 +51,8 @@ module _ (seen : ℕ → Option Record) where
       deeper (Some below) f is = f below is
 
 -- the record of a place, in its row
-pub stands_at : (page : Version) (row place : ℕ) (content : Record) → row + place ≡ page.head → place < length page.chain → content ≡ get_or page.chain place content → page_record page row ≡ Some content
+pub stands_at : (page : Version) (row place : ℕ) (content : Record) → row + place ≡ page.head → place < length page.chain
+    → content ≡ get_or page.chain place content → page_record page row ≡ Some content
 stands_at page row place content at within is =
     within_head page row (omega (arith, at))
     ∙ ap (slice_get page.chain) (let same : page.head - row ≡ place = omega (arith, at) in same)

@@ -51,7 +51,8 @@ module _ (rows : ℕ → Option Record) (row : ℕ) (chain : List Record) (read 
         fits under None ends whole = rw ends at whole
         fits under (Some below) more whole = record { rest = under; stands = more; whole = append_assoc read (next ∷ []) (chain_rows below under) ∙ whole }
 
-        go : (rest : List Record) → IsChainFrom rows next rest → read ++ chain_rows next rest ≡ chain_rows row chain → MatchOption o (read ++ next ∷ [] ≡ chain_rows row chain) (λ below. HasRead rows row chain (read ++ next ∷ []) below)
+        go : (rest : List Record) → IsChainFrom rows next rest → read ++ chain_rows next rest ≡ chain_rows row chain
+            → MatchOption o (read ++ next ∷ [] ≡ chain_rows row chain) (λ below. HasRead rows row chain (read ++ next ∷ []) below)
         go [] is whole = absurd is
         go (first ∷ under) is whole =
             let same : first ≡ newest = cc (is.0, at) in
@@ -79,7 +80,8 @@ row_at rows row (newest ∷ under) is (suc place) within r d = go (next_row newe
     go None ends deeper = absurd (omega (arith, ap length ends, within))
     go (Some below) more deeper = deeper below more
 
-module _ (rows : ℕ → Option Record) (row : ℕ) (chain : List Record) (is : IsChainFrom rows row chain) (read : List ℕ) (whole : read ≡ chain_rows row chain) (place : ℕ) (within : place < length chain) (r : ℕ) (d : Record) where
+module _ (rows : ℕ → Option Record) (row : ℕ) (chain : List Record) (is : IsChainFrom rows row chain) (read : List ℕ) (whole : read ≡ chain_rows row chain)
+    (place : ℕ) (within : place < length chain) (r : ℕ) (d : Record) where
   pub record_there : rows (get_or read place r) ≡ Some (get_or chain place d)
   record_there = rw whole (row_at rows row chain is place within r d)
 

@@ -48,9 +48,11 @@ placed memory pages pid among = go among.rest among.whole among.next
 
 module _ (limits : Limits) (memory : Memory) (leaves : HasLeafPages limits memory) where
   -- a leaf stands, at a PID in range
-  stands_at : (front : List LivePage) (page : LivePage) (later : List LivePage) (pid : ℕ) → leaves.pages ≡ front ++ page ∷ later → IsSideChainFrom memory pid (page ∷ later) → (pid < limits.pids) × StandsAt memory pid page.chain
+  stands_at : (front : List LivePage) (page : LivePage) (later : List LivePage) (pid : ℕ) → leaves.pages ≡ front ++ page ∷ later
+      → IsSideChainFrom memory pid (page ∷ later) → (pid < limits.pids) × StandsAt memory pid page.chain
   stands_at front page later pid whole next =
-      let each : AllByRecursion (IsLeafPage limits memory) (page ∷ later) = back_all (IsLeafPage limits memory) front (page ∷ later) (subst (AllByRecursion (IsLeafPage limits memory)) whole leaves.each) in
+      let each : AllByRecursion (IsLeafPage limits memory) (page ∷ later) = back_all (IsLeafPage limits memory) front (page ∷ later)
+      (subst (AllByRecursion (IsLeafPage limits memory)) whole leaves.each) in
       (subst (λ p. p < limits.pids) next.0 each.0.pid, record { records = next.1.records; fits = each.0.fits })
 
   pub among_stands : (pid : ℕ) → IsAmong memory leaves.pages pid → (pid < limits.pids) × ((chain : List Record) × StandsAt memory pid chain)
@@ -70,7 +72,8 @@ module _ (limits : Limits) (memory : Memory) (leaves : HasLeafPages limits memor
       go [] e next whole = absurd next
       go (page ∷ later) e next whole = record { front = []; page = page; later = later; whole = e; next = next; low = rw whole.0 (empty_lowest from); enough = omega arith }
 
-  pub from_near : (from : Key) (near : ℕ) → IsAmong memory leaves.pages near → ((chain : List Record) → StandsAt memory near chain → IsUpTo (low_in chain) from) → IsOnWay memory leaves.pages from 0 near
+  pub from_near : (from : Key) (near : ℕ) → IsAmong memory leaves.pages near → ((chain : List Record) → StandsAt memory near chain → IsUpTo (low_in chain) from)
+      → IsOnWay memory leaves.pages from 0 near
   from_near from near among low =
       let p = placed memory leaves.pages near among in
       record { front = p.front; page = p.page; later = p.later; whole = p.whole; next = p.next; low = low p.page.chain (stands_at p.front p.page p.later near p.whole p.next).1; enough = omega arith }
@@ -101,7 +104,9 @@ module _ (limits : Limits) (memory : Memory) (leaves : HasLeafPages limits memor
           follows = subst (λ o. MatchOption o (at.later ≡ []) (λ next. IsSideChainFrom memory next at.later)) (sym is.right ∙ e) at.next.2
 
           after : IsWholeFrom high at.later
-          after = subst (λ o. MatchOption o (at.later ≡ []) (λ next. IsWholeFrom next at.later)) (sym is.high ∙ ends) (whole_at [] at.front at.page at.later (subst (IsWholeFrom []) at.whole leaves.whole)).1
+          after =
+              subst (λ o. MatchOption o (at.later ≡ []) (λ next. IsWholeFrom next at.later)) (sym is.high ∙ ends)
+              (whole_at [] at.front at.page at.later (subst (IsWholeFrom []) at.whole leaves.whole)).1
 
           go : (later : List LivePage) → leaves.pages ≡ at.front ++ at.page ∷ later → IsSideChainFrom memory right later → IsWholeFrom high later → IsOnWay memory leaves.pages from (count + 1) right
           go [] whole next ranges = absurd next
@@ -124,7 +129,8 @@ module _ (limits : Limits) (memory : Memory) (leaves : HasLeafPages limits memor
     pub found_among : IsAmong memory leaves.pages pid
     found_among = record { front = f.front; rest = f.page ∷ f.later; whole = f.whole; next = f.next }
 
-    pub shows_from : (made : Page) → ((chain : List Record) → StandsAt memory pid chain → Makes chain made) → IsRuled made → (pairs : List (Key × Key)) → ArePairsOf (λ key. value_of (content_at made.items key)) from None pairs → IsPageFrom leaves.pages from pairs made.high
+    pub shows_from : (made : Page) → ((chain : List Record) → StandsAt memory pid chain → Makes chain made) → IsRuled made → (pairs : List (Key × Key))
+        → ArePairsOf (λ key. value_of (content_at made.items key)) from None pairs → IsPageFrom leaves.pages from pairs made.high
     shows_from made makes ruled pairs are =
         let is : Makes f.page.chain made = makes f.page.chain found_stands.1 in
         record {

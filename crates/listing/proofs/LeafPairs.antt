@@ -73,13 +73,15 @@ module _ (chain : List Record) (leaf : level_in chain ≡ 0) (pairs : List (List
 
   pub exact : (key value : List ℕ) → Contains pairs (key, value) ↔ (content_in chain key ≡ Some (Value value))
   exact key value = (
-    (λ among. value_is (content_in chain key) value (sym (decided key) ∙ lookup-from_Contains (eq_by_cmp_equiv nat_list_cmp_total) key value pairs (IsDistinct-from_sorted key_cmp (map (λ pair. pair.0) pairs) ascending) among)),
+    (λ among. value_is (content_in chain key) value
+        (sym (decided key) ∙ lookup-from_Contains (eq_by_cmp_equiv nat_list_cmp_total) key value pairs (IsDistinct-from_sorted key_cmp (map (λ pair. pair.0) pairs) ascending) among)),
     (λ says. Contains-from_lookup (tells_apart exact_bytes) key value pairs (decided key ∙ ap value_in says)),
   )
 
   pub inside : AllByRecursion (λ pair. Covers chain pair.0) pairs
   inside = rw has.are (of_keys (Covers chain) has.page.items values
-      (all-weaker _ (λ (item : Item). Covers chain item.key) (λ item within. covers_from chain item.key (rw (← has.makes.low, ← has.makes.high) within)) has.page.items (recursion_from_All _ has.page.items has.ruled.is_page.within)))
+      (all-weaker _ (λ (item : Item). Covers chain item.key) (λ item within. covers_from chain item.key (rw (← has.makes.low, ← has.makes.high) within))
+      has.page.items (recursion_from_All _ has.page.items has.ruled.is_page.within)))
 
   -- the page's low key is below its end
   pub spans : IsUnder (low_in chain) (high_in chain)

@@ -42,7 +42,8 @@ of_all_keys : (P : List ℕ → Type 0) (pairs : Pairs) → AllByRecursion P (ke
 of_all_keys P [] each = tt
 of_all_keys P (pair ∷ pairs) each = (each.0, of_all_keys P pairs each.1)
 
-join : (front back : Pairs) → IsStrictlySortedBy key_cmp (keys front) → IsStrictlySortedBy key_cmp (keys back) → AllByRecursion (λ pair. AllByRecursion (λ other. key_cmp pair.0 other.0 ≡ Less) back) front → IsStrictlySortedBy key_cmp (keys (front ++ back))
+join : (front back : Pairs) → IsStrictlySortedBy key_cmp (keys front) → IsStrictlySortedBy key_cmp (keys back)
+    → AllByRecursion (λ pair. AllByRecursion (λ other. key_cmp pair.0 other.0 ≡ Less) back) front → IsStrictlySortedBy key_cmp (keys (front ++ back))
 unfolding IsStrictlySortedBy
 join [] back first second across = second
 join (pair ∷ front) back first second across = (
@@ -64,7 +65,8 @@ ascends low (page ∷ pages) pairs whole leaf (own, rest, is, others, all) = go 
     above : AllByRecursion (λ pair. IsUpTo low pair.0) own
     above = all-weaker _ (λ pair. IsUpTo low pair.0) (λ pair c. subst (λ key. IsUpTo key pair.0) whole.0 c.low) own in_page
 
-    go : ((high : Key) → IsWholeFrom high pages → Ascend high rest) → (high : Option Key) → high_in page.chain ≡ high → MatchOption high (pages ≡ []) (λ next. IsWholeFrom next pages) → Ascend low pairs
+    go : ((high : Key) → IsWholeFrom high pages → Ascend high rest) → (high : Option Key) → high_in page.chain ≡ high
+        → MatchOption high (pages ≡ []) (λ next. IsWholeFrom next pages) → Ascend low pairs
     go after None e last =
         let none : rest ≡ [] = subst (λ ps. HavePages ps rest) last others in
         let only : pairs ≡ own = all ∙ ap (λ ps. own ++ ps) none ∙ append-nil own in
@@ -73,7 +75,8 @@ ascends low (page ∷ pages) pairs whole leaf (own, rest, is, others, all) = go 
         let later = after high next in
         let under : IsBelow low high = rw (← whole.0) (subst (IsUnder (low_in page.chain)) e (spans page.chain leaf.0 own is)) in
         let across : AllByRecursion (λ pair. AllByRecursion (λ other. key_cmp pair.0 other.0 ≡ Less) rest) own = all-weaker _ (λ pair. AllByRecursion (λ other. key_cmp pair.0 other.0 ≡ Less) rest)
-        (λ pair c. all-weaker _ (λ other. key_cmp pair.0 other.0 ≡ Less) (λ other from. below_reach pair.0 high other.0 (below_from pair.0 high (subst (IsUnder pair.0) e c.high)) from) rest later.0) own in_page in
+        (λ pair c. all-weaker _ (λ other. key_cmp pair.0 other.0 ≡ Less) (λ other from. below_reach pair.0 high other.0 (below_from pair.0 high (subst (IsUnder pair.0) e c.high)) from) rest later.0)
+        own in_page in
         rw all (
           all-append _ own rest above (all-weaker _ (λ pair. IsUpTo low pair.0) (λ pair from. upto_trans low high pair.0 (below_not low high under) from) rest later.0),
           join own rest (ascending page.chain leaf.0 own is) later.1 across,
@@ -99,13 +102,16 @@ listed_said (page ∷ pages) pairs leaf (own, rest, is, others, all) key value a
     covered = covers_to page.chain key (All-contains (λ pair. Covers page.chain pair.0) own (key, value) (All-from_recursion _ own (inside page.chain leaf.0 own is)) here);
     says = (exact page.chain leaf.0 own is key value).0 here;
   }
-  | inr later ↦ let said = listed_said pages rest leaf.1 others key value later in record { page = said.page; among = later_page page said.page pages said.among; covered = said.covered; says = said.says }
+  | inr later ↦ let said = listed_said pages rest leaf.1 others key value later in record
+      { page = said.page; among = later_page page said.page pages said.among; covered = said.covered; says = said.says }
 ]
 
-said_listed : (pages : List LivePage) (pairs : Pairs) → AllByRecursion AreLeaf pages → HavePages pages pairs → (key value : List ℕ) (page : LivePage) → Contains pages page → content_in page.chain key ≡ Some (Value value) → Contains pairs (key, value)
+said_listed : (pages : List LivePage) (pairs : Pairs) → AllByRecursion AreLeaf pages → HavePages pages pairs → (key value : List ℕ) (page : LivePage)
+    → Contains pages page → content_in page.chain key ≡ Some (Value value) → Contains pairs (key, value)
 said_listed [] pairs leaf none key value page (n, lt, at) says = absurd (omega (arith, lt))
 said_listed (first ∷ pages) pairs leaf (own, rest, is, others, all) key value page among says = elim (Contains-append_cases (first ∷ []) pages page among) [
-  | inl here ↦ rw all (Contains-append_left own rest (key, value) ((exact first.chain leaf.0 own is key value).1 (subst (λ (p : LivePage). content_in p.chain key ≡ Some (Value value)) (alone here) says)))
+  | inl here ↦ rw all
+      (Contains-append_left own rest (key, value) ((exact first.chain leaf.0 own is key value).1 (subst (λ (p : LivePage). content_in p.chain key ≡ Some (Value value)) (alone here) says)))
   | inr later ↦ rw all (Contains-append_right own rest (key, value) (said_listed pages rest leaf.1 others key value page later says))
 ]
   where
@@ -125,7 +131,8 @@ module _ (limits : Limits) (entries : List Entry) where
       record {
         ascending = (ascends [] leaves.pages pairs leaves.whole leaf has).1;
         exact = λ key value. (
-          (λ among. let said = listed_said leaves.pages pairs leaf has key value among in (everywhere key, (there.same key value).0 (leaves.pages, said.page, leaves.leaves, said.among, said.covered, said.says))),
+          (λ among. let said = listed_said leaves.pages pairs leaf has key value among in
+              (everywhere key, (there.same key value).0 (leaves.pages, said.page, leaves.leaves, said.among, said.covered, said.says))),
           (λ says.
               let (pages, page, are, among, covered, decides) = (there.same key value).1 says.1 in
               said_listed leaves.pages pairs leaf has key value page (subst (λ ps. Contains ps page) (one (memory_of limits entries) 1 pages leaves.pages are leaves.leaves) among) decides),

@@ -39,14 +39,16 @@ above low (first ∷ pages) whole spans page among = elim (first_or_later first 
   | inr later ↦ go (λ high next. above high pages next spans.1 page later) (high_in first.chain) refl whole.1 later
 ]
   where
-    go : ((high : Key) → IsWholeFrom high pages → IsUpTo high (low_in page.chain)) → (high : Option Key) → high_in first.chain ≡ high → MatchOption high (pages ≡ []) (λ next. IsWholeFrom next pages) → Contains pages page → IsUpTo low (low_in page.chain)
+    go : ((high : Key) → IsWholeFrom high pages → IsUpTo high (low_in page.chain)) → (high : Option Key) → high_in first.chain ≡ high
+        → MatchOption high (pages ≡ []) (λ next. IsWholeFrom next pages) → Contains pages page → IsUpTo low (low_in page.chain)
     go after None e last later = absurd (none_there page (subst (λ ps. Contains ps page) last later))
     go after (Some high) e next later =
         let under : IsBelow low high = rw (← whole.0) (subst (IsUnder (low_in first.chain)) e spans.0) in
         upto_trans low high (low_in page.chain) (below_not low high under) (after high next)
 
 -- a key is in the range of one page alone
-pub one_has : (low : Key) (pages : List LivePage) → IsWholeFrom low pages → AllByRecursion Spans pages → (key : Key) (one other : LivePage) → Contains pages one → Contains pages other → Covers one.chain key → Covers other.chain key → one ≡ other
+pub one_has : (low : Key) (pages : List LivePage) → IsWholeFrom low pages → AllByRecursion Spans pages → (key : Key) (one other : LivePage) → Contains pages one
+    → Contains pages other → Covers one.chain key → Covers other.chain key → one ≡ other
 one_has low [] whole spans key one other in_one in_other has has_other = absurd whole
 one_has low (first ∷ pages) whole spans key one other in_one in_other has has_other = elim (first_or_later first one pages in_one) [
   | inl here ↦ elim (first_or_later first other pages in_other) [
@@ -64,7 +66,9 @@ one_has low (first ∷ pages) whole spans key one other in_one in_other has has_
       where
         go : (high : Option Key) → high_in first.chain ≡ high → MatchOption high (pages ≡ []) (λ next. IsWholeFrom next pages) → ⊥
         go None e last = none_there there (subst (λ ps. Contains ps there) last later)
-        go (Some high) e next = not_below key high (subst (IsUnder key) e (subst (λ (p : LivePage). IsUnder key (high_in p.chain)) is has_here.high)) (upto_trans high (low_in there.chain) key (above high pages next spans.1 there later) has_there.low)
+        go (Some high) e next =
+            not_below key high (subst (IsUnder key) e (subst (λ (p : LivePage). IsUnder key (high_in p.chain)) is has_here.high))
+            (upto_trans high (low_in there.chain) key (above high pages next spans.1 there later) has_there.low)
 
     rest : ((high : Key) → IsWholeFrom high pages → one ≡ other) → (high : Option Key) → MatchOption high (pages ≡ []) (λ next. IsWholeFrom next pages) → Contains pages one → one ≡ other
     rest after None last beyond = absurd (none_there one (subst (λ ps. Contains ps one) last beyond))
@@ -79,6 +83,7 @@ whole_at low (first ∷ front) page later whole = go (λ high next. whole_at hig
     some_page [] e = cc
     some_page (p ∷ ps) e = cc
 
-    go : ((high : Key) → IsWholeFrom high (front ++ page ∷ later) → IsWholeFrom (low_in page.chain) (page ∷ later)) → (high : Option Key) → MatchOption high (front ++ page ∷ later ≡ []) (λ next. IsWholeFrom next (front ++ page ∷ later)) → IsWholeFrom (low_in page.chain) (page ∷ later)
+    go : ((high : Key) → IsWholeFrom high (front ++ page ∷ later) → IsWholeFrom (low_in page.chain) (page ∷ later)) → (high : Option Key)
+        → MatchOption high (front ++ page ∷ later ≡ []) (λ next. IsWholeFrom next (front ++ page ∷ later)) → IsWholeFrom (low_in page.chain) (page ∷ later)
     go after None last = absurd (some_page front last)
     go after (Some high) next = after high next

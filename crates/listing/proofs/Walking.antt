@@ -38,7 +38,8 @@ listed_one page own has = (own, [], has, refl, sym (append-nil own))
 
 listed_more : (front back : List LivePage) (before own : Pairs) → HavePages front before → HavePages back own → HavePages (front ++ back) (before ++ own)
 listed_more [] back before own none has = rw none has
-listed_more (page ∷ front) back before own (first, rest, is, others, all) has = (first, rest ++ own, is, listed_more front back rest own others has, ap (λ p. p ++ own) all ∙ append_assoc first rest own)
+listed_more (page ∷ front) back before own (first, rest, is, others, all) has =
+    (first, rest ++ own, is, listed_more front back rest own others has, ap (λ p. p ++ own) all ∙ append_assoc first rest own)
 
 -- the leaf that is next, and those to its right
 record IsNext (limits : Limits) (memory : Memory) (pages front : List LivePage) (pid : ℕ) : Type 0 where
@@ -56,7 +57,8 @@ module _ (limits : Limits) (memory : Memory) (leaves : HasLeafPages limits memor
       go : (rest : List LivePage) → leaves.pages ≡ at.front ++ rest → IsSideChainFrom memory pid rest → IsNext limits memory leaves.pages at.front pid
       go [] whole next = absurd next
       go (page ∷ later) whole next =
-          let each : AllByRecursion (IsLeafPage limits memory) (page ∷ later) = back_all (IsLeafPage limits memory) at.front (page ∷ later) (subst (AllByRecursion (IsLeafPage limits memory)) whole leaves.each) in
+          let each : AllByRecursion (IsLeafPage limits memory) (page ∷ later) = back_all (IsLeafPage limits memory) at.front (page ∷ later)
+          (subst (AllByRecursion (IsLeafPage limits memory)) whole leaves.each) in
           record { page = page; later = later; whole = whole; below = subst (λ p. p < limits.pids) next.0 each.0.pid; stands = record { records = next.1.records; fits = each.0.fits }; right = next.2 }
 
   -- there is a leaf more

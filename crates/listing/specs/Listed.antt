@@ -87,8 +87,11 @@ IsListedPage limits entries from pairs next = (linear : IsLinearized limits (map
 
 -- what a leaf that stands has from a key on is such a page
 abbrev pub PagesAreShown : Type 0
-PagesAreShown = (limits : Limits) (entries : List Entry) (leaves : HasLeafPages limits (memory_of limits entries)) (from : List ℕ) (pairs : List (List ℕ × List ℕ)) (next : Option (List ℕ)) → IsPageFrom leaves.pages from pairs next → IsListedPage limits entries from pairs next
+PagesAreShown =
+    (limits : Limits) (entries : List Entry) (leaves : HasLeafPages limits (memory_of limits entries)) (from : List ℕ) (pairs : List (List ℕ × List ℕ)) (next : Option (List ℕ))
+    → IsPageFrom leaves.pages from pairs next → IsListedPage limits entries from pairs next
 
 -- what is listed of the leaves that stand is a listing
 abbrev pub PagesAreListed : Type 0
-PagesAreListed = (limits : Limits) (entries : List Entry) (leaves : HasLeafPages limits (memory_of limits entries)) (pairs : List (List ℕ × List ℕ)) → HavePages leaves.pages pairs → IsListing limits entries pairs
+PagesAreListed =
+    (limits : Limits) (entries : List Entry) (leaves : HasLeafPages limits (memory_of limits entries)) (pairs : List (List ℕ × List ℕ)) → HavePages leaves.pages pairs → IsListing limits entries pairs

@@ -47,8 +47,10 @@ told actor commands calls (entry ∷ run) asked fits is = by_entry entry (λ com
         → (is_entry_of actor e ≡ false → (c : Command) → commands' actor ≡ Some c → EndsUnanswered calls c)
         → EndsUnanswered (calls_along calls (own_entries actor (e ∷ run))) asked
     either_way e commands' rest along own other = either (is_entry_of actor e)
-        (λ mine. subst (λ (b : Bool). EndsUnanswered (calls_along calls (if b then e ∷ own_entries actor run else own_entries actor run)) asked) (sym mine) (rest commands' (call_after calls e) (own mine) along))
-        (λ others. subst (λ (b : Bool). EndsUnanswered (calls_along calls (if b then e ∷ own_entries actor run else own_entries actor run)) asked) (sym others) (rest commands' calls (other others) along))
+        (λ mine. subst (λ (b : Bool). EndsUnanswered (calls_along calls (if b then e ∷ own_entries actor run else own_entries actor run)) asked) (sym mine)
+        (rest commands' (call_after calls e) (own mine) along))
+        (λ others. subst (λ (b : Bool). EndsUnanswered (calls_along calls (if b then e ∷ own_entries actor run else own_entries actor run)) asked) (sym others)
+        (rest commands' calls (other others) along))
 
     by_entry : (e : Entry) → IsTold actor run asked → fold commands_after (commands_after commands e) run actor ≡ Some asked → EndsUnanswered (calls_along calls (own_entries actor (e ∷ run))) asked
     by_entry (Begin who c) rest along = either_way (Begin who c) (commands_after commands (Begin who c)) rest along
@@ -86,7 +88,8 @@ same_last xs ys x y e = sym (last_is x xs x) ∙ ap (last_or x) e ∙ last_is x 
 -- what stands before the last
 pub fronts : {X : Type 0} (early rest front : List X) (e : X) → early ++ rest ≡ front ++ e ∷ [] → (rest ≡ []) ⊎ ((more : List X) × (front ≡ early ++ more))
 fronts [] rest front e is = inr (front, refl)
-fronts {X = X} (x ∷ early) rest [] e is = elim rest as (λ r. early ++ r ≡ [] → (r ≡ []) ⊎ ((more : List X) × ([] ≡ (x ∷ early) ++ more))) [ [] ↦ λ t. inl refl | y ∷ ys ↦ λ t. absurd (nonempty early y ys t) ] (tail_is is)
+fronts {X = X} (x ∷ early) rest [] e is = elim rest as (λ r. early ++ r ≡ [] → (r ≡ []) ⊎ ((more : List X) × ([] ≡ (x ∷ early) ++ more)))
+    [ [] ↦ λ t. inl refl | y ∷ ys ↦ λ t. absurd (nonempty early y ys t) ] (tail_is is)
   where
     tail_is : {a b : X} {xs ys : List X} → a ∷ xs ≡ b ∷ ys → xs ≡ ys
     tail_is h = cc

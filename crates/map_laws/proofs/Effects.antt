@@ -68,7 +68,8 @@ module _ (key : List ℕ) (actor : ℕ) (before : Value) where
   any_actor (Page k) old = refl
   any_actor (Tidy k) old = refl
 
-about : (key : List ℕ) (asked : Command) (before : Value) → (if is_eq (key_cmp key (command_key asked)) then value_made asked before else before) ≡ (if is_about key asked then value_made asked before else before)
+about : (key : List ℕ) (asked : Command) (before : Value)
+    → (if is_eq (key_cmp key (command_key asked)) then value_made asked before else before) ≡ (if is_about key asked then value_made asked before else before)
 about key (Page k) before = if_same (is_eq (key_cmp key k)) before
 about key (Tidy k) before = if_same (is_eq (key_cmp key k)) before
 about key other before = refl

@@ -19,8 +19,10 @@ use Rattle.op_machine.proofs.LogLaws.{take-one}
 use Rattle.map_laws.proofs.Spans.{begun_since}
 
 -- a finished operation takes no step after its last one
-idle_then : (run : List Entry) (done actor : ℕ) (entry : Entry) (answer : Reply) → slice_get run done ≡ Some entry → ((commands : ℕ → Option Command) → commands_after commands entry actor ≡ None) → command_of (take (suc done) run) actor ≡ None
-idle_then run done actor entry answer there ends = ap (λ es. command_of es actor) (take-one run done entry there) ∙ ap (λ commands. commands actor) (command_of-push (take done run) entry) ∙ ends (command_of (take done run))
+idle_then : (run : List Entry) (done actor : ℕ) (entry : Entry) (answer : Reply) → slice_get run done ≡ Some entry
+    → ((commands : ℕ → Option Command) → commands_after commands entry actor ≡ None) → command_of (take (suc done) run) actor ≡ None
+idle_then run done actor entry answer there ends =
+    ap (λ es. command_of es actor) (take-one run done entry there) ∙ ap (λ commands. commands actor) (command_of-push (take done run) entry) ∙ ends (command_of (take done run))
 
 -- a front of a longer front
 front_of : {X : Type 0} (n m : ℕ) (xs : List X) → n ≤ m → take m xs ≡ take n xs ++ drop n (take m xs)

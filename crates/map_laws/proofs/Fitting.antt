@@ -66,11 +66,13 @@ module _ (limits : Limits) (run : List Entry) (points : List Bool) (operation : 
   true_fits reply.Tidied is = subst (λ c. IsTrue (fits c reply.Tidied)) (sym is.asks) refl
   true_fits other is = at_point other is
 
-pub reply_fits : (limits : Limits) (turns : List Turn) (run : List Entry) → IsLinearized limits turns run → (operation : Operation) (done : ℕ) (given : Reply) → IsOperation run operation → Finishes run operation done given
+pub reply_fits : (limits : Limits) (turns : List Turn) (run : List Entry) → IsLinearized limits turns run → (operation : Operation) (done : ℕ) (given : Reply)
+    → IsOperation run operation → Finishes run operation done given
     → IsTrue (fits operation.command given)
 reply_fits limits turns run linear operation done given is ends = true_fits limits run linear.points operation given (linear.answered.each operation done given is ends)
 
-pub call_fits : (limits : Limits) (turns : List Turn) (run : List Entry) → IsLinearized limits turns run → (actor place : ℕ) (asked : Command) (given : Reply) → slice_get (calls_of actor run) place ≡ Some (asked, Some given) → IsTrue (fits asked given)
+pub call_fits : (limits : Limits) (turns : List Turn) (run : List Entry) → IsLinearized limits turns run → (actor place : ℕ) (asked : Command) (given : Reply)
+    → slice_get (calls_of actor run) place ≡ Some (asked, Some given) → IsTrue (fits asked given)
 call_fits limits turns run linear actor place asked given at =
     let (done, ended) = each_ended run actor 0 (calls_of actor run) place asked given (are_in_order limits [] run actor linear.run.run refl) at in
     reply_fits limits turns run linear (record { start = ended.begun.start; actor = actor; command = asked }) done given ended.begun.is ended.ends
@@ -78,13 +80,15 @@ call_fits limits turns run linear actor place asked given at =
 -- the call that was made last
 pub last_fits : (seat : Seat) (calls : Calls) (asked : Command) (given : Reply) → IsOneHistory seat.limits seat.seen → calls_in seat ≡ calls ++ (asked, Some given) ∷ [] → IsTrue (fits asked given)
 last_fits seat calls asked given history is =
-    call_fits seat.limits (map turn_of seat.seen) seat.seen history.linearized seat.actor (length calls) asked given (ap (λ (cs : Calls). slice_get cs (length calls)) is ∙ slice_get-push calls (asked, Some given))
+    call_fits seat.limits (map turn_of seat.seen) seat.seen history.linearized seat.actor (length calls) asked given
+    (ap (λ (cs : Calls). slice_get cs (length calls)) is ∙ slice_get-push calls (asked, Some given))
 
 pub called_fits : (old new : Seat) (asked : Command) (budget : ℕ) (came : Called) → IsOneHistory new.limits new.seen → IsCalled old asked budget came new → CameFitting asked came
 called_fits old new asked budget (called.Done given) history is = last_fits new (calls_in old) asked given history is.calls
 called_fits old new asked budget called.Spent history is = tt
 
-pub resumed_fits : (old new : Seat) (asked : Command) (budget : ℕ) (came : Called) → IsOneHistory new.limits new.seen → unfinished_command old ≡ Some asked → IsResumed old budget came new → CameFitting asked came
+pub resumed_fits : (old new : Seat) (asked : Command) (budget : ℕ) (came : Called) → IsOneHistory new.limits new.seen → unfinished_command old ≡ Some asked
+    → IsResumed old budget came new → CameFitting asked came
 resumed_fits old new asked budget (called.Done given) history has is =
     let (before, unanswered) = last_unanswered old.actor old.seen asked has in
     last_fits new before asked given history (is.calls ∙ ap (λ (cs : Calls). answered_last cs given) unanswered ∙ answered_snoc before asked None given)

@@ -36,7 +36,8 @@ module _ (run : List Entry) (actor : ℕ) where
   in_order early ((asked, None) ∷ calls) till is = absurd is
   in_order early ((asked, Some given) ∷ calls) till (done, ended, rest) = (done, ended, in_order (suc done) calls till rest)
 
-  in_order_but_one : (early : ℕ) (calls : Calls) (asked : Command) (start : ℕ) → IsOperation run (operation_at actor start asked) → AreDone early calls start → AreInOrder run actor early (calls ++ (asked, None) ∷ [])
+  in_order_but_one : (early : ℕ) (calls : Calls) (asked : Command) (start : ℕ) → IsOperation run (operation_at actor start asked) → AreDone early calls start
+      → AreInOrder run actor early (calls ++ (asked, None) ∷ [])
   in_order_but_one early [] asked start is late = (record { start = start; late = late; is = is }, refl)
   in_order_but_one early ((other, None) ∷ calls) asked start is done = absurd done
   in_order_but_one early ((other, Some given) ∷ calls) asked start is (done, ended, rest) = (done, ended, in_order_but_one (suc done) calls asked start is rest)
@@ -62,13 +63,17 @@ module _ (run : List Entry) (actor : ℕ) where
     by_now calls (inr busy) = subst (AreInOrder run actor early) (sym busy.is) (in_order_but_one early busy.calls busy.asked busy.start busy.opened.begins busy.holds)
 
 -- the calls from a place on at which the actor had none
-pub are_in_order : (limits : Limits) (front back : List Entry) (actor : ℕ) → IsRun limits (front ++ back) → command_of front actor ≡ None → AreInOrder (front ++ back) actor (length front) (calls_of actor back)
+pub are_in_order : (limits : Limits) (front back : List Entry) (actor : ℕ) → IsRun limits (front ++ back) → command_of front actor ≡ None
+    → AreInOrder (front ++ back) actor (length front) (calls_of actor back)
 are_in_order limits front back actor is_run none =
     by_now (front ++ back) actor (length front) (calls_of actor back)
-    (keeps_on (front ++ back) actor (length front) (Done (front ++ back) actor (length front)) (Begun (front ++ back) actor (length front)) limits is_run (keeps (front ++ back) actor (length front)) front back refl (omega arith) none (omega arith))
+    (keeps_on (front ++ back) actor (length front) (Done (front ++ back) actor (length front)) (Begun (front ++ back) actor (length front)) limits is_run
+    (keeps (front ++ back) actor (length front)) front back refl (omega arith) none (omega arith))
 
 earlier : (run : List Entry) (actor early late : ℕ) (asked : Command) (given : Reply) (done : ℕ) → early ≤ late → IsEnded run actor late asked given done → IsEnded run actor early asked given done
-earlier run actor early late asked given done le ended = let then' = ended.begun.late in record { begun = record { start = ended.begun.start; late = omega arith; is = ended.begun.is }; ends = ended.ends }
+earlier run actor early late asked given done le ended =
+    let then' = ended.begun.late in
+    record { begun = record { start = ended.begun.start; late = omega arith; is = ended.begun.is }; ends = ended.ends }
 
 both_same : (v w : Command × Option Reply) → Some v ≡ Some w → (v.0 ≡ w.0) × (v.1 ≡ w.1)
 both_same v w e = let pair : v ≡ w = cc in (λ i. (pair i).0, λ i. (pair i).1)
@@ -77,7 +82,8 @@ some_same : {x y : Reply} → Some x ≡ Some y → x ≡ y
 some_same e = cc
 
 -- each call that has its reply
-pub each_ended : (run : List Entry) (actor early : ℕ) (calls : Calls) (place : ℕ) (asked : Command) (given : Reply) → AreInOrder run actor early calls → slice_get calls place ≡ Some (asked, Some given) → (done : ℕ) × IsEnded run actor early asked given done
+pub each_ended : (run : List Entry) (actor early : ℕ) (calls : Calls) (place : ℕ) (asked : Command) (given : Reply) → AreInOrder run actor early calls
+    → slice_get calls place ≡ Some (asked, Some given) → (done : ℕ) × IsEnded run actor early asked given done
 each_ended run actor early [] place asked given are at = absurd (cc)
 each_ended run actor early ((other, None) ∷ calls) zero asked given are at = let said : None ≡ Some given = (both_same (other, None) (asked, Some given) at).1 in absurd (cc)
 each_ended run actor early ((other, None) ∷ calls) (suc place) asked given (begun, none) at = absurd (in_none (subst (λ (cs : Calls). slice_get cs place ≡ Some (asked, Some given)) none at))

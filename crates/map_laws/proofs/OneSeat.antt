@@ -21,7 +21,8 @@ there : (limits : Limits) (run : List Entry) (operation : Operation) → IsRun l
 there limits run operation is_run is = (is_run.each operation.start (Begin operation.actor operation.command) is).0
 
 -- who has no operation has no calls
-nothing_told : (run : List Entry) (actor : ℕ) (key : List ℕ) (calls : Calls) → ((operation : Operation) → IsOperation run operation → operation.actor ≡ actor → ⊥) → AreInOrder run actor 0 calls → AreOwnReplies key None calls
+nothing_told : (run : List Entry) (actor : ℕ) (key : List ℕ) (calls : Calls)
+    → ((operation : Operation) → IsOperation run operation → operation.actor ≡ actor → ⊥) → AreInOrder run actor 0 calls → AreOwnReplies key None calls
 nothing_told run actor key [] never are = tt
 nothing_told run actor key ((asked, None) ∷ calls) never (begun, none) = absurd (never (operation_at actor begun.start asked) begun.is refl)
 nothing_told run actor key ((asked, Some given) ∷ calls) never (done, ended, rest) = absurd (never (operation_at actor ended.begun.start asked) ended.begun.is refl)
@@ -29,4 +30,6 @@ nothing_told run actor key ((asked, Some given) ∷ calls) never (done, ended, r
 pub one_actor : (limits : Limits) (turns : List Turn) (run : List Entry) (actor : ℕ) (key : List ℕ) → limits.actors ≡ 1 → IsLinearized limits turns run → AreOwnReplies key None (calls_of actor run)
 one_actor limits turns run actor key one linear = dite (ℕ_discrete actor 0)
     (λ first. own_replies limits turns run actor key linear (record { each = λ operation is may. let low = there limits run operation linear.run.run is in omega arith }))
-    (λ other. nothing_told run actor key (calls_of actor run) (λ operation is same. let low = there limits run operation linear.run.run is in absurd (omega (arith, other, same))) (are_in_order limits [] run actor linear.run.run refl))
+    (λ other. nothing_told run actor key (calls_of actor run)
+    (λ operation is same. let low = there limits run operation linear.run.run is in absurd (omega (arith, other, same)))
+    (are_in_order limits [] run actor linear.run.run refl))

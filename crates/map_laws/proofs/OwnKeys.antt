@@ -42,7 +42,8 @@ abbrev pub Value : Type 0
 Value = Option (List ℕ)
 
 module _ (key : List ℕ) where
-  one_more : (before : Value) (calls : Calls) (asked : Command) (given : Reply) → AreOwnReplies key before calls → (IsTrue (tells key asked given) → reply_of asked (value_through key before calls) ≡ Some given)
+  one_more : (before : Value) (calls : Calls) (asked : Command) (given : Reply) → AreOwnReplies key before calls
+      → (IsTrue (tells key asked given) → reply_of asked (value_through key before calls) ≡ Some given)
       → AreOwnReplies key before (calls ++ (asked, Some given) ∷ [])
   one_more before [] asked given are is = (is, tt)
   one_more before ((other, None) ∷ calls) asked given are is = one_more before calls asked given are is
@@ -53,7 +54,8 @@ module _ (key : List ℕ) where
   one_open before ((other, None) ∷ calls) asked are = one_open before calls asked are
   one_open before ((other, Some said) ∷ calls) asked (first, rest) = (first, one_open (value_then key before other said) calls asked rest)
 
-  pub through_one : (before : Value) (calls : Calls) (asked : Command) (given : Reply) → value_through key before (calls ++ (asked, Some given) ∷ []) ≡ value_then key (value_through key before calls) asked given
+  pub through_one : (before : Value) (calls : Calls) (asked : Command) (given : Reply)
+      → value_through key before (calls ++ (asked, Some given) ∷ []) ≡ value_then key (value_through key before calls) asked given
   through_one before [] asked given = refl
   through_one before ((other, None) ∷ calls) asked given = through_one before calls asked given
   through_one before ((other, Some said) ∷ calls) asked given = through_one (value_then key before other said) calls asked given
@@ -67,12 +69,14 @@ and_false true b is = is
 and_false false b is = refl
 
 -- a reply with a point is the map's there
-replied : (limits : Limits) (run : List Entry) (points : List Bool) (operation : Operation) (given : Reply) → has_point given ≡ true → IsTrueReply limits run points operation given → RepliesAtPoint limits run points operation given
+replied : (limits : Limits) (run : List Entry) (points : List Bool) (operation : Operation) (given : Reply) → has_point given ≡ true
+    → IsTrueReply limits run points operation given → RepliesAtPoint limits run points operation given
 replied limits run points operation reply.Full has says = absurd (cc)
 replied limits run points operation reply.Tidied has says = absurd (cc)
 replied limits run points operation other has says = says
 
-at_key : (key : List ℕ) (log : List Update) (memory : Memory) (asked : Command) (given : Reply) → RepliesAt memory log asked given → is_about key asked ≡ true → reply_of asked (logged_value log key) ≡ Some given
+at_key : (key : List ℕ) (log : List Update) (memory : Memory) (asked : Command) (given : Reply) → RepliesAt memory log asked given → is_about key asked ≡ true
+    → reply_of asked (logged_value log key) ≡ Some given
 at_key key log memory asked given (inl by_value) is = subst (λ (k : List ℕ). reply_of asked (logged_value log k) ≡ Some given) (sym (about_key key asked is)) by_value
 at_key key log memory asked given (inr page) is = let never : false ≡ true = sym (ap (is_about key) page.asks) ∙ is in absurd (cc)
 
@@ -93,12 +97,14 @@ module _ (limits : Limits) (run : List Entry) (points : List Bool) (pointed : Ha
 
   marked_begin : (n actor : ℕ) (asked : Command) (marked : Bool) → slice_get run n ≡ Some (Begin actor asked) → slice_get points n ≡ Some marked → value_at (suc n) ≡ value_at n
   marked_begin n actor asked false at mark = unmarked n (Begin actor asked) at mark
-  marked_begin n actor asked true at mark = ap (λ (log : List Update). logged_value log key) (log_at-step run points n (Begin actor asked) true pointed.beside at mark ∙ append-nil (log_at run points n))
+  marked_begin n actor asked true at mark =
+      ap (λ (log : List Update). logged_value log key) (log_at-step run points n (Begin actor asked) true pointed.beside at mark ∙ append-nil (log_at run points n))
 
   at_begin : (n actor : ℕ) (asked : Command) → slice_get run n ≡ Some (Begin actor asked) → value_at (suc n) ≡ value_at n
   at_begin n actor asked at = let m = mark_at n (Begin actor asked) at in marked_begin n actor asked m.0 at m.1
 
-  marked_step : (n actor : ℕ) (step : StepOf Record) (told : Answer Record) (said : Option Reply) (asked : Command) → slice_get run n ≡ Some (Step actor step told said) → slice_get points n ≡ Some true → command_of (take n run) actor ≡ Some asked
+  marked_step : (n actor : ℕ) (step : StepOf Record) (told : Answer Record) (said : Option Reply) (asked : Command)
+      → slice_get run n ≡ Some (Step actor step told said) → slice_get points n ≡ Some true → command_of (take n run) actor ≡ Some asked
       → value_at (suc n) ≡ (if is_about key asked then value_made asked (value_at n) else value_at n)
   marked_step n actor step told said asked at mark has =
       ap (λ (log : List Update). logged_value log key) (log_at-step run points n (Step actor step told said) true pointed.beside at mark
@@ -124,14 +130,18 @@ module _ (limits : Limits) (run : List Entry) (points : List Bool) (pointed : Ha
     -- what others do leaves the key's value
     kept_by : (asked : Command) (before : Value) → may_change key asked ≡ false → (if is_about key asked then value_made asked before else before) ≡ before
     kept_by asked before never = either (is_about key asked)
-        (λ is. ap (λ (b : Bool). if b then value_made asked before else before) is ∙ reader_keeps asked before (either (is_writer asked) (λ writes. let may : may_change key asked ≡ true = and_both (is_about key asked) (is_writer asked) is writes in absurd (cc)) (λ reads. reads)))
+        (λ is. ap (λ (b : Bool). if b then value_made asked before else before) is ∙ reader_keeps asked before
+        (either (is_writer asked) (λ writes. let may : may_change key asked ≡ true = and_both (is_about key asked) (is_writer asked) is writes in absurd (cc)) (λ reads. reads)))
         (λ apart. ap (λ (b : Bool). if b then value_made asked before else before) apart)
 
-    step_of_other : (n other : ℕ) (step : StepOf Record) (told : Answer Record) (said : Option Reply) (marked : Bool) → since ≤ n → slice_get run n ≡ Some (Step other step told said) → slice_get points n ≡ Some marked → (actor == other) ≡ false → value_at (suc n) ≡ value_at n
+    step_of_other : (n other : ℕ) (step : StepOf Record) (told : Answer Record) (said : Option Reply) (marked : Bool) → since ≤ n
+        → slice_get run n ≡ Some (Step other step told said) → slice_get points n ≡ Some marked → (actor == other) ≡ false → value_at (suc n) ≡ value_at n
     step_of_other n other step told said false late at mark apart = unmarked n (Step other step told said) at mark
     step_of_other n other step told said true late at mark apart =
         let (asked, start, has, is, own) = owner n other step told said at in
-        marked_step n other step told said asked at mark has ∙ kept_by asked (value_at n) (either (may_change key asked) (λ may. let same : other ≡ actor = alone.each (operation_at other start asked) n late is own may in absurd (eqb-false actor other apart (sym same))) (λ never. never))
+        marked_step n other step told said asked at mark has ∙ kept_by asked (value_at n) (either (may_change key asked)
+        (λ may. let same : other ≡ actor = alone.each (operation_at other start asked) n late is own may in absurd (eqb-false actor other apart (sym same)))
+        (λ never. never))
 
     of_other : (n : ℕ) (entry : Entry) → since ≤ n → slice_get run n ≡ Some entry → is_entry_of actor entry ≡ false → value_at (suc n) ≡ value_at n
     of_other n (Begin other asked) late at apart = at_begin n other asked at
@@ -166,8 +176,10 @@ module _ (limits : Limits) (run : List Entry) (points : List Bool) (pointed : Ha
         (λ same. here (subst (IsOwnStep run operation) same own) (subst (IsPoint points) same is))
         (λ other. before m (omega arith) own is)
 
-    by_mark : (asked : Command) (start n : ℕ) (step : StepOf Record) (told : Answer Record) (said : Option Reply) (before : Value) (marked : Bool) → slice_get points n ≡ Some marked → IsOperation run (operation_at actor start asked)
-        → IsOwnEntry run (operation_at actor start asked) n step told said → command_of (take n run) actor ≡ Some asked → Stands (operation_at actor start asked) before n → Stands (operation_at actor start asked) before (suc n)
+    by_mark : (asked : Command) (start n : ℕ) (step : StepOf Record) (told : Answer Record) (said : Option Reply) (before : Value) (marked : Bool)
+        → slice_get points n ≡ Some marked → IsOperation run (operation_at actor start asked)
+        → IsOwnEntry run (operation_at actor start asked) n step told said → command_of (take n run) actor ≡ Some asked
+        → Stands (operation_at actor start asked) before n → Stands (operation_at actor start asked) before (suc n)
     by_mark asked start n step told said before false mark is own has (inl (none, now)) =
         inl (none_on (operation_at actor start asked) n (λ owned point. let never : Some false ≡ Some true = sym mark ∙ point in cc) none, unmarked n (Step actor step told said) own.entry mark ∙ now)
     by_mark asked start n step told said before false mark is own has (inr had) = inr (had_on (operation_at actor start asked) before n had (unmarked n (Step actor step told said) own.entry mark))
@@ -182,14 +194,16 @@ module _ (limits : Limits) (run : List Entry) (points : List Bool) (pointed : Ha
     by_mark asked start n step told said before true mark is own has (inr had) =
         let same : had.point ≡ n = pointed.one (operation_at actor start asked) had.point n is had.own (step, told, (said, own)) had.is mark in let early = had.early in absurd (omega arith)
 
-    own_step : (asked : Command) (start n : ℕ) (step : StepOf Record) (told : Answer Record) (said : Option Reply) (before : Value) → IsOperation run (operation_at actor start asked) → IsOwnEntry run (operation_at actor start asked) n step told said
+    own_step : (asked : Command) (start n : ℕ) (step : StepOf Record) (told : Answer Record) (said : Option Reply) (before : Value)
+        → IsOperation run (operation_at actor start asked) → IsOwnEntry run (operation_at actor start asked) n step told said
         → command_of (take n run) actor ≡ Some asked → Stands (operation_at actor start asked) before n → Stands (operation_at actor start asked) before (suc n)
     own_step asked start n step told said before is own has stands = let m = mark_at n (Step actor step told said) own.entry in by_mark asked start n step told said before m.0 m.1 is own has stands
 
     abbrev Ended : Command → Reply → Value → ℕ → Type 0
     Ended asked given before n = (IsTrue (tells key asked given) → reply_of asked before ≡ Some given) × (value_at n ≡ value_then key before asked given)
 
-    effective : (operation : Operation) (n : ℕ) (given : Reply) (before : Value) → has_point given ≡ true → IsOperation run operation → Finishes run operation n given → Stands operation before (suc n) → Ended operation.command given before (suc n)
+    effective : (operation : Operation) (n : ℕ) (given : Reply) (before : Value) → has_point given ≡ true → IsOperation run operation
+        → Finishes run operation n given → Stands operation before (suc n) → Ended operation.command given before (suc n)
     effective operation n given before has is ends (inl (none, now)) =
         let (m, own, point) = pointed.pointed operation n given is ends has in
         let low : m ≤ n = own_before limits run is_run operation n given ends m own in
@@ -199,18 +213,21 @@ module _ (limits : Limits) (run : List Entry) (points : List Bool) (pointed : Ha
           let (m, own, point, replies) = replied limits run points operation given has (answered.each operation n given is ends) in
           let same : m ≡ had.point = pointed.one operation m had.point is own had.own point had.is in
           let here : value_at m ≡ before = ap value_at same ∙ had.old in
-          subst (λ (v : Value). reply_of operation.command v ≡ Some given) here (at_key key (log_at run points m) (memory_at limits run m) operation.command given replies (and_left (is_about key operation.command) (has_point given) tell)),
+          subst (λ (v : Value). reply_of operation.command v ≡ Some given) here
+          (at_key key (log_at run points m) (memory_at limits run m) operation.command given replies (and_left (is_about key operation.command) (has_point given) tell)),
       had.new ∙ sym (ap (λ (b : Bool). if b then value_made operation.command before else before) (and_true (is_about key operation.command) (has_point given) has)),
     )
 
-    effectless : (operation : Operation) (n : ℕ) (given : Reply) (before : Value) → has_point given ≡ false → IsOperation run operation → Finishes run operation n given → Stands operation before (suc n) → Ended operation.command given before (suc n)
+    effectless : (operation : Operation) (n : ℕ) (given : Reply) (before : Value) → has_point given ≡ false → IsOperation run operation
+        → Finishes run operation n given → Stands operation before (suc n) → Ended operation.command given before (suc n)
     effectless operation n given before never is ends (inl (none, now)) = (
       λ tell. let has : has_point given ≡ true = and_right (is_about key operation.command) (has_point given) tell in absurd (cc),
       now ∙ sym (ap (λ (b : Bool). if b then value_made operation.command before else before) (and_false (is_about key operation.command) (has_point given) never)),
     )
     effectless operation n given before never is ends (inr had) = absurd (pointed.pointless operation had.point n given is ends never had.own had.is)
 
-    ended : (operation : Operation) (n : ℕ) (given : Reply) (before : Value) → IsOperation run operation → Finishes run operation n given → Stands operation before (suc n) → Ended operation.command given before (suc n)
+    ended : (operation : Operation) (n : ℕ) (given : Reply) (before : Value) → IsOperation run operation → Finishes run operation n given
+        → Stands operation before (suc n) → Ended operation.command given before (suc n)
     ended operation n given before is ends stands = either (has_point given)
         (λ has. effective operation n given before has is ends stands)
         (λ never. effectless operation n given before never is ends stands)
@@ -227,7 +244,8 @@ module _ (limits : Limits) (run : List Entry) (points : List Bool) (pointed : Ha
       lasts = λ calls asked start n entry late at apart within. (within.0, lasting asked start n entry late at apart (value_through key first calls) within.1);
     }
       where
-        lasting : (asked : Command) (start n : ℕ) (entry : Entry) → since ≤ n → slice_get run n ≡ Some entry → is_entry_of actor entry ≡ false → (before : Value) → Stands (operation_at actor start asked) before n → Stands (operation_at actor start asked) before (suc n)
+        lasting : (asked : Command) (start n : ℕ) (entry : Entry) → since ≤ n → slice_get run n ≡ Some entry → is_entry_of actor entry ≡ false
+            → (before : Value) → Stands (operation_at actor start asked) before n → Stands (operation_at actor start asked) before (suc n)
         lasting asked start n entry late at apart before (inl (none, now)) = inl (none_on (operation_at actor start asked) n (λ own point. not_own own) none, of_other n entry late at apart ∙ now)
           where
             not_own : IsOwnStep run (operation_at actor start asked) n → ⊥
@@ -242,14 +260,17 @@ module _ (limits : Limits) (run : List Entry) (points : List Bool) (pointed : Ha
     by_now calls (inr busy) = subst (AreOwnReplies key first) (sym busy.is) (one_open key first busy.calls busy.asked busy.holds.0)
 
 -- from a place on at which the actor had no operation
-pub own_replies_since : (limits : Limits) (turns : List Turn) (front back : List Entry) (actor : ℕ) (key : List ℕ) (linear : IsLinearized limits turns (front ++ back)) → command_of front actor ≡ None → ChangesAloneSince (front ++ back) actor key (length front)
+pub own_replies_since : (limits : Limits) (turns : List Turn) (front back : List Entry) (actor : ℕ) (key : List ℕ) (linear : IsLinearized limits turns (front ++ back))
+    → command_of front actor ≡ None → ChangesAloneSince (front ++ back) actor key (length front)
     → AreOwnReplies key (logged_value (log_at (front ++ back) linear.points (length front)) key) (calls_of actor back)
 own_replies_since limits turns front back actor key linear none alone =
     let run : List Entry = front ++ back in
     let first : Value = logged_value (log_at run linear.points (length front)) key in
     by_now limits run linear.points linear.pointed linear.answered linear.run.run key actor (length front) alone first (calls_of actor back)
-    (keeps_on run actor (length front) (Idle limits run linear.points linear.pointed linear.answered linear.run.run key actor (length front) alone first) (Within limits run linear.points linear.pointed linear.answered linear.run.run key actor (length front) alone first)
+    (keeps_on run actor (length front) (Idle limits run linear.points linear.pointed linear.answered linear.run.run key actor (length front) alone first)
+    (Within limits run linear.points linear.pointed linear.answered linear.run.run key actor (length front) alone first)
     limits linear.run.run (keeps limits run linear.points linear.pointed linear.answered linear.run.run key actor (length front) alone first) front back refl (omega arith) none (tt, refl))
 
-pub own_replies : (limits : Limits) (turns : List Turn) (run : List Entry) (actor : ℕ) (key : List ℕ) → IsLinearized limits turns run → ChangesAlone run actor key → AreOwnReplies key None (calls_of actor run)
+pub own_replies : (limits : Limits) (turns : List Turn) (run : List Entry) (actor : ℕ) (key : List ℕ) → IsLinearized limits turns run
+    → ChangesAlone run actor key → AreOwnReplies key None (calls_of actor run)
 own_replies limits turns run actor key linear alone = own_replies_since limits turns [] run actor key linear refl (record { each = λ operation n late is own may. alone.each operation is may })

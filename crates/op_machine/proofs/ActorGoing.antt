@@ -39,11 +39,13 @@ use Rattle.op_machine.proofs.Readers.{of_use}
 use Rattle.op_machine.proofs.Worth.{due_few}
 
 -- an actor without an operation, and one with an operation
-idle_of : (limits : Limits) (actor : ℕ) (k : Knowledge) (r : Recalled) (hand : Hand) (running : Option UnderWay) → command_at running ≡ None → IsActorWith limits actor k r hand running → IsAtRestWith limits actor hand k
+idle_of : (limits : Limits) (actor : ℕ) (k : Knowledge) (r : Recalled) (hand : Hand) (running : Option UnderWay) → command_at running ≡ None
+    → IsActorWith limits actor k r hand running → IsAtRestWith limits actor hand k
 idle_of limits actor k r hand None e h = h
 idle_of limits actor k r hand (Some running) e h = cc
 
-pub idle_at : (limits : Limits) (actor : ℕ) (k : Knowledge) (r : Recalled) (hand : Hand) (running : Option UnderWay) → command_at running ≡ None → IsActorWith limits actor k r hand running → IsAtRestWith limits actor hand k
+pub idle_at : (limits : Limits) (actor : ℕ) (k : Knowledge) (r : Recalled) (hand : Hand) (running : Option UnderWay) → command_at running ≡ None
+    → IsActorWith limits actor k r hand running → IsAtRestWith limits actor hand k
 idle_at limits actor k r hand running e h = idle_of limits actor k r hand running e h
 
 less : (m n o : ℕ) → m < n → n < o → m < o
@@ -64,7 +66,8 @@ module _ (k : Knowledge) (had : Hand) (old : Op) (unswept : old.sweep ≡ None) 
   pub shown_begun : (new : Op) (has : Hand) → Takes old had answer.Start new has → IsOpShown new has
   shown_begun new has takes = (learn_last k (wanted_of old had) answer.Start, recall_last blank (wanted_of old had) answer.Start, takes.shows k blank shows fits_start)
 
-  pub begun_left : (limits : Limits) (actor : ℕ) (new : Op) (has : Hand) → old.task.limits ≡ limits → old.task.actor ≡ actor → (asked : StepOf Record) → Obeys old had answer.Start new has (Step asked) → IsSameTask old.task new.task
+  pub begun_left : (limits : Limits) (actor : ℕ) (new : Op) (has : Hand) → old.task.limits ≡ limits → old.task.actor ≡ actor → (asked : StepOf Record)
+      → Obeys old had answer.Start new has (Step asked) → IsSameTask old.task new.task
       → IsRunning limits actor k blank has (record { op = new; wanted = asked })
   begun_left limits actor new has own_limits own_actor asked o same = record {
     own_limits = same.limits ∙ own_limits;
@@ -72,11 +75,16 @@ module _ (k : Knowledge) (had : Hand) (old : Op) (unswept : old.sweep ≡ None) 
     goes = subst (λ w. Goes (learn_last k w answer.Start) (recall_last blank w answer.Start) new has asked) none (o k blank shows fits_start);
   }
 
-  pub begun_few : (most : ℕ) (new : Op) (has : Hand) (asked : StepOf Record) → Spends old had answer.Start new has (Step asked) → ((r : Recalled) (hand : Hand) → steps_left r old hand < most) → steps_left blank new has < most
-  begun_few most new has asked spends few = less (steps_left blank new has) (steps_left blank old had) most (subst (λ w. IsSpentLast old.task.limits blank w answer.Start (steps_left blank old had) (steps_left (recall_last blank w answer.Start) new has)) none (spends k blank shows fits_start)) (few blank had)
+  pub begun_few : (most : ℕ) (new : Op) (has : Hand) (asked : StepOf Record) → Spends old had answer.Start new has (Step asked)
+      → ((r : Recalled) (hand : Hand) → steps_left r old hand < most) → steps_left blank new has < most
+  begun_few most new has asked spends few =
+      less (steps_left blank new has) (steps_left blank old had) most
+      (subst (λ w. IsSpentLast old.task.limits blank w answer.Start (steps_left blank old had) (steps_left (recall_last blank w answer.Start) new has)) none (spends k blank shows fits_start))
+      (few blank had)
 
 -- an operation that wants another step than the leave isn't at its leave
-stays_in : (task : Task) (spares : Spares) (limbo : Limbo) (k : Knowledge) (sweep : Option Sweep) (state : State) → HoldsLimbo task state limbo k sweep → asked_by sweep (wanted_at spares state) ≢ Some step.Leave → is_leaving state ≡ false
+stays_in : (task : Task) (spares : Spares) (limbo : Limbo) (k : Knowledge) (sweep : Option Sweep) (state : State) → HoldsLimbo task state limbo k sweep
+    → asked_by sweep (wanted_at spares state) ≢ Some step.Leave → is_leaving state ≡ false
 stays_in task spares limbo k None (Leave reply lacks) holds stays = absurd (stays refl)
 stays_in task spares limbo k (Some sweep) (Leave reply lacks) holds stays = let first = holds.first in cc
 stays_in task spares limbo k sweep Begun holds stays = refl
@@ -87,7 +95,8 @@ stays_in task spares limbo k sweep (Write round) holds stays = refl
 stays_in task spares limbo k sweep (Change now then) holds stays = refl
 
 -- a step with its answer
-module _ (limits : Limits) (actor : ℕ) (k : Knowledge) (r : Recalled) (had has : Hand) (old : UnderWay) (new : Op) (a : Answer Record) (running : IsRunning limits actor k r had old) (fits : Fits limits k old.wanted a) where
+module _ (limits : Limits) (actor : ℕ) (k : Knowledge) (r : Recalled) (had has : Hand) (old : UnderWay) (new : Op) (a : Answer Record)
+    (running : IsRunning limits actor k r had old) (fits : Fits limits k old.wanted a) where
   fits_last : FitsLast old.op.task.limits k (wanted_of old.op had) a
   fits_last = rw (running.own_limits, running.goes.wanted) fits
 
@@ -101,7 +110,9 @@ module _ (limits : Limits) (actor : ℕ) (k : Knowledge) (r : Recalled) (had has
   pub stays_at : old.wanted ≢ step.Leave → is_leaving old.op.state ≡ false
   stays_at stays = stays_in old.op.task had.spares had.limbo k old.op.sweep old.op.state running.goes.shows.limbo (λ e. stays (same_Some old.wanted step.Leave (sym running.goes.wanted ∙ e)))
 
-  pub goes_on : (lacks : Option Kind) (asked : StepOf Record) → old.wanted ≢ step.Leave → Obeys old.op had a new has (Step asked) → Spends old.op had a new has (Step asked) → IsSameTask old.op.task new.task → length new.task.errands ≤ 16 → StepsInRound old.op.task old.op.state a new.state → GoesLeft old.op.task old.op.state a new.state
+  pub goes_on : (lacks : Option Kind) (asked : StepOf Record) → old.wanted ≢ step.Leave → Obeys old.op had a new has (Step asked)
+      → Spends old.op had a new has (Step asked) → IsSameTask old.op.task new.task → length new.task.errands ≤ 16
+      → StepsInRound old.op.task old.op.state a new.state → GoesLeft old.op.task old.op.state a new.state
       → ActsOn limits actor k r (at_work had old lacks) old.wanted a None (at_work has (record { op = new; wanted = asked }) lacks)
   goes_on lacks asked other o spends same short steps left = record {
     allowed = record { may = rw (← running.own_actor) running.goes.may.may; frees = rw (← running.own_limits, ← running.own_actor) running.goes.may.frees; replied = tt; ends = λ e. absurd (other e) };
@@ -112,8 +123,12 @@ module _ (limits : Limits) (actor : ℕ) (k : Knowledge) (r : Recalled) (had has
       own_actor = same.actor ∙ running.own_actor;
       goes = goes;
     };
-    few = subst (λ l. steps_left (recall r old.wanted a) new has ≤ cause_worth l * 10) (same.limits ∙ running.own_limits) (due_few (learn k old.wanted a) (recall r old.wanted a) new has goes.shows short);
-    spends = rw (← running.own_limits) (spent_last old.op.task.limits r (wanted_of old.op had) old.wanted a (steps_left r old.op had) (λ q. steps_left q new has) running.goes.wanted (spends k r running.goes.shows fits_last));
+    few =
+        subst (λ l. steps_left (recall r old.wanted a) new has ≤ cause_worth l * 10) (same.limits ∙ running.own_limits)
+        (due_few (learn k old.wanted a) (recall r old.wanted a) new has goes.shows short);
+    spends =
+        rw (← running.own_limits)
+        (spent_last old.op.task.limits r (wanted_of old.op had) old.wanted a (steps_left r old.op had) (λ q. steps_left q new has) running.goes.wanted (spends k r running.goes.shows fits_last));
     lacks = refl;
     steps = steps;
     left = left;
@@ -124,11 +139,19 @@ module _ (limits : Limits) (actor : ℕ) (k : Knowledge) (r : Recalled) (had has
 
   -- what an operation that leaves tells of what ran out
   tells_lack : (reply : Reply) (lacks : Option Kind) → old.op.state ≡ Leave reply lacks → TellsLack limits k reply lacks
-  tells_lack reply lacks is = let stands : ShowsState old.op.task had.spares k r (Leave reply lacks) = subst (ShowsState old.op.task had.spares k r) is running.goes.shows.stands in subst (λ l. TellsLack l k reply lacks) running.own_limits stands.2
+  tells_lack reply lacks is =
+      let stands : ShowsState old.op.task had.spares k r (Leave reply lacks) = subst (ShowsState old.op.task had.spares k r) is running.goes.shows.stands in
+      subst (λ l. TellsLack l k reply lacks) running.own_limits stands.2
 
-  pub is_done : (before : Option Kind) (reply : Reply) (lacks : Option Kind) → old.op.state ≡ Leave reply lacks → Obeys old.op had a new has (Done reply) → ActsOn limits actor k r (at_work had old before) old.wanted a (Some reply) (record { hand = has; running = None; lacks = lacks })
+  pub is_done : (before : Option Kind) (reply : Reply) (lacks : Option Kind) → old.op.state ≡ Leave reply lacks → Obeys old.op had a new has (Done reply)
+      → ActsOn limits actor k r (at_work had old before) old.wanted a (Some reply) (record { hand = has; running = None; lacks = lacks })
   is_done before reply lacks is o = record {
-    allowed = record { may = rw (← running.own_actor) running.goes.may.may; frees = rw (← running.own_limits, ← running.own_actor) running.goes.may.frees; replied = (last, rw (← running.own_limits, ← running.own_actor) ends.may); ends = λ e. refl };
+    allowed = record {
+      may = rw (← running.own_actor) running.goes.may.may;
+      frees = rw (← running.own_limits, ← running.own_actor) running.goes.may.frees;
+      replied = (last, rw (← running.own_limits, ← running.own_actor) ends.may);
+      ends = λ e. refl;
+    };
     useful = of_use k r old.op had old.wanted running.goes;
     halved = running.goes.may.halved;
     shows = record {
@@ -152,7 +175,8 @@ module _ (limits : Limits) (actor : ℕ) (k : Knowledge) (r : Recalled) (had has
       last = same_Some old.wanted step.Leave (sym running.goes.wanted ∙ ends.is_last)
 
 -- what is under way in the place of an operation
-asking_is : (op : Op) (hand : Hand) (running : UnderWay) (wanted : Option (StepOf Record)) → wanted_of op hand ≡ wanted → asking op wanted ≡ Some running → (running.op ≡ op) × (wanted_of op hand ≡ Some running.wanted)
+asking_is : (op : Op) (hand : Hand) (running : UnderWay) (wanted : Option (StepOf Record)) → wanted_of op hand ≡ wanted → asking op wanted ≡ Some running
+    → (running.op ≡ op) × (wanted_of op hand ≡ Some running.wanted)
 asking_is op hand running None is e = cc
 asking_is op hand running (Some asked) is e =
     let same : running ≡ record { op = op; wanted = asked } = same_Some running (record { op = op; wanted = asked }) (sym e) in
@@ -173,7 +197,8 @@ asking_some op (Some asked) some = refl
 pub command_is : (op : Op) (hand : Hand) → AsksIf true op hand → command_at (running_at true op hand) ≡ Some op.task.command
 command_is op hand asks = asking_some op (wanted_of op hand) asks
 
-pub command_same : (on : Bool) (op new : Op) (hand has : Hand) → AsksIf on op hand → IsSome (wanted_of new has) → IsSameTask op.task new.task → command_at (running_at on new has) ≡ command_at (running_at on op hand)
+pub command_same : (on : Bool) (op new : Op) (hand has : Hand) → AsksIf on op hand → IsSome (wanted_of new has) → IsSameTask op.task new.task
+    → command_at (running_at on new has) ≡ command_at (running_at on op hand)
 command_same false op new hand has asked asks same = refl
 command_same true op new hand has asked asks same = command_is new has asks ∙ ap Some same.command ∙ sym (command_is op hand asked)
 
@@ -186,15 +211,18 @@ is_on false op hand busy = cc
 is_on true op hand busy = refl
 
 -- what an actor shows, its operation shows
-shown_with : (limits : Limits) (actor : ℕ) (k : Knowledge) (r : Recalled) (op : Op) (hand : Hand) (wanted : Option (StepOf Record)) → wanted_of op hand ≡ wanted → IsSome wanted → IsActorWith limits actor k r hand (asking op wanted) → Shows op hand k r
+shown_with : (limits : Limits) (actor : ℕ) (k : Knowledge) (r : Recalled) (op : Op) (hand : Hand) (wanted : Option (StepOf Record)) → wanted_of op hand ≡ wanted
+    → IsSome wanted → IsActorWith limits actor k r hand (asking op wanted) → Shows op hand k r
 shown_with limits actor k r op hand None is some h = cc
 shown_with limits actor k r op hand (Some asked) is some h = h.goes.shows
 
-pub shown_at : (limits : Limits) (actor : ℕ) (k : Knowledge) (r : Recalled) (op : Op) (hand : Hand) → AsksIf true op hand → IsActorWith limits actor k r hand (running_at true op hand) → Shows op hand k r
+pub shown_at : (limits : Limits) (actor : ℕ) (k : Knowledge) (r : Recalled) (op : Op) (hand : Hand) → AsksIf true op hand
+    → IsActorWith limits actor k r hand (running_at true op hand) → Shows op hand k r
 shown_at limits actor k r op hand asks h = shown_with limits actor k r op hand (wanted_of op hand) refl asks h
 
 -- the answer that an operation takes in its place, and what it goes on to
-module _ (limits : Limits) (actor : ℕ) (k : Knowledge) (r : Recalled) (on : Bool) (op : Op) (had : Hand) (before : Option Kind) (a : Answer Record) (going : IsGoing limits actor k r (record { hand = had; running = running_at on op had; lacks = before }) a) where
+module _ (limits : Limits) (actor : ℕ) (k : Knowledge) (r : Recalled) (on : Bool) (op : Op) (had : Hand) (before : Option Kind) (a : Answer Record)
+    (going : IsGoing limits actor k r (record { hand = had; running = running_at on op had; lacks = before }) a) where
   found : (on ≡ true) × (going.running.op ≡ op) × (wanted_of op had ≡ Some going.running.wanted)
   found = running_is on op had going.running going.is
 
@@ -215,7 +243,9 @@ module _ (limits : Limits) (actor : ℕ) (k : Knowledge) (r : Recalled) (on : Bo
   asked_here asked wants = found.2 ∙ sym (ap wanted_by going.is) ∙ wants
 
   pub stays_here : wanted_by (running_at on op had) ≢ Some step.Leave → is_leaving op.state ≡ false
-  stays_here stays = subst (λ (o : Op). is_leaving o.state ≡ false) found.1 (stays_at limits actor k r had had going.running going.running.op a going.shows going.fits (λ e. stays (ap wanted_by going.is ∙ ap Some e)))
+  stays_here stays =
+      subst (λ (o : Op). is_leaving o.state ≡ false) found.1
+      (stays_at limits actor k r had had going.running going.running.op a going.shows going.fits (λ e. stays (ap wanted_by going.is ∙ ap Some e)))
 
   pub leaves_here : wanted_by (running_at on op had) ≡ Some step.Leave → is_leaving op.state ≡ true
   leaves_here leaves = leaves_at had.spares op.sweep op.state (found.2 ∙ sym (ap wanted_by going.is) ∙ leaves)
@@ -225,18 +255,24 @@ module _ (limits : Limits) (actor : ℕ) (k : Knowledge) (r : Recalled) (on : Bo
     shown_then = (learn_last told_here.k (wanted_of op had) a, recall_last told_here.r (wanted_of op had) a, takes.shows told_here.k told_here.r told_here.shows told_here.fits)
 
     pub goes_here : (asked : StepOf Record) → wanted_by (running_at on op had) ≢ Some step.Leave → Wants new has asked → length new.task.errands ≤ 16
-        → ActsOn limits actor k r (record { hand = had; running = running_at on op had; lacks = before }) going.running.wanted a None (record { hand = has; running = running_at on new has; lacks = before })
+        → ActsOn limits actor k r (record { hand = had; running = running_at on op had; lacks = before }) going.running.wanted a None
+        (record { hand = has; running = running_at on new has; lacks = before })
     goes_here asked stays wants short =
         let from : Takes going.running.op had a new has = subst (λ o. Takes o had a new has) (sym found.1) takes in
         let went : ActsOn limits actor k r (at_work had going.running before) going.running.wanted a None (at_work has (record { op = new; wanted = asked }) before) =
-        goes_on limits actor k r had has going.running new a going.shows going.fits before asked (λ e. stays (ap wanted_by going.is ∙ ap Some e)) (from.obeys asked wants) (from.spends asked) from.same short from.steps from.left in
+        goes_on limits actor k r had has going.running new a going.shows going.fits before asked (λ e. stays (ap wanted_by going.is ∙ ap Some e))
+        (from.obeys asked wants) (from.spends asked) from.same short from.steps from.left in
         let is : running_at on new has ≡ Some (record { op = new; wanted = asked }) = rw found.0 (is_asking new has asked (wants shown_then.0 shown_then.1 shown_then.2).wanted) in
-        subst (λ (o : Option UnderWay). ActsOn limits actor k r (record { hand = had; running = o; lacks = before }) going.running.wanted a None (record { hand = has; running = running_at on new has; lacks = before })) (sym going.is)
+        subst (λ (o : Option UnderWay). ActsOn limits actor k r (record { hand = had; running = o; lacks = before }) going.running.wanted a None
+        (record { hand = has; running = running_at on new has; lacks = before })) (sym going.is)
         (subst (λ (o : Option UnderWay). ActsOn limits actor k r (at_work had going.running before) going.running.wanted a None (record { hand = has; running = o; lacks = before })) (sym is) went)
 
   -- it leaves
-  pub done_here : (reply : Reply) (lacks : Option Kind) → op.state ≡ Leave reply lacks → ((hand : Hand) (told : Answer Record) → Obeys op hand told op hand (Done reply)) → ActsOn limits actor k r (record { hand = had; running = running_at on op had; lacks = before }) going.running.wanted a (Some reply) (record { hand = had; running = None; lacks = lacks })
+  pub done_here : (reply : Reply) (lacks : Option Kind) → op.state ≡ Leave reply lacks
+      → ((hand : Hand) (told : Answer Record) → Obeys op hand told op hand (Done reply))
+      → ActsOn limits actor k r (record { hand = had; running = running_at on op had; lacks = before }) going.running.wanted a (Some reply) (record { hand = had; running = None; lacks = lacks })
   done_here reply lacks is obeys =
       let from : Obeys going.running.op had a op had (Done reply) = subst (λ o. Obeys o had a op had (Done reply)) (sym found.1) (obeys had a) in
-      subst (λ (o : Option UnderWay). ActsOn limits actor k r (record { hand = had; running = o; lacks = before }) going.running.wanted a (Some reply) (record { hand = had; running = None; lacks = lacks })) (sym going.is)
+      subst (λ (o : Option UnderWay). ActsOn limits actor k r (record { hand = had; running = o; lacks = before }) going.running.wanted a (Some reply)
+      (record { hand = had; running = None; lacks = lacks })) (sym going.is)
       (is_done limits actor k r had had going.running op a going.shows going.fits before reply lacks (ap (λ (o : Op). o.state) found.1 ∙ is) from)

@@ -22,7 +22,8 @@ use Rattle.op_machine.specs.machine.UnderWay.{UnderWay}
 use Rattle.op_machine.specs.machine.UnderWay.{IsSpentBy}
 
 -- what an answer leaves, where the step that was wanted is known
-pub spent_last : (limits : Limits) (r : Recalled) (last : Option (StepOf Record)) (asked : StepOf Record) (a : Answer Record) (left : ℕ) (rest : Recalled → ℕ) → last ≡ Some asked → IsSpentLast limits r last a left (rest (recall_last r last a)) → IsStepSpent limits r asked a left (rest (recall r asked a))
+pub spent_last : (limits : Limits) (r : Recalled) (last : Option (StepOf Record)) (asked : StepOf Record) (a : Answer Record) (left : ℕ) (rest : Recalled → ℕ)
+    → last ≡ Some asked → IsSpentLast limits r last a left (rest (recall_last r last a)) → IsStepSpent limits r asked a left (rest (recall r asked a))
 spent_last limits r last asked a left rest e spent = subst (λ w. IsSpentLast limits r w a left (rest (recall_last r w a))) e spent
 
 -- a state that has asked for Leave has a step left
@@ -36,7 +37,8 @@ leaves limits r spares Epoch e = cc
 leaves limits r spares (Enter epoch) e = cc
 
 -- and so has a sweep, which asks for none
-stays : (limits : Limits) (r : Recalled) (spares : Spares) (sweep : Option Sweep) (state : State) → asked_by sweep (wanted_at spares state) ≡ Some step.Leave → 0 < sweep_left limits sweep state + left_at limits r spares state
+stays : (limits : Limits) (r : Recalled) (spares : Spares) (sweep : Option Sweep) (state : State) → asked_by sweep (wanted_at spares state) ≡ Some step.Leave
+    → 0 < sweep_left limits sweep state + left_at limits r spares state
 stays limits r spares None state e = let some = leaves limits r spares state e in omega (arith, some)
 stays limits r spares (Some sweep) state e = absurd (sweeps_on sweep.actor sweep.state e)
   where
@@ -55,4 +57,6 @@ more n m some = omega arith
 
 -- it is done
 pub spends_last : (r : Recalled) (had has : Hand) (old : UnderWay) (a : Answer Record) → wanted_of old.op had ≡ Some step.Leave → IsSpentBy old.op.task.limits r had (Some old) old.wanted a has None
-spends_last r had has old a e = inl (more (sweep_left old.op.task.limits old.op.sweep old.op.state + left_at old.op.task.limits r had.spares old.op.state) (one_round old.op.task.limits * length old.op.task.errands) (stays old.op.task.limits r had.spares old.op.sweep old.op.state e))
+spends_last r had has old a e =
+    inl (more (sweep_left old.op.task.limits old.op.sweep old.op.state + left_at old.op.task.limits r had.spares old.op.state)
+    (one_round old.op.task.limits * length old.op.task.errands) (stays old.op.task.limits r had.spares old.op.sweep old.op.state e))

@@ -57,7 +57,8 @@ spare_apart k plan (Some q) unread read = apart_from k plan (Some q) (λ p e. su
 pub begins_apart : (k : Knowledge) (plan : Plan) (spares : Spares) → IsUnreadPid spares k → IsReadPlan k plan → bound.IsApart plan spares.pid
 begins_apart k plan spares unread read = spare_apart k plan spares.pid unread read
 
-unread_from : (heads : ℕ → Option ℕ) (old taken o : Option ℕ) → IfSome old (λ p. heads p ≡ None) → ((p : ℕ) → taken ≡ Some p → heads p ≡ None) → bound.IsPidFrom old taken o → IfSome o (λ p. heads p ≡ None)
+unread_from : (heads : ℕ → Option ℕ) (old taken o : Option ℕ) → IfSome old (λ p. heads p ≡ None) → ((p : ℕ) → taken ≡ Some p → heads p ≡ None)
+    → bound.IsPidFrom old taken o → IfSome o (λ p. heads p ≡ None)
 unread_from heads old taken None was now from = tt
 unread_from heads old taken (Some p) was now from = elim from [
   | inl same ↦ subst (λ (o : Option ℕ). IfSome o (λ q. heads q ≡ None)) same was
@@ -76,7 +77,22 @@ taken_still k now (Split pid split) unlinked same h = absurd h
 taken_still k now (Root left root) unlinked same h = absurd h
 
 brings_still : (k now : Knowledge) (command : Command) (plan : Plan) (then : Then) → now.read ≡ k.read → Brings k command plan then → Brings now command plan then
-brings_still k now command plan (Reply answered) same b = record { pid = b.pid; head = b.head; content = b.content; is = b.is; updates = b.updates; chain = b.chain; read = rw same b.read; leaf = b.leaf; short = b.short; few = b.few; alive = b.alive; covers = b.covers; replies = b.replies }
+brings_still k now command plan (Reply answered) same b = record {
+  pid = b.pid;
+  head = b.head;
+  content = b.content;
+  is = b.is;
+  updates = b.updates;
+  chain =
+      b.chain;
+  read = rw same b.read;
+  leaf = b.leaf;
+  short = b.short;
+  few = b.few;
+  alive = b.alive;
+  covers = b.covers;
+  replies = b.replies;
+}
 brings_still k now command plan (After Round) same b = b
 brings_still k now command plan (After (Limbo unlinked)) same b = taken_still k now plan unlinked same b
 brings_still k now command plan (After (Errand key)) same b = b
@@ -119,7 +135,9 @@ taken_links k unlinked (Install pid head content) linked h = absurd h
 taken_links k unlinked (Split pid split) linked h = absurd h
 taken_links k unlinked (Root left root) linked h = absurd h
 
-module _ (task : Task) (had has : Spares) (k : Knowledge) (r : Recalled) (old new : change.Change) (then : Then) (told : Answer Record) (h : IsInChange task had k r old then) (fits : Fits task.limits k (change.wanted old had) told) (pid : bound.IsPidFrom had.pid (bound.pid_taken (change.wanted old had) told) has.pid) where
+module _ (task : Task) (had has : Spares) (k : Knowledge) (r : Recalled) (old new : change.Change) (then : Then) (told : Answer Record)
+    (h : IsInChange task had k r old then) (fits : Fits task.limits k (change.wanted old had) told)
+    (pid : bound.IsPidFrom had.pid (bound.pid_taken (change.wanted old had) told) has.pid) where
   abbrev now : Knowledge
   now = learn k (change.wanted old had) told
 
@@ -132,7 +150,8 @@ module _ (task : Task) (had has : Spares) (k : Knowledge) (r : Recalled) (old ne
   unread : now.read ≡ k.read → IsUnreadPid has now
   unread same = rw same (unread_from k.read.heads had.pid (bound.pid_taken (change.wanted old had) told) has.pid h.unread (taken_unread task.limits k (change.wanted old had) told fits) pid)
 
-  pub change_on : change.HasNewState old new → change.IsSoundChange new has → change.IsMade new has → change.ChangesOn task.actor k now new has → bound.Recalls new has then_recalled → IsInChange task has now then_recalled new then
+  pub change_on : change.HasNewState old new → change.IsSoundChange new has → change.IsMade new has → change.ChangesOn task.actor k now new has
+      → bound.Recalls new has then_recalled → IsInChange task has now then_recalled new then
   change_on same sound made goes recalls = record {
     asked = record { going = goes.like.command ∙ h.asked.going; unlinked = goes.like.linked_now ∙ h.asked.unlinked };
     writer = h.writer;
@@ -147,10 +166,12 @@ module _ (task : Task) (had has : Spares) (k : Knowledge) (r : Recalled) (old ne
     recalls = recalls;
   }
 
-  pub change_left : bound.SpendsTo (one_round task.limits) r old had told new has None → IsStepSpent task.limits r (change.wanted old had) told (bound.steps_left (one_round task.limits) old had + 1) (bound.steps_left (one_round task.limits) new has + 1)
+  pub change_left : bound.SpendsTo (one_round task.limits) r old had told new has None
+      → IsStepSpent task.limits r (change.wanted old had) told (bound.steps_left (one_round task.limits) old had + 1) (bound.steps_left (one_round task.limits) new has + 1)
   change_left spends = elim spends.1 [
     | inl less ↦ inl (omega (arith, less))
-    | inr paid ↦ let more = paid.1 in let w = enough task.limits in let same : bound.few_steps old.limits ≡ bound.few_steps task.limits = ap bound.few_steps h.limits in inr (paid.0, omega (arith, more, w, same))
+    | inr paid ↦ let more = paid.1 in let w = enough task.limits in let same : bound.few_steps old.limits ≡ bound.few_steps task.limits = ap bound.few_steps
+        h.limits in inr (paid.0, omega (arith, more, w, same))
   ]
 
   -- where it has ended
@@ -219,7 +240,8 @@ module _ (task : Task) (had has : Spares) (k : Knowledge) (r : Recalled) (old ne
   cleared_left (After (Limbo unlinked)) is goes = omega arith
   cleared_left (After (Errand key)) is goes = let b = subst (λ t. Brings k task.command old.plan t) is h.brings in let e = sym goes ∙ ap clears b.2 in cc
 
-  pub ended_left : (end : End) → bound.SpendsTo (one_round task.limits) r old had told new has (Some end) → IsStepSpent task.limits r (change.wanted old had) told (bound.steps_left (one_round task.limits) old had + 1) (left_for task.limits (outcome.Changed end then))
+  pub ended_left : (end : End) → bound.SpendsTo (one_round task.limits) r old had told new has (Some end)
+      → IsStepSpent task.limits r (change.wanted old had) told (bound.steps_left (one_round task.limits) old had + 1) (left_for task.limits (outcome.Changed end then))
   ended_left Won spends = elim spends [
     | inl paid ↦ inr (paid, won_left then (bound.steps_left (one_round task.limits) old had + 1))
     | inr more ↦ inl (let after = cleared_left then refl more.0 in let left = more.1 in omega (arith, after, left))

@@ -145,12 +145,18 @@ over_links (Swap key expected value) x h before = refl
 
 -- it fits a leaf with few deltas and items
 module _ (chain : List Record) (page : Page) (makes : Makes chain page) (alive : is_removed chain ≡ false) (leaf : level_in chain ≡ 0) (few : length page.items < 16) (short : length chain ≤ 8)
-    (puts : (put : Put) → IsRow put.next → FitsPut page put → FitsOver chain (kind.Put put)) (deletes : (delete : DeleteOf) → IsRow delete.next → FitsDelete page delete → FitsOver chain (kind.Delete delete)) where
+    (puts : (put : Put) → IsRow put.next → FitsPut page put → FitsOver chain (kind.Put put))
+    (deletes : (delete : DeleteOf) → IsRow delete.next → FitsDelete page delete → FitsOver chain (kind.Delete delete)) where
   covered : (key : List ℕ) → IsTrue (covers chain key) → IsTrue (is_in_range page.low page.high key)
   covered key within = rw (makes.low, makes.high) within
 
   put_fits : (x : ℕ) (key value : List ℕ) → IsRow x → IsTrue (covers chain key) → FitsOn chain (kind.Put (record { next = x; key = key; value = value }))
-  put_fits x key value row within = (puts (record { next = x; key = key; value = value }) row (record { alive = makes.removed ∙ alive; leaf = makes.level ∙ leaf; covered = covered key within; room = λ e. omega (arith, few) }), omega (arith, short))
+  put_fits x key value row within = (
+    puts (record { next = x; key = key; value = value }) row
+        (record { alive = makes.removed ∙ alive; leaf = makes.level ∙ leaf; covered = covered key within; room = λ e. omega (arith, few) }),
+    omega
+        (arith, short),
+  )
 
   pub over_fits : (c : Command) (x : ℕ) → Changes c → IsRow x → IsTrue (covers chain (command_key c)) → FitsOn chain (update_over c x)
   over_fits (Get key) x h row within = let e = h.1 in cc
@@ -159,4 +165,5 @@ module _ (chain : List Record) (page : Page) (makes : Makes chain page) (alive :
   over_fits (Insert key value) x h row within = put_fits x key value row within
   over_fits (Upsert key value) x h row within = put_fits x key value row within
   over_fits (Swap key expected value) x h row within = put_fits x key value row within
-  over_fits (Delete key) x h row within = (deletes (record { next = x; key = key }) row (record { alive = makes.removed ∙ alive; leaf = makes.level ∙ leaf; covered = covered key within }), omega (arith, short))
+  over_fits (Delete key) x h row within =
+      (deletes (record { next = x; key = key }) row (record { alive = makes.removed ∙ alive; leaf = makes.level ∙ leaf; covered = covered key within }), omega (arith, short))

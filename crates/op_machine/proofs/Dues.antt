@@ -15,7 +15,8 @@ use Rattle.structure_changes.specs.declared.plan.Plan.{Plan}
 use Rattle.op_machine.proofs.Plans.{over_page, place_of, spells_base}
 use Rattle.op_machine.proofs.Tending.{plans_there}
 
-pub dues_there : (round : WriteRound) (k : Knowledge) (r : Recalled) (change : DueChange) (plan : Plan) (after : After) → IsPlanned change plan after → IsDueBy round k r change → IsTarget round.limits plan × IsSpellablePlan plan
+pub dues_there : (round : WriteRound) (k : Knowledge) (r : Recalled) (change : DueChange) (plan : Plan) (after : After) → IsPlanned change plan after
+    → IsDueBy round k r change → IsTarget round.limits plan × IsSpellablePlan plan
 dues_there round k r (due.Consolidate page base) plan after p d = rw p.0 (place_of round.limits k r page (kind.Base base) d.page (λ next is. cc), spells_base base d.plan.fits)
 dues_there round k r (due.Split page split) plan after p d =
     let has = d.plan_due in
@@ -26,7 +27,8 @@ dues_there round k r (due.Split page split) plan after p d =
 dues_there round k r (due.Term parent term) plan after p d = rw p.0 (over_page round.limits k r parent (kind.Term term) d.page (ap (λ (t : Term). Some t.next) d.plan.is), d.plan.fits.0.spellable)
 dues_there round k r (due.Root left root) plan after p d = rw p.0 ((left.is_pid.0, d.page.in_hand.page), spells_base root d.plan.fits)
 dues_there round k r (due.Tend parent page upkeep) plan after p d = rw p.0 (plans_there round.limits k r parent page upkeep d.page d.above.page d.due)
-dues_there round k r (due.Merge left removed merge) plan after p d = rw p.0 (over_page round.limits k r left (kind.Merge merge) d.page (ap (λ (m : Merge). Some m.next) d.plan.is), d.plan.fits.0.spellable)
+dues_there round k r (due.Merge left removed merge) plan after p d =
+    rw p.0 (over_page round.limits k r left (kind.Merge merge) d.page (ap (λ (m : Merge). Some m.next) d.plan.is), d.plan.fits.0.spellable)
 dues_there round k r (due.Unterm parent left removed unterm) plan after p d =
     let child : unterm.child ≡ removed.pid = ap (λ (u : Unterm). u.child) d.plan.is in
     rw p.0 (

@@ -23,7 +23,8 @@ module _ (task : Task) (spares : Spares) (k : Knowledge) (r : Recalled) (leaf : 
   within = subst (λ errands. IsTrue (covers leaf.chain (way_key errands task.command))) last h.covered
 
   -- a command that changes nothing there answers
-  pub answers_there : (reply : Reply) → reply_of task.command (found leaf.chain (command_key task.command)) ≡ Some reply → is_some (update_of 0 task.command (found leaf.chain (command_key task.command))) ≡ false
+  pub answers_there : (reply : Reply) → reply_of task.command (found leaf.chain (command_key task.command)) ≡ Some reply
+      → is_some (update_of 0 task.command (found leaf.chain (command_key task.command))) ≡ false
       → ShowsState task spares k r (at.Leave reply None)
   answers_there reply replies unchanged = (
     record { inside = h.seeks.inside; spare = h.seeks.spare; going = h.seeks.asked.going },

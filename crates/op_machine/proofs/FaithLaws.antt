@@ -20,10 +20,13 @@ module _ (entries : List Entry) (last : Entry) where
     before = knows.before;
     shown = ShowsRow-kept entries last knows.at actor row knows.shown;
     inside = λ later epoch answer low high. (
-      (λ enters. elim (TakesStep-push_cases entries last later actor (Enter epoch) answer enters) [ inl h ↦ (knows.inside later epoch answer low high).0 h | inr h ↦ absurd (past later low high h.0) ]),
+      (λ enters. elim (TakesStep-push_cases entries last later actor (Enter epoch) answer enters)
+          [ inl h ↦ (knows.inside later epoch answer low high).0 h | inr h ↦ absurd (past later low high h.0) ]),
       (λ leaves. elim (TakesStep-push_cases entries last later actor Leave answer leaves) [ inl h ↦ (knows.inside later epoch answer low high).1 h | inr h ↦ absurd (past later low high h.0) ]),
     );
-    undisturbed = λ later other step answer low high is. elim (TakesStep-push_cases entries last later other step answer is) [ inl h ↦ knows.undisturbed later other step answer low high h | inr h ↦ absurd (past later low high h.0) ];
+    undisturbed =
+        λ later other step answer low high is. elim (TakesStep-push_cases entries last later other step answer is)
+        [ inl h ↦ knows.undisturbed later other step answer low high h | inr h ↦ absurd (past later low high h.0) ];
   }
     where
       past : (later : ℕ) → knows.at < later → later < n → later ≡ length entries → ⊥
@@ -39,10 +42,13 @@ module _ (entries : List Entry) (last : Entry) where
     before = let lt : knows.at < length entries = knows.before in omega arith;
     shown = ShowsRow-kept entries last knows.at actor row knows.shown;
     inside = λ later epoch answer low high. (
-      (λ enters. elim (TakesStep-push_cases entries last later actor (Enter epoch) answer enters) [ inl h ↦ (knows.inside later epoch answer low (within h.1)).0 h | inr h ↦ (stays epoch answer).0 h.1 ]),
+      (λ enters. elim (TakesStep-push_cases entries last later actor (Enter epoch) answer enters)
+          [ inl h ↦ (knows.inside later epoch answer low (within h.1)).0 h | inr h ↦ (stays epoch answer).0 h.1 ]),
       (λ leaves. elim (TakesStep-push_cases entries last later actor Leave answer leaves) [ inl h ↦ (knows.inside later epoch answer low (within h.1)).1 h | inr h ↦ (stays epoch answer).1 h.1 ]),
     );
-    undisturbed = λ later other step answer low high is. elim (TakesStep-push_cases entries last later other step answer is) [ inl h ↦ knows.undisturbed later other step answer low (within h.1) h | inr h ↦ calm other step answer h.1 ];
+    undisturbed =
+        λ later other step answer low high is. elim (TakesStep-push_cases entries last later other step answer is)
+        [ inl h ↦ knows.undisturbed later other step answer low (within h.1) h | inr h ↦ calm other step answer h.1 ];
   }
     where
       within : {k : ℕ} {x : Entry} → slice_get entries k ≡ Some x → k < length entries

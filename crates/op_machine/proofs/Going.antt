@@ -29,7 +29,9 @@ pub told_change : (op : Op) (hand : Hand) (told : Answer Record) → IsToldWith 
 told_change op hand told is = record { told_at = told_at op hand.spares told is.told_on; kept = is.kept }
 
 -- the steps of errands come on top
-spent_with : (limits : Limits) (r : Recalled) (last : Option (Step Record)) (told : Answer Record) (left rest : ℕ) (errands now : List (List ℕ)) (more : ℕ) → IsSpentLast limits r last told left rest → with_errands limits now more ≤ with_errands limits errands rest → IsSpentLast limits r last told (with_errands limits errands left) (with_errands limits now more)
+spent_with : (limits : Limits) (r : Recalled) (last : Option (Step Record)) (told : Answer Record) (left rest : ℕ) (errands now : List (List ℕ)) (more : ℕ)
+    → IsSpentLast limits r last told left rest → with_errands limits now more ≤ with_errands limits errands rest
+    → IsSpentLast limits r last told (with_errands limits errands left) (with_errands limits now more)
 spent_with limits r None told left rest errands now more spent few = omega (arith, spent, few)
 spent_with limits r (Some asked) told left rest errands now more spent few = elim spent [
   | inl less ↦ inl (omega (arith, less, few))
@@ -64,7 +66,10 @@ module _ (old : Op) (had has : Spares) (told : Answer Record) (is : IsToldOn old
   pub goes_on : outcome ≡ None → StepsInRound old.task old.state told state → AsksOn old had told went has
   goes_on on steps = record {
     works = λ k r works fits. (here k r works fits).0;
-    spends = λ k r works fits. spent_with old.task.limits r last told _ _ errands errands _ (subst (λ o. LeavesFor old.task.limits r last told (left_at old.task.limits r had old.state) state has o) on (makes.leaves old.task k r works fits)) (omega arith);
+    spends =
+        λ k r works fits. spent_with old.task.limits r last told _ _ errands errands _
+        (subst (λ o. LeavesFor old.task.limits r last told (left_at old.task.limits r had old.state) state has o) on (makes.leaves old.task k r works fits))
+        (omega arith);
     asks = (here is.k is.r is.works is.fits).1;
     same = record { limits = refl; actor = refl; command = refl };
     sweep = refl;
@@ -82,7 +87,10 @@ module _ (old : Op) (had has : Spares) (told : Answer Record) (is : IsToldOn old
     pub follows : (new : Op) → FollowsOutcome went has to new → StepsInRound old.task old.state told new.state → AsksOn old had told new has
     follows new after steps = record {
       works = λ k r works fits. after.stands _ _ (faces k r works fits);
-      spends = λ k r works fits. spent_with old.task.limits r last told _ _ errands new.task.errands _ (subst (λ o. LeavesFor old.task.limits r last told (left_at old.task.limits r had old.state) state has o) come (makes.leaves old.task k r works fits)) (after.few _ _ (faces k r works fits));
+      spends =
+          λ k r works fits. spent_with old.task.limits r last told _ _ errands new.task.errands _
+          (subst (λ o. LeavesFor old.task.limits r last told (left_at old.task.limits r had old.state) state has o) come (makes.leaves old.task k r works fits))
+          (after.few _ _ (faces k r works fits));
       asks = after.asks;
       same = after.same;
       sweep = after.sweep;
@@ -90,7 +98,8 @@ module _ (old : Op) (had has : Spares) (told : Answer Record) (is : IsToldOn old
     }
 
 -- Something is known that it faces then, and what was read is there.
-pub faced : (is_there : ℕ → Record → Type 0) (old : Op) (had has : Spares) (told : Answer Record) → IsToldOnThere is_there old had told → (state : State) (outcome : Option Outcome) → TurnsInto old.state had told state has outcome → (to : Outcome) → outcome ≡ Some to
+pub faced : (is_there : ℕ → Record → Type 0) (old : Op) (had has : Spares) (told : Answer Record) → IsToldOnThere is_there old had told
+    → (state : State) (outcome : Option Outcome) → TurnsInto old.state had told state has outcome → (to : Outcome) → outcome ≡ Some to
     → (k : Knowledge) × (r : Recalled) × Faces old.task has k r to × AreThere is_there k
 faced is_there old had has told is state outcome makes to come =
     let alone = told_alone is_there old had told is in

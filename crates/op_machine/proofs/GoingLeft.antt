@@ -68,7 +68,8 @@ module _ (old : Descent) (told : Answer Record) (version : Version) (whole : Fin
   stops new moves = elim moves [
     | inl starts ↦ (let clash : Root ≡ Page whole.visit = sym starts.asked ∙ whole.asked in cc)
     | inr visits ↦ elim visits.responds [
-      | inl head ↦ (let same = same_visit visits.visit visits.asked in let clash : Slot ≡ Row version.head whole.responds.row = sym head.asked ∙ ap (λ (v : Visit). v.state) same ∙ whole.responds.asked in cc)
+      | inl head ↦
+          (let same = same_visit visits.visit visits.asked in let clash : Slot ≡ Row version.head whole.responds.row = sym head.asked ∙ ap (λ (v : Visit). v.state) same ∙ whole.responds.asked in cc)
       | inr on ↦
           let same : on.content ≡ whole.responds.content = ap content_of (sym on.is ∙ whole.responds.is) in
           let clash : Some on.under ≡ None = sym on.more ∙ ap next_row same ∙ whole.responds.last in
@@ -174,7 +175,8 @@ read_left : (task : Task) (old : ReadRound) (told : Answer Record) (new : State)
 read_left task old told new steps removed meets = elim steps.responds [
   | inl way ↦ absurd (stops (reading.way old) told removed meets.whole (reading.way steps.next) way.on)
   | inr from ↦
-      let sees : Sees reading old (Whole removed) steps.next steps.end = subst (λ (s : Sight). Sees reading old s steps.next steps.end) (found (reading.way old) told removed meets.whole from.sight from.finds) from.sees in
+      let sees : Sees reading old (Whole removed) steps.next steps.end = subst (λ (s : Sight). Sees reading old s steps.next steps.end)
+      (found (reading.way old) told removed meets.whole from.sight from.finds) from.sees in
       read_turns task old steps.next removed meets.gone steps.same new steps.end sees steps.goes
 ]
 
@@ -182,7 +184,8 @@ write_left : (task : Task) (old : WriteRound) (told : Answer Record) (new : Stat
 write_left task old told new steps removed meets = elim steps.responds [
   | inl way ↦ absurd (stops (writing.way old) told removed meets.whole (writing.way steps.next) way.on)
   | inr from ↦
-      let sees : Sees writing old (Whole removed) steps.next steps.end = subst (λ (s : Sight). Sees writing old s steps.next steps.end) (found (writing.way old) told removed meets.whole from.sight from.finds) from.sees in
+      let sees : Sees writing old (Whole removed) steps.next steps.end = subst (λ (s : Sight). Sees writing old s steps.next steps.end)
+      (found (writing.way old) told removed meets.whole from.sight from.finds) from.sees in
       write_turns task old steps.next removed meets.seeks meets.gone new steps.end sees steps.goes
 ]
 

@@ -103,12 +103,14 @@ module _ (parent leaf : Version) (fitted : IsFitted parent.chain) (above : is_re
               by_count false less = inl (grind (arith, nat_tests, less))
 
   -- the leaf may not be removed either
-  pub held_back : (held : Bool) → content_in parent.chain low ≡ Some (Child leaf.pid held) → is_removed leaf.chain ≡ false → length leaf.chain ≤ 8 → IsSmall leaf → IsIdle parent leaf → HoldsBack parent.chain leaf.pid low
+  pub held_back : (held : Bool) → content_in parent.chain low ≡ Some (Child leaf.pid held) → is_removed leaf.chain ≡ false → length leaf.chain ≤ 8
+      → IsSmall leaf → IsIdle parent leaf → HoldsBack parent.chain leaf.pid low
   held_back true there alive few small idle = absurd ((idle small).0 (record { held = there; alive = alive; few = small.few; unheld = small.unheld; short = few }))
   held_back false there alive few small idle = unheld there (idle small).1
 
 -- by the page above, where there is one
-pub kept_back : (limits : Limits) (k : Knowledge) (r : Recalled) (command : Command) (parent : Option Version) (leaf : Version) → tidies command ≡ true → IfSome parent (IsUpper limits k r leaf) → IsTermed leaf parent → IsIdleFor command parent leaf
+pub kept_back : (limits : Limits) (k : Knowledge) (r : Recalled) (command : Command) (parent : Option Version) (leaf : Version) → tidies command ≡ true
+    → IfSome parent (IsUpper limits k r leaf) → IsTermed leaf parent → IsIdleFor command parent leaf
     → is_removed leaf.chain ≡ false → length leaf.chain ≤ 8 → IsSmall leaf → (low_in leaf.chain ≡ []) ⊎ IsHeldBack k leaf.pid (low_in leaf.chain)
 kept_back limits k r command None leaf tidy above termed idle alive few small = inl termed
 kept_back limits k r command (Some parent) leaf tidy above termed idle alive few small =

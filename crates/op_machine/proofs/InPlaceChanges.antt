@@ -30,7 +30,8 @@ module _ (old new : change.Change) (then : Then) (had has : Spares) (told : Answ
   Follows end = (actor : ℕ) (k : Knowledge) → change.Shows actor old had k → Fits old.limits k (change.wanted old had) told → change.Follows actor k (last k) old told new has end
 
   -- it goes on, or has ended
-  pub changes_into : (end : Option End) → Follows end → IfNone end (change.IsSoundChange new has) → change.IsMade new has → HaveRoom old.limits has → change.HasNewState old new → bound.IsPidFrom had.pid (bound.pid_taken (change.wanted old had) told) has.pid → bound.Spends old had told new has end
+  pub changes_into : (end : Option End) → Follows end → IfNone end (change.IsSoundChange new has) → change.IsMade new has → HaveRoom old.limits has
+      → change.HasNewState old new → bound.IsPidFrom had.pid (bound.pid_taken (change.wanted old had) told) has.pid → bound.Spends old had told new has end
       → TurnsInto (at.Change old then) had told (at.Change new then) has (changed (ended_with then end))
   changes_into None follows sound made room same pid spends = record {
     comes = λ task k r h fits.
@@ -52,7 +53,8 @@ module _ (old new : change.Change) (then : Then) (had has : Spares) (told : Answ
   -- what is known to be in limbo then
   pub unlinks_into : (end : Option End) → ((actor : ℕ) (k : Knowledge) → change.Shows actor old had k → Fits old.limits k (change.wanted old had) told → (last k).limbo ≡ limbo_after old.plan end k)
       → ((actor : ℕ) (k : Knowledge) → change.Shows actor old had k → Fits old.limits k (change.wanted old had) told → TakesFresh old.limits k old.plan end)
-      → (task : Task) (k : Knowledge) (r : Recalled) → IsInChange task had k r old then → Fits task.limits k (change.wanted old had) told → UnlinksAfter task.limits k (ended_with then end) (last k).limbo
+      → (task : Task) (k : Knowledge) (r : Recalled) → IsInChange task had k r old then → Fits task.limits k (change.wanted old had) told
+      → UnlinksAfter task.limits k (ended_with then end) (last k).limbo
   unlinks_into None limbo fresh task k r h fits = limbo task.actor k h.shows (rw h.limits fits)
   unlinks_into (Some end) limbo fresh task k r h fits =
       rw (← h.limits) (unlinks old.limits k task.command old.plan end then (last k).limbo h.brings (limbo task.actor k h.shows (rw h.limits fits)) (fresh task.actor k h.shows (rw h.limits fits)))

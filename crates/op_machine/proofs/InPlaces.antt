@@ -127,7 +127,8 @@ module _ (task : Task) (spares : Spares) (k : Knowledge) (r : Recalled) (places 
       record { k = k; r = r; shows = shows.shows; fits = rw shows.limits fits }
 
   -- it has what was read there, and wants what the operation wants,
-  pub reader_told_there : (is_there : ℕ → Record → Type 0) (told : Answer Record) → places.stand ≡ Read → Stands → FitsThere told → ThenThere is_there told → IsToldThere is_there (machine read.reading) places.reader.round told
+  pub reader_told_there : (is_there : ℕ → Record → Type 0) (told : Answer Record) → places.stand ≡ Read → Stands → FitsThere told → ThenThere is_there told
+      → IsToldThere is_there (machine read.reading) places.reader.round told
   reader_told_there is_there told is h f there =
       let shows = rw is at h in
       let fits : Fits task.limits k (read.wanted places.reader.round) told = rw is at f in
@@ -158,7 +159,8 @@ module _ (task : Task) (spares : Spares) (k : Knowledge) (r : Recalled) (places 
       let fits : Fits task.limits k (write.wanted places.writer.round) told = rw is at f in
       record { k = k; r = r; shows = shows.shows; fits = rw shows.round_of.limits fits }
 
-  pub writer_told_there : (is_there : ℕ → Record → Type 0) (told : Answer Record) → places.stand ≡ Write → Stands → FitsThere told → ThenThere is_there told → IsToldThere is_there (machine response.writing) places.writer.round told
+  pub writer_told_there : (is_there : ℕ → Record → Type 0) (told : Answer Record) → places.stand ≡ Write → Stands → FitsThere told → ThenThere is_there told
+      → IsToldThere is_there (machine response.writing) places.writer.round told
   writer_told_there is_there told is h f there =
       let shows = rw is at h in
       let fits : Fits task.limits k (write.wanted places.writer.round) told = rw is at f in
@@ -173,26 +175,36 @@ module _ (old new : OpPlaces) (spares : Spares) (told : Answer Record) where
   reads_into result is reads =
       let there : new.stand ≡ Read = ap (λ (p : OpPlaces). p.stand) reads.only ∙ is in
       rw (is, there) (record {
-        comes = λ task k r h fits. read_comes task spares k r old.reader.round new.reader.round told h fits reads.same result (reading.follows_from old.reader.round new.reader.round told result reads.responds k r h.shows (rw h.limits fits));
-        leaves = λ task k r h fits. read_leaves task spares k r old.reader.round new.reader.round told h fits result (reading.spends_from old.reader.round new.reader.round told result reads.responds (left_round task.limits) (one_round task.limits) k r h.shows (rw h.limits fits));
+        comes =
+            λ task k r h fits. read_comes task spares k r old.reader.round new.reader.round told h fits reads.same result
+            (reading.follows_from old.reader.round new.reader.round told result reads.responds k r h.shows (rw h.limits fits));
+        leaves =
+            λ task k r h fits. read_leaves task spares k r old.reader.round new.reader.round told h fits result
+            (reading.spends_from old.reader.round new.reader.round told result reads.responds (left_round task.limits) (one_round task.limits) k r h.shows (rw h.limits fits));
       })
 
   pub writes_into : (result : Option WriteEnd) → old.stand ≡ Write → WritesOn old told new result → TurnsInto (state_of old) spares told (state_of new) spares (written_out result)
   writes_into result is writes =
       let there : new.stand ≡ Write = ap (λ (p : OpPlaces). p.stand) writes.only ∙ is in
       rw (is, there) (record {
-        comes = λ task k r h fits. write_comes task spares k r old.writer.round new.writer.round told h fits writes.same result writes.responds (writing.follows_from old.writer.round new.writer.round told result writes.responds k r h.shows (rw h.round_of.limits fits));
-        leaves = λ task k r h fits. write_leaves task spares k r old.writer.round new.writer.round told h fits result (writing.spends_from old.writer.round new.writer.round told result writes.responds (left_round task.limits) (one_round task.limits) k r h.shows (rw h.round_of.limits fits));
+        comes =
+            λ task k r h fits. write_comes task spares k r old.writer.round new.writer.round told h fits writes.same result writes.responds
+            (writing.follows_from old.writer.round new.writer.round told result writes.responds k r h.shows (rw h.round_of.limits fits));
+        leaves =
+            λ task k r h fits. write_leaves task spares k r old.writer.round new.writer.round told h fits result
+            (writing.spends_from old.writer.round new.writer.round told result writes.responds (left_round task.limits) (one_round task.limits) k r h.shows (rw h.round_of.limits fits));
       })
 
   -- the operation makes it of the answer, with what follows
-  pub reads_step : (task : Task) (result : Option ReadEnd) → old.stand ≡ Read → ReadsOn old told new result → (to : State) → AfterReading task new.reader.round result to → StepsInRound task (state_of old) told to
+  pub reads_step : (task : Task) (result : Option ReadEnd) → old.stand ≡ Read → ReadsOn old told new result → (to : State)
+      → AfterReading task new.reader.round result to → StepsInRound task (state_of old) told to
   reads_step task result is reads to goes = rw is (record { next = new.reader.round; end = result; responds = reads.responds; same = reads.same; goes = goes })
 
   pub reads_state : (result : Option ReadEnd) → old.stand ≡ Read → ReadsOn old told new result → state_of new ≡ at.Read new.reader.round
   reads_state result is reads = let there : new.stand ≡ Read = ap (λ (p : OpPlaces). p.stand) reads.only ∙ is in rw there refl
 
-  pub writes_step : (task : Task) (result : Option WriteEnd) → old.stand ≡ Write → WritesOn old told new result → (to : State) → AfterWriting task new.writer.round result to → StepsInRound task (state_of old) told to
+  pub writes_step : (task : Task) (result : Option WriteEnd) → old.stand ≡ Write → WritesOn old told new result → (to : State)
+      → AfterWriting task new.writer.round result to → StepsInRound task (state_of old) told to
   writes_step task result is writes to goes = rw is (record { next = new.writer.round; end = result; responds = writes.responds; goes = goes })
 
   pub writes_state : (result : Option WriteEnd) → old.stand ≡ Write → WritesOn old told new result → state_of new ≡ at.Write new.writer.round
@@ -206,7 +218,9 @@ module _ (old new : OpPlaces) (spares : Spares) (told : Answer Record) where
   writes_have limits result have writes = record { reader = ap (λ (p : OpPlaces). p.reader.round.limits) writes.only ∙ have.reader; writer = writes.same.limits ∙ have.writer }
 
 -- what an operation makes of what it has come to, where only its places change
-pub comes_to : (task : Task) (sweep : Option Sweep) (old new : State) (spares : Spares) (outcome : Outcome) → ((k : Knowledge) (r : Recalled) → Faces task spares k r outcome → ShowsState task spares k r new) → ((r : Recalled) → left_at task.limits r spares new ≤ left_for task.limits outcome) → IsSome (wanted_at spares new)
+pub comes_to : (task : Task) (sweep : Option Sweep) (old new : State) (spares : Spares) (outcome : Outcome)
+    → ((k : Knowledge) (r : Recalled) → Faces task spares k r outcome → ShowsState task spares k r new)
+    → ((r : Recalled) → left_at task.limits r spares new ≤ left_for task.limits outcome) → IsSome (wanted_at spares new)
     → FollowsOutcome (record { task = task; sweep = sweep; state = old }) spares outcome (record { task = task; sweep = sweep; state = new })
 comes_to task sweep old new spares outcome stands few asks = record {
   stands = stands;

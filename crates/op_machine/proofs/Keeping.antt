@@ -40,7 +40,8 @@ read_limbo k asked told (inl slot) = rw slot.1 (slot_limbo k slot.0 told)
 read_limbo k asked told (inr row) = rw row.1 (row_limbo k row.0 told)
 
 module _ (task : Task) (spares : Spares) (k : Knowledge) (r : Recalled) (limbo : Limbo) (told : Answer Record) (kept : AreKept task.limits task.actor limbo k.limbo)
-    (reads : (limits : Limits) (actor n : ℕ) (limbo : Limbo) (k : Knowledge) → AreKept limits actor limbo k.limbo → Fits limits k step.Epoch (Number n) → AreKept limits actor limbo (learn k step.Epoch (Number n)).limbo) where
+    (reads : (limits : Limits) (actor n : ℕ) (limbo : Limbo) (k : Knowledge) → AreKept limits actor limbo k.limbo → Fits limits k step.Epoch (Number n) →
+    AreKept limits actor limbo (learn k step.Epoch (Number n)).limbo) where
   still : (now : Limbos) → now ≡ k.limbo → AreKept task.limits task.actor limbo now
   still now same = subst (AreKept task.limits task.actor limbo) (sym same) kept
 
@@ -51,7 +52,8 @@ module _ (task : Task) (spares : Spares) (k : Knowledge) (r : Recalled) (limbo :
   epoch (Whether whether) fits = absurd fits
   epoch Done fits = absurd fits
 
-  pub work_keeps : (state : State) → ShowsState task spares k r state → is_changing state ≡ false → FitsLast task.limits k (wanted_at spares state) told → AreKept task.limits task.actor limbo (learn_last k (wanted_at spares state) told).limbo
+  pub work_keeps : (state : State) → ShowsState task spares k r state → is_changing state ≡ false → FitsLast task.limits k (wanted_at spares state) told
+      → AreKept task.limits task.actor limbo (learn_last k (wanted_at spares state) told).limbo
   work_keeps Begun stands at_rest fits = kept
   work_keeps Epoch stands at_rest fits = epoch told fits
   work_keeps (Enter epoch) stands at_rest fits = kept

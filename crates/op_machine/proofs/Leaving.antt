@@ -87,7 +87,8 @@ leaves_at spares swept state e = by_test (is_leaving state) refl
     by_test false is = absurd (elsewhere spares swept state is e)
 
 -- one that is at its leave wants it
-at_leave : (task : Task) (spares : Spares) (limbo : Limbo) (k : Knowledge) (swept : Option Sweep) (state : State) → HoldsLimbo task state limbo k swept → is_leaving state ≡ true → asked_by swept (wanted_at spares state) ≡ Some step.Leave
+at_leave : (task : Task) (spares : Spares) (limbo : Limbo) (k : Knowledge) (swept : Option Sweep) (state : State) → HoldsLimbo task state limbo k swept
+    → is_leaving state ≡ true → asked_by swept (wanted_at spares state) ≡ Some step.Leave
 at_leave task spares limbo k None (Leave reply lacks) holds on = refl
 at_leave task spares limbo k (Some swept) (Leave reply lacks) holds on = let first = holds.first in cc
 at_leave task spares limbo k swept Begun holds on = cc

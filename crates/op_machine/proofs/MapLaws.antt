@@ -55,13 +55,15 @@ one_leaf memory log chain is low high right says = record {
   );
 }
 
-nowhere : (pages : List LivePage) → AllByRecursion (λ page. (key : List ℕ) → content_in page.chain key ≡ None) pages → (k : ℕ) (page : LivePage) → k < length pages → slice_index_or pages k page ≡ page → (key : List ℕ) → content_in page.chain key ≡ None
+nowhere : (pages : List LivePage) → AllByRecursion (λ page. (key : List ℕ) → content_in page.chain key ≡ None) pages → (k : ℕ) (page : LivePage)
+    → k < length pages → slice_index_or pages k page ≡ page → (key : List ℕ) → content_in page.chain key ≡ None
 nowhere [] h k page lt e key = absurd (omega arith)
 nowhere (p ∷ pages) h zero page lt e key = subst (λ q. content_in q.chain key ≡ None) e (h.0 key)
 nowhere (p ∷ pages) h (suc k) page lt e key = nowhere pages h.1 k page (omega arith) e key
 
 -- whole leaves that decide no key have the map of the empty log
-pub no_values : (memory : Memory) (pages : List LivePage) → IsLeaves memory pages → IsWhole pages → AllByRecursion (λ page. (key : List ℕ) → content_in page.chain key ≡ None) pages → HasMapOf memory []
+pub no_values : (memory : Memory) (pages : List LivePage) → IsLeaves memory pages → IsWhole pages
+    → AllByRecursion (λ page. (key : List ℕ) → content_in page.chain key ≡ None) pages → HasMapOf memory []
 no_values memory pages are whole none = record {
   whole = (pages, are, whole);
   same = λ key value. (

@@ -38,7 +38,8 @@ module _ (old : Op) (had : Hand) (told : Answer Record) (begun : has_begun old.s
   swept_first k None holds = refl
   swept_first k (Some sweep) holds = let e = sym (ap has_begun holds.first) ∙ begun in cc
 
-  pub left_is : (op : Op) (hand : Hand) (r : Recalled) → op.sweep ≡ None → has_begun op.state ≡ true → steps_left r op hand ≡ with_errands op.task.limits op.task.errands (left_at op.task.limits r hand.spares op.state)
+  pub left_is : (op : Op) (hand : Hand) (r : Recalled) → op.sweep ≡ None → has_begun op.state ≡ true
+      → steps_left r op hand ≡ with_errands op.task.limits op.task.errands (left_at op.task.limits r hand.spares op.state)
   left_is op hand r none on = let zero : sweep_left op.task.limits op.sweep op.state ≡ 0 = rw none (nothing_left op.task.limits op.state on) in omega (arith, zero)
 
   module _ (k : Knowledge) (r : Recalled) (shows : Shows old had k r) where

@@ -31,15 +31,18 @@ module _ (limits : Limits) (entries : List Entry) (last : Entry) where
   IsInPhase-kept n pid phase le (inr (rests, is)) = inr (Rests-kept 0 n pid le rests, is)
 
   pub IsInPhase-moved : (pid : ℕ) (from to : Phase) → MovesPhase (memory_of limits entries) last pid from to → IsInPhase limits (entries ++ last ∷ []) (suc (length entries)) pid to
-  IsInPhase-moved pid from to moves = inl (length entries, from, omega arith, Happens-last limits entries last (λ memory entry. MovesPhase memory entry pid from to) moves, λ k a b low high. absurd (omega arith))
+  IsInPhase-moved pid from to moves =
+      inl (length entries, from, omega arith, Happens-last limits entries last (λ memory entry. MovesPhase memory entry pid from to) moves, λ k a b low high. absurd (omega arith))
 
-  rests_longer : (m pid : ℕ) → Rests limits entries m (length entries) pid → ((from to : Phase) → ¬ MovesPhase (memory_of limits entries) last pid from to) → Rests limits (entries ++ last ∷ []) m (suc (length entries)) pid
+  rests_longer : (m pid : ℕ) → Rests limits entries m (length entries) pid → ((from to : Phase) → ¬ MovesPhase (memory_of limits entries) last pid from to)
+      → Rests limits (entries ++ last ∷ []) m (suc (length entries)) pid
   rests_longer m pid rests still k from to low high moves = elim (Happens-push_cases moves) [
     | inl before ↦ rests k from to low (Happens-below before) before
     | inr at ↦ still from to at.1
   ]
 
-  pub IsInPhase-rested : (pid : ℕ) (phase : Phase) → ((from to : Phase) → ¬ MovesPhase (memory_of limits entries) last pid from to) → IsInPhase limits entries (length entries) pid phase → IsInPhase limits (entries ++ last ∷ []) (suc (length entries)) pid phase
+  pub IsInPhase-rested : (pid : ℕ) (phase : Phase) → ((from to : Phase) → ¬ MovesPhase (memory_of limits entries) last pid from to)
+      → IsInPhase limits entries (length entries) pid phase → IsInPhase limits (entries ++ last ∷ []) (suc (length entries)) pid phase
   IsInPhase-rested pid phase still (inl (m, from, lt, moves, rests)) = inl (m, from, omega arith, Happens-kept (last ∷ []) moves, rests_longer (suc m) pid rests still)
   IsInPhase-rested pid phase still (inr (rests, is)) = inr (rests_longer 0 pid rests still, is)
 

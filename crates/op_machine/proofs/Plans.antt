@@ -29,11 +29,13 @@ use Rattle.op_machine.specs.machine.Shows.{IsRoundOf}
 use Rattle.op_machine.specs.machine.Tasks.{Seeks, Task}
 
 -- a page in hand is a place for a record
-pub place_of : (limits : Limits) (k : Knowledge) (r : Recalled) (page : Version) (content : Record) → IsAlive limits k r page → ForSome (next_row content) (λ next. next < limits.rows) → change.IsTargetOver limits page.pid page.head content
+pub place_of : (limits : Limits) (k : Knowledge) (r : Recalled) (page : Version) (content : Record) → IsAlive limits k r page
+    → ForSome (next_row content) (λ next. next < limits.rows) → change.IsTargetOver limits page.pid page.head content
 place_of limits k r page content alive next = record { page = page.is_pid.0; pid_below = alive.in_hand.page; linked = alive.recalled.0; head_below = alive.in_hand.row; next_below = next }
 
 -- what links over a page in hand, which it names as the row that is under it, is planned for a place
-pub over_page : (limits : Limits) (k : Knowledge) (r : Recalled) (page : Version) (content : Record) → IsAlive limits k r page → next_row content ≡ Some page.head → change.IsTargetOver limits page.pid page.head content
+pub over_page : (limits : Limits) (k : Knowledge) (r : Recalled) (page : Version) (content : Record) → IsAlive limits k r page
+    → next_row content ≡ Some page.head → change.IsTargetOver limits page.pid page.head content
 over_page limits k r page content alive e = place_of limits k r page content alive (λ next is. let same : next ≡ page.head = cc in rw same alive.in_hand.row)
 
 -- a page is consolidated at one delta or more
@@ -94,7 +96,8 @@ none_left [] e = refl
 none_left (key ∷ errands) e = absurd (last_some key errands (subst (λ n. slice_get (key ∷ errands) n ≡ None) (let n = length errands in omega arith) e))
 
 -- a round for one errand fewer takes no more steps than a change
-pub errand_less : (limits : Limits) (errands : List (List ℕ)) (key : List ℕ) (left : ℕ) → Some key ≡ slice_get errands (length errands - 1) → left ≤ one_round limits → with_errands limits (take (length errands - 1) errands) left ≤ with_errands limits errands (few_changes limits + 1)
+pub errand_less : (limits : Limits) (errands : List (List ℕ)) (key : List ℕ) (left : ℕ) → Some key ≡ slice_get errands (length errands - 1)
+    → left ≤ one_round limits → with_errands limits (take (length errands - 1) errands) left ≤ with_errands limits errands (few_changes limits + 1)
 errand_less limits [] key left e few = cc
 errand_less limits (first ∷ errands) key left e few =
     let less : length (take (length (first ∷ errands) - 1) (first ∷ errands)) ≡ length errands = omega (arith, length-take (length (first ∷ errands) - 1) (first ∷ errands)) in
@@ -113,7 +116,8 @@ longer_by_one key errands = by_test (nat_lt (length errands) 16)
     by_test false = omega arith
 
 -- a round with one errand more takes no more steps than two rounds
-pub errand_more : (limits : Limits) (errands : List (List ℕ)) (key : List ℕ) (left : ℕ) → left ≤ one_round limits → with_errands limits (with_errand key errands) left ≤ with_errands limits errands (one_round limits + one_round limits)
+pub errand_more : (limits : Limits) (errands : List (List ℕ)) (key : List ℕ) (left : ℕ) → left ≤ one_round limits
+    → with_errands limits (with_errand key errands) left ≤ with_errands limits errands (one_round limits + one_round limits)
 errand_more limits errands key left few =
     let product : one_round limits * length (with_errand key errands) ≤ one_round limits * suc (length errands) = mul-le-mul_left (one_round limits) (longer_by_one key errands) in
     let more : one_round limits * suc (length errands) ≡ one_round limits * length errands + one_round limits = mul-suc (one_round limits) (length errands) in

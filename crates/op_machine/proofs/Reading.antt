@@ -64,10 +64,17 @@ module _ (task : Task) (spares : Spares) (k : Knowledge) (s : Seeks task spares 
   unread_still p n foreign = if_some spares.pid (λ q e h. other_unread p n q k.read.heads (λ i. foreign (subst (λ x. k.own.pages x ≡ Empty) i (some_page spares.pid refl q e))) h) s.unread
 
   slot_still : (limits : Limits) (p : ℕ) (told : Answer Record) → Fits limits k (Slot p) told → Seeks task spares (learn k (Slot p) told)
-  slot_still limits zero (Number n) fits = record { inside = s.inside; spare = record { room = s.spare.room; rest = s.spare.rest }; unread = s.unread; asked = record { going = s.asked.going; unlinked = s.asked.unlinked } }
+  slot_still limits zero (Number n) fits = record
+      { inside = s.inside; spare = record { room = s.spare.room; rest = s.spare.rest }; unread = s.unread; asked = record { going = s.asked.going; unlinked = s.asked.unlinked } }
   slot_still limits (suc p) (Number zero) fits = s
   slot_still limits (suc p) (Number (suc n)) fits =
-      record { inside = s.inside; spare = record { room = s.spare.room; rest = s.spare.rest }; unread = unread_still (suc p) (suc n) fits.3; asked = record { going = s.asked.going; unlinked = s.asked.unlinked } }
+      record {
+        inside = s.inside;
+        spare = record { room = s.spare.room; rest = s.spare.rest };
+        unread = unread_still (suc p) (suc n) fits.3;
+        asked = record
+            { going = s.asked.going; unlinked = s.asked.unlinked };
+      }
   slot_still limits zero Start fits = absurd fits
   slot_still limits zero (Content w) fits = absurd fits
   slot_still limits zero (Whether t) fits = absurd fits
@@ -78,7 +85,8 @@ module _ (task : Task) (spares : Spares) (k : Knowledge) (s : Seeks task spares 
   slot_still limits (suc p) Done fits = absurd fits
 
   row_still : (limits : Limits) (q : ℕ) (told : Answer Record) → Fits limits k (Row q) told → Seeks task spares (learn k (Row q) told)
-  row_still limits q (Content w) fits = record { inside = s.inside; spare = record { room = s.spare.room; rest = s.spare.rest }; unread = s.unread; asked = record { going = s.asked.going; unlinked = s.asked.unlinked } }
+  row_still limits q (Content w) fits = record
+      { inside = s.inside; spare = record { room = s.spare.room; rest = s.spare.rest }; unread = s.unread; asked = record { going = s.asked.going; unlinked = s.asked.unlinked } }
   row_still limits q Start fits = absurd fits
   row_still limits q (Number n) fits = absurd fits
   row_still limits q (Whether t) fits = absurd fits

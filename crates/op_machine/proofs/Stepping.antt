@@ -65,7 +65,8 @@ empties k zero old = tt
 empties k (suc slot) zero = tt
 empties k (suc slot) (suc old) = tt
 
-over : (k : Knowledge) (pid head row : ℕ) (content : Record) → IsUsefulOver k head content → k.own.rows row ≡ Written content → (basis : HasRead k pid head) (page : Page) → k.own.rows row ≡ Written (kind.Base page) → 1 < length basis.chain
+over : (k : Knowledge) (pid head row : ℕ) (content : Record) → IsUsefulOver k head content → k.own.rows row ≡ Written content
+    → (basis : HasRead k pid head) (page : Page) → k.own.rows row ≡ Written (kind.Base page) → 1 < length basis.chain
 over k pid head row (kind.Base other) useful placed basis page is = useful basis.chain basis.read
 over k pid head row content useful placed basis page is = let e = sym placed ∙ is in cc
 

@@ -24,7 +24,8 @@ use Rattle.sweep.specs.Bounded as sweep
 use Rattle.sweep.specs.Sweeps.{Sweep}
 
 -- whichever step is wanted, the operation obeys by it
-obeys_by : (old : Op) (had : Hand) (told : Answer Record) (new : Op) (has : Hand) → ShowsOn old had told new has → (asked : StepOf Record) → Wants new has asked → Obeys old had told new has (Step asked)
+obeys_by : (old : Op) (had : Hand) (told : Answer Record) (new : Op) (has : Hand) → ShowsOn old had told new has → (asked : StepOf Record) → Wants new has asked
+    → Obeys old had told new has (Step asked)
 obeys_by old had told new has goes asked wants = λ k r h f. wants (learn_last k (wanted_of old had) told) (recall_last r (wanted_of old had) told) (goes k r h f)
 
 begun_if : (spares : Spares) (state : State) → IsSome (wanted_at spares state) → has_begun state ≡ true
@@ -62,7 +63,9 @@ module _ (old : Op) (had : Hand) (told : Answer Record) (begun : has_begun old.s
       let none = unswept old had told begun k r h in
       let then = begun_if has.spares new.state after.asks in
       subst (λ w. IsSpentLast old.task.limits r w told (steps_left r old had) (steps_left (recall_last r w told) new has)) (sym (asks old had told begun k r h))
-      (rw (left_is old had told begun old had r none begun, left_is old had told begun new has (recall_last r (asked_of old had.spares) told) (after.sweep ∙ none) then, after.same.limits) (after.spends k r h.stands fits))
+      (rw
+      (left_is old had told begun old had r none begun, left_is old had told begun new has (recall_last r (asked_of old had.spares) told) (after.sweep ∙ none) then, after.same.limits)
+      (after.spends k r h.stands fits))
 
   pub takes_begun : IsToldOp old had told → Takes old had told new has
   takes_begun is = record {
@@ -140,7 +143,17 @@ module _ (old mid : Op) (spares : Spares) (limbo now : Limbo) (told : Answer Rec
           let spent = after.spends _ _ rest.1.stands start in
           let less = rw nothing at spent in
           fewer old mid spares limbo now told first same r (wanted_of old had) (steps_left r old had) (steps_left (recall_last r (wanted_of old had) told) new has)
-          (rw (sweep_asks old mid spares limbo now told first same, left_first old mid spares limbo now told first same r, after.sweep, rest.0, nothing_left new.task.limits new.state (begun_if has.spares new.state after.asks), after.same.limits, same.task) (let n = rw (same.state ∙ first, same.task) at less in omega (arith, n)))
+          (rw (
+            sweep_asks old mid spares limbo now told first same,
+            left_first old mid spares limbo now told first same r,
+            after.sweep,
+            rest.0,
+            nothing_left
+                new.task.limits new.state (begun_if has.spares new.state after.asks),
+            after.same.limits,
+            same.task,
+          ) (let n = rw (same.state ∙ first, same.task) at
+          less in omega (arith, n)))
 
       pub takes_after : Takes old had told new has
       takes_after = record {
@@ -148,7 +161,8 @@ module _ (old mid : Op) (spares : Spares) (limbo now : Limbo) (told : Answer Rec
         asks = rw (after.sweep ∙ none) after.asks;
         obeys = obeys_by old had told new has shows_after;
         spends = spends_after;
-        same = record { limits = after.same.limits ∙ ap (λ t. t.limits) same.task; actor = after.same.actor ∙ ap (λ t. t.actor) same.task; command = after.same.command ∙ ap (λ t. t.command) same.task };
+        same = record
+            { limits = after.same.limits ∙ ap (λ t. t.limits) same.task; actor = after.same.actor ∙ ap (λ t. t.actor) same.task; command = after.same.command ∙ ap (λ t. t.command) same.task };
         steps = rw first tt;
         left = rw first tt;
       }

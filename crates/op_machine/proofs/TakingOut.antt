@@ -59,7 +59,8 @@ module _ (limits : Limits) (k : Knowledge) (unlinked : Unlinked) where
   takes : (plan : Plan) → IsTakenBy k plan unlinked → TakesFresh limits k plan (Some Won) → GoesToLimbo limits k unlinked (limbo_after plan (Some Won) k)
   takes (Install pid head content) taken fresh = over content taken fresh
     where
-      over : (content : Record) → IsTakenBy k (Install pid head content) unlinked → TakesFresh limits k (Install pid head content) (Some Won) → GoesToLimbo limits k unlinked (limbo_over content head k)
+      over : (content : Record) → IsTakenBy k (Install pid head content) unlinked → TakesFresh limits k (Install pid head content) (Some Won)
+          → GoesToLimbo limits k unlinked (limbo_over content head k)
       over (kind.Base page) taken fresh = record { head = head; rows_of = taken.0; absent = fresh; page = rw taken.1 refl }
       over (kind.Put put) taken fresh = absurd taken
       over (kind.Delete delete) taken fresh = absurd taken
@@ -92,20 +93,25 @@ module _ (limits : Limits) (k : Knowledge) (command : Command) (plan : Plan) whe
   unlinks (Full kind) then after brings is fresh = is
 
 -- what has gone out where a change has won
-pub gone : (limits : Limits) (k : Knowledge) (end : End) (then : Then) (unlinked : Unlinked) (after : Limbos) → end ≡ Won → then ≡ After (Limbo unlinked) → Unlinks limits k end then after → GoesToLimbo limits k unlinked after
+pub gone : (limits : Limits) (k : Knowledge) (end : End) (then : Then) (unlinked : Unlinked) (after : Limbos) → end ≡ Won → then ≡ After (Limbo unlinked)
+    → Unlinks limits k end then after → GoesToLimbo limits k unlinked after
 gone limits k end then unlinked after won is h = rw (won, is) at h
 
 -- What a change has taken out of the tree may come into limbo, by the laws of chains that go there.
 module _ (limits : Limits) (actor : ℕ) (limbo : LimboSeen) (k : Knowledge) (kept : AreKept limits actor limbo k.limbo)
-    (rows : (limits : Limits) (actor head : ℕ) (limbo : LimboSeen) (k : Knowledge) (chain : List Record) → AreKept limits actor limbo k.limbo → AreOutOfLimbo limits k head → IsChainFrom k.read.seen head chain → length chain ≤ 13
+    (rows : (limits : Limits) (actor head : ℕ) (limbo : LimboSeen) (k : Knowledge) (chain : List Record) → AreKept limits actor limbo k.limbo → AreOutOfLimbo
+    limits k head → IsChainFrom k.read.seen head chain → length chain ≤ 13
     → IsTakenOut limits actor limbo (chain_rows head chain) None (record k.limbo { rows = taken_out k.read.seen head k.limbo.rows }))
-    (page : (limits : Limits) (actor head page : ℕ) (limbo : LimboSeen) (k : Knowledge) (chain : List Record) → AreKept limits actor limbo k.limbo → AreOutOfLimbo limits k head → IsChainFrom k.read.seen head chain → length chain ≤ 13
+    (page : (limits : Limits) (actor head page : ℕ) (limbo : LimboSeen) (k : Knowledge) (chain : List Record) → AreKept limits actor limbo k.limbo →
+    AreOutOfLimbo limits k head → IsChainFrom k.read.seen head chain → length chain ≤ 13
     → 0 < page → page < limits.pids → k.limbo.pids page ≡ Absent
     → IsTakenOut limits actor limbo (chain_rows head chain) (Some page) (record k.limbo { rows = taken_out k.read.seen head k.limbo.rows; pids = replaced_at page Unstamped k.limbo.pids })) where
   pub taken : (unlinked : Unlinked) (after : Limbos) → GoesToLimbo limits k unlinked after → IsTakenOut limits actor limbo unlinked.rows.items unlinked.pid after
   taken unlinked after out = by unlinked.pid out.page
     where
-      by : (pid : Option ℕ) → MatchOption pid (after ≡ record k.limbo { rows = taken_out k.read.seen out.head k.limbo.rows }) (IsPageOut limits k.limbo (record k.limbo { rows = taken_out k.read.seen out.head k.limbo.rows }) after)
+      by : (pid : Option ℕ)
+          → MatchOption pid (after ≡ record k.limbo { rows = taken_out k.read.seen out.head k.limbo.rows })
+          (IsPageOut limits k.limbo (record k.limbo { rows = taken_out k.read.seen out.head k.limbo.rows }) after)
           → IsTakenOut limits actor limbo unlinked.rows.items pid after
       by None is = rw (out.rows_of.are, is) (rows limits actor out.head limbo k out.rows_of.chain kept out.absent out.rows_of.read out.rows_of.short)
       by (Some pid) is = rw (out.rows_of.are, is.is) (page limits actor out.head pid limbo k out.rows_of.chain kept out.absent out.rows_of.read out.rows_of.short is.some is.below is.absent)

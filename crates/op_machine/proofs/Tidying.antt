@@ -53,7 +53,8 @@ alone [] fitted few = absurd fitted
 alone (newest ∷ []) fitted few = (fitted.0, ap (λ (update_record : Record). update_record ∷ []) fitted.1, fitted.2)
 alone (newest ∷ older ∷ under) fitted few = absurd (omega arith)
 
-pub may_call : (task : Task) (spares : Spares) (k : Knowledge) (r : Recalled) (parent : Option Version) (leaf : Version) (old : Option (List ℕ)) → IsAtLeafBelow task spares k r parent leaf → IsIdleFor task.command parent leaf → task.errands ≡ [] → reply_of task.command old ≡ None
+pub may_call : (task : Task) (spares : Spares) (k : Knowledge) (r : Recalled) (parent : Option Version) (leaf : Version) (old : Option (List ℕ))
+    → IsAtLeafBelow task spares k r parent leaf → IsIdleFor task.command parent leaf → task.errands ≡ [] → reply_of task.command old ≡ None
     → MayReply task.limits task.actor k Tidied
 may_call task spares k r parent leaf old below idle last none =
     let at = below.at in
@@ -82,7 +83,12 @@ may_call task spares k r parent leaf old below idle last none =
         few = of_made (Base base.0 ∷ []) base.0 (λ items. length items < 16) makes few;
         back = λ other small.
             kept_back task.limits k r task.command parent leaf (rw tidy.1 refl) below.above below.termed idle at.page.alive at.short
-            (record { other = other; few = rw base.1 (from_made (Base base.0 ∷ []) base.0 (λ items. length items ≤ 4) makes small); unheld = leaf_unheld leaf.chain at.page.in_hand.sound.is_chain.fitted at.level });
+            (record {
+              other = other;
+              few = rw base.1 (from_made (Base base.0 ∷ []) base.0 (λ items. length items ≤ 4) makes small);
+              unheld = leaf_unheld
+                  leaf.chain at.page.in_hand.sound.is_chain.fitted at.level;
+            });
         unlinked = at.seeks.asked.unlinked;
       })));
     }

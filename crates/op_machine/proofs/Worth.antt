@@ -139,7 +139,8 @@ write_kept kept (write.Merge left) = omega arith
 write_kept kept (write.Unterm parent left) = omega arith
 
 -- what an operation has left but for its sweep and its errands
-state_few : (task : Task) (spares : Spares) (k : Knowledge) (r : Recalled) (state : State) → ShowsState task spares k r state → op.left_at task.limits r spares state ≤ 70 * task.limits.pids + 3 * few_changes task.limits + 20
+state_few : (task : Task) (spares : Spares) (k : Knowledge) (r : Recalled) (state : State) → ShowsState task spares k r state
+    → op.left_at task.limits r spares state ≤ 70 * task.limits.pids + 3 * few_changes task.limits + 20
 state_few task spares k r Begun shows = omega arith
 state_few task spares k r Epoch shows = omega arith
 state_few task spares k r (Enter epoch) shows = omega arith
@@ -150,12 +151,14 @@ state_few task spares k r (Read round) shows =
     omega (arith, way, kept)
 state_few task spares k r (Write round) shows =
     let way : left_from round.limits (left_round task.limits) r round.state ≤ 28 * task.limits.pids + 13 + left_round task.limits =
-    subst (λ l. left_from round.limits (left_round task.limits) r round.state ≤ 28 * l.pids + 13 + left_round task.limits) shows.round_of.limits (way_few round.limits (left_round task.limits) r round.state) in
+    subst (λ l. left_from round.limits (left_round task.limits) r round.state ≤ 28 * l.pids + 13 + left_round task.limits) shows.round_of.limits
+    (way_few round.limits (left_round task.limits) r round.state) in
     let kept = write_kept (one_round task.limits) round.goal in
     omega (arith, way, kept)
 state_few task spares k r (Change now next) shows =
     let some : change.steps_left_at now.limits (one_round task.limits) now.plan spares now.state ≤ few_steps task.limits + one_round task.limits =
-    subst (λ l. change.steps_left_at now.limits (one_round task.limits) now.plan spares now.state ≤ few_steps l + one_round task.limits) shows.limits (change_few now.limits (one_round task.limits) now.plan spares now.state) in
+    subst (λ l. change.steps_left_at now.limits (one_round task.limits) now.plan spares now.state ≤ few_steps l + one_round task.limits) shows.limits
+    (change_few now.limits (one_round task.limits) now.plan spares now.state) in
     omega (arith, some)
 state_few task spares k r (Leave reply lacks) shows = omega arith
 

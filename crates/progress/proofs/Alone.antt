@@ -31,8 +31,12 @@ module _ (limits : Limits) (entries : List Entry) (a m n : ℕ) (alone : RunsAlo
 
       by_kind : Hinders a (memory_at limits entries k) h.entry → Happens limits entries k ChangesTree
       by_kind (inl change) = record { entry = h.entry; at = h.at; holds = change }
-      by_kind (inr (b, number, ne, inl took)) = absurd (ne (let e : Some (Step b (TakePid number) (Whether true) took.0) ≡ Some (Step a (alone k low high).0 (alone k low high).1 (alone k low high).2.0) = sym (ap Some took.1) ∙ step in cc))
-      by_kind (inr (b, number, ne, inr took)) = absurd (ne (let e : Some (Step b (TakeRow number) (Whether true) took.0) ≡ Some (Step a (alone k low high).0 (alone k low high).1 (alone k low high).2.0) = sym (ap Some took.1) ∙ step in cc))
+      by_kind (inr (b, number, ne, inl took)) =
+          absurd
+          (ne (let e : Some (Step b (TakePid number) (Whether true) took.0) ≡ Some (Step a (alone k low high).0 (alone k low high).1 (alone k low high).2.0) = sym (ap Some took.1) ∙ step in cc))
+      by_kind (inr (b, number, ne, inr took)) =
+          absurd
+          (ne (let e : Some (Step b (TakeRow number) (Whether true) took.0) ≡ Some (Step a (alone k low high).0 (alone k low high).1 (alone k low high).2.0) = sym (ap Some took.1) ∙ step in cc))
 
   -- and nobody begins anything
   begins_none : count_by is_begin (slice_range entries m n) ≡ 0
@@ -44,7 +48,9 @@ module _ (limits : Limits) (entries : List Entry) (a m n : ℕ) (alone : RunsAlo
       let among = among_hinder limits entries a m (suc n - m) n (omega arith) list in
       let changes : AreAmong limits entries m n ChangesTree list.places = record {
         increasing = among.increasing;
-        each = All-weaker (λ k. (m ≤ k) × (k ≤ n) × Happens limits entries k (Hinders a)) (λ k. (m ≤ k) × (k ≤ n) × Happens limits entries k ChangesTree) (λ k h. (h.0, h.1, own_change k h.0 h.1 h.2)) list.places among.each;
+        each =
+            All-weaker (λ k. (m ≤ k) × (k ≤ n) × Happens limits entries k (Hinders a)) (λ k. (m ≤ k) × (k ≤ n) × Happens limits entries k ChangesTree)
+            (λ k h. (h.0, h.1, own_change k h.0 h.1 h.2)) list.places among.each;
       } in
       let most = few.since m n list.places le changes in
       let counts = list.counts in
@@ -62,7 +68,8 @@ lone_pays limits entries changes a start m n steps earlier after within alone co
     ∙ ap (λ k. tally (hinder limits entries a) start (m - start) + tally (hinder limits entries a) k (suc n - m)) at in
     let since : tally (hinder limits entries a) m (suc n - m) ≤ 154 * limits.pids + 8 * limits.actors = since_then in
     let most : tally (hinder limits entries a) start (suc n - start) + 1 ≤ earlier + 154 * limits.pids + 8 * limits.actors + 1 = omega (arith, split, since, counts) in
-    let grown : cause_worth limits * (tally (hinder limits entries a) start (suc n - start) + 1) ≤ cause_worth limits * (earlier + 154 * limits.pids + 8 * limits.actors + 1) = mul-le-mul_left (cause_worth limits) most in
+    let grown : cause_worth limits * (tally (hinder limits entries a) start (suc n - start) + 1) ≤ cause_worth limits * (earlier + 154 * limits.pids + 8 * limits.actors + 1) = mul-le-mul_left
+    (cause_worth limits) most in
     omega (arith, paid, grown)
   where
     since_then : tally (hinder limits entries a) m (suc n - m) ≤ 154 * limits.pids + 8 * limits.actors
@@ -87,8 +94,12 @@ lone_end limits entries run keeps direct changes = record {
       elim (cases_lt n m) [
         | inl past ↦
             let start : op.start < n = own.2.1.begun in
-            let whole = listed (hinder limits entries op.actor) op.start (suc n - op.start) in
-            (whole.places, among_hinder limits entries op.actor op.start (suc n - op.start) m (omega arith) whole, enough limits (length whole.places) (steps_from entries op.actor op.start n) (rw whole.counts paid))
+            let whole = listed (hinder limits entries op.actor) op.start (suc n - op.start) in (
+              whole.places,
+              among_hinder limits entries op.actor op.start (suc n - op.start) m (omega arith) whole,
+              enough limits (length whole.places)
+                  (steps_from entries op.actor op.start n) (rw whole.counts paid),
+            )
         | inr le ↦ (
           list.places,
           among_hinder limits entries op.actor op.start (m - op.start) m (omega arith) list,
@@ -99,12 +110,14 @@ lone_end limits entries run keeps direct changes = record {
       let start : op.start < n = own.2.1.begun in
       let same : 0 + 154 * limits.pids + 8 * limits.actors + 1 ≡ 154 * limits.pids + 8 * limits.actors + 1 = omega arith in
       subst (λ k. steps_from entries op.actor op.start n ≤ cause_worth limits * k) same
-      (lone_pays limits entries changes op.actor op.start (suc op.start) n (steps_from entries op.actor op.start n) 0 (omega arith) (omega arith) alone (none_first limits entries op.actor op.start op.command begun)
+      (lone_pays limits entries changes op.actor op.start (suc op.start) n (steps_from entries op.actor op.start n) 0 (omega arith) (omega arith) alone
+      (none_first limits entries op.actor op.start op.command begun)
       (paid_by_hinder limits entries run keeps direct op begun n none own));
   since = λ op m n begun after le own alone none.
       let paid = paid_since limits entries run keeps direct op begun n none m after le own in
       let most = lone_changes limits entries op.actor m n alone changes le in
-      let grown : cause_worth limits * (tally (hinder limits entries op.actor) m (suc n - m) + limits.pids + 11) ≤ cause_worth limits * (155 * limits.pids + 8 * limits.actors + 11) = mul-le-mul_left (cause_worth limits) (omega (arith, most)) in
+      let grown : cause_worth limits * (tally (hinder limits entries op.actor) m (suc n - m) + limits.pids + 11) ≤ cause_worth limits * (155 * limits.pids + 8 * limits.actors + 11) = mul-le-mul_left
+      (cause_worth limits) (omega (arith, most)) in
       omega (arith, paid, grown);
 }
   where

@@ -54,7 +54,8 @@ last_begin entries a (suc n) some = by_entry (λ before. last_begin entries a n 
     by_entry earlier None at = one_on entries a n (λ c e. cc (at, e)) (earlier (rw (ap (λ es. command_of es a) (take_past entries n at)) at some))
     by_entry earlier (Some (Begin b c)) at = elim (eqb_tells a b) [
       | inl same ↦ begins_here entries a n c (at ∙ ap (λ x. Some (Begin x c)) (sym same.1))
-      | inr apart ↦ one_on entries a n (λ d e. apart.1 (let f : Some (Begin b c) ≡ Some (Begin a d) = sym at ∙ e in cc)) (earlier (rw apart.0 at (rw (command_next entries a n (Begin b c) at) at some)))
+      | inr apart ↦ one_on entries a n (λ d e. apart.1 (let f : Some (Begin b c) ≡ Some (Begin a d) = sym at ∙ e in cc))
+          (earlier (rw apart.0 at (rw (command_next entries a n (Begin b c) at) at some)))
     ]
     by_entry earlier (Some (Step b s x None)) at = one_on entries a n (λ d e. cc (at, e)) (earlier (rw (command_next entries a n (Step b s x None) at) at some))
     by_entry earlier (Some (Step b s x (Some r))) at = elim (eqb_tells a b) [
@@ -80,5 +81,6 @@ one_of limits entries run n a s x took =
     }
 
 -- the actor of a step is one of the stated number
-pub actor_below : (limits : Limits) (entries : List Entry) → IsRun limits entries → (n a : ℕ) (s : StepOf Record) (x : Answer Record) (r : Option Reply) → slice_get entries n ≡ Some (Step a s x r) → a < limits.actors
+pub actor_below : (limits : Limits) (entries : List Entry) → IsRun limits entries → (n a : ℕ) (s : StepOf Record) (x : Answer Record) (r : Option Reply)
+    → slice_get entries n ≡ Some (Step a s x r) → a < limits.actors
 actor_below limits entries run n a s x r at = let h = last_begin entries a n (run.each n _ at).0 in (run.each h.start _ h.begins).0

@@ -122,7 +122,8 @@ module _ (limits : Limits) (entries : List Entry) where
       let less = beside_takes a (slice_get entries k) in
       omega (arith, both, less))
 
-  changes_by : (k b slot old new : ℕ) (kind : Link) → TakesStep entries k b (Exchange slot old new) (Whether true) → link_of (memory_at limits entries k) slot old new ≡ Some kind → kind ≢ link.Ready → kind ≢ link.Undo
+  changes_by : (k b slot old new : ℕ) (kind : Link) → TakesStep entries k b (Exchange slot old new) (Whether true)
+      → link_of (memory_at limits entries k) slot old new ≡ Some kind → kind ≢ link.Ready → kind ≢ link.Undo
       → is_change k ≡ true
   changes_by k b slot old new kind took links one two =
       let e : slice_get entries k ≡ Some (Step b (Exchange slot old new) (Whether true) took.0) = took.1 in
@@ -138,7 +139,8 @@ module _ (limits : Limits) (entries : List Entry) where
       by_kind true = differs
       by_kind false = differs
 
-  module _ (run : IsRun limits entries) (keeps : KeepsPhases limits entries) (direct : IsDirect limits entries) (op : Operation) (begun : IsOperation entries op) (n : ℕ) (none : PlacesNoRemoval (take n entries)) where
+  module _ (run : IsRun limits entries) (keeps : KeepsPhases limits entries) (direct : IsDirect limits entries) (op : Operation)
+      (begun : IsOperation entries op) (n : ℕ) (none : PlacesNoRemoval (take n entries)) where
     -- an exchange to which another one lost, which had read what it expects, is a change of the tree
     beats : (m k b slot old new : ℕ) → m ≤ k → k ≤ n → TakesOwnStep entries op m (Slot slot) (Number old) → TakesStep entries k b (Exchange slot old new) (Whether true) → is_change k ≡ true
     beats m k b zero old new le within read took = changes_by k b zero old new link.Root took refl (λ e. cc e) (λ e. cc e)
@@ -152,7 +154,8 @@ module _ (limits : Limits) (entries : List Entry) where
 
     pub pays_hinder : (k c : ℕ) → k ≤ n → Pays limits entries run op k c → hinder op.actor k ≡ true
     pays_hinder k c le (low, high, inl p) =
-        or_left (is_change k) (beside op.actor k) (subst (λ j. is_change j ≡ true) (sym p.same) (changes_by c op.actor p.slot p.old p.new p.kind (p.took.0, p.took.1.entry) p.links p.no_ready p.no_undo))
+        or_left (is_change k) (beside op.actor k)
+        (subst (λ j. is_change j ≡ true) (sym p.same) (changes_by c op.actor p.slot p.old p.new p.kind (p.took.0, p.took.1.entry) p.links p.no_ready p.no_undo))
     pays_hinder k c le (low, high, inr (inl p)) = let since = p.low in or_left (is_change k) (beside op.actor k) (beats p.since k p.beside.0 p.slot p.old p.beside.1 (omega arith) le p.read p.beside.3)
     pays_hinder k c le (low, high, inr (inr p)) = or_right (is_change k) (beside op.actor k) (beside_by k op.actor p.beside.0 p.number p.pids p.beside.1 p.beside.2)
 
@@ -184,5 +187,7 @@ module _ (limits : Limits) (entries : List Entry) where
   pub among_hinder : (a m k n : ℕ) → m + k ≤ suc n → (list : Listed (hinder a) m k) → AreAmong limits entries m n (Hinders a) list.places
   among_hinder a m k n le list = record {
     increasing = list.increasing;
-    each = All-weaker (λ p. (m ≤ p) × (p < m + k) × (hinder a p ≡ true)) (λ p. (m ≤ p) × (p ≤ n) × Happens limits entries p (Hinders a)) (λ p h. (h.0, (let lt : p < m + k = h.1 in omega arith), hinders_at a p h.2)) list.places list.each;
+    each =
+        All-weaker (λ p. (m ≤ p) × (p < m + k) × (hinder a p ≡ true)) (λ p. (m ≤ p) × (p ≤ n) × Happens limits entries p (Hinders a))
+        (λ p h. (h.0, (let lt : p < m + k = h.1 in omega arith), hinders_at a p h.2)) list.places list.each;
   }

@@ -38,7 +38,8 @@ late_then : (t : ℕ → Bool) (first i : ℕ) → late t first (first + i) ≡ 
 late_then t zero i = ap t (let e : 0 + i ≡ i = omega arith in e)
 late_then t (suc first) i = ap (late t (suc first)) (let e : suc first + i ≡ suc (first + i) = omega arith in e) ∙ late_then t first i
 
-module _ (limits : Limits) (entries : List Entry) (run : IsRun limits entries) (keeps : KeepsPhases limits entries) (direct : IsDirect limits entries) (op : Operation) (begun : IsOperation entries op) (n : ℕ) (none : PlacesNoRemoval (take n entries)) (m : ℕ) where
+module _ (limits : Limits) (entries : List Entry) (run : IsRun limits entries) (keeps : KeepsPhases limits entries) (direct : IsDirect limits entries)
+    (op : Operation) (begun : IsOperation entries op) (n : ℕ) (none : PlacesNoRemoval (take n entries)) (m : ℕ) where
   -- its exchange of the slot lost, which it had read before entry m
   record LosesEarlier (slot c : ℕ) : Type 0 where
     pub old : ℕ
@@ -152,18 +153,22 @@ module _ (limits : Limits) (entries : List Entry) (run : IsRun limits entries) (
       let at : 0 + j ≡ suc limits.pids + (k - m) = omega arith in
       let here : m + (k - m) ≡ k = omega arith in (
         omega arith,
-        ap counts at ∙ late_then (λ i. hinder limits entries op.actor (m + i)) (suc limits.pids) (k - m) ∙ ap (hinder limits entries op.actor) here ∙ pays_hinder limits entries run keeps direct op begun n none k c (omega arith) p,
+        ap counts at ∙ late_then (λ i. hinder limits entries op.actor (m + i)) (suc limits.pids) (k - m) ∙ ap (hinder limits entries op.actor) here ∙
+            pays_hinder limits entries run keeps direct op begun n none k c (omega arith) p,
       )
 
   all_pass : (cs js : List ℕ) → Each (λ j. (d : ℕ) × IsIn d cs × HasNumber j d) js → Each (λ j. (j < suc limits.pids + (suc n - m)) × (counts (0 + j) ≡ true)) js
   all_pass cs [] each = tt
   all_pass cs (j ∷ js) each = (passes j each.0.0 each.0.2, all_pass cs js each.1)
 
-  few_since : m ≤ n → (cs : List ℕ) → AreDistinct cs → All (λ c. (m ≤ c) × (c ≤ n) × IsCause limits entries op c) cs → length cs ≤ suc limits.pids + tally (hinder limits entries op.actor) m (suc n - m)
+  few_since : m ≤ n → (cs : List ℕ) → AreDistinct cs → All (λ c. (m ≤ c) × (c ≤ n) × IsCause limits entries op c) cs
+      → length cs ≤ suc limits.pids + tally (hinder limits entries op.actor) m (suc n - m)
   few_since le cs once all =
       let has = numbered cs once all in
-      let most : length has.numbers ≤ tally counts 0 (suc limits.pids + (suc n - m)) = tally_most counts 0 (suc limits.pids + (suc n - m)) has.numbers has.distinct (all_pass cs has.numbers has.each) in
-      let split : tally counts 0 (suc limits.pids + (suc n - m)) ≡ tally counts 0 (suc limits.pids) + tally counts (0 + suc limits.pids) (suc n - m) = tally_split counts 0 (suc limits.pids) (suc n - m) in
+      let most : length has.numbers ≤ tally counts 0 (suc limits.pids + (suc n - m)) = tally_most counts 0 (suc limits.pids + (suc n - m)) has.numbers
+      has.distinct (all_pass cs has.numbers has.each) in
+      let split : tally counts 0 (suc limits.pids + (suc n - m)) ≡ tally counts 0 (suc limits.pids) + tally counts (0 + suc limits.pids) (suc n - m) = tally_split
+      counts 0 (suc limits.pids) (suc n - m) in
       let first : tally counts 0 (suc limits.pids) ≤ suc limits.pids = tally_within counts 0 (suc limits.pids) in
       let then : tally counts (0 + suc limits.pids) (suc n - m) ≡ tally (hinder limits entries op.actor) m (suc n - m) =
       tally_same counts (hinder limits entries op.actor) (0 + suc limits.pids) m (suc n - m) (λ i lt.
@@ -176,7 +181,8 @@ module _ (limits : Limits) (entries : List Entry) (run : IsRun limits entries) (
       let h = direct.since op m n begun after le own in
       let most : length h.0 ≤ suc limits.pids + tally (hinder limits entries op.actor) m (suc n - m) = few_since le h.0 (all_distinct h.0 h.1) h.2 in
       let paid : steps_from entries op.actor m n ≤ cause_worth limits * (length h.0 + 10) = h.3 in
-      let grown : cause_worth limits * (length h.0 + 10) ≤ cause_worth limits * (tally (hinder limits entries op.actor) m (suc n - m) + limits.pids + 11) = mul-le-mul_left (cause_worth limits) (omega (arith, most)) in
+      let grown : cause_worth limits * (length h.0 + 10) ≤ cause_worth limits * (tally (hinder limits entries op.actor) m (suc n - m) + limits.pids + 11) = mul-le-mul_left
+      (cause_worth limits) (omega (arith, most)) in
       omega (arith, paid, grown)
 
 pub unhindered : RunsAreUnhindered

@@ -164,7 +164,8 @@ module _ (limits : Limits) (entries : List Entry) (run : IsRun limits entries) (
   module _ (keeps : KeepsPhases limits entries) (direct : IsDirect limits entries) (begun : IsOperation entries op) (n : ℕ) (none : PlacesNoRemoval (take n entries)) where
     -- what a cause needed
     pub pays_for : (c : ℕ) → (c ≤ n) × IsCause limits entries op c → (k : ℕ) × Pays k c
-    pays_for c (le, inl h) = (c, (h.1.3.1.begun, omega arith, inl (record { same = refl; slot = h.1.0; old = h.1.1; new = h.1.2; took = h.1.3; kind = h.0; links = h.1.4; no_ready = h.2; no_undo = h.3 })))
+    pays_for c (le, inl h) =
+        (c, (h.1.3.1.begun, omega arith, inl (record { same = refl; slot = h.1.0; old = h.1.1; new = h.1.2; took = h.1.3; kind = h.0; links = h.1.4; no_ready = h.2; no_undo = h.3 })))
     pays_for c (le, inr (inl (slot, old, new, m, lost, lt, read, calm))) =
         let h = lost_by_change limits entries run op slot old new m c lt lost read calm in
         let a : op.start < m = read.1.begun in

@@ -43,7 +43,8 @@ begins goal = record {
 }
 
 -- the slot of a page is read
-heads : (goal : ReadGoal) (above : Option Version) (pid row : ℕ) → IsAnswer beside_removal (wanted (round_at goal above pid [] Slot)) (Number row) → 0 < row → ReadsIn beside_removal get_x (round_at goal above pid [] Slot) (Read (round_at goal above pid [] (Row row row)))
+heads : (goal : ReadGoal) (above : Option Version) (pid row : ℕ) → IsAnswer beside_removal (wanted (round_at goal above pid [] Slot)) (Number row) → 0 < row
+    → ReadsIn beside_removal get_x (round_at goal above pid [] Slot) (Read (round_at goal above pid [] (Row row row)))
 heads goal above pid row told some = record {
   answer = Number row;
   told = told;
@@ -67,7 +68,8 @@ heads goal above pid row told some = record {
 }
 
 -- a delta is read
-deltas : (goal : ReadGoal) (above : Option Version) (pid row under : ℕ) (content : Record) → IsAnswer beside_removal (wanted (round_at goal above pid [] (Row row row))) (Content content) → next_row content ≡ Some under
+deltas : (goal : ReadGoal) (above : Option Version) (pid row under : ℕ) (content : Record)
+    → IsAnswer beside_removal (wanted (round_at goal above pid [] (Row row row))) (Content content) → next_row content ≡ Some under
     → ReadsIn beside_removal get_x (round_at goal above pid [] (Row row row)) (Read (round_at goal above pid (content ∷ []) (Row row under)))
 deltas goal above pid row under content told more = record {
   answer = Content content;
@@ -92,8 +94,10 @@ deltas goal above pid row under content told more = record {
 }
 
 -- the base is read, and the page is whole
-wholes : (goal : ReadGoal) (above : Option Version) (version : Version) (row : ℕ) (newest content : Record) (next : ReadRound) (end : Option ReadEnd) (new : State) → version.chain ≡ newest ∷ content ∷ []
-    → IsAnswer beside_removal (wanted (round_at goal above version.pid (newest ∷ []) (Row version.head row))) (Content content) → next_row content ≡ None → TreatsRead (round_at goal above version.pid (newest ∷ []) (Row version.head row)) version next end
+wholes : (goal : ReadGoal) (above : Option Version) (version : Version) (row : ℕ) (newest content : Record) (next : ReadRound) (end : Option ReadEnd) (new : State)
+    → version.chain ≡ newest ∷ content ∷ []
+    → IsAnswer beside_removal (wanted (round_at goal above version.pid (newest ∷ []) (Row version.head row))) (Content content) → next_row content ≡ None
+    → TreatsRead (round_at goal above version.pid (newest ∷ []) (Row version.head row)) version next end
     → next.limits ≡ small → next.key ≡ codes "x" → AfterReading get_x next end new → ReadsIn beside_removal get_x (round_at goal above version.pid (newest ∷ []) (Row version.head row)) new
 wholes goal above version row newest content next end new chain told last treats limits key goes = record {
   answer = Content content;
@@ -144,23 +148,29 @@ down_to_left = record {
   low = [];
   held = false;
   covered = refl;
-  greatest = record { has = refl; passing = refl; greatest = λ other pass some. terms (λ key. left_of removed_read key ≡ true → is_below [] key ≡ false) other some (λ e. refl) (λ e. absurd (cc e)) pass };
+  greatest = record
+      { has = refl; passing = refl; greatest = λ other pass some. terms (λ key. left_of removed_read key ≡ true → is_below [] key ≡ false) other some (λ e. refl) (λ e. absurd (cc e)) pass };
 }
 
 no_high : {X : Type 0} (high : List ℕ) → high_in root_read.chain ≡ Some high → X
 no_high high e = let none : None ≡ Some high = e in absurd (cc)
 
 -- the root leads down
-root_whole : (goal : ReadGoal) (next : ℕ) → LeadsDown (read_way goal (codes "x")) root_read.chain next → ReadsIn beside_removal get_x (round_at goal None 3 (hold_leaf ∷ []) (Row 5 4)) (Read (round_at goal (Some root_read) next [] Slot))
-root_whole goal next leads = wholes goal None root_read 4 hold_leaf root (round_at goal (Some root_read) next [] Slot) None (Read (round_at goal (Some root_read) next [] Slot)) refl (root, refl, refl) refl
+root_whole : (goal : ReadGoal) (next : ℕ) → LeadsDown (read_way goal (codes "x")) root_read.chain next
+    → ReadsIn beside_removal get_x (round_at goal None 3 (hold_leaf ∷ []) (Row 5 4)) (Read (round_at goal (Some root_read) next [] Slot))
+root_whole goal next leads =
+    wholes goal None root_read 4 hold_leaf root (round_at goal (Some root_read) next [] Slot) None (Read (round_at goal (Some root_read) next [] Slot)) refl (root, refl, refl) refl
     (inr (inl (record { plain = tt; alive = refl; stays = record { off = λ high e. no_high high e }; index = lit≤ tt; next = next; leads = leads; goes = refl }))) refl refl refl
 
 removed_whole : ReadsIn beside_removal get_x (round_at Seek (Some root_read) 2 (remove_leaf ∷ []) (Row 6 2)) (Read (read_left_of removed_read (first_read get_x)))
-removed_whole = wholes Seek (Some root_read) removed_read 2 remove_leaf new_leaf (first_read get_x) (Some (Removed removed_read)) (Read (read_left_of removed_read (first_read get_x))) refl (new_leaf, refl, refl) refl
+removed_whole =
+    wholes Seek (Some root_read) removed_read 2 remove_leaf new_leaf (first_read get_x) (Some (Removed removed_read))
+    (Read (read_left_of removed_read (first_read get_x))) refl (new_leaf, refl, refl) refl
     (record { is = refl; plain = tt; gone = refl; leaf = refl }) refl refl refl
 
 -- to a leaf, and the reading of its delta
-to_root : (goal : ReadGoal) (next : ℕ) (rounds : List ReadRound) → LeadsDown (read_way goal (codes "x")) root_read.chain next → IsReaderRun beside_removal get_x (round_at goal (Some root_read) next [] Slot) rounds
+to_root : (goal : ReadGoal) (next : ℕ) (rounds : List ReadRound) → LeadsDown (read_way goal (codes "x")) root_read.chain next
+    → IsReaderRun beside_removal get_x (round_at goal (Some root_read) next [] Slot) rounds
     → IsReaderRun beside_removal get_x (record { limits = small; key = codes "x"; goal = goal; leg = Down None; state = Root })
     (round_at goal None 3 [] Slot ∷ round_at goal None 3 [] (Row 5 5) ∷ round_at goal None 3 (hold_leaf ∷ []) (Row 5 4) ∷ round_at goal (Some root_read) next [] Slot ∷ rounds)
 to_root goal next rounds leads rest = (begins goal, (heads goal None 3 5 refl (lit≤ tt), (deltas goal None 3 5 4 hold_leaf (hold_leaf, refl, refl) refl, (root_whole goal next leads, rest))))
@@ -183,7 +193,10 @@ left_runs : IsReaderRun beside_removal get_x (round_at (Left removed_read) (Some
 left_runs = (heads (Left removed_read) (Some root_read) 1 3 refl (lit≤ tt), (deltas (Left removed_read) (Some root_read) 1 3 1 split_away (split_away, refl, refl) refl, tt))
 
 removed_runs : IsReaderRun beside_removal get_x (round_at Seek (Some root_read) 2 [] Slot) at_removed
-removed_runs = (heads Seek (Some root_read) 2 6 refl (lit≤ tt), (deltas Seek (Some root_read) 2 6 2 remove_leaf (remove_leaf, refl, refl) refl, (removed_whole, to_root (Left removed_read) 1 at_left down_to_left left_runs)))
+removed_runs = (
+  heads Seek (Some root_read) 2 6 refl (lit≤ tt),
+  (deltas Seek (Some root_read) 2 6 2 remove_leaf (remove_leaf, refl, refl) refl, (removed_whole, to_root (Left removed_read) 1 at_left down_to_left left_runs)),
+)
 
 pub lookup_runs : IsReaderRun beside_removal get_x (first_read get_x) lookup_rounds
 lookup_runs = to_root Seek 2 at_removed down_to_removed removed_runs
@@ -193,8 +206,17 @@ abbrev left_read : Version
 left_read = record { pid = 1; head = 3; chain = split_away ∷ opening_leaf ∷ []; is_pid = (lit≤ tt, lit≤ tt); is_row = (lit≤ tt, lit≤ tt) }
 
 left_whole : ReadsIn beside_removal get_x (round_at (Left removed_read) (Some root_read) 1 (split_away ∷ []) (Row 3 1)) (Leave reply.None None)
-left_whole = wholes (Left removed_read) (Some root_read) left_read 1 split_away opening_leaf (first_read get_x) (Some (Beside left_read removed_read)) (Leave reply.None None) refl (opening_leaf, refl, refl) refl
-    (record { is = refl; at_left = record { plain = tt; goal = refl; alive = refl; ends = record { leaf = refl; stays = record { off = λ high e. off high e } } }; beside = refl; stays = record { off = λ high e. none high e } }) refl refl refl
+left_whole =
+    wholes (Left removed_read) (Some root_read) left_read 1 split_away opening_leaf (first_read get_x) (Some (Beside left_read removed_read))
+    (Leave reply.None None) refl (opening_leaf, refl, refl) refl
+    (record {
+      is = refl;
+      at_left = record
+          { plain = tt; goal = refl; alive = refl; ends = record { leaf = refl; stays = record { off = λ high e. off high e } } };
+      beside = refl;
+      stays = record
+          { off = λ high e. none high e };
+    }) refl refl refl
   where
     off : (high : List ℕ) → Some (codes "m") ≡ Some high → left_of removed_read high ≡ false
     off high e = let same : codes "m" ≡ high = cc in subst (λ (key : List ℕ). left_of removed_read key ≡ false) same refl
@@ -213,7 +235,8 @@ goes_by_root run = by_response run.0.steps.responds run.0.steps.goes
     two : (told : Answer Record) (root : ℕ) → told ≡ Number 3 → told ≡ Number root → root ≡ 3
     two told root e f = let both : Number 3 ≡ Number root = sym e ∙ f in cc
 
-    at_three : (end : Option ReadEnd) (next : ReadRound) (root : ℕ) → root ≡ 3 → next.state ≡ Page (to_page small root) → end ≡ None → AfterReading get_x next end (Read (round_at Seek None 1 [] Slot)) → ⊥
+    at_three : (end : Option ReadEnd) (next : ReadRound) (root : ℕ) → root ≡ 3 → next.state ≡ Page (to_page small root) → end ≡ None
+        → AfterReading get_x next end (Read (round_at Seek None 1 [] Slot)) → ⊥
     at_three None next root is state none goes =
         let same : next ≡ round_at Seek None 1 [] Slot = (let both : Read (round_at Seek None 1 [] Slot) ≡ Read next = goes in cc) in
         let states : Page (to_page small root) ≡ Page (to_page small 1) = sym state ∙ ap (λ (r : ReadRound). r.state) same in

@@ -84,7 +84,9 @@ module _ (t : ℕ → Bool) (m : ℕ) where
   one_listed n before = by_test (t (m + n)) refl
     where
       longer : All (λ k. (m ≤ k) × (k < m + suc n) × (t k ≡ true)) before.places
-      longer = All-weaker (λ k. (m ≤ k) × (k < m + n) × (t k ≡ true)) (λ k. (m ≤ k) × (k < m + suc n) × (t k ≡ true)) (λ k h. (h.0, (let lt : k < m + n = h.1 in omega arith), h.2)) before.places before.each
+      longer =
+          All-weaker (λ k. (m ≤ k) × (k < m + n) × (t k ≡ true)) (λ k. (m ≤ k) × (k < m + suc n) × (t k ≡ true))
+          (λ k h. (h.0, (let lt : k < m + n = h.1 in omega arith), h.2)) before.places before.each
 
       by_test : (b : Bool) → t (m + n) ≡ b → Listed (suc n)
       by_test false e = record {
@@ -124,14 +126,17 @@ module _ {X : Type 0} (p : X → Bool) where
       at_n : n ≡ 0 + n
       at_n = omega arith
 
-      by_entry : count_by p (take n xs) ≡ tally (passes_in xs) 0 n → (o : Option X) → slice_get xs n ≡ o → count_by p (take (suc n) xs) ≡ tally (passes_in xs) 0 n + cond (passes p (slice_get xs n)) 1 0
+      by_entry : count_by p (take n xs) ≡ tally (passes_in xs) 0 n → (o : Option X) → slice_get xs n ≡ o
+          → count_by p (take (suc n) xs) ≡ tally (passes_in xs) 0 n + cond (passes p (slice_get xs n)) 1 0
       by_entry rest None e = rw e (let same : count_by p (take (suc n) xs) ≡ count_by p (take n xs) = ap (count_by p) (take_past xs n e) in omega (arith, rest, same))
       by_entry rest (Some x) e =
           let same : count_by p (take (suc n) xs) ≡ count_by p (take n xs) + cond (p x) 1 0 = ap (count_by p) (take-one xs n x e) ∙ fold-append _ _ (take n xs) (x ∷ []) in
           rw e (omega (arith, rest, same))
 
   pub counted_range : (xs : List X) (m n : ℕ) → count_by p (take n (drop m xs)) ≡ tally (passes_in xs) m n
-  counted_range xs m n = counted_taken (drop m xs) n ∙ tally_same (passes_in (drop m xs)) (passes_in xs) 0 m n (λ i lt. let at : 0 + i ≡ i = omega arith in ap (passes_in (drop m xs)) at ∙ ap (passes p) (get_drop xs m i))
+  counted_range xs m n =
+      counted_taken (drop m xs) n
+      ∙ tally_same (passes_in (drop m xs)) (passes_in xs) 0 m n (λ i lt. let at : 0 + i ≡ i = omega arith in ap (passes_in (drop m xs)) at ∙ ap (passes p) (get_drop xs m i))
 
 -- Sums.
 abbrev pub sum : (ℕ → ℕ) → ℕ → ℕ
@@ -159,7 +164,9 @@ pub sum_one : (b n : ℕ) → b < n → sum (λ a. cond (b == a) 1 0) n ≡ 1
 sum_one b zero lt = absurd (omega arith)
 sum_one b (suc n) lt = elim (eqb_tells b n) [
   | inl same ↦
-      let none = sum_none (λ a. cond (b == a) 1 0) n (λ i below. elim (eqb_tells b i) [ inl e ↦ absurd (let f : b ≡ n = same.1 in let g : b ≡ i = e.1 in omega arith) | inr apart ↦ ap (λ (t : Bool). cond {A = ℕ} t 1 0) apart.0 ]) in
+      let none = sum_none (λ a. cond (b == a) 1 0) n
+      (λ i below. elim (eqb_tells b i) [ inl e ↦ absurd (let f : b ≡ n = same.1 in let g : b ≡ i = e.1 in omega arith) | inr apart ↦ ap (λ (t : Bool). cond {A = ℕ} t 1 0) apart.0 ])
+      in
       let here : cond {A = ℕ} (b == n) 1 0 ≡ 1 = ap (λ (t : Bool). cond {A = ℕ} t 1 0) same.0 in
       omega (arith, none, here)
   | inr apart ↦

@@ -89,7 +89,8 @@ module _ (limits : Limits) (entries : List Entry) (run : IsRun limits entries) w
   one_begin k (Begin b c) at = sum_one b limits.actors (run.each k (Begin b c) at).0
   one_begin k (Step b s x r) at = sum_none (λ a. 0) limits.actors (λ i lt. refl)
 
-module _ (limits : Limits) (entries : List Entry) (run : IsRun limits entries) (keeps : KeepsPhases limits entries) (direct : IsDirect limits entries) (top : ℕ) (none : PlacesNoRemoval (take top entries)) where
+module _ (limits : Limits) (entries : List Entry) (run : IsRun limits entries) (keeps : KeepsPhases limits entries) (direct : IsDirect limits entries) (top : ℕ)
+    (none : PlacesNoRemoval (take top entries)) where
   module _ (a : ℕ) where
     abbrev steps : ℕ → Bool
     steps = passes_in (is_step_of a) entries
@@ -122,7 +123,8 @@ module _ (limits : Limits) (entries : List Entry) (run : IsRun limits entries) (
             let rest = span k (omega arith) (λ later d after before. unended later d after (omega arith)) in
             let here : cond {A = ℕ} (steps (start + k)) 1 0 ≡ 0 = ap (λ (b : Bool). cond {A = ℕ} b 1 0) isnt in
             let more = tally_grows (hinder limits entries a) start k (suc k) (omega arith) in
-            let grown : cause_worth limits * (tally (hinder limits entries a) start k + 1) ≤ cause_worth limits * (tally (hinder limits entries a) start (suc k) + 1) = mul-le-mul_left (cause_worth limits) (omega (arith, more)) in
+            let grown : cause_worth limits * (tally (hinder limits entries a) start k + 1) ≤ cause_worth limits * (tally (hinder limits entries a) start (suc k) + 1) = mul-le-mul_left
+            (cause_worth limits) (omega (arith, more)) in
             omega (arith, rest, here, grown)
         | inr is ↦ by_step k le unended is.0 is.1 is.2
       ]
@@ -141,8 +143,10 @@ module _ (limits : Limits) (entries : List Entry) (run : IsRun limits entries) (
               let paid = paid_by_hinder limits entries run keeps direct op begun (start + suc k) (none_before entries (start + suc k) top (omega arith) none)
               (s, x, (r, record { begun = omega arith; entry = entry; not_ended = λ later d after before e. unended later d after (omega arith) e })) in
               let long : suc (start + suc k) - start ≡ suc (suc k) = omega arith in
-              let counts : steps_from entries a start (start + suc k) ≡ tally steps start (suc (suc k)) = counted_range (is_step_of a) entries start (suc (start + suc k) - start) ∙ ap (tally steps start) long in
-              let same_tally : tally (hinder limits entries a) start (suc (start + suc k) - start) ≡ tally (hinder limits entries a) start (suc (suc k)) = ap (tally (hinder limits entries a) start) long in
+              let counts : steps_from entries a start (start + suc k) ≡ tally steps start (suc (suc k)) = counted_range (is_step_of a) entries start
+              (suc (start + suc k) - start) ∙ ap (tally steps start) long in
+              let same_tally : tally (hinder limits entries a) start (suc (start + suc k) - start) ≡ tally (hinder limits entries a) start (suc (suc k)) = ap
+              (tally (hinder limits entries a) start) long in
               rw (counts, same_tally) at paid
 
     -- the last begin before a place, or none
@@ -199,12 +203,14 @@ module _ (limits : Limits) (entries : List Entry) (run : IsRun limits entries) (
             let zeroed : 0 + start ≡ start = omega arith in
             let split_steps : tally steps 0 n ≡ tally steps 0 start + tally steps start (n - start) = parts steps in
             let split_hinder : tally (hinder limits entries a) 0 n ≡ tally (hinder limits entries a) 0 start + tally (hinder limits entries a) start (n - start) = parts (hinder limits entries a) in
-            let next : tally begins 0 (suc start) ≡ tally begins 0 start + 1 = ap (λ k. tally begins 0 start + cond {A = ℕ} (begins k) 1 0) zeroed ∙ ap (λ (b : Bool). tally begins 0 start + cond {A = ℕ} b 1 0) (ap (passes (begin_of a)) begun ∙ is_mine) in
+            let next : tally begins 0 (suc start) ≡ tally begins 0 start + 1 = ap (λ k. tally begins 0 start + cond {A = ℕ} (begins k) 1 0) zeroed ∙ ap
+            (λ (b : Bool). tally begins 0 start + cond {A = ℕ} b 1 0) (ap (passes (begin_of a)) begun ∙ is_mine) in
             let more : tally begins 0 (suc start) ≤ tally begins 0 n = tally_grows begins 0 (suc start) n (omega arith) in
             let joined : cause_worth limits * ((tally begins 0 start + tally (hinder limits entries a) 0 start) + (tally (hinder limits entries a) start (n - start) + 1))
             ≡ cause_worth limits * (tally begins 0 start + tally (hinder limits entries a) 0 start) + cause_worth limits * (tally (hinder limits entries a) start (n - start) + 1)
             = mul-add (cause_worth limits) (tally begins 0 start + tally (hinder limits entries a) 0 start) (tally (hinder limits entries a) start (n - start) + 1) in
-            let most : (tally begins 0 start + tally (hinder limits entries a) 0 start) + (tally (hinder limits entries a) start (n - start) + 1) ≤ tally begins 0 n + tally (hinder limits entries a) 0 n = omega (arith, split_hinder, next, more) in
+            let most : (tally begins 0 start + tally (hinder limits entries a) 0 start) + (tally (hinder limits entries a) start (n - start) + 1) ≤ tally begins 0 n + tally (hinder limits entries a) 0 n = omega
+            (arith, split_hinder, next, more) in
             let grown : cause_worth limits * ((tally begins 0 start + tally (hinder limits entries a) 0 start) + (tally (hinder limits entries a) start (n - start) + 1))
             ≤ cause_worth limits * (tally begins 0 n + tally (hinder limits entries a) 0 n) = mul-le-mul_left (cause_worth limits) most in
             omega (arith, early, here, split_steps, joined, grown)
@@ -237,7 +243,8 @@ module _ (limits : Limits) (entries : List Entry) (run : IsRun limits entries) (
   each_actor a =
       let paid = steps_paid a top top (omega arith) (omega arith) in
       let parts = hinder_parts limits entries a 0 top in
-      let grown : cause_worth limits * (tally (begins a) 0 top + tally (hinder limits entries a) 0 top) ≤ cause_worth limits * (by_actor limits entries begin_of top a + hindering) = mul-le-mul_left (cause_worth limits) (omega (arith, parts)) in
+      let grown : cause_worth limits * (tally (begins a) 0 top + tally (hinder limits entries a) 0 top) ≤ cause_worth limits * (by_actor limits entries begin_of top a + hindering) = mul-le-mul_left
+      (cause_worth limits) (omega (arith, parts)) in
       omega (arith, paid, grown)
 
   pub all_few : HasFewChanges limits entries
@@ -248,12 +255,17 @@ module _ (limits : Limits) (entries : List Entry) (run : IsRun limits entries) (
       let taken : count_by takes_number (take top entries) ≡ tally (passes_in takes_number entries) 0 top = counted_taken takes_number entries top in
       let begun : count_by is_begin (take top entries) ≡ tally (passes_in is_begin entries) 0 top = counted_taken is_begin entries top in
       let stepped : count_by is_step (take top entries) ≡ tally (passes_in is_step entries) 0 top = counted_taken is_step entries top in
-      let all_steps : sum (by_actor limits entries is_step_of top) limits.actors ≡ tally (passes_in is_step entries) 0 top = sum_actors limits entries is_step_of is_step (one_step limits entries run) top in
-      let all_begins : sum (by_actor limits entries begin_of top) limits.actors ≡ tally (passes_in is_begin entries) 0 top = sum_actors limits entries begin_of is_begin (one_begin limits entries run) top in
+      let all_steps : sum (by_actor limits entries is_step_of top) limits.actors ≡ tally (passes_in is_step entries) 0 top = sum_actors limits entries
+      is_step_of is_step (one_step limits entries run) top in
+      let all_begins : sum (by_actor limits entries begin_of top) limits.actors ≡ tally (passes_in is_begin entries) 0 top = sum_actors limits entries begin_of
+      is_begin (one_begin limits entries run) top in
       let less = sum_less (by_actor limits entries is_step_of top) (λ a. cause_worth limits * (by_actor limits entries begin_of top a + hindering)) limits.actors each_actor in
-      let worth : sum (λ a. cause_worth limits * (by_actor limits entries begin_of top a + hindering)) limits.actors ≡ cause_worth limits * (sum (by_actor limits entries begin_of top) limits.actors + limits.actors * hindering) = sum_worth (cause_worth limits) hindering (by_actor limits entries begin_of top) limits.actors in
-      let bound : limits.actors * hindering ≤ limits.actors * (32 * count_by is_begin (take top entries) + limits.rows + limits.pids) = mul-le-mul_left limits.actors (omega (arith, changed, takes, taken)) in
-      let most : cause_worth limits * (sum (by_actor limits entries begin_of top) limits.actors + limits.actors * hindering) ≤ cause_worth limits * (count_by is_begin (take top entries) + limits.actors * (32 * count_by is_begin (take top entries) + limits.rows + limits.pids))
+      let worth : sum (λ a. cause_worth limits * (by_actor limits entries begin_of top a + hindering)) limits.actors ≡ cause_worth limits * (sum (by_actor limits entries begin_of top) limits.actors + limits.actors * hindering) = sum_worth
+      (cause_worth limits) hindering (by_actor limits entries begin_of top) limits.actors in
+      let bound : limits.actors * hindering ≤ limits.actors * (32 * count_by is_begin (take top entries) + limits.rows + limits.pids) = mul-le-mul_left
+      limits.actors (omega (arith, changed, takes, taken)) in
+      let most : cause_worth limits * (sum (by_actor limits entries begin_of top) limits.actors + limits.actors * hindering) ≤ cause_worth limits *
+      (count_by is_begin (take top entries) + limits.actors * (32 * count_by is_begin (take top entries) + limits.rows + limits.pids))
       = mul-le-mul_left (cause_worth limits) (omega (arith, begun, all_begins, bound)) in
       omega (arith, stepped, all_steps, less, worth, most)
 
@@ -270,7 +282,8 @@ module _ (limits : Limits) (entries : List Entry) (run : IsRun limits entries) w
       mark p o at = ap (λ (x : Option Entry). cond {A = ℕ} (passes p x) 1 0) (ap (slice_get entries) zeroed ∙ at)
 
       by_entry : tally (passes_in (begin_of a) entries) 0 n ≤ tally (passes_in (end_of a) entries) 0 n + under_way (command_of (take n entries) a) → (o : Option Entry) → slice_get entries n ≡ o
-          → tally (passes_in (begin_of a) entries) 0 n + cond (passes_in (begin_of a) entries (0 + n)) 1 0 ≤ tally (passes_in (end_of a) entries) 0 n + cond (passes_in (end_of a) entries (0 + n)) 1 0 + under_way (command_of (take (suc n) entries) a)
+          → tally (passes_in (begin_of a) entries) 0 n + cond (passes_in (begin_of a) entries (0 + n)) 1 0 ≤ tally (passes_in (end_of a) entries) 0 n + cond
+          (passes_in (end_of a) entries (0 + n)) 1 0 + under_way (command_of (take (suc n) entries) a)
       by_entry before None at =
           let begins : cond {A = ℕ} (passes_in (begin_of a) entries (0 + n)) 1 0 ≡ 0 = mark (begin_of a) None at in
           let now : under_way (command_of (take (suc n) entries) a) ≡ under_way (command_of (take n entries) a) = ap (λ es. under_way (command_of es a)) (take_past entries n at) in
@@ -316,12 +329,14 @@ module _ (limits : Limits) (entries : List Entry) (run : IsRun limits entries) w
   open_most n =
       let begun : count_by is_begin (take n entries) ≡ tally (passes_in is_begin entries) 0 n = counted_taken is_begin entries n in
       let ended : count_by is_end (take n entries) ≡ tally (passes_in is_end entries) 0 n = counted_taken is_end entries n in
-      let all_begins : sum (λ a. tally (passes_in (begin_of a) entries) 0 n) limits.actors ≡ tally (passes_in is_begin entries) 0 n = sum_actors limits entries begin_of is_begin (one_begin limits entries run) n in
+      let all_begins : sum (λ a. tally (passes_in (begin_of a) entries) 0 n) limits.actors ≡ tally (passes_in is_begin entries) 0 n = sum_actors limits entries
+      begin_of is_begin (one_begin limits entries run) n in
       let all_ends : sum (λ a. tally (passes_in (end_of a) entries) 0 n) limits.actors ≡ tally (passes_in is_end entries) 0 n = sum_actors limits entries end_of is_end one_end n in
       let less : sum (λ a. tally (passes_in (begin_of a) entries) 0 n) limits.actors ≤ sum (λ a. tally (passes_in (end_of a) entries) 0 n + 1) limits.actors =
       sum_less (λ a. tally (passes_in (begin_of a) entries) 0 n) (λ a. tally (passes_in (end_of a) entries) 0 n + 1) limits.actors
       (λ a. let one = one_open a n in let most = at_most_one (command_of (take n entries) a) in omega (arith, one, most)) in
-      let both : sum (λ a. tally (passes_in (end_of a) entries) 0 n + 1) limits.actors ≡ sum (λ a. tally (passes_in (end_of a) entries) 0 n) limits.actors + sum (λ a. 1) limits.actors = sum_both (λ a. tally (passes_in (end_of a) entries) 0 n) (λ a. 1) limits.actors in
+      let both : sum (λ a. tally (passes_in (end_of a) entries) 0 n + 1) limits.actors ≡ sum (λ a. tally (passes_in (end_of a) entries) 0 n) limits.actors + sum (λ a. 1) limits.actors = sum_both
+      (λ a. tally (passes_in (end_of a) entries) 0 n) (λ a. 1) limits.actors in
       let ones : sum (λ a. 1) limits.actors ≡ limits.actors = sum_ones limits.actors in
       omega (arith, begun, ended, all_begins, all_ends, less, both, ones)
 
@@ -330,11 +345,14 @@ by_ends : (limits : Limits) (steps begun ended : ℕ) → begun ≤ ended + limi
     → steps ≤ cause_worth limits * (ended + limits.actors + limits.actors * (32 * (ended + limits.actors) + limits.rows + limits.pids))
 by_ends limits steps begun ended most few =
     let inner : limits.actors * (32 * begun + limits.rows + limits.pids) ≤ limits.actors * (32 * (ended + limits.actors) + limits.rows + limits.pids) = mul-le-mul_left limits.actors (omega arith) in
-    let outer : cause_worth limits * (begun + limits.actors * (32 * begun + limits.rows + limits.pids)) ≤ cause_worth limits * (ended + limits.actors + limits.actors * (32 * (ended + limits.actors) + limits.rows + limits.pids)) = mul-le-mul_left (cause_worth limits) (omega (arith, inner)) in
+    let outer : cause_worth limits * (begun + limits.actors * (32 * begun + limits.rows + limits.pids)) ≤ cause_worth limits * (ended + limits.actors + limits.actors * (32 * (ended + limits.actors) + limits.rows + limits.pids)) = mul-le-mul_left
+    (cause_worth limits) (omega (arith, inner)) in
     omega (arith, few, outer)
 
 pub lock_free : RunsAreLockFree
 lock_free limits entries run keeps direct changes = record {
   few = λ n none. all_few limits entries run keeps direct n none changes;
-  ended = λ n none. by_ends limits (count_by is_step (take n entries)) (count_by is_begin (take n entries)) (count_by is_end (take n entries)) (open_most limits entries run n) (all_few limits entries run keeps direct n none changes);
+  ended =
+      λ n none. by_ends limits (count_by is_step (take n entries)) (count_by is_begin (take n entries)) (count_by is_end (take n entries))
+      (open_most limits entries run n) (all_few limits entries run keeps direct n none changes);
 }

@@ -40,7 +40,8 @@ none_asked number (a ∷ more) h = at (a.job == number) refl (none_asked number 
     not_same : (a.job == number) ≡ false → a.job ≡ number → ⊥
     not_same e same = let yes : (a.job == number) ≡ true = grind (arith, same) in cc (sym e ∙ yes)
 
-    at : (same : Bool) → (a.job == number) ≡ same → (commands_of number more ≡ [] → All (λ (asks : JobCommand). asks.job ≡ number → ⊥) more) → All (λ (asks : JobCommand). asks.job ≡ number → ⊥) (a ∷ more)
+    at : (same : Bool) → (a.job == number) ≡ same → (commands_of number more ≡ [] → All (λ (asks : JobCommand). asks.job ≡ number → ⊥) more)
+        → All (λ (asks : JobCommand). asks.job ≡ number → ⊥) (a ∷ more)
     at true is rest = absurd (let bad = rw is at h in cc bad)
     at false is rest = All-cons (λ (asks : JobCommand). asks.job ≡ number → ⊥) a more (not_same is) (rest (rw is at h))
 

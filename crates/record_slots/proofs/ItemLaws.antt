@@ -35,7 +35,11 @@ content_size (Value value) = refl
 content_size (Child page held) = refl
 
 pub item_long : (item : Item) → length (item_words item) ≡ item_size
-item_long item = let c = content_size item.content in let l = length-append (text_words text_size item.key) (content_words item.content) in let t : length (text_words text_size item.key) ≡ text_size = refl in omega arith
+item_long item =
+    let c = content_size item.content in
+    let l = length-append (text_words text_size item.key) (content_words item.content) in
+    let t : length (text_words text_size item.key) ≡ text_size = refl in
+    omega arith
 
 pub items_length : (items : List Item) → length (items_words items) ≡ item_size * length items
 items_length [] = refl
@@ -67,7 +71,8 @@ behind_words item rest place =
     let e : item_size * suc place ≡ length (item_words item) + item_size * place = omega arith in
     ap (λ n. drop n (item_words item ++ rest)) e ∙ drop-append-add (item_words item) rest (item_size * place)
 
-item_there : (level place : ℕ) (items : List Item) → place < length items → All (IsItem level) items → (item : Item) × IsItemIn level (take item_size (drop (item_size * place) (items_words items))) item
+item_there : (level place : ℕ) (items : List Item) → place < length items → All (IsItem level) items
+    → (item : Item) × IsItemIn level (take item_size (drop (item_size * place) (items_words items))) item
 item_there level place [] within each = absurd (omega arith)
 item_there level zero (item ∷ items) within each = (item, record { is = All-head (IsItem level) item items each; are = sym (first_words item (items_words items)) })
 item_there level (suc place) (item ∷ items) within each =
@@ -75,7 +80,8 @@ item_there level (suc place) (item ∷ items) within each =
     (r.0, record { is = r.1.is; are = r.1.are ∙ ap (take item_size) (sym (behind_words item (items_words items) place)) })
 
 -- where no item has its part of the words, no items have the words
-pub no_items : (level count place : ℕ) (words : List ℕ) → place < count → ((item : Item) → IsItemIn level (take (item_size * place + item_size - item_size * place) (drop (item_size * place) words)) item → ⊥)
+pub no_items : (level count place : ℕ) (words : List ℕ) → place < count
+    → ((item : Item) → IsItemIn level (take (item_size * place + item_size - item_size * place) (drop (item_size * place) words)) item → ⊥)
     → (items : List Item) → AreItemsIn level count words items → ⊥
 no_items level count place words within none items are =
     let there = item_there level place items (let c = are.counts in omega arith) are.each in
@@ -83,7 +89,8 @@ no_items level count place words within none items are =
     none there.0 (record { is = there.1.is; are = there.1.are ∙ (λ i. take (one i) (drop (item_size * place) (are.are i))) })
 
 -- the words of a key's value are two fields
-pub pair_spelled : (words key value : List ℕ) → length words ≡ item_size → field_words key ≡ take field_size words → length value ≡ get_or words field_size 0 → text_words text_size value ≡ take text_size (drop (suc field_size) words)
+pub pair_spelled : (words key value : List ℕ) → length words ≡ item_size → field_words key ≡ take field_size words → length value ≡ get_or words field_size 0
+    → text_words text_size value ≡ take text_size (drop (suc field_size) words)
     → items_words (record { key = key; content = Value value } ∷ []) ≡ words
 pair_spelled words key value all first count second =
     let unmarked : length key + 0 ≡ length key = omega arith in

@@ -61,7 +61,8 @@ module _ (words : List ℕ) (row : Row) (items : List Item) (is : IsRowOfParts r
   behind_items : drop (items_at + item_size * length items) words ≡ replicate (words_left (length items)) 0
   behind_items =
       let l = items_length items in
-      sym (drop-drop (item_size * length items) items_at words) ∙ ap (drop (item_size * length items)) behind_bound ∙ ap (λ n. drop n tail) (sym l) ∙ drop-append_seam (items_words items) (replicate (words_left (length items)) 0)
+      sym (drop-drop (item_size * length items) items_at words) ∙ ap (drop (item_size * length items)) behind_bound ∙ ap (λ n. drop n tail) (sym l) ∙
+      drop-append_seam (items_words items) (replicate (words_left (length items)) 0)
 
   pub row_there : IsRowIn words row
   row_there = record {
@@ -76,7 +77,9 @@ module _ (words : List ℕ) (row : Row) (items : List Item) (is : IsRowOfParts r
 
   pub items_there : items_words items ≡ take (item_size * row.count) (drop items_at words)
   items_there =
-      sym (ap (take (item_size * length items)) behind_bound ∙ ap (λ n. take n tail) (sym (items_length items)) ∙ take-append_seam (items_words items) (replicate (words_left (length items)) 0)) ∙ ap (λ n. take (item_size * n) (drop items_at words)) counts
+      sym
+      (ap (take (item_size * length items)) behind_bound ∙ ap (λ n. take n tail) (sym (items_length items)) ∙ take-append_seam (items_words items) (replicate (words_left (length items)) 0))
+      ∙ ap (λ n. take (item_size * n) (drop items_at words)) counts
 
 cut_twice : (m n : ℕ) (xs : List ℕ) → take m xs ++ (take m (drop m xs) ++ (take n (drop (m + m) xs) ++ drop (m + m + n) xs)) ≡ xs
 cut_twice m n xs =
@@ -85,14 +88,16 @@ cut_twice m n xs =
     let middle : take m (drop m xs) ++ (take n (drop (m + m) xs) ++ drop (m + m + n) xs) ≡ drop m xs = ap (λ ys. take m (drop m xs) ++ ys) (inner ∙ both) ∙ take-append-drop m (drop m xs) in
     ap (λ ys. take m xs ++ ys) middle ∙ take-append-drop m xs
 
-pub whole_row : (words : List ℕ) (row : Row) (items : List Item) → items_at ≤ length words → IsRowIn words row → length items ≡ row.count → items_words items ≡ take (item_size * row.count) (drop items_at words) → words_of_row row items ≡ words
+pub whole_row : (words : List ℕ) (row : Row) (items : List Item) → items_at ≤ length words → IsRowIn words row → length items ≡ row.count
+    → items_words items ≡ take (item_size * row.count) (drop items_at words) → words_of_row row items ≡ words
 whole_row [] row items long is counts are = absurd (omega arith)
 whole_row (a ∷ []) row items long is counts are = absurd (omega arith)
 whole_row (a ∷ b ∷ []) row items long is counts are = absurd (omega arith)
 whole_row (a ∷ b ∷ c ∷ words) row items long is counts are =
     let n : ℕ = item_size * row.count in
     let rest : drop (field_size + field_size + n) words ≡ replicate (words_left (length items)) 0 =
-    let three : items_at + n ≡ suc (suc (suc (field_size + field_size + n))) = omega arith in ap (λ k. drop k (a ∷ b ∷ c ∷ words)) (sym three) ∙ is.rest ∙ ap (λ k. replicate (words_left k) 0) (sym counts) in
+    let three : items_at + n ≡ suc (suc (suc (field_size + field_size + n))) = omega arith in ap (λ k. drop k (a ∷ b ∷ c ∷ words)) (sym three) ∙ is.rest ∙ ap
+    (λ k. replicate (words_left k) 0) (sym counts) in
     let head : header_word row.kind row.level (length items) ≡ a = ap (λ k. header_word row.kind row.level k) counts ∙ is.header in
     (λ i. head i ∷ is.next i ∷ is.page i ∷ (is.first i ++ (is.second i ++ (are i ++ sym rest i)))) ∙ ap (λ ws. a ∷ b ∷ c ∷ ws) (cut_twice field_size n words)
 
@@ -119,7 +124,8 @@ zeros_behind words header h row is =
     let same = header_one (get_or words 0 0) header (header_of row) h (header_is words row is) in
     ap (λ n. are_zeros (drop (items_at + item_size * n) words)) same.2 ∙ ap are_zeros is.rest ∙ are_zeros_all (words_left row.count)
 
-pub zeros_there : (words : List ℕ) (count : ℕ) → length words ≡ row_size → are_zeros (drop (items_at + item_size * count) words) ≡ true → drop (items_at + item_size * count) words ≡ replicate (words_left count) 0
+pub zeros_there : (words : List ℕ) (count : ℕ) → length words ≡ row_size → are_zeros (drop (items_at + item_size * count) words) ≡ true
+    → drop (items_at + item_size * count) words ≡ replicate (words_left count) 0
 zeros_there words count all h =
     let l = length-drop (items_at + item_size * count) words in
     let n : length (drop (items_at + item_size * count) words) ≡ words_left count = omega arith in

@@ -41,7 +41,8 @@ not_both : (a b : Bool) → (a ≡ true → b ≡ false) → not (a && b) ≡ tr
 not_both true b h = ap not (h refl)
 not_both false b h = refl
 
-apart_test : (last : Bool) (items : List Item) → ((item : Item) (rest : List Item) → items ≡ item ∷ rest → last ≡ true → is_held item.content ≡ false) → AreApart items → are_apart_after last items ≡ true
+apart_test : (last : Bool) (items : List Item) → ((item : Item) (rest : List Item) → items ≡ item ∷ rest → last ≡ true → is_held item.content ≡ false)
+    → AreApart items → are_apart_after last items ≡ true
 apart_test last [] f h = refl
 apart_test last (item ∷ []) f h = both (not (last && is_held item.content)) true (not_both last (is_held item.content) (f item [] refl)) refl
 apart_test last (item ∷ next ∷ items) f h =
@@ -53,7 +54,8 @@ apart_test last (item ∷ next ∷ items) f h =
 
 starts_from : (low : List ℕ) (items : List Item) → starts_at low items ≡ true → IsFirstAt low items
 starts_from low [] h = cc
-starts_from low (item ∷ items) h = (same item.key low (left (is_eq (key_cmp item.key low)) (not (is_held item.content)) h), unheld (is_held item.content) (right (is_eq (key_cmp item.key low)) (not (is_held item.content)) h))
+starts_from low (item ∷ items) h =
+    (same item.key low (left (is_eq (key_cmp item.key low)) (not (is_held item.content)) h), unheld (is_held item.content) (right (is_eq (key_cmp item.key low)) (not (is_held item.content)) h))
   where
     unheld : (a : Bool) → not a ≡ true → a ≡ false
     unheld true h = cc

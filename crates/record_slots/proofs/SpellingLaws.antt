@@ -54,7 +54,8 @@ no_items level = All-nil (IsItem level)
 empty_short : IsShort []
 empty_short = record { short = omega arith; bytes_fit = tt }
 
-link_fits : (kind level next page : ℕ) (separator : List ℕ) → kind < 256 → IsSpellableLink level next separator page → IsShort separator → IsRowOfParts (record { kind = kind; level = level; count = 0; next = next; page = page; first = separator; second = Some [] })
+link_fits : (kind level next page : ℕ) (separator : List ℕ) → kind < 256 → IsSpellableLink level next separator page → IsShort separator
+    → IsRowOfParts (record { kind = kind; level = level; count = 0; next = next; page = page; first = separator; second = Some [] })
 link_fits kind level next page separator small h s = record { kind = small; level = h.top; few = omega arith; next = h.over.1; page = h.names.1; first = s; second = empty_short }
 
 -- a record that a row can spell has parts in their ranges
@@ -66,7 +67,8 @@ parts_fit (Split split) h s = link_fits 4 split.level split.next split.page spli
 parts_fit (Term term) h s = link_fits 5 term.level term.next term.child term.separator (omega arith) h.1 s
 parts_fit (Hold hold) h s = link_fits 6 hold.level hold.next hold.child hold.separator (omega arith) h.1 s
 parts_fit (Remove remove) h s = record { kind = omega arith; level = h.0; few = omega arith; next = h.1.1; page = omega arith; first = empty_short; second = empty_short }
-parts_fit (Merge merge) h s = record { kind = omega arith; level = h.3.ruled.top; few = h.3.ruled.is_page.ordered.few; next = h.0.1; page = right_below merge.right h.3.right; first = s.0; second = s.1 }
+parts_fit (Merge merge) h s = record
+    { kind = omega arith; level = h.3.ruled.top; few = h.3.ruled.is_page.ordered.few; next = h.0.1; page = right_below merge.right h.3.right; first = s.0; second = s.1 }
 parts_fit (Unterm unterm) h s = link_fits 9 unterm.level unterm.next unterm.child unterm.separator (omega arith) h.1 s
 
 -- its items are of its level
@@ -91,7 +93,8 @@ module _ (words : List ℕ) (content : Record) (h : IsSpelling content words) wh
   pub items_spelled : items_words (items_of content) ≡ take (item_size * (row_of content).count) (drop items_at words)
   items_spelled = items_there words (row_of content) (items_of content) (parts_fit content h.spellable h.short) (counts content) are
 
-pub spelled_by : (words : List ℕ) (row : Row) (content : Record) → length words ≡ row_size → IsRowIn words row → IsRecordOf row (take (item_size * row.count) (drop items_at words)) content → IsSpelling content words
+pub spelled_by : (words : List ℕ) (row : Row) (content : Record) → length words ≡ row_size → IsRowIn words row
+    → IsRecordOf row (take (item_size * row.count) (drop items_at words)) content → IsSpelling content words
 spelled_by words row content all h r =
     let many : length (items_of content) ≡ row.count = counts content ∙ ap (λ (one : Row). one.count) r.are in
     record {

@@ -125,7 +125,8 @@ spelled (word ∷ words) count h few ends =
           let first : packed 8 (front ++ back) ≡ word = packed_full 8 front back (eight word h.0) ∙ word_packed word h.0 in
           let behind : text_words (length words) (drop 8 (front ++ back)) ≡ words = ap (text_words (length words)) (drop_full 8 front back (eight word h.0)) ∙ rest.are in
           let counts : length (front ++ back) ≡ count = let c = rest.counts in omega arith in
-          subst (SpellsBytes (length (word ∷ words)) count (word ∷ words)) (sym text) (record { are = λ i. first i ∷ behind i; counts = counts; bytes = append_bytes front back (word_bytes word h.0) rest.bytes })
+          subst (SpellsBytes (length (word ∷ words)) count (word ∷ words)) (sym text)
+          (record { are = λ i. first i ∷ behind i; counts = counts; bytes = append_bytes front back (word_bytes word h.0) rest.bytes })
     ]
   where
     takes : (n : ℕ) (xs : List ℕ) → n ≤ length xs → length (take n xs) ≡ n
@@ -196,14 +197,16 @@ read_back (suc n) text h few =
 pub text_grows : (n : ℕ) (text : List ℕ) → text_words (suc n) text ≡ text_words n text ++ packed 8 (drop (8 * n) text) ∷ []
 text_grows zero text = refl
 text_grows (suc n) text =
-    ap (λ ws. packed 8 text ∷ ws) (text_grows n (drop 8 text) ∙ ap (λ xs. text_words n (drop 8 text) ++ packed 8 xs ∷ []) (drop-drop (8 * n) 8 text ∙ ap (λ k. drop k text) (let e : 8 + 8 * n ≡ 8 * suc n = omega arith in e)))
+    ap (λ ws. packed 8 text ∷ ws)
+    (text_grows n (drop 8 text) ∙ ap (λ xs. text_words n (drop 8 text) ++ packed 8 xs ∷ []) (drop-drop (8 * n) 8 text ∙ ap (λ k. drop k text) (let e : 8 + 8 * n ≡ 8 * suc n = omega arith in e)))
 
 words_fit : (words : List ℕ) → ((i : ℕ) → get_or words i 0 < 2 ^ 64) → AreWords words
 words_fit [] h = tt
 words_fit (word ∷ words) h = (h 0, words_fit words (λ i. h (suc i)))
 
 -- what is read of four words with nothing behind it is the text that they spell
-pub is_text : (count : ℕ) (words : List ℕ) → ((i : ℕ) → get_or words i 0 < 2 ^ 64) → length words ≡ text_size → count ≤ longest → ends_there count words ≡ true → IsText count words (take count (bytes_of words))
+pub is_text : (count : ℕ) (words : List ℕ) → ((i : ℕ) → get_or words i 0 < 2 ^ 64) → length words ≡ text_size → count ≤ longest → ends_there count words ≡ true
+    → IsText count words (take count (bytes_of words))
 is_text count words fits long few ends =
     let s = spelled words count (words_fit words fits) (omega arith) ends in
     record { short = record { short = let c = s.counts in omega arith; bytes_fit = s.bytes }; counts = s.counts; are = ap (λ n. text_words n (take count (bytes_of words))) (sym long) ∙ s.are }

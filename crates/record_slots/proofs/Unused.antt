@@ -17,4 +17,5 @@ pub zero_behind : (words : List ℕ) (content : Record) → IsSpelling content w
 zero_behind words content spelled j above =
     let end : ℕ = items_at + item_size * (row_of content).count in
     let at : j ≡ end + (j - end) = omega (arith, above) in
-    ap (λ k. get_or words k 0) at ∙ sym (get_or-drop end words (j - end) 0) ∙ ap (λ ws. get_or ws (j - end) 0) (row_spelled words content spelled).rest ∙ zeros_are (words_left (row_of content).count) (j - end)
+    ap (λ k. get_or words k 0) at ∙ sym (get_or-drop end words (j - end) 0) ∙ ap (λ ws. get_or ws (j - end) 0) (row_spelled words content spelled).rest ∙
+    zeros_are (words_left (row_of content).count) (j - end)

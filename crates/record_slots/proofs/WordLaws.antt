@@ -76,7 +76,8 @@ packed_at n (suc place) [] = let p = no_packed n in omega arith
 packed_at n (suc place) (byte ∷ bytes) = packed_at n place bytes
 
 -- one byte more
-pub packed_more : (word byte n place whole : ℕ) (bytes : List ℕ) → byte ≡ get_or bytes place 0 → word * 256 ^ suc n + packed (suc n) (drop place bytes) ≡ whole → (word * 256 + byte) * 256 ^ n + packed n (drop (suc place) bytes) ≡ whole
+pub packed_more : (word byte n place whole : ℕ) (bytes : List ℕ) → byte ≡ get_or bytes place 0 → word * 256 ^ suc n + packed (suc n) (drop place bytes) ≡ whole
+    → (word * 256 + byte) * 256 ^ n + packed n (drop (suc place) bytes) ≡ whole
 packed_more word byte n place whole bytes is before =
     let more : word * 256 ^ suc n ≡ (word * 256) * 256 ^ n = ap (λ p. word * p) (pow-succ' 256 n) ∙ sym (mul_assoc word 256 (256 ^ n)) in
     let at = packed_at n place bytes in

@@ -24,7 +24,8 @@ module _ (head next page : ℕ) (key : List ℕ) (bound : Option (List ℕ)) (it
       let e : length (field_words key) ≡ field_size = refl in
       omega arith
 
-  pub written : (a b c d e f g : List ℕ) → a ≡ [] → b ≡ a ++ head ∷ [] → c ≡ b ++ next ∷ [] → d ≡ c ++ page ∷ [] → e ≡ d ++ field_words key → f ≡ e ++ bound_words bound → g ≡ f ++ items_words items → g ≡ used
+  pub written : (a b c d e f g : List ℕ) → a ≡ [] → b ≡ a ++ head ∷ [] → c ≡ b ++ next ∷ [] → d ≡ c ++ page ∷ [] → e ≡ d ++ field_words key
+      → f ≡ e ++ bound_words bound → g ≡ f ++ items_words items → g ≡ used
   written a b c d e f g at bt ct dt et ft gt =
       let d_is : d ≡ head ∷ next ∷ page ∷ [] = dt ∙ ap (λ xs. xs ++ page ∷ []) (ct ∙ ap (λ xs. xs ++ next ∷ []) (bt ∙ ap (λ xs. xs ++ head ∷ []) at)) in
       let f_is : f ≡ head ∷ next ∷ page ∷ (field_words key ++ bound_words bound) = ft ∙ ap (λ xs. xs ++ bound_words bound) (et ∙ ap (λ xs. xs ++ field_words key) d_is) in

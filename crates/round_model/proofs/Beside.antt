@@ -30,7 +30,8 @@ pub record IsBesideGone (limits : Limits) (k now : Knowledge) (removed version :
   pub alive : is_removed version.chain ≡ false
   pub right : right_in version.chain ≡ Some removed.pid
 
-module _ (limits : Limits) (k now : Knowledge) (r : Recalled) (removed version : Version) (was_level : ℕ) (was_low : List ℕ) (earlier : List ℕ) (arrives : HasArrived limits k now r version was_level was_low earlier) (by : IsBesideGone limits k now removed version) where
+module _ (limits : Limits) (k now : Knowledge) (r : Recalled) (removed version : Version) (was_level : ℕ) (was_low : List ℕ) (earlier : List ℕ)
+    (arrives : HasArrived limits k now r version was_level was_low earlier) (by : IsBesideGone limits k now removed version) where
   abbrev here : List Record
   here = version.chain
 
@@ -70,7 +71,8 @@ module _ (limits : Limits) (k now : Knowledge) (r : Recalled) (removed version :
             let told = (arrives.arrives.whole.beyond by.alive pid known_before).3 other past.0.head past.0.chain past.0.in_slot past.0.read in
             let so = told_of removed.chain other past.0.chain level low told (subst (λ (p : ℕ). NamesAt removed.chain p level low) e names) in
             let before : IsPastAt (level_in here) (low_in here) (level_in past.0.chain) (low_in past.0.chain) = rw (is, arrives.is_low) past.0.past in
-            never_there level (level_in past.0.chain) low (low_in past.0.chain) (past_on (level_in here) level (level_in past.0.chain) (low_in here) low (low_in past.0.chain) descends_on before) so.0 so.1),
+            never_there level (level_in past.0.chain) low (low_in past.0.chain)
+            (past_on (level_in here) level (level_in past.0.chain) (low_in here) low (low_in past.0.chain) descends_on before) so.0 so.1),
         new_others others is past.1,
       )
 
@@ -86,7 +88,9 @@ module _ (limits : Limits) (k now : Knowledge) (r : Recalled) (removed version :
               page = within.0;
               below = within.1;
               head = tt;
-              stands = inr (record { other = version.pid; row = version.head; basis = record { head = in_hand.seen.head; chain = here; read = in_hand.seen.read; alive = by.alive }; named = inr (inr known_now) });
+              stands =
+                  inr (record
+                  { other = version.pid; row = version.head; basis = record { head = in_hand.seen.head; chain = here; read = in_hand.seen.read; alive = by.alive }; named = inr (inr known_now) });
             };
             same = refl;
             bare = refl;

@@ -12,7 +12,8 @@ under None X P Q f h = absurd h
 under (Some b) X P Q f h = f b h
 
 -- A row is read again; what was seen there before is the same record.
-pub front_more : (seen f : ℕ → Option Record) (n : ℕ) (w : Record) → ((before : Record) → seen n ≡ Some before → w ≡ before) → (front : List Record) (row m : ℕ) → IsFront seen row front m → IsFront f row front m
+pub front_more : (seen f : ℕ → Option Record) (n : ℕ) (w : Record) → ((before : Record) → seen n ≡ Some before → w ≡ before) → (front : List Record) (row m : ℕ)
+    → IsFront seen row front m → IsFront f row front m
     → IsFront (replaced_at n (Some w) f) row front m
 front_more seen f n w same [] row m h i = i
 front_more seen f n w same (v ∷ vs) row m h i = (go (row == n) refl, deeper (next_row v) (λ b p q. front_more seen f n w same vs b m p q) h.1 i.1)
@@ -21,7 +22,9 @@ front_more seen f n w same (v ∷ vs) row m h i = (go (row == n) refl, deeper (n
     go true e = let j : row ≡ n = eqb-true row n e in ap Some (same v (rw (← j) h.0))
     go false e = i.0
 
-    deeper : (o : Option ℕ) → ((b : ℕ) → IsFront seen b vs m → IsFront f b vs m → IsFront (replaced_at n (Some w) f) b vs m) → MatchOption o ⊥ (λ b. IsFront seen b vs m) → MatchOption o ⊥ (λ b. IsFront f b vs m) → MatchOption o ⊥ (λ b. IsFront (replaced_at n (Some w) f) b vs m)
+    deeper : (o : Option ℕ) → ((b : ℕ) → IsFront seen b vs m → IsFront f b vs m → IsFront (replaced_at n (Some w) f) b vs m)
+        → MatchOption o ⊥ (λ b. IsFront seen b vs m) → MatchOption o ⊥ (λ b. IsFront f b vs m)
+        → MatchOption o ⊥ (λ b. IsFront (replaced_at n (Some w) f) b vs m)
     deeper None more p q = p
     deeper (Some b) more p q = more b p q
 

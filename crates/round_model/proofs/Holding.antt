@@ -18,7 +18,8 @@ use Rattle.round_model.specs.Versions.{IsInHand}
 use Rattle.round_model.specs.Walks.{IsNamedAt, IsNextAt, IsPast}
 
 -- A row is read again; what was seen there before is the same record.
-pub chain_more : (seen : ℕ → Option Record) (n : ℕ) (w : Record) → ((before : Record) → seen n ≡ Some before → w ≡ before) → (chain : List Record) (row : ℕ) → IsChainFrom seen row chain → IsChainFrom (replaced_at n (Some w) seen) row chain
+pub chain_more : (seen : ℕ → Option Record) (n : ℕ) (w : Record) → ((before : Record) → seen n ≡ Some before → w ≡ before) → (chain : List Record) (row : ℕ)
+    → IsChainFrom seen row chain → IsChainFrom (replaced_at n (Some w) seen) row chain
 chain_more seen n w same [] row h = absurd h
 chain_more seen n w same (v ∷ vs) row h = (go (row == n) refl, deeper (next_row v) (λ next. chain_more seen n w same vs next) h.1)
   where
@@ -26,7 +27,8 @@ chain_more seen n w same (v ∷ vs) row h = (go (row == n) refl, deeper (next_ro
     go true e = let j : row ≡ n = eqb-true row n e in ap Some (same v (rw (← j) h.0))
     go false e = h.0
 
-    deeper : (o : Option ℕ) → ((next : ℕ) → IsChainFrom seen next vs → IsChainFrom (replaced_at n (Some w) seen) next vs) → MatchOption o (vs ≡ []) (λ next. IsChainFrom seen next vs) → MatchOption o (vs ≡ []) (λ next. IsChainFrom (replaced_at n (Some w) seen) next vs)
+    deeper : (o : Option ℕ) → ((next : ℕ) → IsChainFrom seen next vs → IsChainFrom (replaced_at n (Some w) seen) next vs)
+        → MatchOption o (vs ≡ []) (λ next. IsChainFrom seen next vs) → MatchOption o (vs ≡ []) (λ next. IsChainFrom (replaced_at n (Some w) seen) next vs)
     deeper None more h = h
     deeper (Some next) more h = more next h
 
@@ -43,7 +45,13 @@ slot_chain k (suc page) zero row chain h = h
 slot_chain k (suc page) (suc n) row chain h = h
 
 pub in_hand_slot : (limits : Limits) (k : Knowledge) (page n : ℕ) (version : Version) → version.pid ≢ page → IsInHand limits k version → IsInHand limits (learn_slot page n k) version
-in_hand_slot limits k page n version apart h = record { page = h.page; row = h.row; seen = record { head = slot_head k page n version.pid version.head apart h.seen.head; read = slot_chain k page n version.head version.chain h.seen.read }; sound = h.sound }
+in_hand_slot limits k page n version apart h = record {
+  page = h.page;
+  row = h.row;
+  seen = record
+      { head = slot_head k page n version.pid version.head apart h.seen.head; read = slot_chain k page n version.head version.chain h.seen.read };
+  sound = h.sound;
+}
 
 pub named_slot : (limits : Limits) (k : Knowledge) (page n level : ℕ) (low : List ℕ) → IsNamedAt limits k page level low → IsNamedAt limits (learn_slot page n k) page level low
 named_slot limits k page n level low h = record { naming = h.naming; in_hand = in_hand_slot limits k page n h.naming h.apart h.in_hand; alive = h.alive; apart = h.apart; names = h.names }
@@ -61,11 +69,22 @@ next_slot limits k page n level low h =
       in_hand = in_hand_slot limits k page n h.left h.apart h.in_hand;
       alive = h.alive;
       apart = h.apart;
-      beyond = record { removed = b.removed; row = b.row; chain = b.chain; right = b.right; order = slot_before k page n h.left.pid b.removed b.row h.apart b.order; read = slot_chain k page n b.row b.chain b.read; gone = b.gone; named = b.named };
+      beyond = record {
+        removed = b.removed;
+        row = b.row;
+        chain = b.chain;
+        right = b.right;
+        order = slot_before k page n h.left.pid b.removed b.row h.apart
+            b.order;
+        read = slot_chain k page n b.row b.chain b.read;
+        gone = b.gone;
+        named = b.named;
+      };
       names = h.names;
     }
 
-pub past_slot : (k : Knowledge) (page n level : ℕ) (low : List ℕ) (others : List ℕ) → IsUnread page others → AllByRecursion (IsPast k level low) others → AllByRecursion (IsPast (learn_slot page n k) level low) others
+pub past_slot : (k : Knowledge) (page n level : ℕ) (low : List ℕ) (others : List ℕ) → IsUnread page others → AllByRecursion (IsPast k level low) others
+    → AllByRecursion (IsPast (learn_slot page n k) level low) others
 past_slot k page n level low [] new h = tt
 past_slot k page n level low (other ∷ others) new h = (
   record { head = h.0.head; chain = h.0.chain; in_slot = slot_head k page n other h.0.head (λ e. new.0 (sym e)) h.0.in_slot; read = slot_chain k page n h.0.head h.0.chain h.0.read; past = h.0.past },
@@ -83,11 +102,13 @@ module _ (k : Knowledge) (row : ℕ) (w : Record) (same : (before : Record) → 
   abbrev now : Knowledge
   now = learn k (step.Row row) (answer.Content w)
 
-  pub read_more : (other head : ℕ) (chain : List Record) → k.read.heads other ≡ Some head → IsChainFrom k.read.seen head chain → (now.read.heads other ≡ Some head) × IsChainFrom now.read.seen head chain
+  pub read_more : (other head : ℕ) (chain : List Record) → k.read.heads other ≡ Some head → IsChainFrom k.read.seen head chain
+      → (now.read.heads other ≡ Some head) × IsChainFrom now.read.seen head chain
   read_more other head chain held read = (held, chain_more k.read.seen row w same chain head read)
 
   pub in_hand_row : (limits : Limits) (version : Version) → IsInHand limits k version → IsInHand limits now version
-  in_hand_row limits version h = record { page = h.page; row = h.row; seen = record { head = h.seen.head; read = chain_more k.read.seen row w same version.chain version.head h.seen.read }; sound = h.sound }
+  in_hand_row limits version h = record
+      { page = h.page; row = h.row; seen = record { head = h.seen.head; read = chain_more k.read.seen row w same version.chain version.head h.seen.read }; sound = h.sound }
 
   pub named_row : (limits : Limits) (page level : ℕ) (low : List ℕ) → IsNamedAt limits k page level low → IsNamedAt limits now page level low
   named_row limits page level low h = record { naming = h.naming; in_hand = in_hand_row limits h.naming h.in_hand; alive = h.alive; apart = h.apart; names = h.names }
@@ -100,7 +121,8 @@ module _ (k : Knowledge) (row : ℕ) (w : Record) (same : (before : Record) → 
         in_hand = in_hand_row limits h.left h.in_hand;
         alive = h.alive;
         apart = h.apart;
-        beyond = record { removed = b.removed; row = b.row; chain = b.chain; right = b.right; order = b.order; read = chain_more k.read.seen row w same b.chain b.row b.read; gone = b.gone; named = b.named };
+        beyond = record
+            { removed = b.removed; row = b.row; chain = b.chain; right = b.right; order = b.order; read = chain_more k.read.seen row w same b.chain b.row b.read; gone = b.gone; named = b.named };
         names = h.names;
       }
 

@@ -80,7 +80,8 @@ module _ (limits : Limits) (key : List ℕ) (floor : ℕ) (goal : WriteGoal) (pa
   kept_slot : (row : ℕ) (earlier : List ℕ) → IsUnread visit.pid earlier → (other : Version) → IsKept limits k other earlier → IsKept limits (learn_slot visit.pid row k) other earlier
   kept_slot row earlier new other i = record { in_hand = in_hand_slot limits k visit.pid row other (differs visit.pid other.pid earlier new i.among) i.in_hand; alive = i.alive; among = i.among }
 
-  keeps_slot : (row : ℕ) → 0 < visit.pid → 0 < row → (earlier : List ℕ) → IsUnread visit.pid earlier → (other : WriteGoal) → KeepsToWrite limits key floor k visit.pid earlier other → KeepsToWrite limits key floor (learn_slot visit.pid row k) visit.pid earlier other
+  keeps_slot : (row : ℕ) → 0 < visit.pid → 0 < row → (earlier : List ℕ) → IsUnread visit.pid earlier → (other : WriteGoal)
+      → KeepsToWrite limits key floor k visit.pid earlier other → KeepsToWrite limits key floor (learn_slot visit.pid row k) visit.pid earlier other
   keeps_slot row some linked earlier new Seek h = tt
   keeps_slot row some linked earlier new (Left pid) h = record {
     removed = h.removed;
@@ -99,7 +100,8 @@ module _ (limits : Limits) (key : List ℕ) (floor : ℕ) (goal : WriteGoal) (pa
   }
 
   visits_slot : (row : ℕ) → 0 < row → row < visit.limits.rows → Visits Slot
-      → VisitsToWrite limits key floor goal parent left (learn k (step.Slot visit.pid) (answer.Number row)) (recall r (step.Slot visit.pid) (answer.Number row)) (record visit { part = []; state = Row row row })
+      → VisitsToWrite limits key floor goal parent left (learn k (step.Slot visit.pid) (answer.Number row)) (recall r (step.Slot visit.pid) (answer.Number row))
+      (record visit { part = []; state = Row row row })
   visits_slot row linked few h =
       let some = h.seeks.on_way.shows.page in
       let new = h.seeks.on_way.distinct.2 in
@@ -128,7 +130,16 @@ module _ (limits : Limits) (key : List ℕ) (floor : ℕ) (goal : WriteGoal) (pa
     kept_row other earlier i = record { in_hand = in_hand_row k row content fits.same limits other i.in_hand; alive = i.alive; among = i.among }
 
     missing_row : (pid : ℕ) (visited : List ℕ) → IsMissing limits k key floor pid visited → IsMissing limits now key floor pid visited
-    missing_row pid visited h = record { removed = h.removed; gone = record { in_hand = in_hand_row k row content fits.same limits h.removed h.gone.in_hand; gone = h.gone.gone }; is = h.is; low = h.low; level = h.level; unread = h.unread }
+    missing_row pid visited h = record {
+      removed = h.removed;
+      gone = record
+          { in_hand = in_hand_row k row content fits.same limits h.removed h.gone.in_hand; gone = h.gone.gone };
+      is = h.is;
+      low = h.low;
+      level = h.level;
+      unread =
+          h.unread;
+    }
 
     cut_row : (above at_left : Version) (earlier : List ℕ) → IsLosingTerm limits k earlier above at_left → IsLosingTerm limits now earlier above at_left
     cut_row above at_left earlier h = record { above = kept_row above earlier h.above; aside = kept_row at_left earlier h.aside; up = h.up; after = h.after }
@@ -145,7 +156,8 @@ module _ (limits : Limits) (key : List ℕ) (floor : ℕ) (goal : WriteGoal) (pa
     passed_row pid earlier (Merge at_left) h = kept_row at_left earlier h
     passed_row pid earlier (Unterm above at_left) h = cut_row above at_left earlier h
 
-    visits_row : (head under : ℕ) → next_row content ≡ Some under → Visits (Row head row) → VisitsToWrite limits key floor goal parent left now walked (record visit { part = visit.part ++ content ∷ []; state = Row head under })
+    visits_row : (head under : ℕ) → next_row content ≡ Some under → Visits (Row head row)
+        → VisitsToWrite limits key floor goal parent left now walked (record visit { part = visit.part ++ content ∷ []; state = Row head under })
     visits_row head under more h = record {
       level = h.level;
       low = h.low;
@@ -158,7 +170,8 @@ module _ (limits : Limits) (key : List ℕ) (floor : ℕ) (goal : WriteGoal) (pa
       keeps = keeps_row visit.pid h.earlier goal h.keeps;
     }
 
-    reaches_whole : (version : Version) → version.pid ≡ visit.pid → version.chain ≡ visit.part ++ content ∷ [] → next_row content ≡ None → Visits (Row version.head row) → HasReached limits key floor goal parent left k now walked version
+    reaches_whole : (version : Version) → version.pid ≡ visit.pid → version.chain ≡ visit.part ++ content ∷ [] → next_row content ≡ None
+        → Visits (Row version.head row) → HasReached limits key floor goal parent left k now walked version
     reaches_whole version pid made last h =
         let here = arrived limits (write_way goal key) (is_cutting goal) k r visit h.level h.low h.earlier row content fits version pid made last h.seeks in
         record {
@@ -180,26 +193,32 @@ module _ (limits : Limits) (key : List ℕ) (floor : ℕ) (goal : WriteGoal) (pa
         }
 
 -- the same by what a visit makes of an answer
-module _ (limits : Limits) (key : List ℕ) (floor : ℕ) (goal : WriteGoal) (parent left : Option Version) (k : Knowledge) (r : Recalled) (visit : Visit) (told : Answer Record) (h : VisitsToWrite limits key floor goal parent left k r visit) (f : Fits limits k (wanted visit) told) where
+module _ (limits : Limits) (key : List ℕ) (floor : ℕ) (goal : WriteGoal) (parent left : Option Version) (k : Knowledge) (r : Recalled) (visit : Visit)
+    (told : Answer Record) (h : VisitsToWrite limits key floor goal parent left k r visit) (f : Fits limits k (wanted visit) told) where
   abbrev VisitsAt : Visit → Answer Record → Type 0
   VisitsAt v x = VisitsToWrite limits key floor goal parent left k r v
 
   abbrev FitsAt : Visit → Answer Record → Type 0
   FitsAt v x = Fits limits k (wanted v) x
 
-  pub visits_next : (new : Visit) → FindsHead visit told new ⊎ Continues visit told new → VisitsToWrite limits key floor goal parent left (learn k (wanted visit) told) (recall r (wanted visit) told) new
+  pub visits_next : (new : Visit) → FindsHead visit told new ⊎ Continues visit told new
+      → VisitsToWrite limits key floor goal parent left (learn k (wanted visit) told) (recall r (wanted visit) told) new
   visits_next new moves =
       let P : Visit → Answer Record → Type 0 = λ v x. VisitsToWrite limits key floor goal parent left (learn k (wanted v) x) (recall r (wanted v) x) new in
       elim moves [
-        | inl b ↦ back visit P Slot (answer.Number b.row) told b.asked b.is (rw b.goes (visits_slot limits key floor goal parent left k r visit b.row b.some (rw h.seeks.on_way.same (row_below limits k visit.pid b.row h.seeks.on_way.shows.page (there visit FitsAt Slot (answer.Number b.row) told b.asked b.is f))) (there visit VisitsAt Slot (answer.Number b.row) told b.asked b.is h)))
+        | inl b ↦ back visit P Slot (answer.Number b.row) told b.asked b.is (rw b.goes (visits_slot limits key floor goal parent left k r visit b.row b.some
+            (rw h.seeks.on_way.same (row_below limits k visit.pid b.row h.seeks.on_way.shows.page (there visit FitsAt Slot (answer.Number b.row) told b.asked b.is f)))
+            (there visit VisitsAt Slot (answer.Number b.row) told b.asked b.is h)))
         | inr b ↦
             let fits = there visit FitsAt (Row b.head b.row) (answer.Content b.content) told b.asked b.is f in
             back visit P (Row b.head b.row) (answer.Content b.content) told b.asked b.is
-            (rw b.goes (visits_row limits key floor goal parent left k r visit b.row b.content fits b.head b.under b.more (there visit VisitsAt (Row b.head b.row) (answer.Content b.content) told b.asked b.is h)))
+            (rw b.goes (visits_row limits key floor goal parent left k r visit b.row b.content fits b.head b.under b.more
+            (there visit VisitsAt (Row b.head b.row) (answer.Content b.content) told b.asked b.is h)))
       ]
 
   pub reached_next : (version : Version) → Completes visit told version → HasReached limits key floor goal parent left k (learn k (wanted visit) told) (recall r (wanted visit) told) version
   reached_next version b =
       let fits = there visit FitsAt (Row version.head b.row) (answer.Content b.content) told b.asked b.is f in
       back visit (λ v x. HasReached limits key floor goal parent left k (learn k (wanted v) x) (recall r (wanted v) x) version) (Row version.head b.row) (answer.Content b.content) told b.asked b.is
-      (reaches_whole limits key floor goal parent left k r visit b.row b.content fits version b.pid b.chain b.last (there visit VisitsAt (Row version.head b.row) (answer.Content b.content) told b.asked b.is h))
+      (reaches_whole limits key floor goal parent left k r visit b.row b.content fits version b.pid b.chain b.last
+      (there visit VisitsAt (Row version.head b.row) (answer.Content b.content) told b.asked b.is h))

@@ -34,7 +34,8 @@ off_above false key low high on off = by_order low high
     (λ more. let clash : true ≡ false = sym (trans key high low (negated (is_below key high) off) (ap is_lt more)) ∙ not_true (is_below key low) on in cc)
 
 -- between a low key in the range, and the end that is beyond the way, there is no term but the greatest on the way
-room_at : (below : Bool) (key : List ℕ) (parent : Version) (pid : ℕ) (low next : List ℕ) → IsFitted parent.chain → HasGreatest (passes below key) parent pid low → IsTrue (is_below low next) → IsTrue (passes below key next) → HasRoomAt parent next
+room_at : (below : Bool) (key : List ℕ) (parent : Version) (pid : ℕ) (low next : List ℕ) → IsFitted parent.chain → HasGreatest (passes below key) parent pid low
+    → IsTrue (is_below low next) → IsTrue (passes below key next) → HasRoomAt parent next
 room_at below key parent pid low next fit h after on = record {
   short = h.short;
   roomy = h.roomy;
@@ -56,7 +57,8 @@ room_at below key parent pid low next fit h after on = record {
     by_content (Some content) e = let clash : true ≡ false = sym after ∙ h.greatest.greatest next on (ap is_some e) in cc
 
 -- a page was read whole, which isn't removed
-module _ (limits : Limits) (below : Bool) (key : List ℕ) (k now : Knowledge) (r : Recalled) (version : Version) (level : ℕ) (low : List ℕ) (earlier : List ℕ) (arrives : HasArrived limits k now r version level low earlier) (alive : is_removed version.chain ≡ false) where
+module _ (limits : Limits) (below : Bool) (key : List ℕ) (k now : Knowledge) (r : Recalled) (version : Version) (level : ℕ) (low : List ℕ) (earlier : List ℕ)
+    (arrives : HasArrived limits k now r version level low earlier) (alive : is_removed version.chain ≡ false) where
   abbrev way : List ℕ → Bool
   way = passes below key
 
@@ -64,7 +66,16 @@ module _ (limits : Limits) (below : Bool) (key : List ℕ) (k now : Knowledge) (
   chain = version.chain
 
   posts : (parent : Version) → LiesAbove limits now version earlier parent → HasRoomAt parent low → CanPost parent version
-  posts parent over h = record { above = over.kept.alive; alive = alive; level = over.up; covered = rw arrives.is_low h.covered; absent = ap (content_in parent.chain) arrives.is_low ∙ h.absent; short = h.short; roomy = h.roomy }
+  posts parent over h = record {
+    above = over.kept.alive;
+    alive = alive;
+    level = over.up;
+    covered = rw arrives.is_low h.covered;
+    absent = ap
+        (content_in parent.chain) arrives.is_low ∙ h.absent;
+    short = h.short;
+    roomy = h.roomy;
+  }
 
   roots : (left : Version) → IsNextToFirst left version.pid low → CanRoot left version
   roots left h = record { lowest = h.lowest; next_to = record { right = h.right; high = h.high ∙ ap Some (sym arrives.is_low) }; alive = alive; top = rw h.leaf (omega arith) }
@@ -73,7 +84,8 @@ module _ (limits : Limits) (below : Bool) (key : List ℕ) (k now : Knowledge) (
   at_level left beside = elim arrives.is_level [ inl none ↦ absurd (some_among left.pid earlier beside.kept.among none) | inr is ↦ is ]
 
   -- with a parent the page is the one to which it leads, and without one it is the first of the leaves
-  pub termed : (parent left : Option Version) → IfSome parent (LiesAbove limits now version earlier) → IfSome left (IsLeftOf limits now low earlier) → IsLed way parent left version.pid level low → IsSplitFinished parent left version → level_in chain ≡ 0 → IsTermed version parent
+  pub termed : (parent left : Option Version) → IfSome parent (LiesAbove limits now version earlier) → IfSome left (IsLeftOf limits now low earlier)
+      → IsLed way parent left version.pid level low → IsSplitFinished parent left version → level_in chain ≡ 0 → IsTermed version parent
   termed (Some parent) None over beside led finished leaf = (led.short, (led.held, ap (content_in parent.chain) arrives.is_low ∙ led.greatest.has))
   termed (Some parent) (Some left) over beside led finished leaf = absurd (finished (posts parent over led))
   termed None None over beside led finished leaf = arrives.is_low ∙ led
@@ -91,7 +103,8 @@ module _ (limits : Limits) (below : Bool) (key : List ℕ) (k now : Knowledge) (
     beside_first first zero is = inr (record { leaf = is; lowest = arrives.is_low ∙ first; right = leads.is_right; high = leads.is_high })
     beside_first first (suc n) is = inl (omega arith)
 
-    pub led_aside : (parent left : Option Version) → IfSome parent (LiesAbove limits now version earlier) → IfSome left (IsLeftOf limits now low earlier) → IsLed way parent left version.pid level low → IsSplitFinished parent left version → IsLed way parent (Some version) pid (level_in chain) leads.low
+    pub led_aside : (parent left : Option Version) → IfSome parent (LiesAbove limits now version earlier) → IfSome left (IsLeftOf limits now low earlier)
+        → IsLed way parent left version.pid level low → IsSplitFinished parent left version → IsLed way parent (Some version) pid (level_in chain) leads.low
     led_aside (Some parent) None over beside led finished = room_at below key parent version.pid low leads.low over.kept.in_hand.sound.is_chain.fitted led span leads.on_way
     led_aside (Some parent) (Some left) over beside led finished = absurd (finished (posts parent over led))
     led_aside None None over beside led finished = beside_first led (level_in chain) refl

@@ -24,7 +24,8 @@ child_among : (items : List Item) (key : List ℕ) (page : ℕ) (held : Bool) �
 child_among [] key page held is = cc
 child_among (item ∷ items) key page held is = by_test (is_eq (key_cmp key item.key)) (child_among items key page held) is
   where
-    by_test : (b : Bool) → (content_at items key ≡ Some (Child page held) → HasChild items page) → (if b then Some item.content else content_at items key) ≡ Some (Child page held) → HasChild (item ∷ items) page
+    by_test : (b : Bool) → (content_at items key ≡ Some (Child page held) → HasChild items page)
+        → (if b then Some item.content else content_at items key) ≡ Some (Child page held) → HasChild (item ∷ items) page
     by_test true rest here = (0, item, omega arith, refl, (held, same_Some _ _ here))
     by_test false rest there = let found = rest there in (suc found.0, found.1, omega (arith, found.2), found.3, found.4)
 
@@ -43,7 +44,8 @@ child_meets : (chain : List Record) (key : List ℕ) (page : ℕ) (held : Bool) 
 child_meets [] key page held is = cc
 child_meets (newest ∷ under) key page held is = by_test (names newest key) (child_meets under key page held) is
   where
-    by_test : (b : Bool) → (content_in under key ≡ Some (Child page held) → AnyNames under page) → (if b then content_said newest key else content_in under key) ≡ Some (Child page held) → AnyNames (newest ∷ under) page
+    by_test : (b : Bool) → (content_in under key ≡ Some (Child page held) → AnyNames under page)
+        → (if b then content_said newest key else content_in under key) ≡ Some (Child page held) → AnyNames (newest ∷ under) page
     by_test true rest here = inl (said newest key page held here)
     by_test false rest there = inr (rest there)
 
@@ -71,7 +73,8 @@ meets_push (first ∷ part) content page h = elim h [
   | inr there ↦ elim (meets_push part content page there) [ inl before ↦ inl (inr before) | inr last ↦ inr last ]
 ]
 
-pub kept_push : (part records : List Record) (content : Record) → ((page : ℕ) → AnyNames part page → AnyNames records page) → (page : ℕ) → AnyNames (part ++ content ∷ []) page → AnyNames (content ∷ records) page
+pub kept_push : (part records : List Record) (content : Record) → ((page : ℕ) → AnyNames part page → AnyNames records page) → (page : ℕ)
+    → AnyNames (part ++ content ∷ []) page → AnyNames (content ∷ records) page
 kept_push part records content kept page h = elim (meets_push part content page h) [ inl before ↦ inr (kept page before) | inr last ↦ inl last ]
 
 or_true : (b : Bool) → b || true ≡ true
@@ -90,7 +93,8 @@ removed_one (kind.Merge merge) = refl
 removed_one (kind.Unterm unterm) = refl
 
 -- a front with one more record is removed where it was, or where the record is a removal
-pub removed_push : (seen : ℕ → Option Record) (part : List Record) (head row : ℕ) (content : Record) → IsFront seen head part row → is_removed (part ++ content ∷ []) ≡ (is_removal content || is_removed part)
+pub removed_push : (seen : ℕ → Option Record) (part : List Record) (head row : ℕ) (content : Record) → IsFront seen head part row
+    → is_removed (part ++ content ∷ []) ≡ (is_removal content || is_removed part)
 removed_push seen [] head row content h = removed_one content
 removed_push seen (kind.Base base ∷ part) head row content h = absurd h.1
 removed_push seen (kind.Put put ∷ part) head row content h = removed_push seen part put.next row content h.1

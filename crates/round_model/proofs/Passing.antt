@@ -58,7 +58,8 @@ pub record IsOver (limits : Limits) (k now : Knowledge) (goal : ReadGoal) (pid l
 abbrev pub WasOn : Limits → Knowledge → Knowledge → Recalled → ReadGoal → Version → ℕ → List ℕ → Leg → Type 0
 WasOn limits k now r goal version level earlier (Down above) = (r.walk.passed ≡ false) × IfSome above (IsOver limits k now goal version.pid level earlier)
 WasOn limits k now r goal version level earlier (Round removed) = (r.walk.removed ≡ true) × (r.walk.passed ≡ true → level_in removed.chain ≤ r.walk.level)
-WasOn limits k now r goal version level earlier (Past above) = ((earlier ≢ []) × (r.walk.removed ≡ true) × (r.walk.passed ≡ true → IsUnderRemoval above level r.walk.level version.chain)) × IfSome above (IsOver limits k now goal version.pid level earlier)
+WasOn limits k now r goal version level earlier (Past above) =
+    ((earlier ≢ []) × (r.walk.removed ≡ true) × (r.walk.passed ≡ true → IsUnderRemoval above level r.walk.level version.chain)) × IfSome above (IsOver limits k now goal version.pid level earlier)
 
 -- A page was read whole, on the way of the goal.
 pub record HasReached (limits : Limits) (key : List ℕ) (goal : ReadGoal) (leg : Leg) (k now : Knowledge) (r : Recalled) (version : Version) : Type 0 where
@@ -86,7 +87,11 @@ module _ (limits : Limits) (key : List ℕ) (k : Knowledge) (r : Recalled) where
     gone_root : (removed : Version) → IsGoneAt limits k key removed → IsGoneAt limits started key removed
     gone_root removed h =
         let hand = h.page.in_hand in
-        record { page = record { in_hand = record { page = hand.page; row = hand.row; seen = record { head = hand.seen.head; read = hand.seen.read }; sound = hand.sound }; gone = h.page.gone }; reached = h.reached }
+        record {
+          page = record
+              { in_hand = record { page = hand.page; row = hand.row; seen = record { head = hand.seen.head; read = hand.seen.read }; sound = hand.sound }; gone = h.page.gone };
+          reached = h.reached;
+        }
 
     -- the removed page isn't the root, which begins at the empty key
     not_root : (removed : Version) → IsGoneAt limits k key removed → removed.pid ≢ pid
@@ -110,7 +115,8 @@ module _ (limits : Limits) (key : List ℕ) (k : Knowledge) (r : Recalled) where
   -- a visit goes on
 
   module _ (visit : Visit) where
-    keeps_slot : (row : ℕ) → 0 < visit.pid → 0 < row → (goal : ReadGoal) → KeepsToRead limits key k (at visit Slot) goal → KeepsToRead limits key (learn k (step.Slot visit.pid) (answer.Number row)) (record visit { part = []; state = Row row row }) goal
+    keeps_slot : (row : ℕ) → 0 < visit.pid → 0 < row → (goal : ReadGoal) → KeepsToRead limits key k (at visit Slot) goal
+        → KeepsToRead limits key (learn k (step.Slot visit.pid) (answer.Number row)) (record visit { part = []; state = Row row row }) goal
     keeps_slot row some linked Seek h = tt
     keeps_slot row some linked (Left removed) h = record {
       gone = record { page = record { in_hand = in_hand_slot limits k visit.pid row removed h.apart h.gone.page.in_hand; gone = h.gone.page.gone }; reached = h.gone.reached };
@@ -123,9 +129,11 @@ module _ (limits : Limits) (key : List ℕ) (k : Knowledge) (r : Recalled) where
     met_slot zero row some is = absurd (omega (arith, some))
     met_slot (suc pid) row some is = is
 
-    above_slot : (row level : ℕ) (earlier : List ℕ) (goal : ReadGoal) (above : Option Version) → IfSome above (IsAbove limits k goal visit.pid level earlier) → IfSome above (IsAbove limits (learn k (step.Slot visit.pid) (answer.Number row)) goal visit.pid level earlier)
+    above_slot : (row level : ℕ) (earlier : List ℕ) (goal : ReadGoal) (above : Option Version) → IfSome above (IsAbove limits k goal visit.pid level earlier)
+        → IfSome above (IsAbove limits (learn k (step.Slot visit.pid) (answer.Number row)) goal visit.pid level earlier)
     above_slot row level earlier goal None h = tt
-    above_slot row level earlier goal (Some above) h = record { in_hand = in_hand_slot limits k visit.pid row above h.apart h.in_hand; alive = h.alive; among = h.among; up = h.up; apart = h.apart; says = h.says }
+    above_slot row level earlier goal (Some above) h = record
+        { in_hand = in_hand_slot limits k visit.pid row above h.apart h.in_hand; alive = h.alive; among = h.among; up = h.up; apart = h.apart; says = h.says }
 
     on_slot : (row level : ℕ) (earlier : List ℕ) → 0 < visit.pid → (goal : ReadGoal) (leg : Leg) → IsOn limits k r goal (at visit Slot) level earlier leg
         → IsOn limits (learn k (step.Slot visit.pid) (answer.Number row)) (recall r (step.Slot visit.pid) (answer.Number row)) goal (record visit { part = []; state = Row row row }) level earlier leg
@@ -140,7 +148,8 @@ module _ (limits : Limits) (key : List ℕ) (k : Knowledge) (r : Recalled) where
       gone_row : (removed : Version) → IsGoneAt limits k key removed → IsGoneAt limits now key removed
       gone_row removed h = record { page = record { in_hand = in_hand_row k row content fits.same limits removed h.page.in_hand; gone = h.page.gone }; reached = h.reached }
 
-      keeps_row : (head under : ℕ) (goal : ReadGoal) → KeepsToRead limits key k (at visit (Row head row)) goal → KeepsToRead limits key now (record visit { part = visit.part ++ content ∷ []; state = Row head under }) goal
+      keeps_row : (head under : ℕ) (goal : ReadGoal) → KeepsToRead limits key k (at visit (Row head row)) goal
+          → KeepsToRead limits key now (record visit { part = visit.part ++ content ∷ []; state = Row head under }) goal
       keeps_row head under Seek h = tt
       keeps_row head under (Left removed) h = record { gone = gone_row removed h.gone; apart = h.apart; after = h.after }
       keeps_row head under Beyond h = tt
@@ -151,7 +160,8 @@ module _ (limits : Limits) (key : List ℕ) (k : Knowledge) (r : Recalled) where
       passed_row version pid head Beyond h = tt
 
       above_row : (level : ℕ) (earlier : List ℕ) (goal : ReadGoal) (above : Version) → IsAbove limits k goal visit.pid level earlier above → IsAbove limits now goal visit.pid level earlier above
-      above_row level earlier goal above h = record { in_hand = in_hand_row k row content fits.same limits above h.in_hand; alive = h.alive; among = h.among; up = h.up; apart = h.apart; says = h.says }
+      above_row level earlier goal above h = record
+          { in_hand = in_hand_row k row content fits.same limits above h.in_hand; alive = h.alive; among = h.among; up = h.up; apart = h.apart; says = h.says }
 
       on_row : (head under level : ℕ) (earlier : List ℕ) (goal : ReadGoal) (leg : Leg) → IsOn limits k r goal (at visit (Row head row)) level earlier leg
           → IsOn limits now (recall r (step.Row row) (answer.Content content)) goal (record visit { part = visit.part ++ content ∷ []; state = Row head under }) level earlier leg
@@ -161,16 +171,20 @@ module _ (limits : Limits) (key : List ℕ) (k : Knowledge) (r : Recalled) where
       on_row head under level earlier goal (Past None) h = (under_row None level earlier r.walk visit.part content head row under h.0, tt)
       on_row head under level earlier goal (Past (Some above)) h = (under_row (Some above) level earlier r.walk visit.part content head row under h.0, above_row level earlier goal above h.1)
 
-      was_row : (version : Version) → version.pid ≡ visit.pid → version.chain ≡ visit.part ++ content ∷ [] → (head level : ℕ) (earlier : List ℕ) (goal : ReadGoal) (leg : Leg) → IsOn limits k r goal (at visit (Row head row)) level earlier leg
+      was_row : (version : Version) → version.pid ≡ visit.pid → version.chain ≡ visit.part ++ content ∷ []
+          → (head level : ℕ) (earlier : List ℕ) (goal : ReadGoal) (leg : Leg) → IsOn limits k r goal (at visit (Row head row)) level earlier leg
           → WasOn limits k now (recall r (step.Row row) (answer.Content content)) goal version level earlier leg
       was_row version pid made head level earlier goal (Down None) h = (not_passed (is_lower content r.walk) r.walk.passed h.0, tt)
-      was_row version pid made head level earlier goal (Down (Some above)) h = (not_passed (is_lower content r.walk) r.walk.passed h.0, record { was = h.1.in_hand; above_is = rw pid (above_row level earlier goal above h.1) })
+      was_row version pid made head level earlier goal (Down (Some above)) h =
+          (not_passed (is_lower content r.walk) r.walk.passed h.0, record { was = h.1.in_hand; above_is = rw pid (above_row level earlier goal above h.1) })
       was_row version pid made head level earlier goal (Round removed) h = round_row removed r.walk content head row 0 h
       was_row version pid made head level earlier goal (Past None) h = (under_row None level earlier r.walk visit.part content head row 0 h.0, tt)
-      was_row version pid made head level earlier goal (Past (Some above)) h = (rw made (under_row (Some above) level earlier r.walk visit.part content head row 0 h.0), record { was = h.1.in_hand; above_is = rw pid (above_row level earlier goal above h.1) })
+      was_row version pid made head level earlier goal (Past (Some above)) h =
+          (rw made (under_row (Some above) level earlier r.walk visit.part content head row 0 h.0), record { was = h.1.in_hand; above_is = rw pid (above_row level earlier goal above h.1) })
 
 -- the same by what a visit makes of an answer
-module _ (limits : Limits) (key : List ℕ) (goal : ReadGoal) (leg : Leg) (k : Knowledge) (r : Recalled) (visit : Visit) (told : Answer Record) (h : VisitsToRead limits key goal leg k r visit) (f : Fits limits k (wanted visit) told) where
+module _ (limits : Limits) (key : List ℕ) (goal : ReadGoal) (leg : Leg) (k : Knowledge) (r : Recalled) (visit : Visit) (told : Answer Record)
+    (h : VisitsToRead limits key goal leg k r visit) (f : Fits limits k (wanted visit) told) where
   abbrev KeepsAt : ReadGoal → Visit → Answer Record → Type 0
   KeepsAt other v x = KeepsToRead limits key k v other
 
@@ -181,11 +195,13 @@ module _ (limits : Limits) (key : List ℕ) (goal : ReadGoal) (leg : Leg) (k : K
   FitsAt v x = Fits limits k (wanted v) x
 
   -- a page that is kept aside
-  pub keeps_next : (other : ReadGoal) → KeepsToRead limits key k visit other → (new : Visit) → FindsHead visit told new ⊎ Continues visit told new → KeepsToRead limits key (learn k (wanted visit) told) new other
+  pub keeps_next : (other : ReadGoal) → KeepsToRead limits key k visit other → (new : Visit) → FindsHead visit told new ⊎ Continues visit told new
+      → KeepsToRead limits key (learn k (wanted visit) told) new other
   keeps_next other keeps new moves =
       let P : Visit → Answer Record → Type 0 = λ v x. KeepsToRead limits key (learn k (wanted v) x) new other in
       elim moves [
-        | inl b ↦ back visit P Slot (answer.Number b.row) told b.asked b.is (rw b.goes (keeps_slot limits key k r visit b.row h.seeks.on_way.shows.page b.some other (there visit (KeepsAt other) Slot (answer.Number b.row) told b.asked b.is keeps)))
+        | inl b ↦ back visit P Slot (answer.Number b.row) told b.asked b.is
+            (rw b.goes (keeps_slot limits key k r visit b.row h.seeks.on_way.shows.page b.some other (there visit (KeepsAt other) Slot (answer.Number b.row) told b.asked b.is keeps)))
         | inr b ↦
             let fits = there visit FitsAt (Row b.head b.row) (answer.Content b.content) told b.asked b.is f in
             back visit P (Row b.head b.row) (answer.Content b.content) told b.asked b.is
@@ -196,11 +212,13 @@ module _ (limits : Limits) (key : List ℕ) (goal : ReadGoal) (leg : Leg) (k : K
   on_next new moves =
       let P : Visit → Answer Record → Type 0 = λ v x. IsOn limits (learn k (wanted v) x) (recall r (wanted v) x) goal new h.level h.earlier leg in
       elim moves [
-        | inl b ↦ back visit P Slot (answer.Number b.row) told b.asked b.is (rw b.goes (on_slot limits key k r visit b.row h.level h.earlier h.seeks.on_way.shows.page goal leg (there visit OnAt Slot (answer.Number b.row) told b.asked b.is h.leg_is)))
+        | inl b ↦ back visit P Slot (answer.Number b.row) told b.asked b.is
+            (rw b.goes (on_slot limits key k r visit b.row h.level h.earlier h.seeks.on_way.shows.page goal leg (there visit OnAt Slot (answer.Number b.row) told b.asked b.is h.leg_is)))
         | inr b ↦
             let fits = there visit FitsAt (Row b.head b.row) (answer.Content b.content) told b.asked b.is f in
             back visit P (Row b.head b.row) (answer.Content b.content) told b.asked b.is
-            (rw b.goes (on_row limits key k r visit b.row b.content fits b.head b.under h.level h.earlier goal leg (there visit OnAt (Row b.head b.row) (answer.Content b.content) told b.asked b.is h.leg_is)))
+            (rw b.goes (on_row limits key k r visit b.row b.content fits b.head b.under h.level h.earlier goal leg
+            (there visit OnAt (Row b.head b.row) (answer.Content b.content) told b.asked b.is h.leg_is)))
       ]
 
   pub visits_next : (new : Visit) → FindsHead visit told new ⊎ Continues visit told new → VisitsToRead limits key goal leg (learn k (wanted visit) told) (recall r (wanted visit) told) new
@@ -221,12 +239,14 @@ module _ (limits : Limits) (key : List ℕ) (goal : ReadGoal) (leg : Leg) (k : K
     pub passed_next : (other : ReadGoal) → KeepsToRead limits key k visit other → Passed limits key k (learn k (wanted visit) told) version other
     passed_next other keeps =
         back visit (λ v x. Passed limits key k (learn k (wanted v) x) version other) (Row version.head b.row) (answer.Content b.content) told b.asked b.is
-        (passed_row limits key k r visit b.row b.content fits version b.pid version.head other (there visit (KeepsAt other) (Row version.head b.row) (answer.Content b.content) told b.asked b.is keeps))
+        (passed_row limits key k r visit b.row b.content fits version b.pid version.head other
+        (there visit (KeepsAt other) (Row version.head b.row) (answer.Content b.content) told b.asked b.is keeps))
 
     was_next : WasOn limits k (learn k (wanted visit) told) (recall r (wanted visit) told) goal version h.level h.earlier leg
     was_next =
         back visit (λ v x. WasOn limits k (learn k (wanted v) x) (recall r (wanted v) x) goal version h.level h.earlier leg) (Row version.head b.row) (answer.Content b.content) told b.asked b.is
-        (was_row limits key k r visit b.row b.content fits version b.pid b.chain version.head h.level h.earlier goal leg (there visit OnAt (Row version.head b.row) (answer.Content b.content) told b.asked b.is h.leg_is))
+        (was_row limits key k r visit b.row b.content fits version b.pid b.chain version.head h.level h.earlier goal leg
+        (there visit OnAt (Row version.head b.row) (answer.Content b.content) told b.asked b.is h.leg_is))
 
     pub reached_next : HasReached limits key goal leg k (learn k (wanted visit) told) (recall r (wanted visit) told) version
     reached_next = record {
@@ -286,19 +306,23 @@ module _ (limits : Limits) (key : List ℕ) (goal : ReadGoal) (leg : Leg) (k now
   -- where the page isn't removed
   module _ (alive : is_removed chain ≡ false) where
     -- the removed page begins where the way ends, so that the next page isn't that one
-    pub keeps_on : (pid level : ℕ) (low : List ℕ) → NamesAt chain pid level low → (other : ReadGoal) → IsTrue (read_way other key low) → Passed limits key k now version other → KeepsToRead limits key now (to_page limits pid) other
+    pub keeps_on : (pid level : ℕ) (low : List ℕ) → NamesAt chain pid level low → (other : ReadGoal) → IsTrue (read_way other key low)
+        → Passed limits key k now version other → KeepsToRead limits key now (to_page limits pid) other
     keeps_on pid level low names Seek passing by = tt
     keeps_on pid level low names (Left removed) passing by = record {
       gone = by.gone;
       apart = λ e.
-          let so = told_of chain removed.pid removed.chain level low (h.arrives.arrives.whole.names alive removed.pid removed.head removed.chain by.was.seen.head by.was.seen.read) (subst (λ (p : ℕ). NamesAt chain p level low) (sym e) names) in
+          let so = told_of chain removed.pid removed.chain level low
+          (h.arrives.arrives.whole.names alive removed.pid removed.head removed.chain by.was.seen.head by.was.seen.read)
+          (subst (λ (p : ℕ). NamesAt chain p level low) (sym e) names) in
           not_itself low (rw so.1 at passing);
       after = tt;
     }
     keeps_on pid level low names Beyond passing by = tt
 
     -- nor is the page above
-    above_on : (pid : ℕ) (low : List ℕ) → NamesAt chain pid (level_in chain) low → (above : Version) → IsOver limits k now goal version.pid h.level h.earlier above → IsAbove limits now goal pid (level_in chain) (version.pid ∷ h.earlier) above
+    above_on : (pid : ℕ) (low : List ℕ) → NamesAt chain pid (level_in chain) low → (above : Version)
+        → IsOver limits k now goal version.pid h.level h.earlier above → IsAbove limits now goal pid (level_in chain) (version.pid ∷ h.earlier) above
     above_on pid low names above over =
         let up : level_in above.chain ≡ suc (level_in chain) = elim h.arrives.is_level [ inl first ↦ absurd (rw first at over.above_is.among) | inr is ↦ over.above_is.up ∙ ap suc (sym is) ] in
         record {
@@ -307,13 +331,16 @@ module _ (limits : Limits) (key : List ℕ) (goal : ReadGoal) (leg : Leg) (k now
           among = inr over.above_is.among;
           up = up;
           apart = λ e.
-              let so = told_of chain above.pid above.chain (level_in chain) low (h.arrives.arrives.whole.names alive above.pid above.head above.chain over.was.seen.head over.was.seen.read) (subst (λ (p : ℕ). NamesAt chain p (level_in chain) low) (sym e) names) in
+              let so = told_of chain above.pid above.chain (level_in chain) low
+              (h.arrives.arrives.whole.names alive above.pid above.head above.chain over.was.seen.head over.was.seen.read)
+              (subst (λ (p : ℕ). NamesAt chain p (level_in chain) low) (sym e) names) in
               let same = so.0 in
               omega (arith, up, same);
           says = over.above_is.says;
         }
 
-    leg_right : (pid : ℕ) (low : List ℕ) → NamesAt chain pid (level_in chain) low → (other : Leg) → WasOn limits k now r goal version h.level h.earlier other → IsOn limits now r goal (to_page limits pid) (level_in chain) (version.pid ∷ h.earlier) other
+    leg_right : (pid : ℕ) (low : List ℕ) → NamesAt chain pid (level_in chain) low → (other : Leg) → WasOn limits k now r goal version h.level h.earlier other
+        → IsOn limits now r goal (to_page limits pid) (level_in chain) (version.pid ∷ h.earlier) other
     leg_right pid low names (Down None) on = (met_none alive on.0, tt)
     leg_right pid low names (Down (Some above)) on = (met_none alive on.0, above_on pid low names above on.1)
     leg_right pid low names (Round removed) on = (on.0, on.1 (met_still alive on.0))
@@ -330,7 +357,9 @@ module _ (limits : Limits) (key : List ℕ) (goal : ReadGoal) (leg : Leg) (k now
           level = level_in chain;
           low = leads.low;
           earlier = version.pid ∷ h.earlier;
-          seeks = seeks_on limits k now r version h.level h.low h.earlier h.arrives (read_way goal key) (has_met leg || goes_beyond goal) pid (level_in chain) leads.low names alive leads.on_way (fresh_on leg h.leg_was);
+          seeks =
+              seeks_on limits k now r version h.level h.low h.earlier h.arrives (read_way goal key) (has_met leg || goes_beyond goal) pid (level_in chain)
+              leads.low names alive leads.on_way (fresh_on leg h.leg_was);
           keeps = keeps_on pid (level_in chain) leads.low names goal leads.on_way h.passed;
           leg_is = leg_right pid leads.low names leg h.leg_was;
         }
@@ -341,7 +370,8 @@ module _ (limits : Limits) (key : List ℕ) (goal : ReadGoal) (leg : Leg) (k now
     says_aside Beyond by = tt
 
     -- the page above the next one is this one
-    pub above_here : (pid level : ℕ) (low : List ℕ) → level_in chain ≡ suc level → NamesAt chain pid level low → (other : ReadGoal) → Passed limits key k now version other → IsAbove limits now other pid level (version.pid ∷ h.earlier) version
+    pub above_here : (pid level : ℕ) (low : List ℕ) → level_in chain ≡ suc level → NamesAt chain pid level low → (other : ReadGoal)
+        → Passed limits key k now version other → IsAbove limits now other pid level (version.pid ∷ h.earlier) version
     above_here pid level low up names other by = record {
       in_hand = hand limits k now r version h.level h.low h.earlier h.arrives;
       alive = alive;
@@ -371,7 +401,9 @@ module _ (limits : Limits) (key : List ℕ) (goal : ReadGoal) (leg : Leg) (k now
           level = level_in chain - 1;
           low = leads.low;
           earlier = version.pid ∷ h.earlier;
-          seeks = rw (met_below leg) (seeks_on limits k now r version h.level h.low h.earlier h.arrives (read_way goal key) (has_met leg || goes_beyond goal) pid (level_in chain - 1) leads.low names alive leads.greatest.passing (fresh_on leg h.leg_was));
+          seeks =
+              rw (met_below leg) (seeks_on limits k now r version h.level h.low h.earlier h.arrives (read_way goal key) (has_met leg || goes_beyond goal) pid
+              (level_in chain - 1) leads.low names alive leads.greatest.passing (fresh_on leg h.leg_was));
           keeps = keeps_on pid (level_in chain - 1) leads.low names goal leads.greatest.passing h.passed;
           leg_is = leg_down pid (level_in chain - 1) leads.low (omega (arith, index)) names leg h.leg_was;
         }

@@ -103,7 +103,8 @@ pub level_noted : (walk : Walk) (part : List Record) (content : Record) → (wal
     → (note content walk).removed ≡ true → (note content walk).passed ≡ false → HasRemovalAt (part ++ content ∷ []) (note content walk).level
 level_noted walk part content before = by_test (is_lower content walk) refl
   where
-    by_test : (l : Bool) → is_lower content walk ≡ l → (is_removal content || walk.removed) ≡ true → (if l then false else walk.passed) ≡ false → HasRemovalAt (part ++ content ∷ []) (if l then removal_level content else walk.level)
+    by_test : (l : Bool) → is_lower content walk ≡ l → (is_removal content || walk.removed) ≡ true → (if l then false else walk.passed) ≡ false
+        → HasRemovalAt (part ++ content ∷ []) (if l then removal_level content else walk.level)
     by_test true e gone none = removal_last part content (lower_removes content walk e)
     by_test false e gone none = removal_before part content walk.level (before (was_gone (is_removal content) walk.removed (ltb (removal_level content) walk.level) e gone) none)
 
@@ -160,7 +161,8 @@ removal_above (newest ∷ []) level fit gone h = let none : ◌≡◌ {A = Bool}
 removal_above (newest ∷ older ∷ under) level fit gone h =
     by_test (is_removal newest) refl (delta_level newest (level_in (older ∷ under)) fit.0.delta) (λ below. removal_above (older ∷ under) level fit.1 below h.1)
   where
-    by_test : (b : Bool) → is_removal newest ≡ b → level_after newest (level_in (older ∷ under)) ≡ level_in (older ∷ under) → (is_removed (older ∷ under) ≡ true → level < level_in (older ∷ under)) → level < level_after newest (level_in (older ∷ under))
+    by_test : (b : Bool) → is_removal newest ≡ b → level_after newest (level_in (older ∷ under)) ≡ level_in (older ∷ under)
+        → (is_removed (older ∷ under) ≡ true → level < level_in (older ∷ under)) → level < level_after newest (level_in (older ∷ under))
     by_test true e same rest =
         let less = h.0 e in
         let at = removal_fits newest (older ∷ under) fit.0 e in
@@ -171,15 +173,18 @@ removal_above (newest ∷ older ∷ under) level fit gone h =
 
 -- what a round recalls that has met a removed page
 
-all_push : (level : ℕ) (part : List Record) (content : Record) → AreRemovalsAbove level part → (is_removal content ≡ true → level < removal_level content) → AreRemovalsAbove level (part ++ content ∷ [])
+all_push : (level : ℕ) (part : List Record) (content : Record) → AreRemovalsAbove level part → (is_removal content ≡ true → level < removal_level content)
+    → AreRemovalsAbove level (part ++ content ∷ [])
 all_push level [] content h last = (last, tt)
 all_push level (first ∷ part) content h last = (h.0, all_push level part content h.1 last)
 
-under_push : (above : Option Version) (level last : ℕ) (part : List Record) (content : Record) → (is_removal content ≡ true → last ≤ removal_level content) → IsUnderRemoval above level last part → IsUnderRemoval above level last (part ++ content ∷ [])
+under_push : (above : Option Version) (level last : ℕ) (part : List Record) (content : Record) → (is_removal content ≡ true → last ≤ removal_level content)
+    → IsUnderRemoval above level last part → IsUnderRemoval above level last (part ++ content ∷ [])
 under_push None level last part content most h = h
 under_push (Some above) level last part content most h = (h.0, all_push level part content h.1 (λ gone. let low = h.0 in let high = most gone in omega (arith, low, high)))
 
-pub under_row : (above : Option Version) (level : ℕ) (earlier : List ℕ) (walk : Walk) (part : List Record) (content : Record) (head row next : ℕ) → IsUnderLast above level earlier walk part (Row head row)
+pub under_row : (above : Option Version) (level : ℕ) (earlier : List ℕ) (walk : Walk) (part : List Record) (content : Record) (head row next : ℕ)
+    → IsUnderLast above level earlier walk part (Row head row)
     → IsUnderLast above level earlier (note content walk) (part ++ content ∷ []) (Row head next)
 under_row above level earlier walk part content head row next h = (
   h.0,
@@ -193,7 +198,8 @@ round_row removed walk content head row next h = (rw h.0 (or_true (is_removal co
 
 -- a slot is read
 module _ (r : Recalled) (row : ℕ) where
-  pub under_slot : (pid : ℕ) (above : Option Version) (level : ℕ) (earlier : List ℕ) → 0 < pid → IsUnderLast above level earlier r.walk [] Slot → IsUnderLast above level earlier (recall r (step.Slot pid) (answer.Number row)).walk [] (Row row row)
+  pub under_slot : (pid : ℕ) (above : Option Version) (level : ℕ) (earlier : List ℕ) → 0 < pid → IsUnderLast above level earlier r.walk [] Slot
+      → IsUnderLast above level earlier (recall r (step.Slot pid) (answer.Number row)).walk [] (Row row row)
   under_slot zero above level earlier some h = absurd (omega (arith, some))
   under_slot (suc pid) above level earlier some h = (h.0, h.1, λ e. h.2)
 

@@ -20,13 +20,16 @@ module _ {Round End : Type 0} (rounds : Rounds Round End) (stays : (round : Roun
   pub by_step : (P : Round → Answer Record → Round → Option End → Type 0) (old new : Round) (told : Answer Record) (result : Option End) → Responds rounds old told new result
       → ((root : ℕ) → P (rounds.at old Root) (answer.Number root) (rounds.at old (Page (page.to_page (rounds.way old).limits root))) None)
       → ((visit next : page.Visit) → page.Responds visit told next None → P (rounds.at old (Page visit)) told (rounds.at old (Page next)) None)
-      → ((visit next : page.Visit) (sight : Sight) → page.Responds visit told next (Some sight) → Sees rounds (rounds.at old (Page visit)) sight new result → P (rounds.at old (Page visit)) told new result)
+      → ((visit next : page.Visit) (sight : Sight) → page.Responds visit told next (Some sight) → Sees rounds (rounds.at old (Page visit)) sight new result → P
+      (rounds.at old (Page visit)) told new result)
       → P old told new result
   by_step P old new told result responds starts visits finds = elim responds [
     | inl way ↦ elim way.on [
       | inl b ↦ back old (λ o x. P o x new result) Root (answer.Number b.root) told b.asked b.is (rw (way.none, way.same ∙ ap (λ (d : Descent). rounds.at old d.state) b.goes) (starts b.root))
-      | inr b ↦ back old (λ o x. P o x new result) (Page b.visit) told told b.asked refl (rw (way.none, way.same ∙ ap (λ (d : Descent). rounds.at old d.state) b.goes) (visits b.visit b.next b.responds))
+      | inr b ↦ back old (λ o x. P o x new result) (Page b.visit) told told b.asked refl
+          (rw (way.none, way.same ∙ ap (λ (d : Descent). rounds.at old d.state) b.goes) (visits b.visit b.next b.responds))
     ]
     | inr from ↦ back old (λ o x. P o x new result) (Page from.finds.visit) told told from.finds.asked refl
-        (finds from.finds.visit from.finds.next from.sight from.finds.responds (subst (λ (o : Round). Sees rounds o from.sight new result) (gone_to old (Page from.finds.visit) from.finds.asked) from.sees))
+        (finds from.finds.visit from.finds.next from.sight from.finds.responds
+        (subst (λ (o : Round). Sees rounds o from.sight new result) (gone_to old (Page from.finds.visit) from.finds.asked) from.sees))
   ]

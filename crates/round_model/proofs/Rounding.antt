@@ -31,7 +31,8 @@ beyond_any (Round removed) = refl
 beyond_any (Past above) = refl
 
 -- beside the removed page
-module _ (limits : Limits) (key : List ℕ) (removed : Version) (leg : Leg) (k now : Knowledge) (r : Recalled) (version : Version) (h : HasReached limits key (Left removed) leg k now r version) (alive : is_removed version.chain ≡ false) where
+module _ (limits : Limits) (key : List ℕ) (removed : Version) (leg : Leg) (k now : Knowledge) (r : Recalled) (version : Version)
+    (h : HasReached limits key (Left removed) leg k now r version) (alive : is_removed version.chain ≡ false) where
   abbrev here : List Record
   here = version.chain
 
@@ -41,7 +42,8 @@ module _ (limits : Limits) (key : List ℕ) (removed : Version) (leg : Leg) (k n
   left : IsTrue (is_below (low_in here) (low_in removed.chain))
   left = is_on_way limits key (Left removed) leg k now r version h
 
-  level_leg : (target : ReadGoal) (pid level : ℕ) (earlier : List ℕ) (other : Leg) → level ≤ level_in here → earlier ≢ [] → WasOn limits k now r (Left removed) version h.level h.earlier other → IsOn limits now r target (to_page limits pid) level earlier (level_on other)
+  level_leg : (target : ReadGoal) (pid level : ℕ) (earlier : List ℕ) (other : Leg) → level ≤ level_in here → earlier ≢ []
+      → WasOn limits k now r (Left removed) version h.level h.earlier other → IsOn limits now r target (to_page limits pid) level earlier (level_on other)
   level_leg target pid level earlier (Down above) most some on = (met_none limits key (Left removed) leg k now r version h alive on.0, tt)
   level_leg target pid level earlier (Round other) most some on = (on.0, on.1 (met_still limits key (Left removed) leg k now r version h alive on.0))
   level_leg target pid level earlier (Past above) most some on = let last = most_under limits key (Left removed) leg k now r version h above alive on in ((some, on.0.1, omega (arith, most, last)), tt)
@@ -52,7 +54,9 @@ module _ (limits : Limits) (key : List ℕ) (removed : Version) (leg : Leg) (k n
     level = level_in here;
     low = on.low;
     earlier = version.pid ∷ h.earlier;
-    seeks = rw (beyond_any (level_on leg)) (seeks_on limits k now r version h.level h.low h.earlier h.arrives (reaches key) true pid (level_in here) on.low (right_names (reaches key) here pid on) alive on.on_way (λ here. absurd cc));
+    seeks =
+        rw (beyond_any (level_on leg)) (seeks_on limits k now r version h.level h.low h.earlier h.arrives (reaches key) true pid (level_in here) on.low
+        (right_names (reaches key) here pid on) alive on.on_way (λ here. absurd cc));
     keeps = tt;
     leg_is = level_leg Beyond pid (level_in here) (version.pid ∷ h.earlier) leg (omega arith) (λ e. cc) h.leg_was;
   }
@@ -69,8 +73,10 @@ module _ (limits : Limits) (key : List ℕ) (removed : Version) (leg : Leg) (k n
     within_beside pid named = within limits k now r removed version h.level h.low h.earlier h.arrives beside_gone pid named
 
     -- the round goes on at a page that the removed one names: its right, or a child
-    pub past_removed : (target : ReadGoal) (to : Leg) (pid level : ℕ) (low : List ℕ) → NamesAt removed.chain pid level low → IsTrue (read_way target key low) → (has_met to || goes_beyond target) ≡ true
-        → KeepsToRead limits key now (to_page limits pid) target → IsOn limits now r target (to_page limits pid) level (version.pid ∷ h.earlier) to → VisitsToRead limits key target to now r (to_page limits pid)
+    pub past_removed : (target : ReadGoal) (to : Leg) (pid level : ℕ) (low : List ℕ) → NamesAt removed.chain pid level low → IsTrue (read_way target key low)
+        → (has_met to || goes_beyond target) ≡ true
+        → KeepsToRead limits key now (to_page limits pid) target → IsOn limits now r target (to_page limits pid) level (version.pid ∷ h.earlier) to
+        → VisitsToRead limits key target to now r (to_page limits pid)
     past_removed target to pid level low names passing beyond keeps leg_is = record {
       level = level;
       low = low;
@@ -88,15 +94,19 @@ module _ (limits : Limits) (key : List ℕ) (removed : Version) (leg : Leg) (k n
     -- at the right of a removed leaf
     pub past_leaf : (pid : ℕ) → LeadsRight (reaches key) removed.chain pid → VisitsToRead limits key Beyond (level_on leg) now r (to_page limits pid)
     past_leaf pid on =
-        past_removed Beyond (level_on leg) pid (level_in removed.chain) on.low (right_names (reaches key) removed.chain pid on) on.on_way (beyond_any (level_on leg)) tt (level_leg Beyond pid (level_in removed.chain) (version.pid ∷ h.earlier) leg (let same = says_here.0 in omega (arith, same)) (λ e. cc) h.leg_was)
+        past_removed Beyond (level_on leg) pid (level_in removed.chain) on.low (right_names (reaches key) removed.chain pid on) on.on_way
+        (beyond_any (level_on leg)) tt
+        (level_leg Beyond pid (level_in removed.chain) (version.pid ∷ h.earlier) leg (let same = says_here.0 in omega (arith, same)) (λ e. cc) h.leg_was)
 
     -- a page that is kept aside isn't one that the removed page names on the way to it
-    pub keeps_past : (target : ReadGoal) → Passed limits key k now version target → (pid level : ℕ) (low : List ℕ) → NamesAt removed.chain pid level low → IsTrue (read_way target key low) → KeepsToRead limits key now (to_page limits pid) target
+    pub keeps_past : (target : ReadGoal) → Passed limits key k now version target → (pid level : ℕ) (low : List ℕ) → NamesAt removed.chain pid level low
+        → IsTrue (read_way target key low) → KeepsToRead limits key now (to_page limits pid) target
     keeps_past Seek passed pid level low names passing = tt
     keeps_past (Left aside) passed pid level low names passing = record {
       gone = passed.gone;
       apart = λ e.
-          let says_of = says_before limits k now r removed version h.level h.low h.earlier h.arrives beside_gone pid (named_of removed.chain pid level low names) aside.pid aside.head aside.chain passed.was.seen.head passed.was.seen.read in
+          let says_of = says_before limits k now r removed version h.level h.low h.earlier h.arrives beside_gone pid
+          (named_of removed.chain pid level low names) aside.pid aside.head aside.chain passed.was.seen.head passed.was.seen.read in
           let so = told_of removed.chain aside.pid aside.chain level low says_of (subst (λ (p : ℕ). NamesAt removed.chain p level low) (sym e) names) in
           not_itself low (rw so.1 at passing);
       after = tt;
@@ -121,7 +131,8 @@ module _ (limits : Limits) (key : List ℕ) (removed : Version) (leg : Leg) (k n
   }
 
 -- at a removed index page, whose page above is kept
-module _ (limits : Limits) (key : List ℕ) (goal : ReadGoal) (leg : Leg) (above : Version) (is_above : above_of leg ≡ Some above) (k now : Knowledge) (r : Recalled) (version : Version) (h : HasReached limits key goal leg k now r version) (gone : is_removed version.chain ≡ true) where
+module _ (limits : Limits) (key : List ℕ) (goal : ReadGoal) (leg : Leg) (above : Version) (is_above : above_of leg ≡ Some above) (k now : Knowledge)
+    (r : Recalled) (version : Version) (h : HasReached limits key goal leg k now r version) (gone : is_removed version.chain ≡ true) where
   abbrev Overs : Type 0
   Overs = (r.walk.passed ≡ false) × IsOver limits k now goal version.pid h.level h.earlier above
 
@@ -258,7 +269,8 @@ pub record HasNeared (limits : Limits) (key : List ℕ) (goal : ReadGoal) (remov
   pub index : 0 < level_in removed.chain
   pub reached : IsTrue (read_way goal key (low_in removed.chain))
 
-module _ (limits : Limits) (key : List ℕ) (goal : ReadGoal) (removed : Version) (k now : Knowledge) (r : Recalled) (version : Version) (d : HasNeared limits key goal removed k now r version) (alive : is_removed version.chain ≡ false) where
+module _ (limits : Limits) (key : List ℕ) (goal : ReadGoal) (removed : Version) (k now : Knowledge) (r : Recalled) (version : Version)
+    (d : HasNeared limits key goal removed k now r version) (alive : is_removed version.chain ≡ false) where
   abbrev there : List Record
   there = version.chain
 
@@ -276,17 +288,21 @@ module _ (limits : Limits) (key : List ℕ) (goal : ReadGoal) (removed : Version
   pub goes_nearer : (pid : ℕ) → LeadsRight (left_of removed) there pid → IsGoingRound limits key goal removed now r (to_page limits pid)
   goes_nearer pid leads = record {
     nears = goes_right limits key (Left removed) (Round removed) k now r version h alive pid leads;
-    keeps = keeps_on limits key (Left removed) (Round removed) k now r version h alive pid (level_in there) leads.low (right_names (left_of removed) there pid leads) goal (before_on goal key leads.low (low_in removed.chain) leads.on_way d.reached) d.passed;
+    keeps =
+        keeps_on limits key (Left removed) (Round removed) k now r version h alive pid (level_in there) leads.low
+        (right_names (left_of removed) there pid leads) goal (before_on goal key leads.low (low_in removed.chain) leads.on_way d.reached) d.passed;
     index = d.index;
     reached = d.reached;
   }
 
   -- the round goes on from the removed page, which is the page's right
-  module _ (beside : right_in there ≡ Some removed.pid) (pid level : ℕ) (low : List ℕ) (most : level ≤ level_in removed.chain) (names : NamesAt removed.chain pid level low) (passing : IsTrue (read_way goal key low)) where
+  module _ (beside : right_in there ≡ Some removed.pid) (pid level : ℕ) (low : List ℕ) (most : level ≤ level_in removed.chain)
+      (names : NamesAt removed.chain pid level low) (passing : IsTrue (read_way goal key low)) where
     goes_past : VisitsToRead limits key goal (Past None) now r (to_page limits pid)
     goes_past =
         past_removed limits key removed (Round removed) k now r version h alive beside goal (Past None) pid level low names passing refl
-        (keeps_past limits key removed (Round removed) k now r version h alive beside goal d.passed pid level low names passing) (((λ e. cc), met_removed, (let last = last_removed in omega (arith, most, last))), tt)
+        (keeps_past limits key removed (Round removed) k now r version h alive beside goal d.passed pid level low names passing)
+        (((λ e. cc), met_removed, (let last = last_removed in omega (arith, most, last))), tt)
 
   pub goes_through : right_in there ≡ Some removed.pid → (pid : ℕ) → LeadsOn (read_way goal key) removed.chain pid → VisitsToRead limits key goal (Past None) now r (to_page limits pid)
   goes_through beside pid leads = elim leads [
@@ -296,7 +312,8 @@ module _ (limits : Limits) (key : List ℕ) (goal : ReadGoal) (removed : Version
 
   -- the round goes on from the page, as the removed one was merged
   module _ (same : level_in there ≡ level_in removed.chain) where
-    goes_named : (to : Option Version) (pid level : ℕ) (low : List ℕ) → NamesAt there pid level low → IsTrue (read_way goal key low) → IsUnderRemoval to level r.walk.level [] → IfSome to (IsAbove limits now goal pid level (version.pid ∷ h.earlier))
+    goes_named : (to : Option Version) (pid level : ℕ) (low : List ℕ) → NamesAt there pid level low → IsTrue (read_way goal key low)
+        → IsUnderRemoval to level r.walk.level [] → IfSome to (IsAbove limits now goal pid level (version.pid ∷ h.earlier))
         → VisitsToRead limits key goal (Past to) now r (to_page limits pid)
     goes_named to pid level low names passing under above = record {
       level = level;
@@ -308,7 +325,8 @@ module _ (limits : Limits) (key : List ℕ) (goal : ReadGoal) (removed : Version
     }
 
     pub goes_right_merged : (pid : ℕ) → LeadsRight (read_way goal key) there pid → VisitsToRead limits key goal (Past None) now r (to_page limits pid)
-    goes_right_merged pid right = goes_named None pid (level_in there) right.low (right_names (read_way goal key) there pid right) right.on_way (let last = last_removed in omega (arith, same, last)) tt
+    goes_right_merged pid right =
+        goes_named None pid (level_in there) right.low (right_names (read_way goal key) there pid right) right.on_way (let last = last_removed in omega (arith, same, last)) tt
 
     pub goes_down_merged : (pid : ℕ) → 0 < level_in there → LeadsDown (read_way goal key) there pid → VisitsToRead limits key goal (Past (Some version)) now r (to_page limits pid)
     goes_down_merged pid index leads =

@@ -68,8 +68,15 @@ module _ (limits : Limits) (way : List ℕ → Bool) (beyond : Bool) (k : Knowle
   fresh_on_slot (suc pid) n some none = none
 
   pub seeks_slot : (row : ℕ) → 0 < row → row < visit.limits.rows → IsSeeking limits way beyond k r (at visit Slot) level low earlier
-      → IsSeeking limits way beyond (learn k (step.Slot visit.pid) (answer.Number row)) (recall r (step.Slot visit.pid) (answer.Number row)) (record visit { part = []; state = Row row row }) level low earlier
-  seeks_slot row linked few h = record { on_way = on_slot limits k r visit level low earlier row linked few h.on_way; passing = h.passing; named = λ here. named_on_slot row h.on_way.shows.page (h.named here); fresh = λ here. fresh_on_slot visit.pid row h.on_way.shows.page (h.fresh here) }
+      → IsSeeking limits way beyond (learn k (step.Slot visit.pid) (answer.Number row)) (recall r (step.Slot visit.pid) (answer.Number row))
+      (record visit { part = []; state = Row row row }) level low earlier
+  seeks_slot row linked few h = record {
+    on_way = on_slot limits k r visit level low earlier row linked few h.on_way;
+    passing = h.passing;
+    named = λ here.
+        named_on_slot row h.on_way.shows.page (h.named here);
+    fresh = λ here. fresh_on_slot visit.pid row h.on_way.shows.page (h.fresh here);
+  }
 
   module _ (row : ℕ) (content : Record) (fits : FitsRow limits k row content) where
     abbrev now : Knowledge
@@ -88,12 +95,14 @@ module _ (limits : Limits) (way : List ℕ → Bool) (beyond : Bool) (k : Knowle
     }
 
     -- the page was read whole
-    pub arrived : (version : Version) → version.pid ≡ visit.pid → version.chain ≡ visit.part ++ content ∷ [] → next_row content ≡ None → IsSeeking limits way beyond k r (at visit (Row version.head row)) level low earlier
+    pub arrived : (version : Version) → version.pid ≡ visit.pid → version.chain ≡ visit.part ++ content ∷ [] → next_row content ≡ None
+        → IsSeeking limits way beyond k r (at visit (Row version.head row)) level low earlier
         → HasArrived limits k now walked version level low earlier
     arrived version pid made last h = on_base limits k r visit level low earlier row content fits version pid made last h.on_way
 
 -- the same by what a visit makes of an answer
-module _ (limits : Limits) (way : List ℕ → Bool) (beyond : Bool) (k : Knowledge) (r : Recalled) (visit : Visit) (level : ℕ) (low : List ℕ) (earlier : List ℕ) (told : Answer Record) (h : IsSeeking limits way beyond k r visit level low earlier) (f : Fits limits k (wanted visit) told) where
+module _ (limits : Limits) (way : List ℕ → Bool) (beyond : Bool) (k : Knowledge) (r : Recalled) (visit : Visit) (level : ℕ) (low : List ℕ) (earlier : List ℕ)
+    (told : Answer Record) (h : IsSeeking limits way beyond k r visit level low earlier) (f : Fits limits k (wanted visit) told) where
   abbrev Seeks : Visit → Answer Record → Type 0
   Seeks v x = IsSeeking limits way beyond k r v level low earlier
 
@@ -104,11 +113,14 @@ module _ (limits : Limits) (way : List ℕ → Bool) (beyond : Bool) (k : Knowle
   seeks_next new moves =
       let P : Visit → Answer Record → Type 0 = λ v x. IsSeeking limits way beyond (learn k (wanted v) x) (recall r (wanted v) x) new level low earlier in
       elim moves [
-        | inl b ↦ back visit P Slot (answer.Number b.row) told b.asked b.is (rw b.goes (seeks_slot limits way beyond k r visit level low earlier b.row b.some (rw h.on_way.same (row_below limits k visit.pid b.row h.on_way.shows.page (there visit FitsAt Slot (answer.Number b.row) told b.asked b.is f))) (there visit Seeks Slot (answer.Number b.row) told b.asked b.is h)))
+        | inl b ↦ back visit P Slot (answer.Number b.row) told b.asked b.is (rw b.goes (seeks_slot limits way beyond k r visit level low earlier b.row b.some
+            (rw h.on_way.same (row_below limits k visit.pid b.row h.on_way.shows.page (there visit FitsAt Slot (answer.Number b.row) told b.asked b.is f)))
+            (there visit Seeks Slot (answer.Number b.row) told b.asked b.is h)))
         | inr b ↦
             let fits = there visit FitsAt (Row b.head b.row) (answer.Content b.content) told b.asked b.is f in
             back visit P (Row b.head b.row) (answer.Content b.content) told b.asked b.is
-            (rw b.goes (seeks_row limits way beyond k r visit level low earlier b.row b.content fits b.head b.under b.more (there visit Seeks (Row b.head b.row) (answer.Content b.content) told b.asked b.is h)))
+            (rw b.goes (seeks_row limits way beyond k r visit level low earlier b.row b.content fits b.head b.under b.more
+            (there visit Seeks (Row b.head b.row) (answer.Content b.content) told b.asked b.is h)))
       ]
 
   pub fresh_next : (version : Version) → Completes visit told version → IsFalse beyond → (recall r (wanted visit) told).walk.passed ≡ false
@@ -120,7 +132,8 @@ module _ (limits : Limits) (way : List ℕ → Bool) (beyond : Bool) (k : Knowle
   arrived_next version b =
       let fits = there visit FitsAt (Row version.head b.row) (answer.Content b.content) told b.asked b.is f in
       back visit (λ v x. HasArrived limits k (learn k (wanted v) x) (recall r (wanted v) x) version level low earlier) (Row version.head b.row) (answer.Content b.content) told b.asked b.is
-      (arrived limits way beyond k r visit level low earlier b.row b.content fits version b.pid b.chain b.last (there visit Seeks (Row version.head b.row) (answer.Content b.content) told b.asked b.is h))
+      (arrived limits way beyond k r visit level low earlier b.row b.content fits version b.pid b.chain b.last
+      (there visit Seeks (Row version.head b.row) (answer.Content b.content) told b.asked b.is h))
 
 -- a page was read whole
 module _ (limits : Limits) (k now : Knowledge) (r : Recalled) (version : Version) (level : ℕ) (low : List ℕ) (earlier : List ℕ) (h : HasArrived limits k now r version level low earlier) where
@@ -141,7 +154,8 @@ module _ (limits : Limits) (k now : Knowledge) (r : Recalled) (version : Version
   reached way passing = record { reached = rw h.is_low passing; names = hand.sound.names }
 
   -- the round goes on to a page that is named
-  pub seeks_on : (way : List ℕ → Bool) (beyond : Bool) (page new_level : ℕ) (new_low : List ℕ) → NamesAt version.chain page new_level new_low → is_removed version.chain ≡ false → IsTrue (way new_low) → (IsFalse beyond → r.walk.passed ≡ false)
+  pub seeks_on : (way : List ℕ → Bool) (beyond : Bool) (page new_level : ℕ) (new_low : List ℕ) → NamesAt version.chain page new_level new_low
+      → is_removed version.chain ≡ false → IsTrue (way new_low) → (IsFalse beyond → r.walk.passed ≡ false)
       → IsSeeking limits way beyond now r (to_page limits page) new_level new_low (version.pid ∷ earlier)
   seeks_on way beyond page new_level new_low names alive passing fresh = record {
     on_way = onward limits k now r version level low earlier h page new_level new_low names alive;

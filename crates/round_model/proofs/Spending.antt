@@ -30,7 +30,8 @@ module _ (reserve : ℕ) (limits : Limits) (way : List ℕ → Bool) (beyond : B
   recall_walk zero n some = absurd (omega (arith, some))
   recall_walk (suc pid) n some = refl
 
-  spent_slot : (row : ℕ) → Seeks Slot → reads_left_in limits reserve (recall r (step.Slot visit.pid) (answer.Number row)) (record visit { part = []; state = Row row row }) < reads_left_in limits reserve r (at visit Slot)
+  spent_slot : (row : ℕ) → Seeks Slot
+      → reads_left_in limits reserve (recall r (step.Slot visit.pid) (answer.Number row)) (record visit { part = []; state = Row row row }) < reads_left_in limits reserve r (at visit Slot)
   spent_slot row h =
       let few = few_pages limits (visit.pid ∷ earlier) h.on_way.distinct in
       rw (recall_walk visit.pid row h.on_way.shows.page, h.on_way.visited) (omega (arith, few))
@@ -43,7 +44,8 @@ module _ (reserve : ℕ) (limits : Limits) (way : List ℕ → Bool) (beyond : B
       → ((if is_removed (part ++ content ∷ []) then full else 0) ≡ (if is_removed part then full else 0)) ⊎ ((is_removal content ≡ true) × (is_removed part ≡ false))
   reserved content part is = by_tests (is_removal content) (is_removed part) refl refl is
     where
-      by_tests : (b t : Bool) → is_removal content ≡ b → is_removed part ≡ t → is_removed (part ++ content ∷ []) ≡ (b || t) → ((if is_removed (part ++ content ∷ []) then full else 0) ≡ (if t then full else 0)) ⊎ ((b ≡ true) × (t ≡ false))
+      by_tests : (b t : Bool) → is_removal content ≡ b → is_removed part ≡ t → is_removed (part ++ content ∷ []) ≡ (b || t)
+          → ((if is_removed (part ++ content ∷ []) then full else 0) ≡ (if t then full else 0)) ⊎ ((b ≡ true) × (t ≡ false))
       by_tests true true e f g = inl (rw g refl)
       by_tests true false e f g = inr (refl, refl)
       by_tests false true e f g = inl (rw g refl)
@@ -54,7 +56,8 @@ module _ (reserve : ℕ) (limits : Limits) (way : List ℕ → Bool) (beyond : B
   at_most false = omega arith
 
   spent_row : (head row : ℕ) (content : Record) (under : ℕ) → FitsRow limits k row content → Seeks (Row head row)
-      → IsSpentWith (1 + full) r (step.Row row) (answer.Content content) (reads_left_in limits reserve r (at visit (Row head row))) (reads_left_in limits reserve (recall r (step.Row row) (answer.Content content)) (record visit { part = visit.part ++ content ∷ []; state = Row head under }))
+      → IsSpentWith (1 + full) r (step.Row row) (answer.Content content) (reads_left_in limits reserve r (at visit (Row head row)))
+      (reads_left_in limits reserve (recall r (step.Row row) (answer.Content content)) (record visit { part = visit.part ++ content ∷ []; state = Row head under }))
   spent_row head row content under fits h = by_tests (is_lower content r.walk) r.walk.passed refl refl
     where
       few : length visit.part < 13
@@ -109,16 +112,19 @@ module _ (reserve : ℕ) (limits : Limits) (way : List ℕ → Bool) (beyond : B
     abbrev FitsAt : Visit → Answer Record → Type 0
     FitsAt v x = Fits limits k (wanted v) x
 
-    pub spent_on : (new : Visit) → FindsHead visit told new ⊎ Continues visit told new → IsSpentWith (1 + full) r (wanted visit) told (reads_left_in limits reserve r visit) (reads_left_in limits reserve (recall r (wanted visit) told) new)
+    pub spent_on : (new : Visit) → FindsHead visit told new ⊎ Continues visit told new
+        → IsSpentWith (1 + full) r (wanted visit) told (reads_left_in limits reserve r visit) (reads_left_in limits reserve (recall r (wanted visit) told) new)
     spent_on new moves =
         let P : Visit → Answer Record → Type 0 = λ v x. IsSpentWith (1 + full) r (wanted v) x (reads_left_in limits reserve r v) (reads_left_in limits reserve (recall r (wanted v) x) new) in
         elim moves [
           | inl b ↦ back visit P Slot (answer.Number b.row) told b.asked b.is (rw b.goes (inl (spent_slot b.row (seeks_at Slot b.asked))))
-          | inr b ↦ back visit P (Row b.head b.row) (answer.Content b.content) told b.asked b.is (rw b.goes (spent_row b.head b.row b.content b.under (there visit FitsAt (Row b.head b.row) (answer.Content b.content) told b.asked b.is f) (seeks_at (Row b.head b.row) b.asked)))
+          | inr b ↦ back visit P (Row b.head b.row) (answer.Content b.content) told b.asked b.is
+              (rw b.goes (spent_row b.head b.row b.content b.under (there visit FitsAt (Row b.head b.row) (answer.Content b.content) told b.asked b.is f) (seeks_at (Row b.head b.row) b.asked)))
         ]
 
     pub spent_empty : IsFalse beyond → FindsEmpty visit told → IsPaid r (wanted visit) told
-    spent_empty here b = back visit (λ v x. IsPaid r (wanted v) x) Slot (answer.Number 0) told b.asked b.is (empty here (seeks_at Slot b.asked) (there visit FitsAt Slot (answer.Number 0) told b.asked b.is f))
+    spent_empty here b =
+        back visit (λ v x. IsPaid r (wanted v) x) Slot (answer.Number 0) told b.asked b.is (empty here (seeks_at Slot b.asked) (there visit FitsAt Slot (answer.Number 0) told b.asked b.is f))
 
     -- there are pages that weren't visited
     pub left_empty : FindsEmpty visit told → 0 < reads_left_in limits reserve r visit
@@ -161,7 +167,8 @@ module _ (reserve : ℕ) (limits : Limits) (way : List ℕ → Bool) (beyond : B
 
       -- the base is no removal
       pub base_passed : (recall r (wanted visit) told).walk.passed ≡ r.walk.passed
-      base_passed = back visit (λ v x. (recall r (wanted v) x).walk.passed ≡ r.walk.passed) (Row version.head b.row) (answer.Content b.content) told b.asked b.is (rw (base_is_none b.content r.walk b.last) refl)
+      base_passed =
+          back visit (λ v x. (recall r (wanted v) x).walk.passed ≡ r.walk.passed) (Row version.head b.row) (answer.Content b.content) told b.asked b.is (rw (base_is_none b.content r.walk b.last) refl)
 
       -- once a removed page was met, what is reserved is left
       pub left_kept : r.walk.removed ≡ true → reserve < reads_left_in limits reserve r visit
@@ -174,7 +181,9 @@ module _ (reserve : ℕ) (limits : Limits) (way : List ℕ → Bool) (beyond : B
 
       -- the round goes on from a page that isn't removed
       pub left_on : is_removed version.chain ≡ false → reads_left_at limits reserve (recall r (wanted visit) told).walk [] Slot < reads_left_in limits reserve r visit
-      left_on alive = back visit (λ v x. reads_left_at limits reserve (recall r (wanted v) x).walk [] Slot < reads_left_in limits reserve r visit) (Row version.head b.row) (answer.Content b.content) told b.asked b.is (by_passed r.walk.passed refl)
+      left_on alive =
+          back visit (λ v x. reads_left_at limits reserve (recall r (wanted v) x).walk [] Slot < reads_left_in limits reserve r visit) (Row version.head b.row)
+          (answer.Content b.content) told b.asked b.is (by_passed r.walk.passed refl)
         where
           now : Walk
           now = (recall r (step.Row b.row) (answer.Content b.content)).walk
@@ -229,7 +238,9 @@ module _ (reserve : ℕ) (limits : Limits) (way : List ℕ → Bool) (beyond : B
 
       -- the round goes round a removed page, whose removal was a cause: the pages that it has read don't count any more
       pub left_round : is_removed version.chain ≡ true → r.walk.passed ≡ false → reads_left_at limits reserve (recall r (wanted visit) told).walk [] Slot < reads_left_in limits reserve r visit
-      left_round gone first = back visit (λ v x. reads_left_at limits reserve (recall r (wanted v) x).walk [] Slot < reads_left_in limits reserve r visit) (Row version.head b.row) (answer.Content b.content) told b.asked b.is here
+      left_round gone first =
+          back visit (λ v x. reads_left_at limits reserve (recall r (wanted v) x).walk [] Slot < reads_left_in limits reserve r visit) (Row version.head b.row)
+          (answer.Content b.content) told b.asked b.is here
         where
           now : Walk
           now = (recall r (step.Row b.row) (answer.Content b.content)).walk
@@ -250,5 +261,6 @@ module _ (reserve : ℕ) (limits : Limits) (way : List ℕ → Bool) (beyond : B
               rw none (omega (arith, more, same, all))
 
 -- the same with more that is kept
-pub still : (reserve : ℕ) (r : Recalled) (asked : Step Record) (told : Answer Record) (had has kept : ℕ) → IsSpentWith (1 + reserve) r asked told had has → IsSpentWith (1 + reserve) r asked told (had + kept) (has + kept)
+pub still : (reserve : ℕ) (r : Recalled) (asked : Step Record) (told : Answer Record) (had has kept : ℕ) → IsSpentWith (1 + reserve) r asked told had has
+    → IsSpentWith (1 + reserve) r asked told (had + kept) (has + kept)
 still reserve r asked told had has kept h = elim h [ inl less ↦ inl (omega (arith, less)) | inr paid ↦ inr (paid.0, (let few = paid.1 in omega (arith, few))) ]

@@ -77,13 +77,17 @@ module _ (old : WriteRound) (k now : Knowledge) (r : Recalled) (version : Versio
   kept_here alive = record { in_hand = hand old.limits k now r version h.level h.low h.earlier h.arrives; alive = alive; among = inl refl }
 
   -- the removed page begins where the way ends, so that the next page isn't that one
-  keeps_on : is_removed chain ≡ false → (pid level : ℕ) (low : List ℕ) → NamesAt chain pid level low → (goal : WriteGoal) → SeeksLeaf goal → IsTrue (write_way goal old.key low) → Passed old.limits old.key old.floor k now version.pid h.earlier goal → KeepsToWrite old.limits old.key old.floor now pid (version.pid ∷ h.earlier) goal
+  keeps_on : is_removed chain ≡ false → (pid level : ℕ) (low : List ℕ) → NamesAt chain pid level low → (goal : WriteGoal) → SeeksLeaf goal
+      → IsTrue (write_way goal old.key low) → Passed old.limits old.key old.floor k now version.pid h.earlier goal
+      → KeepsToWrite old.limits old.key old.floor now pid (version.pid ∷ h.earlier) goal
   keeps_on alive pid level low names Seek seeks passing by = tt
   keeps_on alive pid level low names (Left removed) seeks passing by =
       let was = by.0 in
       let apart : removed ≢ pid = λ e. (
       let here : NamesAt chain was.removed.pid level low = subst (λ (p : ℕ). NamesAt chain p level low) (sym (was.is ∙ e)) names in
-      let so = told_of chain was.removed.pid was.removed.chain level low (h.arrives.arrives.whole.names alive was.removed.pid was.removed.head was.removed.chain was.gone.in_hand.seen.head was.gone.in_hand.seen.read) here in
+      let so = told_of chain was.removed.pid was.removed.chain level low
+      (h.arrives.arrives.whole.names alive was.removed.pid was.removed.head was.removed.chain was.gone.in_hand.seen.head was.gone.in_hand.seen.read)
+      here in
       not_itself low (subst (λ (q : List ℕ). IsTrue (is_below low q)) (sym was.low ∙ so.1) passing)
       ) in
       record { removed = by.1.removed; gone = by.1.gone; is = by.1.is; low = by.1.low; level = by.1.level; unread = (apart, by.1.unread) }
@@ -100,12 +104,14 @@ module _ (old : WriteRound) (k now : Knowledge) (r : Recalled) (version : Versio
 
   -- goes on
 
-  based_on : (parent left : Option Version) (pid : ℕ) (low : List ℕ) → IsBased r parent left version.pid h.low → IfSome left (IsLeftOf old.limits now h.low h.earlier) → IsBased r parent (Some version) pid low
+  based_on : (parent left : Option Version) (pid : ℕ) (low : List ℕ) → IsBased r parent left version.pid h.low
+      → IfSome left (IsLeftOf old.limits now h.low h.earlier) → IsBased r parent (Some version) pid low
   based_on (Some above) left pid low based aside = tt
   based_on None None pid low based aside = elim based [ inl is ↦ inl is | inr above ↦ inr (rw h.arrives.is_low above) ]
   based_on None (Some other) pid low based aside = inr (rw h.arrives.is_low aside.inner)
 
-  aside : (pid : ℕ) → is_removed version.chain ≡ false → SeeksLeaf old.goal → IsSplitFinished old.parent old.left version → LeadsRight way version.chain pid → VisitsToWrite old.limits old.key old.floor old.goal old.parent (Some version) now r (page.to_page old.limits pid)
+  aside : (pid : ℕ) → is_removed version.chain ≡ false → SeeksLeaf old.goal → IsSplitFinished old.parent old.left version → LeadsRight way version.chain pid
+      → VisitsToWrite old.limits old.key old.floor old.goal old.parent (Some version) now r (page.to_page old.limits pid)
   aside pid alive seeks finished leads =
       let names = right_names way version.chain pid leads in
       record {
@@ -114,13 +120,18 @@ module _ (old : WriteRound) (k now : Knowledge) (r : Recalled) (version : Versio
         earlier = version.pid ∷ h.earlier;
         seeks = seeks_on old.limits k now r version h.level h.low h.earlier h.arrives way (is_cutting old.goal) pid (level_in version.chain) leads.low names alive leads.on_way h.fresh;
         above = IfSome_then old.parent h.above (λ other i. record { kept = kept_on other i.kept; up = i.up; after = tt });
-        aside = record { kept = kept_here alive; inner = inner (low_in version.chain) leads.low (spans version.chain leads.low (hand old.limits k now r version h.level h.low h.earlier h.arrives).sound.is_chain.fitted leads.is_high) };
+        aside = record {
+          kept = kept_here alive;
+          inner = inner (low_in version.chain) leads.low
+              (spans version.chain leads.low (hand old.limits k now r version h.level h.low h.earlier h.arrives).sound.is_chain.fitted leads.is_high);
+        };
         based = based_on old.parent old.left pid leads.low h.based h.aside;
         led = λ so. led_aside old.limits (goes_left old.goal) old.key k now r version h.level h.low h.earlier h.arrives alive pid leads old.parent old.left h.above h.aside (h.led so) finished;
         keeps = keeps_on alive pid (level_in version.chain) leads.low names old.goal seeks leads.on_way h.passed;
       }
 
-  below : (pid : ℕ) → IsHere old version → IsFine old.limits old.due version → 0 < level_in version.chain → LeadsDown way version.chain pid → VisitsToWrite old.limits old.key old.floor old.goal (Some version) None now r (page.to_page old.limits pid)
+  below : (pid : ℕ) → IsHere old version → IsFine old.limits old.due version → 0 < level_in version.chain → LeadsDown way version.chain pid
+      → VisitsToWrite old.limits old.key old.floor old.goal (Some version) None now r (page.to_page old.limits pid)
   below pid here fine index leads =
       let alive = here.alive in
       let names = down_names way version.chain pid index leads in
@@ -150,13 +161,16 @@ module _ (old : WriteRound) (k now : Knowledge) (r : Recalled) (version : Versio
     back_to_merge : right_in version.chain ≡ Some pid → VisitsToWrite old.limits old.key old.floor (Merge version) None None now r (page.to_page old.limits pid)
     back_to_merge beside =
         let was = by.0 in
-        let says = (h.arrives.arrives.whole.names alive was.removed.pid was.removed.head was.removed.chain was.gone.in_hand.seen.head was.gone.in_hand.seen.read).right (beside ∙ ap Some (sym was.is)) in
+        let says = (h.arrives.arrives.whole.names alive was.removed.pid was.removed.head was.removed.chain was.gone.in_hand.seen.head was.gone.in_hand.seen.read).right
+        (beside ∙ ap Some (sym was.is)) in
         let names : NamesAt chain pid (level_in chain) old.key = inl (beside, refl, says.1 ∙ ap Some was.low) in
         record {
           level = level_in version.chain;
           low = old.key;
           earlier = version.pid ∷ h.earlier;
-          seeks = seeks_on old.limits k now r version h.level h.low h.earlier h.arrives (reaches old.key) false pid (level_in version.chain) old.key names alive (reaches_itself old.key) (λ here. h.fresh (ap is_cutting goal));
+          seeks =
+              seeks_on old.limits k now r version h.level h.low h.earlier h.arrives (reaches old.key) false pid (level_in version.chain) old.key names alive
+              (reaches_itself old.key) (λ here. h.fresh (ap is_cutting goal));
           above = tt;
           aside = tt;
           based = inr above_low;
@@ -260,12 +274,17 @@ module _ (old : WriteRound) (k now : Knowledge) (r : Recalled) (version : Versio
         seeks = t.seeks;
         page = alive_here alive;
         level = t.level;
-        covered = covers_here old.key version.chain (reached old.limits k now r version h.level h.low h.earlier h.arrives (reaches old.key) (subst (λ (g : WriteGoal). IsTrue (write_way g old.key h.low)) t.seeks h.passing)).reached (subst (λ (g : WriteGoal). StaysLeft (write_way g old.key) version.chain) t.seeks t.here.stays);
+        covered =
+            covers_here old.key version.chain
+            (reached old.limits k now r version h.level h.low h.earlier h.arrives (reaches old.key) (subst (λ (g : WriteGoal). IsTrue (write_way g old.key h.low)) t.seeks h.passing)).reached
+            (subst (λ (g : WriteGoal). StaysLeft (write_way g old.key) version.chain) t.seeks t.here.stays);
         short = short;
         early = early;
         few = few_items alive short t.fine.narrow;
         above = IfSome_then old.parent h.above (λ other i. record { page = alive_of other i.kept; up = i.up; after = i.after });
-        termed = termed old.limits (goes_left old.goal) old.key k now r version h.level h.low h.earlier h.arrives alive old.parent old.left h.above h.aside (h.led (subst SeeksLeaf (sym t.seeks) tt)) t.here.finished t.level;
+        termed =
+            termed old.limits (goes_left old.goal) old.key k now r version h.level h.low h.earlier h.arrives alive old.parent old.left h.above h.aside
+            (h.led (subst SeeksLeaf (sym t.seeks) tt)) t.here.finished t.level;
       })
 
   merge_end : (left removed : Version) (merge : MergeRecord) → EndsMerged old version left removed merge → IsMergeEnd old now r left removed merge

@@ -27,7 +27,8 @@ replaced_same f i x = let e : (i == i) ≡ true = eq-eqb i i refl in rw e refl
 read_head : (k : Knowledge) (pid row : ℕ) → 0 < pid → 0 < row → Reads (learn_slot pid row k) pid row [] row
 read_head k zero row some linked = absurd (omega (arith, some))
 read_head k (suc pid) zero some linked = absurd (omega (arith, linked))
-read_head k (suc pid) (suc row) some linked = record { linked = linked; in_slot = replaced_same k.read.heads (suc pid) (Some (suc row)); seen = refl; named = replaced_same k.read.learnt (suc row) true }
+read_head k (suc pid) (suc row) some linked = record
+    { linked = linked; in_slot = replaced_same k.read.heads (suc pid) (Some (suc row)); seen = refl; named = replaced_same k.read.learnt (suc row) true }
 
 inside_slot : (k : Knowledge) (pid n : ℕ) → (learn_slot pid n k).inside ≡ k.inside
 inside_slot k zero n = refl
@@ -39,7 +40,8 @@ pub row_below : (limits : Limits) (k : Knowledge) (pid row : ℕ) → 0 < pid �
 row_below limits k zero row some fits = absurd (omega (arith, some))
 row_below limits k (suc pid) row some fits = fits.0
 
-pub begins_chain : (k : Knowledge) (visit : Visit) (row : ℕ) → 0 < row → row < visit.limits.rows → Shows (at visit Slot) k → Shows (record visit { part = []; state = Row row row }) (learn k (step.Slot visit.pid) (answer.Number row))
+pub begins_chain : (k : Knowledge) (visit : Visit) (row : ℕ) → 0 < row → row < visit.limits.rows → Shows (at visit Slot) k
+    → Shows (record visit { part = []; state = Row row row }) (learn k (step.Slot visit.pid) (answer.Number row))
 begins_chain k visit row linked few h = record { inside = rw (inside_slot k visit.pid row) h.inside; page = h.page; below = h.below; head = few; stands = read_head k visit.pid row h.page linked }
 
 -- a row was read
@@ -58,7 +60,8 @@ module _ (limits : Limits) (k : Knowledge) (pid head row : ℕ) (part : List Rec
     named = rw i (replaced_same k.read.learnt next true);
   }
 
-  read_whole : next_row w ≡ None → Reads k pid head part row → FitsRow limits k row w → (now.read.heads pid ≡ Some head) × IsChainFrom now.read.seen head (part ++ w ∷ []) × IsReadWhole limits k pid (part ++ w ∷ [])
+  read_whole : next_row w ≡ None → Reads k pid head part row → FitsRow limits k row w
+      → (now.read.heads pid ≡ Some head) × IsChainFrom now.read.seen head (part ++ w ∷ []) × IsReadWhole limits k pid (part ++ w ∷ [])
   read_whole i r f = (
     r.in_slot,
     front_end (replaced_at row (Some w) k.read.seen) w part head row (seen_more r f) (replaced_same k.read.seen row (Some w)) i,
@@ -69,14 +72,17 @@ pub goes_on : (k : Knowledge) (visit : Visit) (head row : ℕ) (w : Record) (nex
     → Shows (record visit { part = visit.part ++ w ∷ []; state = Row head next }) (learn k (step.Row row) (answer.Content w))
 goes_on k visit head row w next i h f = record { inside = h.inside; page = h.page; below = h.below; head = h.head; stands = read_on visit.limits k visit.pid head row visit.part w next i h.stands f }
 
-pub whole_chain : (k : Knowledge) (visit : Visit) (head row : ℕ) (w : Record) → next_row w ≡ None → Shows (at visit (Row head row)) k → FitsRow visit.limits k row w → IsReadWhole visit.limits k visit.pid (visit.part ++ w ∷ [])
+pub whole_chain : (k : Knowledge) (visit : Visit) (head row : ℕ) (w : Record) → next_row w ≡ None → Shows (at visit (Row head row)) k
+    → FitsRow visit.limits k row w → IsReadWhole visit.limits k visit.pid (visit.part ++ w ∷ [])
 whole_chain k visit head row w i h f = (read_whole visit.limits k visit.pid head row visit.part w i h.stands f).2
 
-pub arrives_at : (k : Knowledge) (visit : Visit) (row : ℕ) (w : Record) (version : Version) → version.pid ≡ visit.pid → version.chain ≡ visit.part ++ w ∷ [] → next_row w ≡ None → Shows (at visit (Row version.head row)) k → FitsRow visit.limits k row w
+pub arrives_at : (k : Knowledge) (visit : Visit) (row : ℕ) (w : Record) (version : Version) → version.pid ≡ visit.pid → version.chain ≡ visit.part ++ w ∷ []
+    → next_row w ≡ None → Shows (at visit (Row version.head row)) k → FitsRow visit.limits k row w
     → Arrives k (learn k (step.Row row) (answer.Content w)) (at visit (Row version.head row)) version
 arrives_at k visit row w version pid chain i h f =
     let read = read_whole visit.limits k visit.pid version.head row visit.part w i h.stands f in
-    let whole : IsReadWhole visit.limits k version.pid version.chain = subst (λ (c : List Record). IsReadWhole visit.limits k version.pid c) (sym chain) (subst (λ (p : ℕ). IsReadWhole visit.limits k p (visit.part ++ w ∷ [])) (sym pid) read.2) in
+    let whole : IsReadWhole visit.limits k version.pid version.chain = subst (λ (c : List Record). IsReadWhole visit.limits k version.pid c) (sym chain)
+    (subst (λ (p : ℕ). IsReadWhole visit.limits k p (visit.part ++ w ∷ [])) (sym pid) read.2) in
     record {
       pid = pid;
       inside = h.inside;
@@ -108,10 +114,12 @@ module _ (k : Knowledge) (old : Visit) where
   continues told new b = back old (Then new None) (Row b.head b.row) (answer.Content b.content) told b.asked b.is (λ h f. rw b.goes (goes_on k old b.head b.row b.content b.under b.more h f))
 
   completes : (told : Answer Record) (new : Visit) (version : Version) → Completes old told version → Shows old k → Fits old.limits k (wanted old) told → Follows k old told new (Some (Whole version))
-  completes told new version b = back old (Then new (Some (Whole version))) (Row version.head b.row) (answer.Content b.content) told b.asked b.is (λ h f. arrives_at k old b.row b.content version b.pid b.chain b.last h f)
+  completes told new version b =
+      back old (Then new (Some (Whole version))) (Row version.head b.row) (answer.Content b.content) told b.asked b.is (λ h f. arrives_at k old b.row b.content version b.pid b.chain b.last h f)
 
 -- what follows from what a visit makes of an answer
-pub follows_from : (k : Knowledge) (old : Visit) (told : Answer Record) (new : Visit) (result : Option Sight) → Responds old told new result → Shows old k → Fits old.limits k (wanted old) told → Follows k old told new result
+pub follows_from : (k : Knowledge) (old : Visit) (told : Answer Record) (new : Visit) (result : Option Sight) → Responds old told new result → Shows old k
+    → Fits old.limits k (wanted old) told → Follows k old told new result
 follows_from k old told new None b = elim b [ inl begun ↦ begins k old told new begun | inr more ↦ continues k old told new more ]
 follows_from k old told new (Some Empty) b = λ h f. tt
 follows_from k old told new (Some (Whole version)) b = completes k old told new version b

@@ -51,7 +51,8 @@ descends chain page level low fit h = elim h [
   | inr child ↦ inl (let e = child.1 in omega arith)
 ]
 
-pub past_on : (level new_level other_level : ℕ) (low new_low other_low : List ℕ) → Descends level low new_level new_low → IsPastAt level low other_level other_low → IsPastAt new_level new_low other_level other_low
+pub past_on : (level new_level other_level : ℕ) (low new_low other_low : List ℕ) → Descends level low new_level new_low
+    → IsPastAt level low other_level other_low → IsPastAt new_level new_low other_level other_low
 past_on level new_level other_level low new_low other_low d p = elim d [
   | inl lower ↦ elim p [ inl higher ↦ inl (omega (arith, lower, higher)) | inr beside ↦ inl (let e = beside.0 in omega (arith, lower)) ]
   | inr right ↦ elim p [ inl higher ↦ inl (let e = right.0 in omega (arith, higher)) | inr beside ↦ inr (beside.0 ∙ right.0, trans other_low low new_low beside.1 right.1) ]
@@ -65,7 +66,8 @@ never_there level other_level low other_low p e i = elim p [
 ]
 
 -- what is said of a page is so
-pub told_of : (naming : List Record) (page : ℕ) (chain : List Record) (level : ℕ) (low : List ℕ) → SaysOf naming page chain → NamesAt naming page level low → (level_in chain ≡ level) × (low_in chain ≡ low)
+pub told_of : (naming : List Record) (page : ℕ) (chain : List Record) (level : ℕ) (low : List ℕ) → SaysOf naming page chain → NamesAt naming page level low
+    → (level_in chain ≡ level) × (low_in chain ≡ low)
 told_of naming page chain level low says h = elim h [
   | inl right ↦ (let so = says.right right.0 in (so.0 ∙ right.1, same_Some _ _ (sym so.1 ∙ right.2)))
   | inr child ↦ says.child level low child.0 child.1 child.2 child.3
@@ -92,7 +94,8 @@ module _ (limits : Limits) (k : Knowledge) (r : Recalled) (visit : Visit) (level
   slot_roots (suc page) zero some = refl
   slot_roots (suc page) (suc n) some = refl
 
-  recall_slot : (page n : ℕ) → 0 < page → recall r (step.Slot page) (answer.Number n) ≡ record r { heads = replaced_at page (Some n) r.heads; walk = record r.walk { visited = page ∷ trail r.walk; passed = r.walk.removed } }
+  recall_slot : (page n : ℕ) → 0 < page
+      → recall r (step.Slot page) (answer.Number n) ≡ record r { heads = replaced_at page (Some n) r.heads; walk = record r.walk { visited = page ∷ trail r.walk; passed = r.walk.removed } }
   recall_slot zero n some = absurd (omega (arith, some))
   recall_slot (suc page) n some = refl
 
@@ -107,11 +110,13 @@ module _ (limits : Limits) (k : Knowledge) (r : Recalled) (visit : Visit) (level
   head_other (suc page) zero other apart h = elim (eqb_tells other (suc page)) [ inl same ↦ absurd (apart same.1) | inr differs ↦ rw differs.0 h ]
   head_other (suc page) (suc n) other apart h = elim (eqb_tells other (suc page)) [ inl same ↦ absurd (apart same.1) | inr differs ↦ rw differs.0 h ]
 
-  heads_others : (page n : ℕ) (others : List ℕ) → IsUnread page others → AreRecalled k r others → AllByRecursion (λ other. replaced_at page (Some n) r.heads other ≡ (learn_slot page n k).read.heads other) others
+  heads_others : (page n : ℕ) (others : List ℕ) → IsUnread page others → AreRecalled k r others
+      → AllByRecursion (λ other. replaced_at page (Some n) r.heads other ≡ (learn_slot page n k).read.heads other) others
   heads_others page n [] new h = tt
   heads_others page n (other ∷ others) new h = (head_other page n other (λ e. new.0 (sym e)) h.0, heads_others page n others new.1 h.1)
 
-  recalled_slot : (page n : ℕ) → 0 < page → 0 < n → (others : List ℕ) → IsUnread page others → AreRecalled k r others → AllByRecursion (λ other. replaced_at page (Some n) r.heads other ≡ (learn_slot page n k).read.heads other) (page ∷ others)
+  recalled_slot : (page n : ℕ) → 0 < page → 0 < n → (others : List ℕ) → IsUnread page others → AreRecalled k r others
+      → AllByRecursion (λ other. replaced_at page (Some n) r.heads other ≡ (learn_slot page n k).read.heads other) (page ∷ others)
   recalled_slot page n some linked others new h = (head_here page n some linked, heads_others page n others new h)
 
   expected_slot : (page n : ℕ) → 0 < page → IsExpected limits k page level low earlier → IsExpected limits (learn_slot page n k) page level low earlier
@@ -152,7 +157,8 @@ module _ (limits : Limits) (k : Knowledge) (r : Recalled) (visit : Visit) (level
       | inr (inr next) ↦ inr (inr (next_read k row content fits.same limits page level low next))
     ]
 
-    pub on_row : (head under : ℕ) → next_row content ≡ Some under → IsOnWay limits k r (at visit (Row head row)) level low earlier → IsOnWay limits now walked (record visit { part = visit.part ++ content ∷ []; state = Row head under }) level low earlier
+    pub on_row : (head under : ℕ) → next_row content ≡ Some under → IsOnWay limits k r (at visit (Row head row)) level low earlier
+        → IsOnWay limits now walked (record visit { part = visit.part ++ content ∷ []; state = Row head under }) level low earlier
     on_row head under more h = record {
       shows = goes_on k visit head row content under more h.shows (rw (← h.same) at fits);
       same = h.same;
@@ -170,7 +176,8 @@ module _ (limits : Limits) (k : Knowledge) (r : Recalled) (visit : Visit) (level
     }
 
     module _ (version : Version) (pid : version.pid ≡ visit.pid) (made : version.chain ≡ visit.part ++ content ∷ []) where
-      where_it_is : IsReadWhole limits k version.pid version.chain → IsExpected limits k visit.pid level low earlier → (low_in version.chain ≡ low) × ((earlier ≡ []) ⊎ (level_in version.chain ≡ level))
+      where_it_is : IsReadWhole limits k version.pid version.chain → IsExpected limits k visit.pid level low earlier
+          → (low_in version.chain ≡ low) × ((earlier ≡ []) ⊎ (level_in version.chain ≡ level))
       where_it_is whole e = elim e [
         | inl root ↦ (whole.root (rw pid root.0) ∙ sym root.1, inl root.2)
         | inr (inl named) ↦
@@ -180,7 +187,9 @@ module _ (limits : Limits) (k : Knowledge) (r : Recalled) (visit : Visit) (level
         | inr (inr next) ↦
             let basis : HasRead k next.left.pid next.left.head = record { head = next.in_hand.seen.head; chain = next.left.chain; read = next.in_hand.seen.read; alive = next.alive } in
             let b = next.beyond in
-            let says = whole.beside next.left.pid next.left.head basis (record { removed = b.removed; row = b.row; chain = b.chain; right = b.right; order = b.order; read = b.read; gone = b.gone; named = rw pid b.named }) in
+            let says = whole.beside next.left.pid next.left.head basis
+            (record { removed = b.removed; row = b.row; chain = b.chain; right = b.right; order = b.order; read = b.read; gone = b.gone; named = rw pid b.named })
+            in
             let so = told_of b.chain version.pid version.chain level low says (rw pid next.names) in
             (so.1, inr so.0)
       ]
@@ -202,14 +211,18 @@ module _ (limits : Limits) (k : Knowledge) (r : Recalled) (visit : Visit) (level
             distinct = rw pid h.distinct;
             past = h.past;
             rooted = h.rooted;
-            removed = ap (λ (b : Bool). is_removal content || b) h.removed ∙ told_more (is_removal content) (is_lower content r.walk) r.walk.passed (is_removed visit.part) (lower_removes content r.walk)
-                ∙ ap (λ (b : Bool). (if is_lower content r.walk then false else r.walk.passed) || b) (sym (removed_push k.read.seen visit.part version.head row content h.shows.stands.seen) ∙ ap is_removed (sym made));
+            removed =
+                ap (λ (b : Bool). is_removal content || b) h.removed ∙ told_more (is_removal content) (is_lower content r.walk) r.walk.passed (is_removed visit.part) (lower_removes content r.walk)
+                ∙ ap (λ (b : Bool). (if is_lower content r.walk then false else r.walk.passed) || b)
+                (sym (removed_push k.read.seen visit.part version.head row content h.shows.stands.seen) ∙ ap is_removed (sym made));
             lowest = λ gone none. removal_is_at version.chain walked.walk.level arrived.in_hand.sound.is_chain.fitted (rw made (level_noted r.walk visit.part content h.lowest gone none));
             kept = rw made (kept_push visit.part r.walk.records content h.kept);
           }
 
 -- a place to which the page just read descends: all that was read is past it
-module _ (limits : Limits) (k now : Knowledge) (r : Recalled) (version : Version) (was_level : ℕ) (was_low : List ℕ) (earlier : List ℕ) (h : HasArrived limits k now r version was_level was_low earlier) (level : ℕ) (low : List ℕ) (on : Descends (level_in version.chain) (low_in version.chain) level low) where
+module _ (limits : Limits) (k now : Knowledge) (r : Recalled) (version : Version) (was_level : ℕ) (was_low : List ℕ) (earlier : List ℕ)
+    (h : HasArrived limits k now r version was_level was_low earlier) (level : ℕ) (low : List ℕ)
+    (on : Descends (level_in version.chain) (low_in version.chain) level low) where
   abbrev here : List Record
   here = version.chain
 
@@ -218,7 +231,14 @@ module _ (limits : Limits) (k now : Knowledge) (r : Recalled) (version : Version
   past_among (other ∷ others) is past =
       let more = h.more other past.0.head past.0.chain past.0.in_slot past.0.read in
       let before : IsPastAt (level_in here) (low_in here) (level_in past.0.chain) (low_in past.0.chain) = rw (is, h.is_low) past.0.past in (
-        record { head = past.0.head; chain = past.0.chain; in_slot = more.0; read = more.1; past = past_on (level_in here) level (level_in past.0.chain) (low_in here) low (low_in past.0.chain) on before },
+        record {
+          head = past.0.head;
+          chain = past.0.chain;
+          in_slot = more.0;
+          read = more.1;
+          past = past_on (level_in here) level (level_in past.0.chain)
+              (low_in here) low (low_in past.0.chain) on before;
+        },
         past_among others is past.1,
       )
 
@@ -230,7 +250,9 @@ module _ (limits : Limits) (k now : Knowledge) (r : Recalled) (version : Version
 
 -- the page that is named by the one just read
 
-module _ (limits : Limits) (k now : Knowledge) (r : Recalled) (version : Version) (was_level : ℕ) (was_low : List ℕ) (earlier : List ℕ) (h : HasArrived limits k now r version was_level was_low earlier) (page level : ℕ) (low : List ℕ) (names : NamesAt version.chain page level low) (alive : is_removed version.chain ≡ false) where
+module _ (limits : Limits) (k now : Knowledge) (r : Recalled) (version : Version) (was_level : ℕ) (was_low : List ℕ) (earlier : List ℕ)
+    (h : HasArrived limits k now r version was_level was_low earlier) (page level : ℕ) (low : List ℕ) (names : NamesAt version.chain page level low)
+    (alive : is_removed version.chain ≡ false) where
   abbrev chain : List Record
   chain = version.chain
 

@@ -48,15 +48,18 @@ module _ (old new : WriteRound) (told : Answer Record) (visit : page.Visit) wher
   seen : (next : page.Visit) (sight : Sight) (result : Option WriteEnd) → page.Responds visit told next (Some sight) → Sees writing here sight new result → Then new result here told
   seen next Empty result b sees = rw sees (λ k r h f. inl (found_nothing r visit told b))
   seen next (Whole version) result b sees = λ k r h f.
-      by_result k r result (treated here k (learn k (page.wanted visit) told) (recall r (page.wanted visit) told) version (reached_next old.limits old.key old.floor old.goal old.parent old.left k r visit told h f version b) new result sees)
+      by_result k r result (treated here k (learn k (page.wanted visit) told) (recall r (page.wanted visit) told) version
+      (reached_next old.limits old.key old.floor old.goal old.parent old.left k r visit told h f version b) new result sees)
     where
       by_result : (k : Knowledge) (r : Recalled) (o : Option WriteEnd) → After here (learn k (page.wanted visit) told) (recall r (page.wanted visit) told) new o → Follows writing k r here told new o
       by_result k r None a = a
       by_result k r (Some end) a = a
 
-  module _ (reserve kept : ℕ) (k : Knowledge) (r : Recalled) (h : VisitsToWrite old.limits old.key old.floor old.goal old.parent old.left k r visit) (f : Fits old.limits k (page.wanted visit) told) where
+  module _ (reserve kept : ℕ) (k : Knowledge) (r : Recalled) (h : VisitsToWrite old.limits old.key old.floor old.goal old.parent old.left k r visit)
+      (f : Fits old.limits k (page.wanted visit) told) where
     -- a page wasn't there
-    missed : page.FindsEmpty visit told → (goal : WriteGoal) → IsSeeking old.limits (write_way goal old.key) (is_cutting goal) k r visit h.level h.low h.earlier → MissesWrite reserve kept r (record here { goal = goal }) told goal
+    missed : page.FindsEmpty visit told → (goal : WriteGoal) → IsSeeking old.limits (write_way goal old.key) (is_cutting goal) k r visit h.level h.low h.earlier
+        → MissesWrite reserve kept r (record here { goal = goal }) told goal
     missed b Seek seeks = spent_empty reserve old.limits (reaches old.key) false k r visit h.level h.low h.earlier told seeks f refl b
     missed b (Left removed) seeks = inl (spent_empty reserve old.limits (precedes old.key) false k r visit h.level h.low h.earlier told seeks f refl b)
     missed b (Merge left) seeks = spent_empty reserve old.limits (reaches old.key) false k r visit h.level h.low h.earlier told seeks f refl b
@@ -70,7 +73,8 @@ module _ (old new : WriteRound) (told : Answer Record) (visit : page.Visit) wher
       less : is_removed version.chain ≡ false → reads_left_at old.limits reserve (recall r (page.wanted visit) told).walk [] Slot < reads_left_in old.limits reserve r visit
       less = left_on reserve old.limits way_here (is_cutting old.goal) k r visit h.level h.low h.earlier told h.seeks f version b
 
-      more : is_removed version.chain ≡ false → (goal : WriteGoal) → old.goal ≡ goal → reads_left_at old.limits reserve (recall r (page.wanted visit) told).walk [] Slot + write_round_kept kept goal < reads_left_in old.limits reserve r visit + write_round_kept kept old.goal
+      more : is_removed version.chain ≡ false → (goal : WriteGoal) → old.goal ≡ goal
+          → reads_left_at old.limits reserve (recall r (page.wanted visit) told).walk [] Slot + write_round_kept kept goal < reads_left_in old.limits reserve r visit + write_round_kept kept old.goal
       more alive goal e = let l = less alive in rw e (omega (arith, l))
 
       some_left : write_round_kept kept old.goal < reads_left_in old.limits reserve r visit + write_round_kept kept old.goal
@@ -98,7 +102,9 @@ module _ (old new : WriteRound) (told : Answer Record) (visit : page.Visit) wher
         | inr (inl unmerged) ↦ keeps (Merge unmerged.left) unmerged.goal refl
         | inr (inr uncut) ↦ keeps (Unterm uncut.parent uncut.left) uncut.goal refl
       ]
-      by_result (Some (end.Removed removed)) t = let some = left_removed reserve old.limits way_here (is_cutting old.goal) k r visit h.level h.low h.earlier told h.seeks f version b t.gone in omega (arith, some)
+      by_result (Some (end.Removed removed)) t =
+          let some = left_removed reserve old.limits way_here (is_cutting old.goal) k r visit h.level h.low h.earlier told h.seeks f version b t.gone in
+          omega (arith, some)
       by_result (Some (end.Due plan after)) t = some_left
       by_result (Some (end.Leaf parent leaf)) t = some_left
 
@@ -127,11 +133,20 @@ module _ (limits : Limits) (key : List ℕ) (floor : ℕ) (k : Knowledge) (r : R
   keeps_first Seek b = tt
   keeps_first (Left removed) b =
       let hand = b.gone.in_hand in
-      record { removed = b.removed; gone = record { in_hand = record { page = hand.page; row = hand.row; seen = record { head = hand.seen.head; read = hand.seen.read }; sound = hand.sound }; gone = b.gone.gone }; is = b.is; low = b.low; level = b.level; unread = (not_root removed b, tt) }
+      record {
+        removed = b.removed;
+        gone = record
+            { in_hand = record { page = hand.page; row = hand.row; seen = record { head = hand.seen.head; read = hand.seen.read }; sound = hand.sound }; gone = b.gone.gone };
+        is = b.is;
+        low = b.low;
+        level = b.level;
+        unread = (not_root removed b, tt);
+      }
   keeps_first (Merge left) b = absurd b
   keeps_first (Unterm parent left) b = absurd b
 
-  root : (goal : WriteGoal) (parent left : Option Version) → parent ≡ None → left ≡ None → k.inside ≡ true → BeginsToWrite limits key floor k goal → VisitsToWrite limits key floor goal parent left begun (recall r (step.Slot 0) (answer.Number pid)) (page.to_page limits pid)
+  root : (goal : WriteGoal) (parent left : Option Version) → parent ≡ None → left ≡ None → k.inside ≡ true → BeginsToWrite limits key floor k goal
+      → VisitsToWrite limits key floor goal parent left begun (recall r (step.Slot 0) (answer.Number pid)) (page.to_page limits pid)
   root goal parent left orphan alone inside b = rw (orphan, alone) (record {
     level = 0;
     low = [];
@@ -146,17 +161,20 @@ module _ (limits : Limits) (key : List ℕ) (floor : ℕ) (k : Knowledge) (r : R
 
 -- what follows from what a round makes of an answer
 
-pub follows_from : (old new : WriteRound) (told : Answer Record) (result : Option WriteEnd) → Responds writing old told new result → (k : Knowledge) (r : Recalled) → Shows old k r → Fits old.limits k (wanted old) told → Follows writing k r old told new result
+pub follows_from : (old new : WriteRound) (told : Answer Record) (result : Option WriteEnd) → Responds writing old told new result
+    → (k : Knowledge) (r : Recalled) → Shows old k r → Fits old.limits k (wanted old) told → Follows writing k r old told new result
 follows_from old new told result responds = by_step writing (λ round. refl) (λ o x n e. Then n e o x) old new told result responds
     (λ pid k r h f. root old.limits old.key old.floor k r pid f old.goal old.parent old.left h.1 h.2 h.0 h.3)
     (λ visit next b k r h f. visits_next old.limits old.key old.floor old.goal old.parent old.left k r visit told h f next b)
     (λ visit next sight b sees. seen old new told visit next sight result b sees)
 
-pub spends_from : (old new : WriteRound) (told : Answer Record) (result : Option WriteEnd) → Responds writing old told new result → (reserve kept : ℕ) (k : Knowledge) (r : Recalled) → Shows old k r → Fits old.limits k (wanted old) told → Spends reserve kept r old told new result
+pub spends_from : (old new : WriteRound) (told : Answer Record) (result : Option WriteEnd) → Responds writing old told new result
+    → (reserve kept : ℕ) (k : Knowledge) (r : Recalled) → Shows old k r → Fits old.limits k (wanted old) told → Spends reserve kept r old told new result
 spends_from old new told result responds = by_step writing (λ round. refl) (λ o x n e. Pays n e o x) old new told result responds
     (λ pid reserve kept k r h f. inl (omega arith))
     (λ visit next b reserve kept k r h f.
-    still (with_walk old.limits reserve) r (page.wanted visit) told _ _ (write_round_kept kept old.goal) (spent_on reserve old.limits (write_way old.goal old.key) (is_cutting old.goal) k r visit h.level h.low h.earlier told h.seeks f next b))
+    still (with_walk old.limits reserve) r (page.wanted visit) told _ _ (write_round_kept kept old.goal)
+    (spent_on reserve old.limits (write_way old.goal old.key) (is_cutting old.goal) k r visit h.level h.low h.earlier told h.seeks f next b))
     (λ visit next sight b sees. paid old new told visit next sight result b sees)
 
 -- what the round shows, its descent does
@@ -168,7 +186,8 @@ way_shows round k r h = by_state round.state refl
     by_state (Page visit) e = let here : VisitsToWrite round.limits round.key round.floor round.goal round.parent round.left k r visit = rw e at h in rw e here.seeks.on_way.shows
 
 -- the page that was found is one that the round has reached
-pub can_see : (old : WriteRound) (other : WayState) (told : Answer Record) (sight : Sight) → Finds (writing.way old) told sight → IsTold (machine writing) old told → CanSee writing (at old other) sight
+pub can_see : (old : WriteRound) (other : WayState) (told : Answer Record) (sight : Sight) → Finds (writing.way old) told sight
+    → IsTold (machine writing) old told → CanSee writing (at old other) sight
 can_see old other told Empty b t = tt
 can_see old other told (Whole version) b t =
     let visit = b.visit in
@@ -208,12 +227,23 @@ module _ (old : WriteRound) (state other : WayState) (version : Version) where
   ends_as (end.Merge left removed merge) t = record { is = t.is; goal = t.goal; plan = t.plan }
   ends_as (end.Unterm parent left removed unterm) t = record { is = t.is; goal = t.goal; plan = t.plan }
 
-pub treats_as : (old new : WriteRound) (state other : WayState) (version : Version) (result : Option WriteEnd) → TreatsWrite (at old other) version new result → TreatsWrite (at old state) version new result
+pub treats_as : (old new : WriteRound) (state other : WayState) (version : Version) (result : Option WriteEnd) → TreatsWrite (at old other) version new result
+    → TreatsWrite (at old state) version new result
 treats_as old new state other version None t = elim t [
   | inl right ↦ inl (record { seeks = right.seeks; alive = right.alive; finished = right.finished; right = right.right; leads = right.leads; goes = right.goes })
-  | inr (inl down) ↦ inr (inl (record { here = here_as old state other version down.here; fine = down.fine; idle = λ parent tended. down.idle parent (tended_as old other state version parent tended); index = down.index; child = down.child; leads = down.leads; goes = down.goes }))
+  | inr (inl down) ↦ inr (inl (record {
+    here = here_as old state other version down.here;
+    fine = down.fine;
+    idle = λ parent tended. down.idle parent
+        (tended_as old other state version parent tended);
+    index = down.index;
+    child = down.child;
+    leads = down.leads;
+    goes = down.goes;
+  }))
   | inr (inr (inl merge)) ↦ inr (inr (inl (record { pid = merge.pid; left = left_as old state other version merge.pid merge.left; beside = merge.beside; goes = merge.goes })))
-  | inr (inr (inr cut)) ↦ inr (inr (inr (record { pid = cut.pid; left = left_as old state other version cut.pid cut.left; apart = cut.apart; parent = cut.parent; above = cut.above; term = cut.term; goes = cut.goes })))
+  | inr (inr (inr cut)) ↦ inr
+      (inr (inr (record { pid = cut.pid; left = left_as old state other version cut.pid cut.left; apart = cut.apart; parent = cut.parent; above = cut.above; term = cut.term; goes = cut.goes })))
 ]
 treats_as old new state other version (Some end.Again) t = record { pid = t.pid; goal = t.goal; here = here_as old state other version t.here; fine = t.fine; below = t.below }
 treats_as old new state other version (Some end.Done) t = elim t [
@@ -223,4 +253,5 @@ treats_as old new state other version (Some end.Done) t = elim t [
 ]
 treats_as old new state other version (Some (end.Removed removed)) t = record { is = t.is; seeks = t.seeks; gone = t.gone }
 treats_as old new state other version (Some (end.Due plan after)) t = record { change = t.change; planned = t.planned; due = ends_as old state other version t.change t.due }
-treats_as old new state other version (Some (end.Leaf parent leaf)) t = record { is = t.is; seeks = t.seeks; above = t.above; here = here_as old state other version t.here; fine = t.fine; level = t.level }
+treats_as old new state other version (Some (end.Leaf parent leaf)) t = record
+    { is = t.is; seeks = t.seeks; above = t.above; here = here_as old state other version t.here; fine = t.fine; level = t.level }

@@ -344,7 +344,8 @@ TreatsRead old version new (Some (Beside left removed)) = IsAtBeside old version
 -- The right of the removed page is one that there may be, where the page is its left one.
 abbrev pub CanPass : Limits → Version → ReadGoal → Type 0
 CanPass limits version Seek = ⊤
-CanPass limits version (Left removed) = is_removed version.chain ≡ false → right_in version.chain ≡ Some removed.pid → (next : ℕ) → right_in removed.chain ≡ Some next → (0 < next) × (next < limits.pids)
+CanPass limits version (Left removed) =
+    is_removed version.chain ≡ false → right_in version.chain ≡ Some removed.pid → (next : ℕ) → right_in removed.chain ≡ Some next → (0 < next) × (next < limits.pids)
 CanPass limits version Beyond = ⊤
 
 -- The page above is an index page, and the pages that it names are such as there may be.
@@ -356,7 +357,8 @@ pub record HasChildren (limits : Limits) (above : Version) : Type 0 where
 pub record CanGoRound (limits : Limits) (way : List ℕ → Bool) (version removed : Version) : Type 0 where
   pub index : 0 < level_in removed.chain
   pub reached : IsTrue (way (low_in removed.chain))
-  pub names : is_removed version.chain ≡ false → right_in version.chain ≡ Some removed.pid → (next : ℕ) → (right_in removed.chain ≡ Some next) ⊎ NamesChild removed.chain next → (0 < next) × (next < limits.pids)
+  pub names : is_removed version.chain ≡ false → right_in version.chain ≡ Some removed.pid → (next : ℕ)
+      → (right_in removed.chain ≡ Some next) ⊎ NamesChild removed.chain next → (0 < next) × (next < limits.pids)
 
 -- by the leg of a round
 abbrev pub CanMeetLeg : Limits → (List ℕ → Bool) → ReadGoal → Version → Leg → Type 0
@@ -400,7 +402,8 @@ MissesRead reserve kept r old told Beyond = kept < read_round_left reserve kept 
 -- A round that goes on has fewer reads left, or a cause paid for the reserve. Where the round ends at a removed page, the reserve
 -- is left; where it was begun for a removed page, so are those that were kept.
 abbrev pub Spends : ℕ → ℕ → Recalled → ReadRound → Answer Record → ReadRound → Option ReadEnd → Type 0
-Spends reserve kept r old told new None = IsSpentWith (1 + with_walk old.limits reserve) r (wanted old) told (read_round_left reserve kept r old) (read_round_left reserve kept (recall r (wanted old) told) new)
+Spends reserve kept r old told new None =
+    IsSpentWith (1 + with_walk old.limits reserve) r (wanted old) told (read_round_left reserve kept r old) (read_round_left reserve kept (recall r (wanted old) told) new)
 Spends reserve kept r old told new (Some Again) = MissesRead reserve kept r old told old.goal
 Spends reserve kept r old told new (Some (Removed removed)) = reserve + read_round_kept kept old.goal < read_round_left reserve kept r old
 Spends reserve kept r old told new (Some (Leaf leaf)) = read_round_kept kept old.goal < read_round_left reserve kept r old

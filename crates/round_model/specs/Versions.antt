@@ -14,7 +14,8 @@ use Rattle.structure_changes.specs.Versions.{Version}
 -- The pages that a chain names, as its right or as children, are above 0 and below the limit.
 pub record NamesPages (limits : Limits) (chain : List Record) : Type 0 where
   pub right : (other : ℕ) → right_in chain ≡ Some other → (0 < other) × (other < limits.pids)
-  pub child : (level other : ℕ) (key : List ℕ) (held : Bool) → level_in chain ≡ suc level → IsTrue (covers chain key) → content_in chain key ≡ Some (Child other held) → (0 < other) × (other < limits.pids)
+  pub child : (level other : ℕ) (key : List ℕ) (held : Bool) → level_in chain ≡ suc level → IsTrue (covers chain key)
+      → content_in chain key ≡ Some (Child other held) → (0 < other) × (other < limits.pids)
 
 -- What is so of a page's chain, whatever else is known: unless it is removed, it says nothing false of its own page, and the
 -- pages that it names are such as there may be.

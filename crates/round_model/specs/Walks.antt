@@ -185,7 +185,8 @@ with_walk limits reserve = 14 * limits.pids + reserve
 -- once a removal was read
 abbrev pub reads_left_at : Limits → ℕ → Walk → List Record → VisitState → ℕ
 reads_left_at limits reserve walk part Slot = 14 * (limits.pids - length (trail walk)) + (if walk.removed then reserve else 0)
-reads_left_at limits reserve walk part (Row head row) = 14 * (limits.pids - length walk.visited) + (13 - length part) + (if walk.passed then reserve else (if is_removed part then with_walk limits reserve else 0))
+reads_left_at limits reserve walk part (Row head row) =
+    14 * (limits.pids - length walk.visited) + (13 - length part) + (if walk.passed then reserve else (if is_removed part then with_walk limits reserve else 0))
 
 abbrev pub reads_left_in : Limits → ℕ → Recalled → Visit → ℕ
 reads_left_in limits reserve r visit = reads_left_at limits reserve r.walk visit.part visit.state

@@ -368,7 +368,8 @@ MissesWrite reserve kept r old told (Unterm parent left) = kept < write_round_le
 -- A round that goes on has fewer reads left, or a cause paid for the reserve. Where the round ends at a removed page, the reserve
 -- is left; where it was begun for a removed page, so are those that were kept.
 abbrev pub Spends : ℕ → ℕ → Recalled → WriteRound → Answer Record → WriteRound → Option WriteEnd → Type 0
-Spends reserve kept r old told new None = IsSpentWith (1 + with_walk old.limits reserve) r (wanted old) told (write_round_left reserve kept r old) (write_round_left reserve kept (recall r (wanted old) told) new)
+Spends reserve kept r old told new None =
+    IsSpentWith (1 + with_walk old.limits reserve) r (wanted old) told (write_round_left reserve kept r old) (write_round_left reserve kept (recall r (wanted old) told) new)
 Spends reserve kept r old told new (Some end.Again) = MissesWrite reserve kept r old told old.goal
 Spends reserve kept r old told new (Some (end.Removed removed)) = reserve + write_round_kept kept old.goal < write_round_left reserve kept r old
 Spends reserve kept r old told new (Some end.Done) = kept < write_round_left reserve kept r old

@@ -18,7 +18,8 @@ use Rattle.round_model.proofs.WayLaws.{down_within, goes_down, on_within}
 use Rattle.rounds.specs.ReadRounds.{IsOnLevelOf, LeadsLeft}
 
 -- the child below a page that the page above has is where it leads to the left of the page
-pub leads_left : (version above : Version) (found : Option ℕ) → IsFitted above.chain → MatchOption found (HasNoChild (content_in above.chain) (left_of version)) (IsGreatestChild (content_in above.chain) (left_of version))
+pub leads_left : (version above : Version) (found : Option ℕ) → IsFitted above.chain
+    → MatchOption found (HasNoChild (content_in above.chain) (left_of version)) (IsGreatestChild (content_in above.chain) (left_of version))
     → (leg : Leg) → above_of leg ≡ Some above → MatchOption found (LacksLeft version leg) (LeadsLeft version leg)
 leads_left version above None fit h (Down None) e = cc
 leads_left version above None fit h (Down (Some page)) e = let same : page ≡ above = same_Some _ _ e in rw same h
@@ -39,7 +40,8 @@ above_leads version next (Round removed) h = absurd h
 above_leads version next (Past None) h = absurd h
 above_leads version next (Past (Some above)) h = (above, refl, h)
 
-pub left_within : (limits : Limits) (way : List ℕ → Bool) (goal : ReadGoal) (version : Version) (next : ℕ) (leg : Leg) → CanMeetLeg limits way goal version leg → LeadsLeft version leg next → (0 < next) × (next < limits.pids)
+pub left_within : (limits : Limits) (way : List ℕ → Bool) (goal : ReadGoal) (version : Version) (next : ℕ) (leg : Leg) → CanMeetLeg limits way goal version leg
+    → LeadsLeft version leg next → (0 < next) × (next < limits.pids)
 left_within limits way goal version next (Down None) can h = absurd h
 left_within limits way goal version next (Down (Some above)) can h = down_within limits (left_of version) above.chain next can.1.names can.1.index h
 left_within limits way goal version next (Round removed) can h = absurd h
@@ -96,9 +98,12 @@ module _ (round : ReadRound) (version removed : Version) (can : CanTreatRead rou
     pub down_within_past : (next : ℕ) → StaysLeft (read_way round.goal round.key) version.chain → LeadsDown (read_way round.goal round.key) version.chain next → (0 < next) × (next < round.limits.pids)
     down_within_past next ends down = on_within round.limits (read_way round.goal round.key) version.chain next (can.reached.names of_level.alive) (inr (ends, index_of, down))
 
-    pub goes_right_past : (next : ℕ) → LeadsRight (read_way round.goal round.key) version.chain next → (new : ReadRound) → new ≡ going_to next (on (Past None) round) → TreatsRead round version new None
+    pub goes_right_past : (next : ℕ) → LeadsRight (read_way round.goal round.key) version.chain next → (new : ReadRound)
+        → new ≡ going_to next (on (Past None) round) → TreatsRead round version new None
     goes_right_past next leads new goes = inr (inr (inr (inr (inr (inr (inr (inl (record { removed = removed; there = there; next = next; leads = leads; goes = goes }))))))))
 
-    pub goes_down_past : (next : ℕ) → StaysLeft (read_way round.goal round.key) version.chain → LeadsDown (read_way round.goal round.key) version.chain next → (new : ReadRound) → new ≡ going_to next (on (Past (Some version)) round)
+    pub goes_down_past : (next : ℕ) → StaysLeft (read_way round.goal round.key) version.chain → LeadsDown (read_way round.goal round.key) version.chain next
+        → (new : ReadRound) → new ≡ going_to next (on (Past (Some version)) round)
         → TreatsRead round version new None
-    goes_down_past next ends leads new goes = inr (inr (inr (inr (inr (inr (inr (inr (record { removed = removed; there = there; ends = ends; index = index_of; next = next; leads = leads; goes = goes }))))))))
+    goes_down_past next ends leads new goes =
+        inr (inr (inr (inr (inr (inr (inr (inr (record { removed = removed; there = there; ends = ends; index = index_of; next = next; leads = leads; goes = goes }))))))))

@@ -26,7 +26,8 @@ lies_behind : (seen : ℕ → Option Record) (part : List Record) (head row : �
 lies_behind seen [] head row w is = ap (λ n. n ∷ []) is
 lies_behind seen (newest ∷ under) head row w is = ap (λ (rows : List ℕ). head ∷ rows) (deeper (next_row newest) (λ below. lies_behind seen under below row w) is.1)
   where
-    deeper : (next : Option ℕ) → ((below : ℕ) → IsFront seen below under row → chain_rows below (under ++ w ∷ []) ≡ chain_rows below under ++ row ∷ []) → MatchOption next ⊥ (λ below. IsFront seen below under row)
+    deeper : (next : Option ℕ) → ((below : ℕ) → IsFront seen below under row → chain_rows below (under ++ w ∷ []) ≡ chain_rows below under ++ row ∷ [])
+        → MatchOption next ⊥ (λ below. IsFront seen below under row)
         → chain_rows (unwrap_or next 0) (under ++ w ∷ []) ≡ chain_rows (unwrap_or next 0) under ++ row ∷ []
     deeper None on is = absurd is
     deeper (Some below) on is = on below is
@@ -76,10 +77,13 @@ module _ (limits : Limits) (pid head row : ℕ) (part : List Record) (w : Record
     goes = refl;
   })
 
-  pub completes : (new : Descent) (version : Version) → next_row w ≡ None → version.pid ≡ pid → chain_of version ≡ record { head = head; records = part ++ w ∷ [] } → Responds (visiting limits pid part (Row head row)) (Content w) new (Some (Whole version))
+  pub completes : (new : Descent) (version : Version) → next_row w ≡ None → version.pid ≡ pid
+      → chain_of version ≡ record { head = head; records = part ++ w ∷ [] }
+      → Responds (visiting limits pid part (Row head row)) (Content w) new (Some (Whole version))
   completes new version last is_pid is = record {
     visit = visit;
     next = visit;
     asked = refl;
-    responds = record { row = row; content = w; asked = ap (λ (chain : PlacedChain). Row chain.head row) (sym is); is = refl; last = last; pid = is_pid; chain = ap (λ (chain : PlacedChain). chain.records) is };
+    responds = record
+        { row = row; content = w; asked = ap (λ (chain : PlacedChain). Row chain.head row) (sym is); is = refl; last = last; pid = is_pid; chain = ap (λ (chain : PlacedChain). chain.records) is };
   }

@@ -46,14 +46,16 @@ module _ (is_there : ℕ → Record → Type 0) where
     by_leg goal (Past above) d = (page_is_read d.level d.low d.earlier d.arrives, goal_is_read goal d.passed, above_is_read goal d.level d.earlier above d.leg_was.1)
 
   -- the page that is whole, and those that the round keeps
-  pub are_read : (old : ReadRound) (other : WayState) (told : Answer Record) (version : Version) → Finds (reading.way old) told (Whole version) → IsToldThere is_there (machine reading) old told → AreReadFor is_there (at old other) version
+  pub are_read : (old : ReadRound) (other : WayState) (told : Answer Record) (version : Version) → Finds (reading.way old) told (Whole version)
+      → IsToldThere is_there (machine reading) old told → AreReadFor is_there (at old other) version
   are_read old other told version b t =
       let visit = b.visit in
       let h : ShowsVisit old.limits old.key old.goal old.leg t.k t.r visit = subst (λ (s : WayState). Shows (at old s) t.k t.r) b.asked t.shows in
       let f : Fits old.limits t.k (page.wanted visit) told = subst (λ (s : WayState). Fits old.limits t.k (wanted (at old s)) told) b.asked t.fits in
       let now : Knowledge = learn t.k (page.wanted visit) told in
       let there : AreThere is_there now = subst (λ (s : WayState). AreThere is_there (learn t.k (wanted (at old s)) told)) b.asked t.there in
-      let d = by_leg old.limits old.key t.k now (recall t.r (page.wanted visit) told) version there old.goal old.leg (whole old.limits old.key old.goal t.k t.r visit told f old.leg h version b.responds) in
+      let d = by_leg old.limits old.key t.k now (recall t.r (page.wanted visit) told) version there old.goal old.leg
+      (whole old.limits old.key old.goal t.k t.r visit told f old.leg h version b.responds) in
       record { page = d.0; aside = d.1; leg = d.2 }
 
   -- the page above is there

@@ -51,7 +51,8 @@ module _ (was : PlacedRead) (now : PlacedDescent) (told : Answer Record) where
   is_missing b = inr (record { sight = sight.Empty; finds = b; sees = refl })
 
   -- the round responds as it treats the page that is whole
-  pub treats_now : (new : PlacedRead) (result : Option ReadEndKind) → Moved Whole → now.way.limits ≡ was.round.limits → reader.TreatsRead (after was now).round now.page new.round (option_map (ended_read new) result)
+  pub treats_now : (new : PlacedRead) (result : Option ReadEndKind) → Moved Whole → now.way.limits ≡ was.round.limits
+      → reader.TreatsRead (after was now).round now.page new.round (option_map (ended_read new) result)
       → Responds reader.reading was.round told new.round (option_map (ended_read new) result)
   treats_now new result b limits treats =
       let there : reader.TreatsRead (with_limits was.round.limits) now.page new.round (option_map (ended_read new) result) =

@@ -12,7 +12,8 @@ abbrev pub EndsOn : (List ℕ → Bool) → Option (List ℕ) → Bool → Type 
 EndsOn way high on = MatchOption high (IsFalse on) (λ end. on ≡ way end)
 
 -- a page that ends on the way leads to its right
-pub leads_right : (way : List ℕ → Bool) (chain : List Record) (high : Option (List ℕ)) (on : Bool) (right : Option ℕ) → IsFitted chain → high_in chain ≡ high → EndsOn way high on → IsTrue on → right ≡ right_in chain
+pub leads_right : (way : List ℕ → Bool) (chain : List Record) (high : Option (List ℕ)) (on : Bool) (right : Option ℕ) → IsFitted chain → high_in chain ≡ high
+    → EndsOn way high on → IsTrue on → right ≡ right_in chain
     → MatchOption right (StaysLeft way chain) (LeadsRight way chain)
 leads_right way chain None on right fit at ends passing is = cc
 leads_right way chain (Some end) on right fit at ends passing is = goes_right way chain end right fit at (sym ends ∙ passing) is

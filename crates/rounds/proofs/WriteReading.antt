@@ -62,7 +62,8 @@ module _ (is_there : ℕ → Record → Type 0) where
         }
 
   -- so are they for the round with its descent as the answer left it
-  pub reads_now : (was : PlacedWrite) (now : PlacedDescent) (told : Answer Record) → Moved was now told seen.Whole → IsToldThere is_there (machine writing) was.round told → AreReadToWrite is_there (after was now).round now.page
+  pub reads_now : (was : PlacedWrite) (now : PlacedDescent) (told : Answer Record) → Moved was now told seen.Whole
+      → IsToldThere is_there (machine writing) was.round told → AreReadToWrite is_there (after was now).round now.page
   reads_now was now told b t =
       let read = are_read was.round now.way.state told now.page b t in
       record { page = read.page; parent = read.parent; left = read.left; goal = read.goal }

@@ -52,7 +52,8 @@ module _ (was : PlacedWrite) (now : PlacedDescent) (told : Answer Record) where
   is_missing b = inr (record { sight = sight.Empty; finds = b; sees = refl })
 
   -- the round responds as it treats the page that is whole
-  pub treats_now : (new : PlacedWrite) (result : Option WriteEndKind) → Moved Whole → now.way.limits ≡ was.round.limits → response.TreatsWrite (after was now).round now.page new.round (option_map (ended_write new) result)
+  pub treats_now : (new : PlacedWrite) (result : Option WriteEndKind) → Moved Whole → now.way.limits ≡ was.round.limits
+      → response.TreatsWrite (after was now).round now.page new.round (option_map (ended_write new) result)
       → Responds response.writing was.round told new.round (option_map (ended_write new) result)
   treats_now new result b limits treats =
       let there : response.TreatsWrite (with_limits was.round.limits) now.page new.round (option_map (ended_write new) result) =
@@ -62,7 +63,17 @@ module _ (was : PlacedWrite) (now : PlacedDescent) (told : Answer Record) where
 -- the round whose fields these are
 abbrev pub placed : List ℕ → ℕ → Bool → ℕ → PlacedCourse → PlacedDescent → Plan → After → PlacedWrite
 placed key due tends floor course descent plan after = record {
-  round = record { limits = descent.way.limits; key = key; due = due; tends = tends; floor = floor; goal = course.course.goal; parent = course.course.parent; left = course.course.left; state = descent.way.state };
+  round = record {
+    limits = descent.way.limits;
+    key = key;
+    due = due;
+    tends = tends;
+    floor = floor;
+    goal = course.course.goal;
+    parent = course.course.parent;
+    left = course.course.left;
+    state = descent.way.state;
+  };
   page = descent.page;
   parent = course.parent;
   left = course.left;

@@ -24,7 +24,8 @@ no_child (Some (Child child held)) f = absurd (f child held refl)
 abbrev pub IsBest : (List ℕ → Option Content) → (List ℕ → Bool) → Option (List ℕ) → Option ℕ → Type 0
 IsBest contents passes best child = IsGreatestKey contents passes best × MatchOption best (child ≡ None) (λ key. child ≡ child_in (contents key))
 
-pub best_new : (records : List Record) (passes : List ℕ → Bool) (key : List ℕ) (content : Content) (child : Option ℕ) → IsGreatest (content_in records) passes key content → child ≡ child_in (Some content)
+pub best_new : (records : List Record) (passes : List ℕ → Bool) (key : List ℕ) (content : Content) (child : Option ℕ)
+    → IsGreatest (content_in records) passes key content → child ≡ child_in (Some content)
     → IsBest (content_in records) passes (Some key) child
 best_new records passes key content child g e = ((content, g), e ∙ ap child_in (sym g.has))
 
@@ -61,9 +62,11 @@ module _ (chain : List Record) (fitted : IsFitted chain) where
 
   pub child_found : (passes : List ℕ → Bool) (key : List ℕ) (content : Content) (child : Option ℕ) → IsGreatest (content_in chain) passes key content → child ≡ child_in (Some content)
       → MatchOption child (HasNoChild (content_in chain) passes) (IsGreatestChild (content_in chain) passes)
-  child_found passes key content child g e = subst (λ r. MatchOption r (HasNoChild (content_in chain) passes) (IsGreatestChild (content_in chain) passes)) (sym e) (child_at_greatest passes key content g)
+  child_found passes key content child g e =
+      subst (λ r. MatchOption r (HasNoChild (content_in chain) passes) (IsGreatestChild (content_in chain) passes)) (sym e) (child_at_greatest passes key content g)
 
   pub child_best : (passes : List ℕ → Bool) (best : Option (List ℕ)) (child : Option ℕ) → IsBest (content_in chain) passes best child
       → MatchOption child (HasNoChild (content_in chain) passes) (IsGreatestChild (content_in chain) passes)
-  child_best passes None child b = subst (λ r. MatchOption r (HasNoChild (content_in chain) passes) (IsGreatestChild (content_in chain) passes)) (sym b.1) (record { none = λ q pass. ap child_in (b.0 q pass) })
+  child_best passes None child b =
+      subst (λ r. MatchOption r (HasNoChild (content_in chain) passes) (IsGreatestChild (content_in chain) passes)) (sym b.1) (record { none = λ q pass. ap child_in (b.0 q pass) })
   child_best passes (Some key) child b = child_found passes key b.0.0 child b.0.1 (b.1 ∙ ap child_in b.0.1.has)

@@ -170,7 +170,8 @@ both_bounds separator (Some bound) key = either (is_below separator bound)
     none true = refl
     none false = refl
 
-count_lower : (separator : List ℕ) (bound : Option (List ℕ)) (items : List Item) → count_under bound (lower separator items) ≡ count_under (if is_under separator bound then Some separator else bound) items
+count_lower : (separator : List ℕ) (bound : Option (List ℕ)) (items : List Item)
+    → count_under bound (lower separator items) ≡ count_under (if is_under separator bound then Some separator else bound) items
 count_lower separator bound [] = refl
 count_lower separator bound (item ∷ items) =
     let rest = count_lower separator bound items in
@@ -191,7 +192,8 @@ changed_by_split bound split under items rest has under_has =
 
 -- a merge
 
-pub changed_by_merge : (bound : Option (List ℕ)) (merge : Merge) (under : List Record) (items rest : List Item) → FitsOver under (kind.Merge merge) → IsFitted under → IsItemsOf (kind.Merge merge ∷ under) items → IsItemsOf under rest
+pub changed_by_merge : (bound : Option (List ℕ)) (merge : Merge) (under : List Record) (items rest : List Item) → FitsOver under (kind.Merge merge)
+    → IsFitted under → IsItemsOf (kind.Merge merge ∷ under) items → IsItemsOf under rest
     → count_under bound items ≡ count_under bound rest + count_under bound merge.items
 changed_by_merge bound merge under items rest over fitted has under_has =
     let page = over.page in

@@ -57,7 +57,8 @@ shown_ascends below key (Child page held) pairs above h = h
 among_ascends : (from : List ℕ) (items : List Item) → Ascends items → IsStrictlySortedBy key_cmp (map (λ (pair : Pair). pair.0) (among from items))
 unfolding IsStrictlySortedBy
 among_ascends from [] h = tt
-among_ascends from (item ∷ items) h = shown_ascends (is_below item.key from) item.key item.content (among from items) (all_among (λ other. key_cmp item.key other ≡ Less) from items h.0) (among_ascends from items h.1)
+among_ascends from (item ∷ items) h =
+    shown_ascends (is_below item.key from) item.key item.content (among from items) (all_among (λ other. key_cmp item.key other ≡ Less) from items h.0) (among_ascends from items h.1)
 
 -- what they have at a key
 
@@ -107,9 +108,11 @@ are_pairs from items ascending =
       exact = λ key value.
           let has = among_has from items order key in (
             (λ contains.
-                let is : value_among key (among from items) ≡ Some value = lookup-from_Contains (eq_by_cmp_equiv nat_list_cmp_total) key value (among from items) (IsDistinct-from_sorted key_cmp (keys_of (among from items)) sorted) contains in
+                let is : value_among key (among from items) ≡ Some value = lookup-from_Contains (eq_by_cmp_equiv nat_list_cmp_total) key value
+                (among from items) (IsDistinct-from_sorted key_cmp (keys_of (among from items)) sorted) contains in
                 let h = there (not (is_below key from)) (value_of (content_at items key)) value (sym has ∙ is) in (and_both (not (is_below key from)) true h.0 refl, h.1)),
-            (λ h. Contains-from_lookup same key value (among from items) (has ∙ inside (not (is_below key from)) (value_of (content_at items key)) value (and_left (not (is_below key from)) true h.0) h.1)),
+            (λ h. Contains-from_lookup same key value (among from items)
+                (has ∙ inside (not (is_below key from)) (value_of (content_at items key)) value (and_left (not (is_below key from)) true h.0) h.1)),
           );
     }
 
@@ -122,7 +125,8 @@ value_under page is key value h = by (content_at page.items key) refl h
     by (Some content) e h = and_right (not (is_below key page.low)) (is_under key page.high) (belongs page is key content e).within
 
 -- the pairs of the page that a chain makes are those of the chain
-pub pairs_in : (chain : List Record) (page : Page) (from : List ℕ) (pairs : List Pair) → Makes chain page → IsPage page → ArePairsOf (λ key. value_of (content_at page.items key)) from None pairs → ArePairsOf (found chain) from (high_in chain) pairs
+pub pairs_in : (chain : List Record) (page : Page) (from : List ℕ) (pairs : List Pair) → Makes chain page → IsPage page
+    → ArePairsOf (λ key. value_of (content_at page.items key)) from None pairs → ArePairsOf (found chain) from (high_in chain) pairs
 pairs_in chain page from pairs makes is are = record {
   ascending = are.ascending;
   exact = λ key value.

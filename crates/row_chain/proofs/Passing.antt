@@ -62,7 +62,8 @@ module _ (items : List Item) (are : AreItems items) (bound : List ℕ) (place : 
   at_before = let same : place ≡ place + 1 - 1 = omega arith in subst (IsAt items bound) same at
 
 -- the records before a place, with the one there, and those behind it
-pub one_further : (rows : List PlacedRecord) (place : ℕ) (row : PlacedRecord) → place + 1 ≤ length rows → row ≡ get_or rows place row → contents (take (place + 1) rows) ≡ contents (take place rows) ++ row.content ∷ []
+pub one_further : (rows : List PlacedRecord) (place : ℕ) (row : PlacedRecord) → place + 1 ≤ length rows → row ≡ get_or rows place row
+    → contents (take (place + 1) rows) ≡ contents (take place rows) ++ row.content ∷ []
 one_further rows place row within is =
     ap contents (take_more rows place row (omega (arith, within)) ∙ ap (λ (r : PlacedRecord). take place rows ++ r ∷ []) (sym is))
     ∙ map-append (λ (placed : PlacedRecord). placed.content) (take place rows) (row ∷ [])

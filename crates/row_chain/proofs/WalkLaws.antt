@@ -55,7 +55,8 @@ content_over : (newer older : List Record) (key : List ℕ) → content_in (newe
 content_over [] older key = refl
 content_over (newest ∷ under) older key = by_name (names newest key) (content_over under older key)
   where
-    by_name : (b : Bool) → content_in (under ++ older) key ≡ (if is_named under key then content_in under key else content_in older key) → (if b then content_said newest key else content_in (under ++ older) key)
+    by_name : (b : Bool) → content_in (under ++ older) key ≡ (if is_named under key then content_in under key else content_in older key)
+        → (if b then content_said newest key else content_in (under ++ older) key)
         ≡ (if (if b then true else is_named under key) then (if b then content_said newest key else content_in under key) else content_in older key)
     by_name true rest = refl
     by_name false rest = rest
@@ -89,7 +90,8 @@ module _ (newer older : List Record) (passes : List ℕ → Bool) where
   open_unnamed : (key : List ℕ) → IsTrue (Open key) → is_named newer key ≡ false
   open_unnamed key h = not_true (is_named newer key) (and_right (passes key) (not (is_named newer key)) h)
 
-  from_older : (key : List ℕ) (content : Content) → IsGreatestKey (content_in newer) passes None → IsGreatest (content_in older) Open key content → IsGreatest (content_in (newer ++ older)) passes key content
+  from_older : (key : List ℕ) (content : Content) → IsGreatestKey (content_in newer) passes None → IsGreatest (content_in older) Open key content
+      → IsGreatest (content_in (newer ++ older)) passes key content
   from_older key content none g = record {
     has = beside newer older key (open_unnamed key g.passing) ∙ g.has;
     passing = open_passes key g.passing;
@@ -156,7 +158,8 @@ pub untaken : (newer : List Record) (key : List ℕ) → content_in newer key �
 untaken [] key none h = refl
 untaken (newest ∷ under) key none h = by (names newest key) (may_take newest) refl (untaken under key) none h
   where
-    by : (b may : Bool) → may_take newest ≡ may → (content_in under key ≡ None → is_taken under key ≡ false → is_named under key ≡ false) → (if b then content_said newest key else content_in under key) ≡ None → (if may && b then true else is_taken under key) ≡ false
+    by : (b may : Bool) → may_take newest ≡ may → (content_in under key ≡ None → is_taken under key ≡ false → is_named under key ≡ false)
+        → (if b then content_said newest key else content_in under key) ≡ None → (if may && b then true else is_taken under key) ≡ false
         → (if b then true else is_named under key) ≡ false
     by true true e rest none h = cc
     by true false e rest none h = absurd (gives newest key e none)
@@ -198,7 +201,8 @@ in_range page is key = either (is_in_range page.low page.high key)
     by_content (Some content) e out = let clash : true ≡ false = sym (belongs page is key content e).within ∙ out in cc
 
 -- one item more, from the last one on
-pub one_more : (P : Item → Type 0) (items : List Item) (place count : ℕ) → 0 < place → AllWithin P items place count → ((d : Item) → P (get_or items (place - 1) d)) → AllWithin P items (place - 1) count
+pub one_more : (P : Item → Type 0) (items : List Item) (place count : ℕ) → 0 < place → AllWithin P items place count
+    → ((d : Item) → P (get_or items (place - 1) d)) → AllWithin P items (place - 1) count
 one_more P items place count some all here k d low high = by (ltb k place) refl
   where
     by : (b : Bool) → ltb k place ≡ b → P (get_or items k d)

@@ -14,7 +14,8 @@ use Rattle.row_chain.specs.Walks.{is_above, is_named, is_open, is_taken, IsGreat
 use Rattle.row_chain.proofs.Offers.{by_items}
 use Rattle.row_chain.proofs.WalkLaws.{down, last_open, none_open, none_there, not_there, offers_item, offers_none, outdoes, stays, under, untaken, upto_there}
 
-module _ (row : Record) (newer : List Record) (spellable : IsSpellable row) (passes : List ℕ → Bool) (are : AreItems (items_said row)) (count : ℕ) (cut : PassesUpTo (items_said row) passes count) (best : Option (List ℕ))
+module _ (row : Record) (newer : List Record) (spellable : IsSpellable row) (passes : List ℕ → Bool) (are : AreItems (items_said row)) (count : ℕ)
+    (cut : PassesUpTo (items_said row) passes count) (best : Option (List ℕ))
     (g : IsGreatestKey (content_in newer) passes best) (place : ℕ) (named : AllWithin (λ (item : Item). is_named newer item.key ≡ true) (items_said row) place count) where
   -- each of them is named
   pub none_left : place ≡ 0 → IsGreatestKey (content_in (newer ++ row ∷ [])) passes best
@@ -34,7 +35,8 @@ module _ (row : Record) (newer : List Record) (spellable : IsSpellable row) (pas
     -- it isn't above the greatest one, nor are those before it
     pub outdone : is_above best here.key ≡ false → IsGreatestKey (content_in (newer ++ row ∷ [])) passes best
     outdone not_above = stays newer (row ∷ []) passes best g
-        (λ other free there. beyond best other not_above (upto_there (items_said row) are newer passes count cut place named d some within other free (subst IsSome (by_items row other spellable) there)))
+        (λ other free there. beyond best other not_above
+        (upto_there (items_said row) are newer passes count cut place named d some within other free (subst IsSome (by_items row other spellable) there)))
 
     -- it is above the greatest one, and isn't taken away
     pub wins : IsTrue (is_above best here.key) → is_taken newer here.key ≡ false → IsGreatest (content_in (newer ++ row ∷ [])) passes here.key here.content

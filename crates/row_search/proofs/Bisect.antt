@@ -31,14 +31,16 @@ module _ (items : List Item) (asc : IsAscending items) (key : List ℕ) (middle 
 
   pub upper : ((d : Item) → key_cmp (get_or items middle d).key key ≡ Greater) → AllWithin (λ item. key_cmp item.key key ≡ Greater) items middle (length items)
   upper greater k d low high = elim (cases_lt middle k) [
-    | inl lt ↦ above key (get_or items k d).key (below-trans key (get_or items middle d).key (get_or items k d).key (below (get_or items middle d).key key (greater d)) (sorted items middle k d asc lt high))
+    | inl lt ↦ above key (get_or items k d).key
+        (below-trans key (get_or items middle d).key (get_or items k d).key (below (get_or items middle d).key key (greater d)) (sorted items middle k d asc lt high))
     | inr ge ↦ let e : middle ≡ k = omega arith in subst (λ j. key_cmp (get_or items j d).key key ≡ Greater) e (greater d)
   ]
 
   pub found_at : ((d : Item) → key_cmp (get_or items middle d).key key ≡ Equal) → IsAt items key middle
   found_at equal = record { within = within; found = λ d. same (get_or items middle d).key key (ap is_eq (equal d)) }
 
-pub gap_at : (items : List Item) (key : List ℕ) (place : ℕ) → place ≤ length items → AllWithin (λ item. key_cmp item.key key ≡ Less) items 0 place → AllWithin (λ item. key_cmp item.key key ≡ Greater) items place (length items) → IsGap items key place
+pub gap_at : (items : List Item) (key : List ℕ) (place : ℕ) → place ≤ length items → AllWithin (λ item. key_cmp item.key key ≡ Less) items 0 place
+    → AllWithin (λ item. key_cmp item.key key ≡ Greater) items place (length items) → IsGap items key place
 gap_at items key place within low high = record {
   within = within;
   below = within_take (λ (item : Item). key_cmp item.key key ≡ Less) items place within low;

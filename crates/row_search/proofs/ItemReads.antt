@@ -72,7 +72,8 @@ module _ (words : List ℕ) (content : Record) (h : IsSpelling content words) (p
 
   pub child_there : 0 < (row_of content).level → Child (get_or words (at + field_size) 0) (nat_le held_mark (get_or words at 0)) ≡ item.content
   child_there above =
-      let index : ((row_of content).level == 0) ≡ false = false_from_ne_true ((row_of content).level == 0) (λ is. let z : (row_of content).level ≡ 0 = eqb-true (row_of content).level 0 is in omega arith) in
+      let index : ((row_of content).level == 0) ≡ false = false_from_ne_true ((row_of content).level == 0)
+      (λ is. let z : (row_of content).level ≡ 0 = eqb-true (row_of content).level 0 is in omega arith) in
       (λ i. Child (sym (get_or-drop at words field_size 0) i) (nat_le held_mark (sym first_word i)))
       ∙ ap (λ b. if b then Value (field_in (drop field_size (drop at words))) else Child (get_or (drop at words) field_size 0) (nat_le held_mark (get_or (drop at words) 0 0))) (sym index)
       ∙ ap (λ (one : Item). one.content) read
@@ -81,7 +82,9 @@ module _ (words : List ℕ) (content : Record) (h : IsSpelling content words) (p
   page_fits above = subst (λ n. n < 4194304) (sym (ap page_word (child_there above))) (small_page item.content is.child)
 
   content_stands : take field_size (drop (at + field_size) words) ≡ content_words item.content
-  content_stands = ap (take field_size) (sym (drop-drop field_size at words)) ∙ sym (window field_size field_size item_size (drop at words) (omega arith)) ∙ ap (λ ws. take field_size (drop field_size ws)) item_here ∙ content_of item.content
+  content_stands =
+      ap (take field_size) (sym (drop-drop field_size at words)) ∙ sym (window field_size field_size item_size (drop at words) (omega arith))
+      ∙ ap (λ ws. take field_size (drop field_size ws)) item_here ∙ content_of item.content
 
   text_of : (content : Content) → IsShortContent content → IsOfLevel 0 content → take field_size (drop (at + field_size) words) ≡ content_words content
       → (value : List ℕ) × ((Value value ≡ content) × IsText (get_or words (at + field_size) 0) (take text_size (drop (at + suc field_size) words)) value)
@@ -100,7 +103,8 @@ module _ (words : List ℕ) (content : Record) (h : IsSpelling content words) (p
       ap Value (text_same (get_or words (at + field_size) 0) (take text_size (drop (at + suc field_size) words)) value there.0 text there.1.1) ∙ there.1.0
 
 -- what stands at a place
-pub marked : (words : List ℕ) (here other : ℕ) → here ≡ other → Child (get_or words (here + field_size) 0) (nat_le held_mark (get_or words here 0)) ≡ Child (get_or words (other + field_size) 0) (nat_le held_mark (get_or words other 0))
+pub marked : (words : List ℕ) (here other : ℕ) → here ≡ other
+    → Child (get_or words (here + field_size) 0) (nat_le held_mark (get_or words here 0)) ≡ Child (get_or words (other + field_size) 0) (nat_le held_mark (get_or words other 0))
 marked words here other e = λ i. Child (get_or words (e i + field_size) 0) (nat_le held_mark (get_or words (e i) 0))
 
 -- the words that a slice of an item's words gives
@@ -114,16 +118,19 @@ module _ (words : List ℕ) (from to here other : ℕ) (text : List ℕ) (e : he
       let m : from ≡ other + suc field_size = omega arith in
       λ i. take (n i) (drop (m i) words)
 
-  pub from_slice : IsText (get_or words (here + field_size) 0) (take (to - from) (drop from words)) text → IsText (get_or words (other + field_size) 0) (take text_size (drop (other + suc field_size) words)) text
+  pub from_slice : IsText (get_or words (here + field_size) 0) (take (to - from) (drop from words)) text
+      → IsText (get_or words (other + field_size) 0) (take text_size (drop (other + suc field_size) words)) text
   from_slice h = subst (λ n. IsText n (take text_size (drop (other + suc field_size) words)) text) count (subst (λ ws. IsText (get_or words (here + field_size) 0) ws text) text_stands_at h)
 
-  pub to_slice : IsText (get_or words (other + field_size) 0) (take text_size (drop (other + suc field_size) words)) text → IsText (get_or words (here + field_size) 0) (take (to - from) (drop from words)) text
+  pub to_slice : IsText (get_or words (other + field_size) 0) (take text_size (drop (other + suc field_size) words)) text
+      → IsText (get_or words (here + field_size) 0) (take (to - from) (drop from words)) text
   to_slice h = subst (λ n. IsText n (take (to - from) (drop from words)) text) (sym count) (subst (λ ws. IsText (get_or words (other + field_size) 0) ws text) (sym text_stands_at) h)
 
 pub second_there : (words : List ℕ) (second : Option (List ℕ)) → IfSome second IsShort → bound_words second ≡ take field_size (drop second_at words) → (get_or words second_at 0 ≡ no_bound → ⊥)
     → (text : List ℕ) → IsText (get_or words second_at 0) (take text_size (drop (suc second_at) words)) text → Some text ≡ second
 second_there words None short e bounded text h = absurd (bounded (sym (get_or-drop second_at words 0 0) ∙ sym (first_of text_size (drop second_at words)) ∙ ap (λ ws. get_or ws 0 0) (sym e)))
-second_there words (Some other) short e bounded text h = ap Some (text_same (get_or words second_at 0) (take text_size (drop (suc second_at) words)) text other h (text_at other words second_at short e))
+second_there words (Some other) short e bounded text h =
+    ap Some (text_same (get_or words second_at 0) (take text_size (drop (suc second_at) words)) text other h (text_at other words second_at short e))
 
 pub second_text : (words : List ℕ) (second : Option (List ℕ)) → IfSome second IsShort → bound_words second ≡ take field_size (drop second_at words) → (get_or words second_at 0 ≡ no_bound → ⊥)
     → (text : List ℕ) × IsText (get_or words second_at 0) (take text_size (drop (suc second_at) words)) text

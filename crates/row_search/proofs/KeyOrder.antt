@@ -77,8 +77,10 @@ split : (m n k : ℕ) (x y : List ℕ) → k ≡ m + n → slice_cmp nat_cmp (pa
 split zero n k x y e = let same : k ≡ n = omega arith in ap (λ j. slice_cmp nat_cmp (padded j x) (padded j y)) same
 split (suc m) n zero x y e = absurd (omega arith)
 split (suc m) n (suc k) x y e =
-    ap (ordering_then (nat_cmp (get_or x 0 0) (get_or y 0 0))) (split m n k (drop 1 x) (drop 1 y) (omega arith) ∙ (λ i. ordering_then (slice_cmp nat_cmp (padded m (drop 1 x)) (padded m (drop 1 y))) (slice_cmp nat_cmp (padded n (drop_one m x i)) (padded n (drop_one m y i)))))
-    ∙ sym (then_assoc (nat_cmp (get_or x 0 0) (get_or y 0 0)) (slice_cmp nat_cmp (padded m (drop 1 x)) (padded m (drop 1 y))) (slice_cmp nat_cmp (padded n (drop (suc m) x)) (padded n (drop (suc m) y))))
+    ap (ordering_then (nat_cmp (get_or x 0 0) (get_or y 0 0))) (split m n k (drop 1 x) (drop 1 y) (omega arith) ∙
+    (λ i. ordering_then (slice_cmp nat_cmp (padded m (drop 1 x)) (padded m (drop 1 y))) (slice_cmp nat_cmp (padded n (drop_one m x i)) (padded n (drop_one m y i)))))
+    ∙ sym
+    (then_assoc (nat_cmp (get_or x 0 0) (get_or y 0 0)) (slice_cmp nat_cmp (padded m (drop 1 x)) (padded m (drop 1 y))) (slice_cmp nat_cmp (padded n (drop (suc m) x)) (padded n (drop (suc m) y))))
 
 drop_bytes : (n : ℕ) (xs : List ℕ) → AreBytes xs → AreBytes (drop n xs)
 drop_bytes zero xs h = h

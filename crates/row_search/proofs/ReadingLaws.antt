@@ -47,7 +47,8 @@ bound_read None words short e =
 bound_read (Some text) words short e =
     let count : get_or words 0 0 ≡ length text = sym (first_of text_size words) ∙ ap (λ ws. get_or ws 0 0) (sym e) in
     let few = short.short in
-    let none : (get_or words 0 0 == no_bound) ≡ false = false_from_ne_true (get_or words 0 0 == no_bound) (λ is. let e : get_or words 0 0 ≡ no_bound = eqb-true (get_or words 0 0) no_bound is in omega arith) in
+    let none : (get_or words 0 0 == no_bound) ≡ false = false_from_ne_true (get_or words 0 0 == no_bound)
+    (λ is. let e : get_or words 0 0 ≡ no_bound = eqb-true (get_or words 0 0) no_bound is in omega arith) in
     ap (λ b. if b then None else Some (field_in words)) none ∙ ap Some (field_read text words short e)
 
 right_read : (right : Option ℕ) → IfSome right IsPid → page_or_none (unwrap_or right 0) ≡ right
@@ -59,7 +60,8 @@ held_read : (held : Bool) (count word : ℕ) → count ≤ longest → word ≡ 
 held_read true count word few e = true_from_ne_false (nat_le held_mark word) (λ is. let l : word < held_mark = leb-false held_mark word is in omega arith)
 held_read false count word few e = false_from_ne_true (nat_le held_mark word) (λ is. let l : held_mark ≤ word = leb-true held_mark word is in omega arith)
 
-content_read : (level : ℕ) (content : Content) (words : List ℕ) → IsShortContent content → IsOfLevel level content → nat_le held_mark (get_or words 0 0) ≡ is_held content → take field_size (drop field_size words) ≡ content_words content
+content_read : (level : ℕ) (content : Content) (words : List ℕ) → IsShortContent content → IsOfLevel level content
+    → nat_le held_mark (get_or words 0 0) ≡ is_held content → take field_size (drop field_size words) ≡ content_words content
     → (if level == 0 then Value (field_in (drop field_size words)) else Child (get_or words field_size 0) (nat_le held_mark (get_or words 0 0))) ≡ content
 content_read level (Value value) words short leaf held e =
     ap (λ l. if l == 0 then Value (field_in (drop field_size words)) else Child (get_or words field_size 0) (nat_le held_mark (get_or words 0 0))) leaf
@@ -81,8 +83,10 @@ item_read level item words is e =
     let count : get_or words 0 0 % held_mark ≡ length item.key = ap (λ n. n % held_mark) first ∙ unmarked (is_held item.content) (length item.key) few in
     let text_stands_at : take text_size (drop 1 words) ≡ text_words text_size item.key = sym (window text_size 1 item_size words (omega arith)) ∙ ap (λ ws. take text_size (drop 1 ws)) e in
     let key : text_in (get_or words 0 0 % held_mark) (drop 1 words) ≡ item.key = ap (λ n. text_in n (drop 1 words)) count ∙ text_read item.key (drop 1 words) is.short.0 text_stands_at in
-    let content_stands : take field_size (drop field_size words) ≡ take field_size (content_words item.content) = sym (window field_size field_size item_size words (omega arith)) ∙ ap (λ ws. take field_size (drop field_size ws)) e in
-    let content = content_read level item.content words is.short.1 is.kind (held_read (is_held item.content) (length item.key) (get_or words 0 0) few first) (content_stands ∙ content_of item.content) in
+    let content_stands : take field_size (drop field_size words) ≡ take field_size (content_words item.content) = sym
+    (window field_size field_size item_size words (omega arith)) ∙ ap (λ ws. take field_size (drop field_size ws)) e in
+    let content = content_read level item.content words is.short.1 is.kind (held_read (is_held item.content) (length item.key) (get_or words 0 0) few first)
+    (content_stands ∙ content_of item.content) in
     λ i. record { key = key i; content = content i }
 
 drop_take : (a n k : ℕ) (xs : List ℕ) → k ≡ a + n → drop a (take k xs) ≡ take n (drop a xs)
@@ -97,12 +101,14 @@ items_read level [] words each e = refl
 items_read level (item ∷ items) words each e =
     let n : ℕ = length items in
     let item_here : take item_size words ≡ item_words item = sym (window item_size 0 (item_size * suc n) words (omega arith)) ∙ ap (take item_size) (sym e) ∙ first_words item (items_words items) in
-    let behind : items_words items ≡ take (item_size * n) (drop item_size words) = sym (behind_words item (items_words items) 0) ∙ ap (drop item_size) e ∙ drop_take item_size (item_size * n) (item_size * suc n) words (omega arith) in
+    let behind : items_words items ≡ take (item_size * n) (drop item_size words) = sym (behind_words item (items_words items) 0) ∙ ap (drop item_size) e ∙
+    drop_take item_size (item_size * n) (item_size * suc n) words (omega arith) in
     let first = item_read level item words (All-head (IsItem level) item items each) item_here in
     let rest = items_read level items (drop item_size words) (All-tail (IsItem level) item items each) behind in
     λ i. first i ∷ rest i
 
-from_parts : (content : Record) → IsSpellable content → record_from (row_of content).kind (row_of content).level (row_of content).next (row_of content).page (row_of content).first (row_of content).second (items_of content) ≡ content
+from_parts : (content : Record) → IsSpellable content
+    → record_from (row_of content).kind (row_of content).level (row_of content).next (row_of content).page (row_of content).first (row_of content).second (items_of content) ≡ content
 from_parts (Base page) h = λ i. Base (record { level = page.level; low = page.low; high = page.high; right = right_read page.right h.right i; removed = sym h.alive i; items = page.items })
 from_parts (Put put) h = refl
 from_parts (Delete delete) h = refl
@@ -126,9 +132,11 @@ reading words content h =
     let low = field_read (row_of content).first (drop first_at words) is.is.first is.first in
     let high = bound_read (row_of content).second (drop second_at words) is.is.second is.second in
     let many : (row_of content).count ≡ length (items_of content) = sym (counts content) in
-    let items = items_read (row_of content).level (items_of content) (drop items_at words) (items_fit content h.spellable h.short) (items_spelled words content h ∙ ap (λ n. take (item_size * n) (drop items_at words)) many) in
+    let items = items_read (row_of content).level (items_of content) (drop items_at words) (items_fit content h.spellable h.short)
+    (items_spelled words content h ∙ ap (λ n. take (item_size * n) (drop items_at words)) many) in
     (λ i. record_from (kind i) (level i) (sym is.next i) (sym is.page i) (low i) (high i) (items_in (level i) (count i) (drop items_at words)))
-    ∙ ap (λ n. record_from (row_of content).kind (row_of content).level (row_of content).next (row_of content).page (row_of content).first (row_of content).second (items_in (row_of content).level n (drop items_at words))) many
+    ∙ ap (λ n. record_from (row_of content).kind (row_of content).level (row_of content).next (row_of content).page (row_of content).first
+    (row_of content).second (items_in (row_of content).level n (drop items_at words))) many
     ∙ ap (record_from (row_of content).kind (row_of content).level (row_of content).next (row_of content).page (row_of content).first (row_of content).second) items
     ∙ from_parts content h.spellable
 

@@ -150,11 +150,13 @@ module _ (key : List ℕ) where
   above_some (Some bound) o e = below_turned key bound ∙ ap (λ (p : Option Ordering). elim p as (λ q. Bool) [ None ↦ true | Some r ↦ is_gt r ]) (sym e)
 
   pub second_by : (words : List ℕ) (second : Option (List ℕ)) → IfSome second IsShort → bound_words second ≡ take field_size (drop second_at words) → (get_or words second_at 0 ≡ no_bound → ⊥)
-      → (o : Ordering) → ((text : List ℕ) → IsText (get_or words second_at 0) (take text_size (drop (suc second_at) words)) text → o ≡ key_cmp text key) → Some o ≡ option_map (λ bound. key_cmp bound key) second
+      → (o : Ordering) → ((text : List ℕ) → IsText (get_or words second_at 0) (take text_size (drop (suc second_at) words)) text → o ≡ key_cmp text key)
+      → Some o ≡ option_map (λ bound. key_cmp bound key) second
   second_by words None short e bounded o said = absurd (bounded (sym (get_or-drop second_at words 0 0) ∙ sym (first_of text_size (drop second_at words)) ∙ ap (λ ws. get_or ws 0 0) (sym e)))
   second_by words (Some text) short e bounded o said = ap Some (said text (text_at text words second_at short e))
 
-  pub names_single : (content : Record) → ((row_of content).kind ≡ 1 → ⊥) → ((row_of content).kind ≡ 2 → ⊥) → ((row_of content).kind ≡ 4 → ⊥) → ((row_of content).kind ≡ 7 → ⊥) → ((row_of content).kind ≡ 8 → ⊥)
+  pub names_single : (content : Record) → ((row_of content).kind ≡ 1 → ⊥) → ((row_of content).kind ≡ 2 → ⊥) → ((row_of content).kind ≡ 4 → ⊥)
+      → ((row_of content).kind ≡ 7 → ⊥) → ((row_of content).kind ≡ 8 → ⊥)
       → names content key ≡ is_eq (key_cmp (row_of content).first key)
   names_single (Base page) a b c d e = absurd (a refl)
   names_single (Put put) a b c d e = absurd (b refl)

@@ -32,7 +32,8 @@ module _ (key : List ℕ) where
   said_merge (Merge merge) e = refl
   said_merge content e = absurd (omega arith)
 
-  pub said_none : (content : Record) → ((row_of content).kind ≡ 1 → ⊥) → ((row_of content).kind ≡ 2 → ⊥) → ((row_of content).kind ≡ 5 → ⊥) → ((row_of content).kind ≡ 6 → ⊥) → ((row_of content).kind ≡ 8 → ⊥)
+  pub said_none : (content : Record) → ((row_of content).kind ≡ 1 → ⊥) → ((row_of content).kind ≡ 2 → ⊥) → ((row_of content).kind ≡ 5 → ⊥)
+      → ((row_of content).kind ≡ 6 → ⊥) → ((row_of content).kind ≡ 8 → ⊥)
       → None ≡ content_said content key
   said_none (Base page) a b c d e = absurd (a refl)
   said_none (Put put) a b c d e = absurd (b refl)
@@ -52,7 +53,8 @@ some_right (Some page) h = refl
 no_some : {G : Type 0} → ◌≡◌ {A = Option ℕ} (Some 0) None → G
 no_some e = let n : ◌≡◌ {A = ℕ} 0 1 = ap (λ (right : Option ℕ). unwrap_or right 1) e in absurd (omega arith)
 
-pub right_some : (content : Record) → ((right : Option ℕ) → right_after content right ≡ right_after content None) → ((row_of content).page ≡ 0 → ⊥) → Some (row_of content).page ≡ right_after content None
+pub right_some : (content : Record) → ((right : Option ℕ) → right_after content right ≡ right_after content None) → ((row_of content).page ≡ 0 → ⊥)
+    → Some (row_of content).page ≡ right_after content None
 right_some (Base page) f h = some_right page.right h
 right_some (Put put) f h = no_some (f (Some 0))
 right_some (Delete delete) f h = no_some (f (Some 0))

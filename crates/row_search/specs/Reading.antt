@@ -69,4 +69,6 @@ abbrev pub count_in : List ℕ → ℕ
 count_in words = slice_index words 0 / ITEM_UNIT % PART_LIMIT
 
 abbrev pub record_in : List ℕ → Record
-record_in words = record_from (kind_in words) (level_of_words words) (slice_index words 1) (slice_index words 2) (field_in (drop FIRST_KEY words)) (bound_in (drop SECOND_KEY words)) (items_in (level_of_words words) (count_in words) (drop FIRST_ITEM words))
+record_in words =
+    record_from (kind_in words) (level_of_words words) (slice_index words 1) (slice_index words 2) (field_in (drop FIRST_KEY words))
+    (bound_in (drop SECOND_KEY words)) (items_in (level_of_words words) (count_in words) (drop FIRST_ITEM words))

@@ -39,7 +39,8 @@ busy_of old seat is busy = subst (λ s. IsSome (unfinished_command s)) (sym is) 
 pub advances_of : (old seat new : Seat) (reply : Option Reply) → seat ≡ old → Advances seat reply new → Advances old reply new
 advances_of old seat new reply is h = subst (λ s. Advances s reply new) is h
 
-module _ (laws : HaveLaws) (limits : Limits) (a : ℕ) (seen : List Entry) (now : Actor) (h : IsSeated limits a seen now) (busy : IsSome (command_of seen a)) (asked : StepOf Record) (e : wanted_by now.running ≡ Some asked) where
+module _ (laws : HaveLaws) (limits : Limits) (a : ℕ) (seen : List Entry) (now : Actor) (h : IsSeated limits a seen now) (busy : IsSome (command_of seen a))
+    (asked : StepOf Record) (e : wanted_by now.running ≡ Some asked) where
   abbrev k : Knowledge
   k = knows seen a
 
@@ -50,7 +51,8 @@ module _ (laws : HaveLaws) (limits : Limits) (a : ℕ) (seen : List Entry) (now 
   w = wants limits a k r now asked h.shows e
 
   pub may_go : (asked ≡ Leave → ⊥) → IsLawfulStep IsLawfulRun limits a seen None asked None
-  may_go other = may_take laws limits a seen now h asked None (allowed limits a k r now asked w other) (useful limits a k r now asked w) (halved limits a k r now asked w) busy (due limits a k r now asked w)
+  may_go other =
+      may_take laws limits a seen now h asked None (allowed limits a k r now asked w other) (useful limits a k r now asked w) (halved limits a k r now asked w) busy (due limits a k r now asked w)
 
   pub known_may : May a k asked
   known_may = may limits a k r now asked w
@@ -62,7 +64,8 @@ module _ (laws : HaveLaws) (limits : Limits) (a : ℕ) (seen : List Entry) (now 
   goes told reply new f takes = goes_so limits a k r now asked w told f reply new (takes limits a k r (going limits a k r now asked w told f))
 
   -- a step with its reply, for which the actor was asked, before or after it was taken
-  module _ (told : Answer Record) (reply : Option Reply) (later : List Entry) (new : Actor) (took : Took IsLawfulRun limits a seen None asked told reply later) (g : ActsOn limits a k r now asked told reply new) where
+  module _ (told : Answer Record) (reply : Option Reply) (later : List Entry) (new : Actor) (took : Took IsLawfulRun limits a seen None asked told reply later)
+      (g : ActsOn limits a k r now asked told reply new) where
     pub seated_so : running_command new ≡ command_left reply (running_command now) → IsSeated limits a later new
     seated_so runs = seated_then laws limits a seen now h asked reply g.allowed g.useful g.halved told later took new g runs busy
 
@@ -113,7 +116,8 @@ module _ (laws : HaveLaws) (limits : Limits) (a : ℕ) (seen : List Entry) (now 
       advances_on table table' = advances_so told reply later new took_so (goes told reply new fit takes) table table'
 
 -- a Leave, whose reply was asked for before it was taken
-module _ (laws : HaveLaws) (limits : Limits) (a : ℕ) (seen : List Entry) (now : Actor) (h : IsSeated limits a seen now) (busy : IsSome (command_of seen a)) (e : wanted_by now.running ≡ Some Leave) where
+module _ (laws : HaveLaws) (limits : Limits) (a : ℕ) (seen : List Entry) (now : Actor) (h : IsSeated limits a seen now) (busy : IsSome (command_of seen a))
+    (e : wanted_by now.running ≡ Some Leave) where
   wl : Wants limits a (knows seen a) (recalls seen a) now Leave
   wl = wants limits a (knows seen a) (recalls seen a) now Leave h.shows e
 

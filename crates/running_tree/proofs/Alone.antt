@@ -121,10 +121,19 @@ module _ (limits : Limits) (run : List Entry) (runs : IsRun limits run) where
         absurd (none_some (command_of run 0) idle (subst IsSome (sym (whole ∙ now)) refl))
     parse None before (Begin actor asked ∷ rest) is ours now =
         let here : run ≡ before ++ Begin 0 asked ∷ rest = is ∙ ap (λ a. before ++ Begin a asked ∷ rest) ours.0 in
-        let p : ParsedIn asked rest = parse (Some asked) (before ++ Begin 0 asked ∷ []) rest (further before (Begin 0 asked) rest here) ours.1 (ap (λ cs. cs 0) (command_of-push before (Begin 0 asked))) in
+        let p : ParsedIn asked rest = parse (Some asked) (before ++ Begin 0 asked ∷ []) rest (further before (Begin 0 asked) rest here) ours.1
+        (ap (λ cs. cs 0) (command_of-push before (Begin 0 asked))) in
         record {
           calls = (asked, Some p.reply) ∷ p.calls;
-          blocks = (p.mid, p.step, p.answer, p.after, (let front : Begin actor asked ∷ rest ≡ Begin 0 asked ∷ rest = ap (λ a. Begin a asked ∷ rest) ours.0 in front ∙ ap (λ es. Begin 0 asked ∷ es) p.is), p.silent, p.blocks);
+          blocks = (
+            p.mid,
+            p.step,
+            p.answer,
+            p.after,
+            (let front : Begin actor asked ∷ rest ≡ Begin 0 asked ∷ rest = ap (λ a. Begin a asked ∷ rest) ours.0 in front ∙ ap (λ es. Begin 0 asked ∷ es) p.is),
+            p.silent,
+            p.blocks,
+          );
           along = p.along;
         }
     parse (Some command) before (Begin actor asked ∷ rest) is ours now =
@@ -135,14 +144,17 @@ module _ (limits : Limits) (run : List Entry) (runs : IsRun limits run) where
         absurd (none_some (command_of before 0) now (next before (Step 0 step answer reply) rest here).0)
     parse (Some command) before (Step actor step answer None ∷ rest) is ours now =
         let here : run ≡ before ++ Step 0 step answer None ∷ rest = is ∙ ap (λ a. before ++ Step a step answer None ∷ rest) ours.0 in
-        let p : ParsedIn command rest = parse (Some command) (before ++ Step 0 step answer None ∷ []) rest (further before (Step 0 step answer None) rest here) ours.1 (ap (λ cs. cs 0) (command_of-push before (Step 0 step answer None)) ∙ now) in
+        let p : ParsedIn command rest = parse (Some command) (before ++ Step 0 step answer None ∷ []) rest (further before (Step 0 step answer None) rest here)
+        ours.1 (ap (λ cs. cs 0) (command_of-push before (Step 0 step answer None)) ∙ now) in
         record {
           reply = p.reply;
           mid = Step 0 step answer None ∷ p.mid;
           step = p.step;
           answer = p.answer;
           after = p.after;
-          is = (let front : Step actor step answer None ∷ rest ≡ Step 0 step answer None ∷ rest = ap (λ a. Step a step answer None ∷ rest) ours.0 in front ∙ ap (λ es. Step 0 step answer None ∷ es) p.is);
+          is =
+              (let front : Step actor step answer None ∷ rest ≡ Step 0 step answer None ∷ rest = ap (λ a. Step a step answer None ∷ rest) ours.0 in front ∙ ap
+              (λ es. Step 0 step answer None ∷ es) p.is);
           silent = ((step, answer, refl), p.silent);
           calls = p.calls;
           blocks = p.blocks;
@@ -150,7 +162,8 @@ module _ (limits : Limits) (run : List Entry) (runs : IsRun limits run) where
         }
     parse (Some command) before (Step actor step answer (Some given) ∷ rest) is ours now =
         let here : run ≡ before ++ Step 0 step answer (Some given) ∷ rest = is ∙ ap (λ a. before ++ Step a step answer (Some given) ∷ rest) ours.0 in
-        let p : Parsed rest = parse None (before ++ Step 0 step answer (Some given) ∷ []) rest (further before (Step 0 step answer (Some given)) rest here) ours.1 (ap (λ cs. cs 0) (command_of-push before (Step 0 step answer (Some given)))) in
+        let p : Parsed rest = parse None (before ++ Step 0 step answer (Some given) ∷ []) rest (further before (Step 0 step answer (Some given)) rest here)
+        ours.1 (ap (λ cs. cs 0) (command_of-push before (Step 0 step answer (Some given)))) in
         record {
           reply = given;
           mid = [];
@@ -161,7 +174,8 @@ module _ (limits : Limits) (run : List Entry) (runs : IsRun limits run) where
           silent = tt;
           calls = p.calls;
           blocks = p.blocks;
-          along = λ old. ap (λ calls. calls_along calls rest) (answered_snoc old command None given) ∙ p.along (old ++ (command, Some given) ∷ []) ∙ append_assoc old ((command, Some given) ∷ []) p.calls;
+          along =
+              λ old. ap (λ calls. calls_along calls rest) (answered_snoc old command None given) ∙ p.along (old ++ (command, Some given) ∷ []) ∙ append_assoc old ((command, Some given) ∷ []) p.calls;
         }
 
     -- the run is the entries of its calls
@@ -176,13 +190,16 @@ module _ (limits : Limits) (run : List Entry) (runs : IsRun limits run) where
     absent before [] is none = refl
     absent before (Begin other asked ∷ rest) is none = elim (number_either actor other) [
       | inl same ↦ let few = (next before (Begin other asked) rest is).0 in let one = same.1 in absurd (omega (arith, few, one, beyond))
-      | inr apart ↦ rw apart.0 (absent (before ++ Begin other asked ∷ []) rest (further before (Begin other asked) rest is) (ap (λ cs. cs actor) (command_of-push before (Begin other asked)) ∙ rw apart.0 none))
+      | inr apart ↦ rw apart.0
+          (absent (before ++ Begin other asked ∷ []) rest (further before (Begin other asked) rest is) (ap (λ cs. cs actor) (command_of-push before (Begin other asked)) ∙ rw apart.0 none))
     ]
     absent before (Step other step answer None ∷ rest) is none = elim (number_either actor other) [
       | inl same ↦ absurd (none_some (command_of before other) (ap (command_of before) (sym same.1) ∙ none) (next before (Step other step answer None) rest is).0)
-      | inr apart ↦ rw apart.0 (absent (before ++ Step other step answer None ∷ []) rest (further before (Step other step answer None) rest is) (ap (λ cs. cs actor) (command_of-push before (Step other step answer None)) ∙ none))
+      | inr apart ↦ rw apart.0 (absent (before ++ Step other step answer None ∷ []) rest (further before (Step other step answer None) rest is)
+          (ap (λ cs. cs actor) (command_of-push before (Step other step answer None)) ∙ none))
     ]
     absent before (Step other step answer (Some reply) ∷ rest) is none = elim (number_either actor other) [
       | inl same ↦ absurd (none_some (command_of before other) (ap (command_of before) (sym same.1) ∙ none) (next before (Step other step answer (Some reply)) rest is).0)
-      | inr apart ↦ rw apart.0 (absent (before ++ Step other step answer (Some reply) ∷ []) rest (further before (Step other step answer (Some reply)) rest is) (ap (λ cs. cs actor) (command_of-push before (Step other step answer (Some reply))) ∙ rw apart.0 none))
+      | inr apart ↦ rw apart.0 (absent (before ++ Step other step answer (Some reply) ∷ []) rest (further before (Step other step answer (Some reply)) rest is)
+          (ap (λ cs. cs actor) (command_of-push before (Step other step answer (Some reply))) ∙ rw apart.0 none))
     ]

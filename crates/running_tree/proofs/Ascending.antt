@@ -148,7 +148,8 @@ not_less Equal e f = cc
 not_less Greater e f = cc
 
 -- a key was compared with the one before it
-module _ (pairs : List Pair) (place : ℕ) (one two : Pair) (order : Ordering) (some : 1 ≤ place) (below : place < length pairs) (is : order ≡ key_cmp (slice_index_or pairs (place - 1) one).0 (slice_index_or pairs place two).0) where
+module _ (pairs : List Pair) (place : ℕ) (one two : Pair) (order : Ordering) (some : 1 ≤ place) (below : place < length pairs)
+    (is : order ≡ key_cmp (slice_index_or pairs (place - 1) one).0 (slice_index_or pairs place two).0) where
   compared : (n : ℕ) (d : Pair) → suc n ≡ place → key_cmp (slice_index_or pairs n d).0 (slice_index_or pairs (suc n) d).0 ≡ order
   compared n d same =
       let before : n ≡ place - 1 = omega (arith, same) in

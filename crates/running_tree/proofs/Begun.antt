@@ -65,8 +65,10 @@ word_of limits a k (step.ReuseRows b c) m w out = let l = limits.allowed.whole_r
 pub idle_of : (old seat : Seat) → seat ≡ old → unfinished_command old ≡ None → unfinished_command seat ≡ None
 idle_of old seat is idle = subst (λ s. unfinished_command s ≡ None) (sym is) idle
 
-module _ (laws : HaveLaws) (limits : Limits) (a : ℕ) (seen : List Entry) (now new : Actor) (command : Command) (there : a < limits.actors) (h : IsSeated limits a seen now) (free : command_of seen a ≡ None)
-    (begins : (k : Knowledge) (r : Recalled) → IsActor limits a k r now → IsActor limits a (begun k command) blank new) (has : running_command new ≡ Some command) (few : steps_due blank new.hand new.running < cause_worth limits) (quiet : new.lacks ≡ None) where
+module _ (laws : HaveLaws) (limits : Limits) (a : ℕ) (seen : List Entry) (now new : Actor) (command : Command) (there : a < limits.actors)
+    (h : IsSeated limits a seen now) (free : command_of seen a ≡ None)
+    (begins : (k : Knowledge) (r : Recalled) → IsActor limits a k r now → IsActor limits a (begun k command) blank new)
+    (has : running_command new ≡ Some command) (few : steps_due blank new.hand new.running < cause_worth limits) (quiet : new.lacks ≡ None) where
   idle : running_command now ≡ None
   idle = h.runs ∙ free
 
@@ -83,7 +85,12 @@ module _ (laws : HaveLaws) (limits : Limits) (a : ℕ) (seen : List Entry) (now 
       sym (ap (λ (ks : ℕ → Knowledge). ks a) grows.known ∙ replaced_same a (begun (knows run a) command) (knows run) ∙ ap (λ q. begun q command) lasts.known) in
       let recalled : blank ≡ recalls (run ++ Begin a command ∷ []) a = sym (ap (λ (rs : ℕ → Recalled). rs a) grows.recalled ∙ replaced_same a blank (recalls run)) in
       record {
-        lawful = record { state = laws.begins limits run a command legal.state there (lasts.command ∙ free); direct = direct.state; paid = laws.begins_paid limits run a command legal.paid there (lasts.command ∙ free) };
+        lawful = record {
+          state = laws.begins limits run a command legal.state there (lasts.command ∙ free);
+          direct = direct.state;
+          paid = laws.begins_paid
+              limits run a command legal.paid there (lasts.command ∙ free);
+        };
         shows = subst (λ q. IsActorWith limits a q (recalls (run ++ Begin a command ∷ []) a) new.hand new.running) known
             (subst (λ q. IsActorWith limits a (begun (knows seen a) command) q new.hand new.running) recalled shows);
         runs = has ∙ sym (ap (λ (cs : ℕ → Option Command). cs a) grows.commands ∙ replaced_same a (Some command) (command_of run));
@@ -110,7 +117,8 @@ module _ (laws : HaveLaws) (limits : Limits) (a : ℕ) (seen : List Entry) (now 
 
     pub first_word : HasWord limits asked
     first_word = word_of limits a (knows (seen ++ Begin a command ∷ []) a) asked may_first
-        (within laws limits a (seen ++ Begin a command ∷ []) new (begun_seated seen h.lawful (extends_self a seen)) (busy_then seen h.lawful (extends_self a seen)) asked e) (outside seen (extends_self a seen))
+        (within laws limits a (seen ++ Begin a command ∷ []) new (begun_seated seen h.lawful (extends_self a seen)) (busy_then seen h.lawful (extends_self a seen)) asked e)
+        (outside seen (extends_self a seen))
 
     not_leaving : asked ≡ step.Leave → ⊥
     not_leaving is = not_inside (knows (seen ++ Begin a command ∷ []) a).inside (subst (May a (knows (seen ++ Begin a command ∷ []) a)) is may_first) (outside seen (extends_self a seen))

@@ -51,7 +51,8 @@ ones_are : (k n : ℕ) (f : ℕ → Bool) → n < 2 ^ k → ((i : ℕ) → i < k
 ones_are zero n f small says = omega (arith, ones-le 0 n small)
 ones_are (suc k) n f small says =
     let double : 2 ^ suc k ≡ 2 ^ k * 2 = pow-suc 2 k in
-    let half : count_ones (n / 2) ≡ how_many (λ i. f (suc i)) k = ones_are k (n / 2) (λ i. f (suc i)) (omega (arith, small, double)) (λ i below. sym (bit_at-suc n i) ∙ says (suc i) (omega (arith, below))) in
+    let half : count_ones (n / 2) ≡ how_many (λ i. f (suc i)) k = ones_are k (n / 2) (λ i. f (suc i)) (omega (arith, small, double))
+    (λ i below. sym (bit_at-suc n i) ∙ says (suc i) (omega (arith, below))) in
     let low : n % 2 ≡ mark (f 0) = sym (bit_at_lowest n) ∙ says 0 (omega arith) in
     omega (arith, ones_step n, half, low, how_many_first f k)
 
@@ -134,7 +135,8 @@ module _ (limits : Limits) (actor : ℕ) (kind : Kind) (seen : List Entry) where
     }
 
 -- the same of a seat
-pub watched_more : (kind : Kind) (old now new : Seat) (word count more : ℕ) → IsSame old now → HasCounted old.limits old.actor kind (64 * word) old.seen now.seen count → HasWatched kind word now new more
+pub watched_more : (kind : Kind) (old now new : Seat) (word count more : ℕ) → IsSame old now
+    → HasCounted old.limits old.actor kind (64 * word) old.seen now.seen count → HasWatched kind word now new more
     → HasCounted old.limits old.actor kind (64 * (word + 1)) old.seen new.seen (count + more)
 watched_more kind old now new word count more same h watched =
     let extends : Extends old.actor now.seen new.seen = subst (λ (a : ℕ). Extends a now.seen new.seen) same.actor watched.extends in

@@ -64,7 +64,8 @@ take_all [] = refl
 take_all (x ∷ xs) = ap (λ rest. x ∷ rest) (take_all xs)
 
 module _ (limits : Limits) (run : List Entry) (points : List Bool) (pointed : HasPoints run points) (says : IsAnswered limits run points) where
-  each : (done pairs : List Pair) (calls : List (Command × Option Reply)) (before rest : List Entry) → run ≡ before ++ rest → Blocks calls rest → HaveUpserted pairs calls → KeysAscend (done ++ pairs) → log_at run points (length before) ≡ sets_of done
+  each : (done pairs : List Pair) (calls : List (Command × Option Reply)) (before rest : List Entry) → run ≡ before ++ rest → Blocks calls rest
+      → HaveUpserted pairs calls → KeysAscend (done ++ pairs) → log_at run points (length before) ≡ sets_of done
       → (calls ≡ set_calls pairs) × (log_at run points (length run) ≡ sets_of (done ++ pairs))
   each done [] calls before rest is blocks upserted ascend log =
       let none : rest ≡ [] = subst (λ (cs : List (Command × Option Reply)). Blocks cs rest) upserted blocks in
@@ -163,7 +164,8 @@ are_loaded own tree run seats pairs history all ascend seen extends idle upserte
     }
 
 -- where the load stopped, the others have no entry either
-pub is_stopped : (tree : Tree) (run : List Entry) (pairs : List Pair) (budget place : ℕ) (result : Called) (seat : Seat) → IsOneHistory tree.limits run → AllExtend run (other_parts (dealt tree.limits)) → Extends 0 seat.seen run
+pub is_stopped : (tree : Tree) (run : List Entry) (pairs : List Pair) (budget place : ℕ) (result : Called) (seat : Seat) → IsOneHistory tree.limits run
+    → AllExtend run (other_parts (dealt tree.limits)) → Extends 0 seat.seen run
     → IsStoppedAt (fresh_seat tree 0) pairs budget place result seat → IsStopped tree.limits pairs budget result
 is_stopped tree run pairs budget place result seat history all extends stopped =
     let same : run ≡ seat.seen = nothing_new tree.limits run history all seat.seen extends in

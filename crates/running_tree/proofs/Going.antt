@@ -26,7 +26,8 @@ along_snoc calls [] e = refl
 along_snoc calls (first ∷ entries) e = along_snoc (call_after calls first) entries e
 
 -- the reply of the call that was made last
-pub answered_snoc : (before : List (Command × Option Reply)) (command : Command) (last : Option Reply) (reply : Reply) → answered_last (before ++ (command, last) ∷ []) reply ≡ before ++ (command, Some reply) ∷ []
+pub answered_snoc : (before : List (Command × Option Reply)) (command : Command) (last : Option Reply) (reply : Reply)
+    → answered_last (before ++ (command, last) ∷ []) reply ≡ before ++ (command, Some reply) ∷ []
 answered_snoc [] command last reply = refl
 answered_snoc (first ∷ []) command last reply = refl
 answered_snoc (first ∷ second ∷ rest) command last reply = ap (λ calls. first ∷ calls) (answered_snoc (second ∷ rest) command last reply)
@@ -105,7 +106,8 @@ module _ (old mid : Seat) (command : Command) (same : IsSame old mid) (h : HasBe
 
   own_first : own_entries mid.actor mid.seen ≡ (own_entries old.actor old.seen ++ begin ∷ []) ++ first ∷ []
   own_first = ap (λ n. own_entries n mid.seen) same.actor ∙ ap (own_entries old.actor) h.grown ∙ own_push old.actor (h.run ++ begin ∷ []) first (eq-eqb old.actor old.actor refl)
-      ∙ ap (λ (es : List Entry). es ++ first ∷ []) (own_push old.actor h.run begin (eq-eqb old.actor old.actor refl) ∙ ap (λ (es : List Entry). es ++ begin ∷ []) (own_extends old.actor old.seen h.run h.extends))
+      ∙ ap (λ (es : List Entry). es ++ first ∷ [])
+      (own_push old.actor h.run begin (eq-eqb old.actor old.actor refl) ∙ ap (λ (es : List Entry). es ++ begin ∷ []) (own_extends old.actor old.seen h.run h.extends))
 
   two_more : own_count mid ≡ own_count old + 2
   two_more = let one = one_longer (own_entries mid.actor mid.seen) (own_entries old.actor old.seen ++ begin ∷ []) first own_first in

@@ -34,7 +34,8 @@ at_rest limits a k r at h idle = go at.running h idle
 
 none_of : (row : ℕ) (rows : List ℕ) → IsNoneOf row rows → All (λ other. row ≢ other) rows
 none_of row [] n = All-nil (λ other. row ≢ other)
-none_of row (spare ∷ spares) n = All-cons (λ other. row ≢ other) spare spares (λ same. let i : (spare == row) ≡ true = eq-eqb spare row (sym same) in let o : (spare == row) ≡ false = n.0 in cc) (none_of row spares n.1)
+none_of row (spare ∷ spares) n =
+    All-cons (λ other. row ≢ other) spare spares (λ same. let i : (spare == row) ≡ true = eq-eqb spare row (sym same) in let o : (spare == row) ≡ false = n.0 in cc) (none_of row spares n.1)
 
 spares_once : (own : ℕ → OwnRow) (rows : List ℕ) → AreSpare own rows → AllPairs (λ one other. one ≢ other) rows
 spares_once own [] s = λ i j d before within. absurd (omega (arith, before, within))
@@ -92,17 +93,22 @@ staged (entry ∷ entries) number among = elim (entry.number == number) as (λ b
 
 listed : (entries : List Entry) (number : ℕ) (s : Stage) → stage_in entries number ≡ Some s → Contains (map number_of entries) number
 listed [] number s is = cc
-listed (entry ∷ entries) number s is = elim (entry.number == number) as (λ b. (entry.number == number) ≡ b → (if b then Some entry.stage else stage_in entries number) ≡ Some s → Contains (entry.number ∷ map number_of entries) number) [
-  | true ↦ λ same found. subst (Contains (entry.number ∷ map number_of entries)) (eqb-true entry.number number same) (0, omega arith, refl)
-  | false ↦ λ other found. Contains-append_right (entry.number ∷ []) (map number_of entries) number (listed entries number s found)
-] refl is
+listed (entry ∷ entries) number s is = elim (entry.number == number) as
+    (λ b. (entry.number == number) ≡ b → (if b then Some entry.stage else stage_in entries number) ≡ Some s → Contains (entry.number ∷ map number_of entries) number) [
+      | true ↦ λ same found. subst (Contains (entry.number ∷ map number_of entries)) (eqb-true entry.number number same) (0, omega arith, refl)
+      | false ↦ λ other found. Contains-append_right (entry.number ∷ []) (map number_of entries) number (listed entries number s found)
+    ] refl is
 
 module _ (limits : Limits) (actor : ℕ) (last : Option ℕ) where
   -- what has a stage is known to be out of the tree, and the other way round
   out : (s : Stage) (mark : LimboMark) → Agrees limits actor last (Some s) mark → mark ≢ known.Absent
   out stage.Unstamped mark agrees is = let none : Agrees limits actor last (Some stage.Unstamped) known.Absent = subst (Agrees limits actor last (Some stage.Unstamped)) is agrees in absurd none
-  out (stage.Stamped stamp) mark agrees is = let none : Agrees limits actor last (Some (stage.Stamped stamp)) known.Absent = subst (Agrees limits actor last (Some (stage.Stamped stamp))) is agrees in absurd none
-  out (stage.Passed stamp) mark agrees is = let none : Agrees limits actor last (Some (stage.Passed stamp)) known.Absent = subst (Agrees limits actor last (Some (stage.Passed stamp))) is agrees in absurd none
+  out (stage.Stamped stamp) mark agrees is =
+      let none : Agrees limits actor last (Some (stage.Stamped stamp)) known.Absent = subst (Agrees limits actor last (Some (stage.Stamped stamp))) is agrees in
+      absurd none
+  out (stage.Passed stamp) mark agrees is =
+      let none : Agrees limits actor last (Some (stage.Passed stamp)) known.Absent = subst (Agrees limits actor last (Some (stage.Passed stamp))) is agrees in
+      absurd none
 
   in_list : (o : Option Stage) (mark : LimboMark) → Agrees limits actor last o mark → mark ≢ known.Absent → (s : Stage) × (o ≡ Some s)
   in_list (Some s) mark agrees marked = (s, refl)
@@ -110,7 +116,8 @@ module _ (limits : Limits) (actor : ℕ) (last : Option ℕ) where
   in_list None known.Unstamped agrees marked = absurd agrees
   in_list None (known.Stamped epoch passed) agrees marked = absurd agrees
 
-  pub in_limbo : (list : LimboList) (marks : ℕ → LimboMark) → IsLimboList list → ((number : ℕ) → Agrees limits actor last (stage_of list number) (marks number)) → AreSoMany (λ number. marks number ≢ known.Absent) (length list.entries)
+  pub in_limbo : (list : LimboList) (marks : ℕ → LimboMark) → IsLimboList list → ((number : ℕ) → Agrees limits actor last (stage_of list number) (marks number))
+      → AreSoMany (λ number. marks number ≢ known.Absent) (length list.entries)
   in_limbo list marks is agree = record {
     numbers = map number_of list.entries;
     once = once;

@@ -23,7 +23,8 @@ pub none_joined : (limits : Limits) → HasPartsOf limits [] []
 none_joined limits = record { count = refl; idle = tt; each = λ n seat e. cc }
 
 -- one more seat, which stood before those that are joined already
-pub one_joined : (limits : Limits) (seat : Seat) (seats : List Seat) (parts : List Part) → HasPartsOf limits seats parts → HasPartsOf limits (seat ∷ seats) (parts ++ part limits seat.actor seat.seen Idle ∷ [])
+pub one_joined : (limits : Limits) (seat : Seat) (seats : List Seat) (parts : List Part) → HasPartsOf limits seats parts
+    → HasPartsOf limits (seat ∷ seats) (parts ++ part limits seat.actor seat.seen Idle ∷ [])
 one_joined limits seat seats parts has = record {
   count = length-append parts (part limits seat.actor seat.seen Idle ∷ []) ∙ (omega (arith, has.count));
   idle = each_snoc _ parts (part limits seat.actor seat.seen Idle) has.idle (refl, refl);
@@ -45,7 +46,8 @@ pub is_one : (tree : Tree) (all rest done : List Seat) (seat : Seat) → AreSeat
 is_one tree all rest done seat own whole = own (length rest) seat (ap (λ seats. slice_get seats (length rest)) whole ∙ get_middle rest seat done)
 
 -- its part is put behind those of the others
-pub puts_behind : (limits : Limits) (seat : Seat) (seats : List Seat) (before mine after : List Part) → HasPartsOf limits seats before → mine ≡ part seat.limits seat.actor seat.seen Idle ∷ [] → seat.limits ≡ limits → after ≡ before ++ mine
+pub puts_behind : (limits : Limits) (seat : Seat) (seats : List Seat) (before mine after : List Part) → HasPartsOf limits seats before
+    → mine ≡ part seat.limits seat.actor seat.seen Idle ∷ [] → seat.limits ≡ limits → after ≡ before ++ mine
     → HasPartsOf limits (seat ∷ seats) after
 puts_behind limits seat seats before mine after has is own grown =
     subst (HasPartsOf limits (seat ∷ seats)) (sym (grown ∙ ap (λ z. before ++ z) (is ∙ ap (λ z. part z seat.actor seat.seen Idle ∷ []) own))) (one_joined limits seat seats before has)

@@ -25,7 +25,8 @@ each_get P [] n p each e = cc
 each_get P (q ∷ parts) zero p each e = let same : q ≡ p = cc in subst P same each.0
 each_get P (q ∷ parts) (suc n) p each e = each_get P parts n p each.1 e
 
-module _ (limits key : Limits) (own : key ≡ limits) (spells : (limits : Limits) → LeavesWords limits (IsLawfulRun limits)) (seats : List Seat) (parts : List Part) (id : ℕ) (words : List ℕ) (homes : List (Unit {0}))
+module _ (limits key : Limits) (own : key ≡ limits) (spells : (limits : Limits) → LeavesWords limits (IsLawfulRun limits)) (seats : List Seat)
+    (parts : List Part) (id : ℕ) (words : List ℕ) (homes : List (Unit {0}))
     (many : limits.actors ≤ length seats) (has : HasPartsOf limits seats parts) (final : Final (Seen (Running key (IsLawfulRun key)) id parts) words homes) where
   all_stand : AllStand limits parts
   all_stand = record { all = omega (arith, many, has.count); idle = each_weaker _ _ (λ p at. at.0) parts has.idle }

@@ -16,10 +16,15 @@ module _ (stand : LeavesStand) (are : PagesAreListed) (closed : ClosedTree) wher
   pub some_leaves : (run : List Entry) × IsLeftBy closed run → (memory : Memory) × KeepMemory closed.limits closed.words memory × HasLeafPages closed.limits memory
   some_leaves (run, left) = (memory_of closed.limits run, left.keeps, leaves_by run left)
 
-  pub lists_all : (pairs : List (List ℕ × List ℕ)) → ((memory : Memory) → KeepMemory closed.limits closed.words memory → (leaves : HasLeafPages closed.limits memory) → HavePages leaves.pages pairs) → ListsAll closed pairs
+  pub lists_all : (pairs : List (List ℕ × List ℕ))
+      → ((memory : Memory) → KeepMemory closed.limits closed.words memory → (leaves : HasLeafPages closed.limits memory) → HavePages leaves.pages pairs)
+      → ListsAll closed pairs
   lists_all pairs have run left = are closed.limits run (leaves_by run left) pairs (have (memory_of closed.limits run) left.keeps (leaves_by run left))
 
-  pub counts_all : (count : ℕ) → ((memory : Memory) → KeepMemory closed.limits closed.words memory → (leaves : HasLeafPages closed.limits memory) → (pairs : List (List ℕ × List ℕ)) × HavePages leaves.pages pairs × (count ≡ length pairs)) → CountsAll closed count
+  pub counts_all : (count : ℕ)
+      → ((memory : Memory) → KeepMemory closed.limits closed.words memory → (leaves : HasLeafPages closed.limits memory) → (pairs : List (List ℕ × List ℕ)) ×
+      HavePages leaves.pages pairs × (count ≡ length pairs))
+      → CountsAll closed count
   counts_all count has run left =
       let (pairs, have, long) = has (memory_of closed.limits run) left.keeps (leaves_by run left) in
       (pairs, are closed.limits run (leaves_by run left) pairs have, long)

@@ -53,16 +53,20 @@ flat entries points from (suc d) beside few none =
     let before : log_at entries points (from + d) ≡ log_at entries points from = flat entries points from d beside (omega (arith, few)) (λ n low high. none n low (omega (arith, high))) in
     ap (log_at entries points) more ∙ by_mark entry marked at mark ∙ before
   where
-    by_mark : (entry : Entry) (marked : Bool) → slice_get entries (from + d) ≡ Some entry → slice_get points (from + d) ≡ Some marked → log_at entries points (suc (from + d)) ≡ log_at entries points (from + d)
+    by_mark : (entry : Entry) (marked : Bool) → slice_get entries (from + d) ≡ Some entry → slice_get points (from + d) ≡ Some marked
+        → log_at entries points (suc (from + d)) ≡ log_at entries points (from + d)
     by_mark entry true at mark = absurd (none (from + d) (omega arith) (omega arith) mark)
     by_mark entry false at mark = log_at-step entries points (from + d) entry false beside at mark
 
-step_or_begin : (o : Option Entry) (a b : ℕ) (step : StepOf Record) (answer : Answer Record) (reply : Option Reply) (command : Command) → o ≡ Some (Step a step answer reply) → o ≡ Some (Begin b command) → ⊥
+step_or_begin : (o : Option Entry) (a b : ℕ) (step : StepOf Record) (answer : Answer Record) (reply : Option Reply) (command : Command)
+    → o ≡ Some (Step a step answer reply) → o ≡ Some (Begin b command) → ⊥
 step_or_begin o a b step answer reply command e f = cc
 
 -- the operation's entries, from its begin to its last step
-module _ (limits : Limits) (entries : List Entry) (points : List Bool) (pointed : HasPoints entries points) (says : IsAnswered limits entries points) (before mid after : List Entry) (key value : List ℕ) (step : StepOf Record) (answer : Answer Record) (reply : Reply)
-    (is : entries ≡ before ++ Begin 0 (Upsert key value) ∷ (mid ++ Step 0 step answer (Some reply) ∷ after)) (silent : AllByRecursion IsSilent mid) (ends : (after ≡ []) ⊎ ((command : Command) × (rest : List Entry) × (after ≡ Begin 0 command ∷ rest))) (some : reply ≢ kind.Full) where
+module _ (limits : Limits) (entries : List Entry) (points : List Bool) (pointed : HasPoints entries points) (says : IsAnswered limits entries points)
+    (before mid after : List Entry) (key value : List ℕ) (step : StepOf Record) (answer : Answer Record) (reply : Reply)
+    (is : entries ≡ before ++ Begin 0 (Upsert key value) ∷ (mid ++ Step 0 step answer (Some reply) ∷ after)) (silent : AllByRecursion IsSilent mid)
+    (ends : (after ≡ []) ⊎ ((command : Command) × (rest : List Entry) × (after ≡ Begin 0 command ∷ rest))) (some : reply ≢ kind.Full) where
   abbrev asked : Command
   asked = Upsert key value
 
@@ -134,7 +138,8 @@ module _ (limits : Limits) (entries : List Entry) (points : List Bool) (pointed 
             (λ beyond. by_order next.0 (next_is (Begin 0 next.0 ∷ next.1) next.2) n other beyond at.not_ended)
       ])
     where
-      by_order : (command : Command) → slice_get entries (suc last) ≡ Some (Begin 0 command) → (n : ℕ) → n ≢ last → n ≢ suc last → ((later : ℕ) (command : Command) → start < later → later < n → slice_get entries later ≡ Some (Begin 0 command) → ⊥) → n ≤ last
+      by_order : (command : Command) → slice_get entries (suc last) ≡ Some (Begin 0 command) → (n : ℕ) → n ≢ last → n ≢ suc last
+          → ((later : ℕ) (command : Command) → start < later → later < n → slice_get entries later ≡ Some (Begin 0 command) → ⊥) → n ≤ last
       by_order command next n other beyond ended = by_contradiction (n_or n)
         where
           n_or : (n : ℕ) → (n ≤ last) ⊎ (last < n)
@@ -148,7 +153,8 @@ module _ (limits : Limits) (entries : List Entry) (points : List Bool) (pointed 
   command_then : (j : ℕ) → j ≤ length mid → command_of (take (start + suc j) entries) 0 ≡ Some asked
   command_then zero few =
       let place : start + 1 ≡ suc start = omega arith in
-      ap (λ n. command_of (take n entries) 0) place ∙ ap (λ es. command_of es 0) (take-one entries start (Begin 0 asked) begins) ∙ ap (λ cs. cs 0) (command_of-push (take start entries) (Begin 0 asked))
+      ap (λ n. command_of (take n entries) 0) place ∙ ap (λ es. command_of es 0) (take-one entries start (Begin 0 asked) begins) ∙ ap (λ cs. cs 0)
+      (command_of-push (take start entries) (Begin 0 asked))
   command_then (suc j) few =
       let place : start + suc (suc j) ≡ suc (start + suc j) = omega arith in
       let (one, told, at) = silent_then (start + suc j) (omega arith) (omega (arith, few)) in
@@ -190,9 +196,11 @@ module _ (limits : Limits) (entries : List Entry) (points : List Bool) (pointed 
       let low : start < m = at.begun in
       let high : m ≤ last = not_after m owns in
       let first : log_at entries points m ≡ old_log = flat_between start m (omega (arith, low)) (omega (arith, high, in_run)) (λ n from to point'. before_point m owns point n from to high point') in
-      let next : log_at entries points (suc m) ≡ log_at entries points m ++ updates_at (take m entries) (Step 0 one told given) (log_at entries points m) = log_at-step entries points m (Step 0 one told given) true pointed.beside at.entry point in
+      let next : log_at entries points (suc m) ≡ log_at entries points m ++ updates_at (take m entries) (Step 0 one told given) (log_at entries points m) = log_at-step
+      entries points m (Step 0 one told given) true pointed.beside at.entry point in
       let added : updates_at (take m entries) (Step 0 one told given) (log_at entries points m) ≡ set 0 key value ∷ [] = ap (λ o. updates_by 0 o (log_at entries points m)) (command_at m low high) in
-      let rest : log_at entries points (suc last) ≡ log_at entries points (suc m) = flat_between (suc m) (suc last) (omega (arith, high)) (omega (arith, in_run)) (λ n from to point'. after_point m owns point n from (omega (arith, to)) low point') in (
+      let rest : log_at entries points (suc last) ≡ log_at entries points (suc m) = flat_between (suc m) (suc last) (omega (arith, high))
+      (omega (arith, in_run)) (λ n from to point'. after_point m owns point n from (omega (arith, to)) low point') in (
         rest ∙ next ∙ ap (λ more. log_at entries points m ++ more) added ∙ ap (λ log. log ++ set 0 key value ∷ []) first,
         subst (λ log. reply_of asked (logged_value log key) ≡ Some reply) first (at_point (log_at entries points m) (memory_at limits entries m) replies),
       )

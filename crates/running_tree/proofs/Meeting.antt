@@ -19,7 +19,8 @@ use Rattle.running_tree.specs.Seats.{IsSeat, IsSeated}
 use Rattle.running_tree.proofs.LackLaws.{lack_extends}
 
 -- what an actor keeps shows the same of a run that others have gone on with
-seated_extends : OwnLasts → (limits : Limits) (number : ℕ) (seen run : List Entry) (at : Actor) → IsSeated limits number seen at → IsLawfulRun limits run → Extends number seen run → IsSeated limits number run at
+seated_extends : OwnLasts → (limits : Limits) (number : ℕ) (seen run : List Entry) (at : Actor) → IsSeated limits number seen at → IsLawfulRun limits run
+    → Extends number seen run → IsSeated limits number run at
 seated_extends own limits number seen run at seated legal extends =
     let lasts = own limits number seen run extends in
     record {
@@ -30,7 +31,8 @@ seated_extends own limits number seen run at seated legal extends =
       lacks = lack_extends limits number seen run at.lacks extends lasts.known lasts.command seated.lacks;
     }
 
-pub seat_extends : OwnLasts → (limits : Limits) (number : ℕ) (me me' : Mine) (run : List Entry) (at : Actor) → IsSeat limits number me at → IsSeenRun limits run → Extends number (seen_of me) run → SitsAt limits number Idle me' → seen_of me' ≡ run
+pub seat_extends : OwnLasts → (limits : Limits) (number : ℕ) (me me' : Mine) (run : List Entry) (at : Actor) → IsSeat limits number me at → IsSeenRun limits run
+    → Extends number (seen_of me) run → SitsAt limits number Idle me' → seen_of me' ≡ run
     → IsSeat limits number me' at
 seat_extends own limits number me me' run at seat is extends place saw = record {
   there = seat.there;
@@ -39,7 +41,8 @@ seat_extends own limits number me me' run at seat is extends place saw = record 
   seated = subst (λ seen. IsSeated limits number seen at) (sym saw) (seated_extends own limits number (seen_of me) run at seat.seated is.lawful extends);
 }
 
-module _ (limits : Limits) (a b : ℕ) (reach : Reach) (one other joined : Mine) (at : SitsAt limits a Idle one) (at_other : SitsAt limits b reach other) (both : joined ≡ (one.0 ++ other.0, one.1)) where
+module _ (limits : Limits) (a b : ℕ) (reach : Reach) (one other joined : Mine) (at : SitsAt limits a Idle one) (at_other : SitsAt limits b reach other)
+    (both : joined ≡ (one.0 ++ other.0, one.1)) where
   both_is : joined ≡ (part limits a (seen_of one) Idle ∷ part limits b (seen_of other) reach ∷ [], [])
   both_is = both ∙ ap (λ (z : List Part). (z ++ other.0, one.1)) (ap (λ (m : Mine). m.0) at)
       ∙ ap (λ (z : List Part). (alone limits a (seen_of one) Idle ++ z, one.1)) (ap (λ (m : Mine). m.0) at_other)
@@ -95,7 +98,9 @@ module _ (limits : Limits) (a b : ℕ) (reach : Reach) (one other joined : Mine)
     left_seat own actor seat = seat_extends own limits a one left saw.run actor seat saw_run both_extend.0 left_at left_saw
 
     pub right_seat : OwnLasts → (actor : Actor) → reach ≡ Idle → IsSeat limits b other actor → IsSeat limits b right actor
-    right_seat own actor is seat = seat_extends own limits b other right saw.run actor seat saw_run (subst (λ r. ExtendsFor r b (seen_of other) saw.run) is both_extend.1.0) (subst (λ r. SitsAt limits b r right) is right_at) right_saw
+    right_seat own actor is seat =
+        seat_extends own limits b other right saw.run actor seat saw_run (subst (λ r. ExtendsFor r b (seen_of other) saw.run) is both_extend.1.0)
+        (subst (λ r. SitsAt limits b r right) is right_at) right_saw
 
     pub saw_one : seen_of right ≡ seen_of left
     saw_one = right_saw ∙ sym left_saw

@@ -28,7 +28,8 @@ abbrev IdleRest : Type 0
 IdleRest = (limits : Limits) (number : ℕ) (r : Recalled) → IsActor limits number nothing r (idle_actor limits)
 
 -- an idle actor that has seen the empty run
-fresh_idle : (limits : Limits) (number : ℕ) (me : Mine) → IdleRest → IsLawfulRun limits [] → number < limits.actors → me ≡ (alone limits number [] Idle, []) → IsSeat limits number me (idle_actor limits)
+fresh_idle : (limits : Limits) (number : ℕ) (me : Mine) → IdleRest → IsLawfulRun limits [] → number < limits.actors → me ≡ (alone limits number [] Idle, [])
+    → IsSeat limits number me (idle_actor limits)
 fresh_idle limits number me rest legal there is =
     let saw : seen_of me ≡ [] = ap seen_of is in
     subst (λ (m : Mine). IsSeat limits number m (idle_actor limits)) (sym is)
@@ -39,11 +40,13 @@ fresh_idle limits number me rest legal there is =
       seated = record { lawful = legal; shows = rest limits number blank; runs = refl; pays = λ operation last own. cc; lacks = record { told = refl; pending = λ busy. cc } };
     }
 
-pub fresh : (limits : Limits) (number : ℕ) (me : Mine) (actor : Actor) → IdleRest → IsLawfulRun limits [] → number < limits.actors → me ≡ (alone limits number [] Idle, []) → actor ≡ idle_actor limits → IsSeat limits number me actor
+pub fresh : (limits : Limits) (number : ℕ) (me : Mine) (actor : Actor) → IdleRest → IsLawfulRun limits [] → number < limits.actors
+    → me ≡ (alone limits number [] Idle, []) → actor ≡ idle_actor limits → IsSeat limits number me actor
 fresh limits number me actor rest legal there is idle = subst (IsSeat limits number me) (sym idle) (fresh_idle limits number me rest legal there is)
 
 -- the same once it has seen steps of others
-pub fresh_then : OwnLasts → (limits : Limits) (number : ℕ) (run : List Entry) (me : Mine) (actor : Actor) → IdleRest → IsLawfulRun limits [] → IsSeenRun limits run → Extends number [] run → number < limits.actors
+pub fresh_then : OwnLasts → (limits : Limits) (number : ℕ) (run : List Entry) (me : Mine) (actor : Actor) → IdleRest → IsLawfulRun limits []
+    → IsSeenRun limits run → Extends number [] run → number < limits.actors
     → me ≡ (alone limits number run Idle, []) → actor ≡ idle_actor limits → IsSeat limits number me actor
 fresh_then own limits number run me actor rest empty run_is extends there is idle =
     let saw : seen_of me ≡ run = ap seen_of is in
@@ -60,7 +63,8 @@ first_dealt limits zero some = absurd (omega (arith, some))
 first_dealt limits (suc many) some = refl
 
 pub deals_first : (limits : Limits) (me now : Mine) → me ≡ (dealt limits, []) → now ≡ (first_part me.0, me.1) → now ≡ (alone limits 0 [] Idle, [])
-deals_first limits me now is first = first ∙ ap (λ (m : Mine). (first_part m.0, m.1)) is ∙ ap (λ (parts : List Part). (parts, [])) (first_dealt limits limits.actors (let some = limits.allowed.some_actor in omega (arith, some)))
+deals_first limits me now is first =
+    first ∙ ap (λ (m : Mine). (first_part m.0, m.1)) is ∙ ap (λ (parts : List Part). (parts, [])) (first_dealt limits limits.actors (let some = limits.allowed.some_actor in omega (arith, some)))
 
 -- the others
 pub others_dealt : (limits : Limits) (many : ℕ) → 0 < many → other_parts (dealt_from limits 0 many) ≡ dealt_from limits 1 (many - 1)
@@ -81,15 +85,18 @@ abbrev pub left_of : Limits → List Entry → ℕ → ℕ → List Part
 left_of limits run number left = map (refreshed run) (dealt_from limits number left)
 
 -- the first of the actors that are left gets a seat, and the others are left
-pub deals_one : (limits : Limits) (run : List Entry) (number left : ℕ) (me now : Mine) → number < limits.actors → number + left ≡ limits.actors → me ≡ (left_of limits run number left, []) → now ≡ (first_part me.0, me.1) → now ≡ (alone limits number run Idle, [])
+pub deals_one : (limits : Limits) (run : List Entry) (number left : ℕ) (me now : Mine) → number < limits.actors → number + left ≡ limits.actors
+    → me ≡ (left_of limits run number left, []) → now ≡ (first_part me.0, me.1) → now ≡ (alone limits number run Idle, [])
 deals_one limits run number zero me now there all is first = absurd (omega (arith, there, all))
 deals_one limits run number (suc left) me now there all is first = first ∙ ap (λ (m : Mine). (first_part m.0, m.1)) is
 
-pub extends_one : (limits : Limits) (run : List Entry) (number left : ℕ) → number < limits.actors → number + left ≡ limits.actors → AllExtend run (dealt_from limits number left) → Extends number [] run
+pub extends_one : (limits : Limits) (run : List Entry) (number left : ℕ) → number < limits.actors → number + left ≡ limits.actors
+    → AllExtend run (dealt_from limits number left) → Extends number [] run
 extends_one limits run number zero there all each = absurd (omega (arith, there, all))
 extends_one limits run number (suc left) there all each = each.0
 
-pub leaves_others : (limits : Limits) (run : List Entry) (number left : ℕ) (me others : Mine) → number < limits.actors → number + left ≡ limits.actors → me ≡ (left_of limits run number left, []) → AllExtend run (dealt_from limits number left) → others ≡ (other_parts me.0, [])
+pub leaves_others : (limits : Limits) (run : List Entry) (number left : ℕ) (me others : Mine) → number < limits.actors → number + left ≡ limits.actors
+    → me ≡ (left_of limits run number left, []) → AllExtend run (dealt_from limits number left) → others ≡ (other_parts me.0, [])
     → (fewer : ℕ) × ((number + 1) + fewer ≡ limits.actors) × (others ≡ (left_of limits run (number + 1) fewer, [])) × AllExtend run (dealt_from limits (number + 1) fewer)
 leaves_others limits run number zero me others there all is each rest = absurd (omega (arith, there, all))
 leaves_others limits run number (suc left) me others there all is each rest =
@@ -113,8 +120,10 @@ one_more which seats number last count each is n below = dite (ℕ_discrete n nu
     (λ other. get_before seats last n (omega (arith, below, other, count)) ∙ each n (omega (arith, below, other)))
 
 -- it is the seat of its actor, which has seen the run
-pub seat_is : (tree : Tree) (run : List Entry) (number : ℕ) (limits : Limits) (table : TableId) (me : Mine) → limits ≡ tree.limits → table ≡ tree.table → me ≡ (alone limits number run Idle, []) → record { table = table; limits = limits; actor = number; seen = seen_of me } ≡ seat_at tree run number
-seat_is tree run number limits table me own same is = ap (λ (t : TableId). seat_of t limits (seen_of me)) same ∙ ap (λ (l : Limits). seat_of tree.table l (seen_of me)) own ∙ ap (λ (m : Mine). seat_of tree.table tree.limits (seen_of m)) is
+pub seat_is : (tree : Tree) (run : List Entry) (number : ℕ) (limits : Limits) (table : TableId) (me : Mine) → limits ≡ tree.limits → table ≡ tree.table
+    → me ≡ (alone limits number run Idle, []) → record { table = table; limits = limits; actor = number; seen = seen_of me } ≡ seat_at tree run number
+seat_is tree run number limits table me own same is =
+    ap (λ (t : TableId). seat_of t limits (seen_of me)) same ∙ ap (λ (l : Limits). seat_of tree.table l (seen_of me)) own ∙ ap (λ (m : Mine). seat_of tree.table tree.limits (seen_of m)) is
   where
     seat_of : TableId → Limits → List Entry → Seat
     seat_of t l seen = record { table = t; limits = l; actor = number; seen = seen }
@@ -139,7 +148,8 @@ pub fresh_left : (limits : Limits) (run : List Entry) (me : Mine) → run ≡ []
 fresh_left limits run me none is =
     let some : 0 < limits.actors = (let there = limits.allowed.some_actor in omega (arith, there)) in
     let others : other_parts (dealt limits) ≡ dealt_from limits 1 (limits.actors - 1) = others_dealt limits limits.actors some in
-    is ∙ ap (λ (parts : List Part). (parts, [])) (others ∙ refreshed_none limits 1 (limits.actors - 1) ∙ ap (map (refreshed [])) (sym others) ∙ ap (λ r. map (refreshed r) (other_parts (dealt limits))) (sym none))
+    is ∙ ap (λ (parts : List Part). (parts, []))
+    (others ∙ refreshed_none limits 1 (limits.actors - 1) ∙ ap (map (refreshed [])) (sym others) ∙ ap (λ r. map (refreshed r) (other_parts (dealt limits))) (sym none))
 
 pub fresh_extend : (limits : Limits) (run : List Entry) → run ≡ [] → AllExtend run (other_parts (dealt limits))
 fresh_extend limits run none =

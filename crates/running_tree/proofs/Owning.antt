@@ -7,7 +7,8 @@ use Rattle.table_rule.specs.Views.{IsOf}
 use Rattle.running_tree.specs.Seats.{IsSame, Seat}
 use Rattle.running_tree.specs.Trees.{IsSeatOf, IsTreeTable, Tree}
 
-pub is_of : (limits key own : Limits) (table at : TableId) (number : ℕ) (seen : List Entry) (tree : Tree) (seat : Seat) → IsTreeTable limits key table → record { limits = limits; table = table } ≡ tree
+pub is_of : (limits key own : Limits) (table at : TableId) (number : ℕ) (seen : List Entry) (tree : Tree) (seat : Seat) → IsTreeTable limits key table
+    → record { limits = limits; table = table } ≡ tree
     → record { table = at; limits = own; actor = number; seen = seen } ≡ seat → IsSeatOf tree seat → IsOf limits key table at
 is_of limits key own table at number seen tree seat whole tree_is seat_is one = record {
   same = ap (λ (s : Seat). s.table) seat_is ∙ one.table ∙ sym (ap (λ (t : Tree). t.table) tree_is);
@@ -16,14 +17,17 @@ is_of limits key own table at number seen tree seat whole tree_is seat_is one = 
 }
 
 -- the table and the limits of a seat are those of the tree
-pub table_of : (own : Limits) (at : TableId) (number : ℕ) (seen : List Entry) (tree : Tree) (seat : Seat) → record { table = at; limits = own; actor = number; seen = seen } ≡ seat → IsSeatOf tree seat → at ≡ tree.table
+pub table_of : (own : Limits) (at : TableId) (number : ℕ) (seen : List Entry) (tree : Tree) (seat : Seat)
+    → record { table = at; limits = own; actor = number; seen = seen } ≡ seat → IsSeatOf tree seat → at ≡ tree.table
 table_of own at number seen tree seat seat_is one = ap (λ (s : Seat). s.table) seat_is ∙ one.table
 
-pub limits_of : (own : Limits) (at : TableId) (number : ℕ) (seen : List Entry) (tree : Tree) (seat : Seat) → record { table = at; limits = own; actor = number; seen = seen } ≡ seat → IsSeatOf tree seat → own ≡ tree.limits
+pub limits_of : (own : Limits) (at : TableId) (number : ℕ) (seen : List Entry) (tree : Tree) (seat : Seat)
+    → record { table = at; limits = own; actor = number; seen = seen } ≡ seat → IsSeatOf tree seat → own ≡ tree.limits
 limits_of own at number seen tree seat seat_is one = ap (λ (s : Seat). s.limits) seat_is ∙ one.limits
 
 -- the same of the seat's own limits
-pub is_own : (limits key own : Limits) (table at : TableId) (number : ℕ) (seen : List Entry) (tree : Tree) (seat : Seat) → IsTreeTable limits key table → record { limits = limits; table = table } ≡ tree
+pub is_own : (limits key own : Limits) (table at : TableId) (number : ℕ) (seen : List Entry) (tree : Tree) (seat : Seat) → IsTreeTable limits key table
+    → record { limits = limits; table = table } ≡ tree
     → record { table = at; limits = own; actor = number; seen = seen } ≡ seat → IsSeatOf tree seat → IsOf own key table at
 is_own limits key own table at number seen tree seat whole tree_is seat_is one =
     let same : limits ≡ own = ap (λ (t : Tree). t.limits) tree_is ∙ sym (limits_of own at number seen tree seat seat_is one) in

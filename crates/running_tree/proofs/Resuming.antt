@@ -27,6 +27,7 @@ module _ (old mid new : Seat) (command : Command) (budget more : ℕ) (spent : I
     busy = g.busy ∙ spent.busy;
   }
 
-pub call_resumed : (old mid new : Seat) (command : Command) (budget more : ℕ) (result : Called) → IsSpent old command budget mid → IsResumed mid more result new → IsCalled old command (budget + more) result new
+pub call_resumed : (old mid new : Seat) (command : Command) (budget more : ℕ) (result : Called) → IsSpent old command budget mid → IsResumed mid more result new
+    → IsCalled old command (budget + more) result new
 call_resumed old mid new command budget more (called.Done reply) spent g = done_then old mid new command budget more spent reply g
 call_resumed old mid new command budget more called.Spent spent g = spent_then old mid new command budget more spent g

@@ -61,7 +61,8 @@ some_more m n o some = omega arith
 
 pub some_left : (limits : Limits) (a : ℕ) (k : Knowledge) (r : Recalled) (hand : Hand) (running : UnderWay) → IsRunning limits a k r hand running → 0 < steps_due r hand (Some running)
 some_left limits a k r hand running h =
-    some_more (sweep_left running.op.task.limits running.op.sweep running.op.state) (left_at running.op.task.limits r hand.spares running.op.state) _ (state_left running.op.task hand k r running.op.state h.goes.shows.stands)
+    some_more (sweep_left running.op.task.limits running.op.sweep running.op.state) (left_at running.op.task.limits r hand.spares running.op.state) _
+    (state_left running.op.task hand k r running.op.state h.goes.shows.stands)
 
 -- The actor has an operation, which wants the step.
 pub record Wants (limits : Limits) (a : ℕ) (k : Knowledge) (r : Recalled) (now : Actor) (asked : StepOf Record) : Type 0 where
@@ -70,10 +71,12 @@ pub record Wants (limits : Limits) (a : ℕ) (k : Knowledge) (r : Recalled) (now
   pub shows : IsRunning limits a k r now.hand running
   pub wanted : running.wanted ≡ asked
 
-pub wants : (limits : Limits) (a : ℕ) (k : Knowledge) (r : Recalled) (now : Actor) (asked : StepOf Record) → IsActorWith limits a k r now.hand now.running → wanted_by now.running ≡ Some asked → Wants limits a k r now asked
+pub wants : (limits : Limits) (a : ℕ) (k : Knowledge) (r : Recalled) (now : Actor) (asked : StepOf Record) → IsActorWith limits a k r now.hand now.running
+    → wanted_by now.running ≡ Some asked → Wants limits a k r now asked
 wants limits a k r now asked h e = let found = go now.running h e in record { running = found.0; is = found.1; shows = found.2; wanted = found.3 }
   where
-    go : (o : Option UnderWay) → IsActorWith limits a k r now.hand o → wanted_by o ≡ Some asked → (running : UnderWay) × (o ≡ Some running) × IsRunning limits a k r now.hand running × (running.wanted ≡ asked)
+    go : (o : Option UnderWay) → IsActorWith limits a k r now.hand o → wanted_by o ≡ Some asked
+        → (running : UnderWay) × (o ≡ Some running) × IsRunning limits a k r now.hand running × (running.wanted ≡ asked)
     go None h e = cc
     go (Some running) h e = (running, refl, h, same_Some running.wanted asked e)
 
@@ -82,7 +85,9 @@ module _ (limits : Limits) (a : ℕ) (k : Knowledge) (r : Recalled) (now : Actor
   may = subst (May a k) w.wanted (subst (λ n. May n k w.running.wanted) w.shows.own_actor w.shows.goes.may.may)
 
   frees : MayFree limits a k asked
-  frees = subst (MayFree limits a k) w.wanted (subst (λ n. MayFree limits n k w.running.wanted) w.shows.own_actor (subst (λ l. MayFree l w.running.op.task.actor k w.running.wanted) w.shows.own_limits w.shows.goes.may.frees))
+  frees =
+      subst (MayFree limits a k) w.wanted
+      (subst (λ n. MayFree limits n k w.running.wanted) w.shows.own_actor (subst (λ l. MayFree l w.running.op.task.actor k w.running.wanted) w.shows.own_limits w.shows.goes.may.frees))
 
   pub useful : IsOfUse k asked
   useful = subst (IsOfUse k) w.wanted (of_use k r w.running.op now.hand w.running.wanted w.shows.goes)
@@ -113,11 +118,15 @@ no_reply limits a k step None other h = refl
 no_reply limits a k step (Some reply) other h = absurd (other h.replied.0)
 
 -- what is known after a step
-pub grown_so : (limits : Limits) (a : ℕ) (seen : List Entry) (asked : StepOf Record) (told : Answer Record) (reply : Option Reply) (later : List Entry) → (took : Took IsLawfulRun limits a seen None asked told reply later) → later ≡ took.run ++ Step a asked told reply ∷ []
+pub grown_so : (limits : Limits) (a : ℕ) (seen : List Entry) (asked : StepOf Record) (told : Answer Record) (reply : Option Reply) (later : List Entry)
+    → (took : Took IsLawfulRun limits a seen None asked told reply later) → later ≡ took.run ++ Step a asked told reply ∷ []
 grown_so limits a seen asked told reply later took = took.grown ∙ sym (without_begin took.run a asked told reply)
 
-pub known_after : HaveLaws → (limits : Limits) (a : ℕ) (seen : List Entry) (asked : StepOf Record) (told : Answer Record) (reply : Option Reply) (later : List Entry) → Took IsLawfulRun limits a seen None asked told reply later → knows later a ≡ knows_then (knows seen a) asked told reply
-known_after laws limits a seen asked told reply later took = ap (λ run. knows run a) (grown_so limits a seen asked told reply later took) ∙ ap (λ (ks : ℕ → Knowledge). ks a) (laws.grow limits took.run (Step a asked told reply)).known
+pub known_after : HaveLaws
+    → (limits : Limits) (a : ℕ) (seen : List Entry) (asked : StepOf Record) (told : Answer Record) (reply : Option Reply) (later : List Entry)
+    → Took IsLawfulRun limits a seen None asked told reply later → knows later a ≡ knows_then (knows seen a) asked told reply
+known_after laws limits a seen asked told reply later took =
+    ap (λ run. knows run a) (grown_so limits a seen asked told reply later took) ∙ ap (λ (ks : ℕ → Knowledge). ks a) (laws.grow limits took.run (Step a asked told reply)).known
     ∙ replaced_same a (finished (learn (knows took.run a) asked told) reply) (knows took.run) ∙ ap (λ q. knows_then q asked told reply) (laws.own limits a seen took.run took.extends).known
 
 module _ (laws : HaveLaws) (limits : Limits) (a : ℕ) (seen : List Entry) (now : Actor) (h : IsSeated limits a seen now) (asked : StepOf Record) (reply : Option Reply)
@@ -140,7 +149,10 @@ module _ (laws : HaveLaws) (limits : Limits) (a : ℕ) (seen : List Entry) (now 
       subst (IsLawfulRun limits) (without_begin run a asked told reply) (record {
         state = laws.steps limits run a asked told reply legal.state (subst IsSome (sym lasts.command) busy) (subst (λ q. IsAllowed limits a q asked reply) (sym lasts.known) allowed) is;
         direct = (stays run told 0 legal x is (inl some) (omega arith)).state;
-        paid = laws.steps_paid limits run a asked told reply legal.paid (subst IsSome (sym lasts.command) busy) (subst (λ q. IsAllowed limits a q asked reply) (sym lasts.known) allowed) (subst (λ q. IsUseful q asked) (sym lasts.known) useful.useful) (subst (λ q. IsHalved q asked) (sym lasts.known) halved) is;
+        paid =
+            laws.steps_paid limits run a asked told reply legal.paid (subst IsSome (sym lasts.command) busy)
+            (subst (λ q. IsAllowed limits a q asked reply) (sym lasts.known) allowed) (subst (λ q. IsUseful q asked) (sym lasts.known) useful.useful)
+            (subst (λ q. IsHalved q asked) (sym lasts.known) halved) is;
       })
 
   module _ (told : Answer Record) (later : List Entry) (took : Took IsLawfulRun limits a seen None asked told reply later) where
@@ -174,7 +186,8 @@ module _ (laws : HaveLaws) (limits : Limits) (a : ℕ) (seen : List Entry) (now 
     replies_last given is = (subst (λ o. IfSome o (λ given. (asked ≡ Leave) × (told ≡ answer.Done))) is leaves).0
 
     -- what the seat keeps after it
-    pub seated_then : (new : Actor) → ActsOn limits a k (recalls seen a) now asked told reply new → running_command new ≡ command_left reply (running_command now) → IsSome (command_of seen a) → IsSeated limits a later new
+    pub seated_then : (new : Actor) → ActsOn limits a k (recalls seen a) now asked told reply new
+        → running_command new ≡ command_left reply (running_command now) → IsSome (command_of seen a) → IsSeated limits a later new
     seated_then new goes runs busy = record {
       lawful = took.kept;
       shows = subst (λ q. IsActorWith limits a q (recalls later a) new.hand new.running) (sym known_then)

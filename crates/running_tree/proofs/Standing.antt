@@ -25,18 +25,21 @@ use Rattle.running_tree.proofs.Seats.{known_after}
 use Rattle.deltas.proofs.Replaced.{replaced_same}
 
 -- a record that an actor has read is below the limit, and may be looked at
-pub all_stand : HaveLaws → (limits : Limits) (table seat : TableId) (a : ℕ) (me : Mine) → IsLawfulRun limits (seen_of me) → seat ≡ table → SitsAt limits a Idle me → AreThere (Stands limits table seat a me) (knows (seen_of me) a)
+pub all_stand : HaveLaws → (limits : Limits) (table seat : TableId) (a : ℕ) (me : Mine) → IsLawfulRun limits (seen_of me) → seat ≡ table
+    → SitsAt limits a Idle me → AreThere (Stands limits table seat a me) (knows (seen_of me) a)
 all_stand laws limits table seat a me lawful same sits row content seen =
     let apart = laws.apart limits (seen_of me) lawful.state in
     let learnt = apart.seen_learnt a row content seen in
     record { same = same; there = apart.learnt_below a row learnt; sits = sits; read = record { may = (apart.learnt_inside a row learnt, learnt); seen = seen } }
 
 -- the same by a seat of the tree
-pub all_there : HaveLaws → (own : Limits) (at at' : TableId) (a : ℕ) (seen : List Entry) (tree : Tree) (seat : Seat) (me : Mine) → record { table = at; limits = own; actor = a; seen = seen } ≡ seat → IsSeatOf tree seat → at' ≡ at → IsLawfulRun own (seen_of me) → SitsAt own a Idle me
+pub all_there : HaveLaws → (own : Limits) (at at' : TableId) (a : ℕ) (seen : List Entry) (tree : Tree) (seat : Seat) (me : Mine)
+    → record { table = at; limits = own; actor = a; seen = seen } ≡ seat → IsSeatOf tree seat → at' ≡ at → IsLawfulRun own (seen_of me) → SitsAt own a Idle me
     → AreThere (Stands tree.limits tree.table at' a me) (knows (seen_of me) a)
 all_there laws own at at' a seen tree seat me seat_is one same lawful sits =
     let limits_are : own ≡ tree.limits = limits_of own at a seen tree seat seat_is one in
-    all_stand laws tree.limits tree.table at' a me (subst (λ (l : Limits). IsLawfulRun l (seen_of me)) limits_are lawful) (same ∙ table_of own at a seen tree seat seat_is one) (subst (λ (l : Limits). SitsAt l a Idle me) limits_are sits)
+    all_stand laws tree.limits tree.table at' a me (subst (λ (l : Limits). IsLawfulRun l (seen_of me)) limits_are lawful)
+    (same ∙ table_of own at a seen tree seat seat_is one) (subst (λ (l : Limits). SitsAt l a Idle me) limits_are sits)
 
 -- a record that was read is the one that the actor knows in the row
 module _ (laws : HaveLaws) (limits : Limits) (a row : ℕ) (seen : List Entry) (me : Mine) where

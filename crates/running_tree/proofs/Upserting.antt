@@ -16,7 +16,8 @@ use Rattle.running_tree.proofs.Ascending.{Pair}
 use Rattle.running_tree.proofs.Going.{starts_on}
 
 -- one pair more
-upserted_snoc : (pairs : List Pair) (calls : List (Command × Option Reply)) (pair : Pair) (given : Reply) → HaveUpserted pairs calls → given ≢ reply.Full → HaveUpserted (pairs ++ pair ∷ []) (calls ++ (upsert_of pair, Some given) ∷ [])
+upserted_snoc : (pairs : List Pair) (calls : List (Command × Option Reply)) (pair : Pair) (given : Reply) → HaveUpserted pairs calls → given ≢ reply.Full
+    → HaveUpserted (pairs ++ pair ∷ []) (calls ++ (upsert_of pair, Some given) ∷ [])
 upserted_snoc [] calls pair given is some = (given, [], ap (λ (cs : List (Command × Option Reply)). cs ++ (upsert_of pair, Some given) ∷ []) is, some, refl)
 upserted_snoc (one ∷ pairs) calls pair given (first, rest, is, free, upserted) some =
     (first, rest ++ (upsert_of pair, Some given) ∷ [], ap (λ (cs : List (Command × Option Reply)). cs ++ (upsert_of pair, Some given) ∷ []) is, free, upserted_snoc pairs rest pair given upserted some)
@@ -36,7 +37,9 @@ module _ (pairs : List Pair) (i : ℕ) (pair : Pair) (start old new : Seat) (com
           grows = starts_on start.seen old.seen new.seen loaded.grows done.grows;
           made = loaded.made ++ (upsert_of pair, Some given) ∷ [];
           upserted = upserted_snoc (take i pairs) loaded.made pair given loaded.upserted some;
-          calls = done.calls ∙ ap (λ (cs : List (Command × Option Reply)). cs ++ (upsert_of pair, Some given) ∷ []) loaded.calls ∙ append_assoc (calls_in start) loaded.made ((upsert_of pair, Some given) ∷ []);
+          calls =
+              done.calls ∙ ap (λ (cs : List (Command × Option Reply)). cs ++ (upsert_of pair, Some given) ∷ []) loaded.calls
+              ∙ append_assoc (calls_in start) loaded.made ((upsert_of pair, Some given) ∷ []);
           idle = done.idle;
         })
 

@@ -19,7 +19,8 @@ behind_none f ys (x ∷ xs) none = absurd (omega (arith, none))
 abbrev seat_of : {W : Type 0} → Seat × W → Seat
 seat_of job = job.0
 
-rest_done : {W : Type 0} (comes_to : W → Seat → W → Seat → Type 0) (old new : Seat × W) (before after : List (Seat × W)) → AreEachDone comes_to (old ∷ before) (new ∷ after) → AreEachDone comes_to before after
+rest_done : {W : Type 0} (comes_to : W → Seat → W → Seat → Type 0) (old new : Seat × W) (before after : List (Seat × W))
+    → AreEachDone comes_to (old ∷ before) (new ∷ after) → AreEachDone comes_to before after
 rest_done comes_to old new before after done = let count = done.count in record { count = omega (arith, count); each = λ n. done.each (suc n) }
 
 -- the seats with which works were done are the tree's, as they were
@@ -31,5 +32,6 @@ own_behind comes_to tree others (old ∷ before) [] left own done = let count = 
 own_behind comes_to tree others (old ∷ before) (new ∷ after) left own done =
     let is = done.each 0 old new refl refl in
     let was = own 0 old refl in
-    all_pushed (IsSeatOf tree) (with_each_behind seat_of others after) new.0 (own_behind comes_to tree others before after left (λ n job at. own (suc n) job at) (rest_done comes_to old new before after done))
+    all_pushed (IsSeatOf tree) (with_each_behind seat_of others after) new.0
+    (own_behind comes_to tree others before after left (λ n job at. own (suc n) job at) (rest_done comes_to old new before after done))
     (record { table = is.same.table ∙ was.table; limits = is.same.limits ∙ was.limits })

@@ -22,7 +22,8 @@ begun old command budget called new same is spent =
     let h : IsSpent old command budget new = subst (λ z. IsCalled old command budget z new) spent is in
     record { same = same; grows = h.grows; calls = h.calls; busy = h.busy }
 
-pub ended : (old mid new : Seat) (command : Command) (budget : ℕ) (called : Called) (reply : Reply) → IsUnderWay old command mid → IsSame mid new → IsResumed mid budget called new → called ≡ Done reply → GoesOn old ((command, Some reply) ∷ []) new
+pub ended : (old mid new : Seat) (command : Command) (budget : ℕ) (called : Called) (reply : Reply) → IsUnderWay old command mid → IsSame mid new
+    → IsResumed mid budget called new → called ≡ Done reply → GoesOn old ((command, Some reply) ∷ []) new
 ended old mid new command budget called reply before same is done =
     let h : IsFinished mid budget reply new = subst (λ z. IsResumed mid budget z new) done is in record {
       same = same_on old mid new before.same same;
@@ -32,13 +33,15 @@ ended old mid new command budget called reply before same is done =
     }
 
 -- a command that was done at once
-pub done : (old new : Seat) (command : Command) (budget : ℕ) (called : Called) (reply : Reply) → IsSame old new → IsCalled old command budget called new → called ≡ Done reply → GoesOn old ((command, Some reply) ∷ []) new
+pub done : (old new : Seat) (command : Command) (budget : ℕ) (called : Called) (reply : Reply) → IsSame old new → IsCalled old command budget called new
+    → called ≡ Done reply → GoesOn old ((command, Some reply) ∷ []) new
 done old new command budget called reply same is at_once =
     let h : IsDone old command budget reply new = subst (λ z. IsCalled old command budget z new) at_once is in
     record { same = same; grows = h.grows; calls = h.calls; idle = h.idle }
 
 -- one that was resumed, and isn't done
-pub still : (old mid new : Seat) (command : Command) (budget : ℕ) (called : Called) → IsUnderWay old command mid → IsSame mid new → IsResumed mid budget called new → called ≡ Spent → IsUnderWay old command new
+pub still : (old mid new : Seat) (command : Command) (budget : ℕ) (called : Called) → IsUnderWay old command mid → IsSame mid new
+    → IsResumed mid budget called new → called ≡ Spent → IsUnderWay old command new
 still old mid new command budget called before same is spent =
     let h : IsStill mid budget new = subst (λ z. IsResumed mid budget z new) spent is in record {
       same = same_on old mid new before.same same;

@@ -19,7 +19,8 @@ pub fresh_idle : (tree : Tree) (seats : List Seat) → AreFresh tree seats → A
 fresh_idle tree seats fresh n seat at = subst (λ s. unfinished_command s ≡ None) (is_fresh tree seats fresh n seat at) refl
 
 -- so are those of a tree that opens with pairs
-is_loaded : (tree : Tree) (seats : List Seat) (pairs : List (List ℕ × List ℕ)) (loaded : AreLoaded tree seats pairs) (n : ℕ) (seat : Seat) → slice_get seats n ≡ Some seat → seat_at tree loaded.run n ≡ seat
+is_loaded : (tree : Tree) (seats : List Seat) (pairs : List (List ℕ × List ℕ)) (loaded : AreLoaded tree seats pairs) (n : ℕ) (seat : Seat)
+    → slice_get seats n ≡ Some seat → seat_at tree loaded.run n ≡ seat
 is_loaded tree seats pairs loaded n seat at =
     let below : n < tree.limits.actors = subst (λ m. n < m) loaded.stand.count (slice_get_within seats n seat at) in
     same_Some (seat_at tree loaded.run n) seat (sym (loaded.stand.each n below) ∙ at)

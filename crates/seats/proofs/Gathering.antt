@@ -50,7 +50,8 @@ one_gathered old new on history = record {
 }
 
 -- and one of these
-other_gathered : OwnLasts → (one old new : Seat) → IsOneHistory new.limits one.seen → StartsWith one.seen old.seen → HasHeeded old (note_of one) new → IsOneHistory new.limits new.seen → IsGathered one.seen old new
+other_gathered : OwnLasts → (one old new : Seat) → IsOneHistory new.limits one.seen → StartsWith one.seen old.seen → HasHeeded old (note_of one) new
+    → IsOneHistory new.limits new.seen → IsGathered one.seen old new
 other_gathered own one old new of_one starts h history = record {
   on = heeded own old new (note_of one) h;
   extends = extends_to old.actor old.seen one.seen new.seen starts h.begins h.extends;

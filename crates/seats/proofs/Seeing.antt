@@ -64,7 +64,8 @@ abbrev pub HasSeenBefore : List Seat → ℕ → Seat → Type 0
 HasSeenBefore seats place one = (n : ℕ) (seat : Seat) → n < place → slice_get seats n ≡ Some seat → StartsWith one.seen seat.seen
 
 -- and so has the one at the place, once its note is heeded
-pub seen_one_more : (seats : List Seat) (place : ℕ) (old new at : Seat) → slice_get seats place ≡ Some at → HasHeeded old (note_of at) new → HasSeenBefore seats place old → HasSeenBefore seats (place + 1) new
+pub seen_one_more : (seats : List Seat) (place : ℕ) (old new at : Seat) → slice_get seats place ≡ Some at → HasHeeded old (note_of at) new
+    → HasSeenBefore seats place old → HasSeenBefore seats (place + 1) new
 seen_one_more seats place old new at there h before n seat below is = dite (ℕ_discrete n place)
     (λ same. subst (λ s. StartsWith new.seen s.seen) (get_one seats n at seat (ap (slice_get seats) same ∙ there) is) h.begins)
     (λ apart. starts_on seat.seen old.seen new.seen (before n seat (omega (arith, below, apart)) is) (h.extends.0, h.extends.1))

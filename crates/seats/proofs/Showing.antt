@@ -40,7 +40,8 @@ none_heeded note seats = record {
 }
 
 -- and so has the one at the place
-pub heeded_one_more : (note : Note) (place : ℕ) (old mid : List Seat) (at new : Seat) → slice_get mid place ≡ Some at → HasHeeded at note new → IsOneHistory new.limits new.seen → HaveHeededBefore note place old mid
+pub heeded_one_more : (note : Note) (place : ℕ) (old mid : List Seat) (at new : Seat) → slice_get mid place ≡ Some at → HasHeeded at note new
+    → IsOneHistory new.limits new.seen → HaveHeededBefore note place old mid
     → HaveHeededBefore note (place + 1) old (slice_set mid place new)
 heeded_one_more note place old mid at new there heeds history h = record {
   count = set_count mid place new ∙ h.count;

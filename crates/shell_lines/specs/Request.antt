@@ -49,7 +49,8 @@ SpellsRequest fields (Begin actor command) = (a : List ℕ) × (rest : List (Lis
 SpellsRequest fields (Turn actor count) = (a : List ℕ) × (n : List ℕ) × (fields ≡ codes "turn" ∷ a ∷ n ∷ []) × SpellsNumber a actor × SpellsNumber n count × (1 ≤ count) × (count ≤ 100000)
 SpellsRequest fields (Until actor link) = (a : List ℕ) × (w : List ℕ) × (fields ≡ codes "until" ∷ a ∷ w ∷ []) × SpellsNumber a actor × (word_of link ≡ Some w)
 SpellsRequest fields (Finish actor) = (a : List ℕ) × (fields ≡ codes "finish" ∷ a ∷ []) × SpellsNumber a actor
-SpellsRequest fields (Mix seed count) = (s : List ℕ) × (n : List ℕ) × (fields ≡ codes "mix" ∷ s ∷ n ∷ []) × (number_of s ≡ Some seed) × (seed < 2 ^ 64) × SpellsNumber n count × (1 ≤ count) × (count ≤ 100000)
+SpellsRequest fields (Mix seed count) =
+    (s : List ℕ) × (n : List ℕ) × (fields ≡ codes "mix" ∷ s ∷ n ∷ []) × (number_of s ≡ Some seed) × (seed < 2 ^ 64) × SpellsNumber n count × (1 ≤ count) × (count ≤ 100000)
 SpellsRequest fields ListPairs = fields ≡ codes "list" ∷ []
 SpellsRequest fields (Run command) = SpellsCommand fields command
 

@@ -61,7 +61,8 @@ module _ (limits : Limits) (entries : List Entry) (state : IsState limits entrie
     may_take : (r : Recalled) (hand : Hand) (running : UnderWay) → IsRunning limits a (knows entries a) r hand running → May a (knows entries a) running.wanted
     may_take r hand running at = subst (λ n. May n (knows entries a) running.wanted) at.own_actor at.goes.may.may
 
-    pub served_at : AnswersFit → (r : Recalled) (hand : Hand) (running : Option UnderWay) → IsActorWith limits a (knows entries a) r hand running → IsServedAt limits (knows entries a) m (wanted_by running)
+    pub served_at : AnswersFit → (r : Recalled) (hand : Hand) (running : Option UnderWay) → IsActorWith limits a (knows entries a) r hand running
+        → IsServedAt limits (knows entries a) m (wanted_by running)
     served_at fit r hand None at = tt
     served_at fit r hand (Some running) at = served fit running.wanted (may_take r hand running at)
 
@@ -73,7 +74,9 @@ module _ (limits : Limits) (entries : List Entry) (state : IsState limits entrie
     module _ (apart : RowsAreApart) (table : CoreTable) (same : table.limits ≡ limits) (has : memory_in table ≡ m) (who : a < limits.actors) where
       within : (step : StepOf Record) → IsWithin limits step → May a (knows entries a) step → IsWithinTable table a step
       within (Slot pid) h may = rw same h
-      within (Row row) h may = let stands = (apart limits entries state).placed a row may.1 in subst (λ (o : Option Record). IsSome o) (sym (ap (λ (memory : Memory). memory.rows row) has ∙ stands.1)) refl
+      within (Row row) h may =
+          let stands = (apart limits entries state).placed a row may.1 in
+          subst (λ (o : Option Record). IsSome o) (sym (ap (λ (memory : Memory). memory.rows row) has ∙ stands.1)) refl
       within Epoch h may = tt
       within (Announce other) h may = rw same h
       within (PidBits word) h may = rw same h

@@ -31,7 +31,8 @@ some_at f None some = cc
 some_at f (Some x) some = refl
 
 -- An exchange that won has a link, and no other step has one.
-linked : (memory : Memory) (step : StepOf Record) (answer : Answer Record) → HasHeads memory → Asks (is_placed memory) step → IsAnswer memory step answer → is_some (link_told memory step answer) ≡ is_won step answer
+linked : (memory : Memory) (step : StepOf Record) (answer : Answer Record) → HasHeads memory → Asks (is_placed memory) step → IsAnswer memory step answer
+    → is_some (link_told memory step answer) ≡ is_won step answer
 linked memory (Exchange slot old new) (Whether true) closed asks answered = go (eqb slot 0) refl (eqb old 0) refl (eqb new 0) refl
   where
     before : memory.slots slot ≡ old
@@ -68,7 +69,8 @@ told_after memory actor (Exchange slot old new) (Content x) = refl
 told_after memory actor (Exchange slot old new) Done = refl
 told_after memory actor step answer = refl
 
-pub event_is : (memory after : Memory) (actor : ℕ) (step : StepOf Record) (answer : Answer Record) (reply : Option Reply) (event : Event) → after ≡ memory_after actor step memory → HasHeads memory → Asks (is_placed memory) step
+pub event_is : (memory after : Memory) (actor : ℕ) (step : StepOf Record) (answer : Answer Record) (reply : Option Reply) (event : Event)
+    → after ≡ memory_after actor step memory → HasHeads memory → Asks (is_placed memory) step
     → IsAnswer memory step answer → event ≡ step_event (link_told after step answer) reply → IsEventOf memory (entry.Step actor step answer reply) event
 event_is memory after actor step answer None event left closed asks answered is =
     let same : link_told after step answer ≡ link_told memory step answer = ap (λ m. link_told m step answer) left ∙ told_after memory actor step answer in

@@ -29,7 +29,8 @@ pub adds_entries : (old new : Core) (turns : List Turn) → AddsTurns old turns 
 adds_entries old new [] same = (ap (λ (c : Core). map turn_of c.entries) same ∙ sym (append-nil (map turn_of old.entries)), ap (λ (c : Core). c.limits) same)
 adds_entries old new (turn ∷ turns) (next, event, adds, rest) =
     let later = adds_entries next new turns rest in
-    let one : map turn_of next.entries ≡ map turn_of old.entries ++ turn ∷ [] = ap (map turn_of) adds.entries ∙ map-append turn_of old.entries (adds.added ∷ []) ∙ ap (λ t. map turn_of old.entries ++ t ∷ []) adds.of_turn in
+    let one : map turn_of next.entries ≡ map turn_of old.entries ++ turn ∷ [] = ap (map turn_of) adds.entries ∙ map-append turn_of old.entries (adds.added ∷ [])
+    ∙ ap (λ t. map turn_of old.entries ++ t ∷ []) adds.of_turn in
     (later.0 ∙ ap (λ ts. ts ++ turns) one ∙ append_assoc (map turn_of old.entries) (turn ∷ []) turns, later.1 ∙ adds.same_limits)
 
 -- its entries stay in order under the limits that it was opened with
@@ -37,7 +38,9 @@ pub orderly : (limits : Limits) (new : Core) → new.limits ≡ limits → IsOrd
 orderly limits new same is = subst (λ l. IsOrderly l new.entries) same is
 
 -- a run that opens a core and takes the turns
-pub stops : (limits : Limits) (turns : List Turn) (opened left : Core) (e : RunError) → opened.entries ≡ [] → opened.limits ≡ limits → StopsAt opened turns e left → IsDisciplined left.limits left.entries → IsLinearized left.limits (map turn_of left.entries) left.entries → IsOrderly left.limits left.entries → Stops limits turns e
+pub stops : (limits : Limits) (turns : List Turn) (opened left : Core) (e : RunError) → opened.entries ≡ [] → opened.limits ≡ limits
+    → StopsAt opened turns e left → IsDisciplined left.limits left.entries → IsLinearized left.limits (map turn_of left.entries) left.entries
+    → IsOrderly left.limits left.entries → Stops limits turns e
 stops limits turns opened left e empty same at disciplined linear in_order =
     let adds = adds_entries opened left (take at.count turns) at.added in
     let now : left.limits ≡ limits = adds.1 ∙ same in
@@ -53,5 +56,6 @@ stops limits turns opened left e empty same at disciplined linear in_order =
     })
 
 -- a run that took all of them
-pub whole : (limits : Limits) (turns : List Turn) (new : Core) → map turn_of new.entries ≡ turns → new.limits ≡ limits → IsLinearized new.limits (map turn_of new.entries) new.entries → IsLinearized limits turns new.entries
+pub whole : (limits : Limits) (turns : List Turn) (new : Core) → map turn_of new.entries ≡ turns → new.limits ≡ limits
+    → IsLinearized new.limits (map turn_of new.entries) new.entries → IsLinearized limits turns new.entries
 whole limits turns new all same linear = subst (λ ts. IsLinearized limits ts new.entries) all (subst (λ l. IsLinearized l (map turn_of new.entries) new.entries) same linear)

@@ -76,42 +76,50 @@ asked_is task spares k r (Change now then) h = h.asked.going
 asked_is task spares k r (Leave reply lacks) h = h.0.going
 
 -- an actor with an operation shows that command, and wants a step
-command_shown : (limits : Limits) (number : ℕ) (k : Knowledge) (r : Recalled) (hand : Hand) (running : Option UnderWay) → is_some (command_at running) ≡ true → IsActorWith limits number k r hand running → k.asked.command ≡ command_at running
+command_shown : (limits : Limits) (number : ℕ) (k : Knowledge) (r : Recalled) (hand : Hand) (running : Option UnderWay) → is_some (command_at running) ≡ true
+    → IsActorWith limits number k r hand running → k.asked.command ≡ command_at running
 command_shown limits number k r hand None some at = cc
 command_shown limits number k r hand (Some running) some at = asked_is running.op.task hand.spares k r running.op.state at.goes.shows.stands
 
 module _ (limits : Limits) (number : ℕ) (k : Knowledge) (r : Recalled) (memory : Memory) (step : StepOf Record) (answer : Answer Record) where
   -- the answer of the memory fits
-  going_with : (hand : Hand) (o : Option UnderWay) (lacks : Option Kind) → is_some (command_at o) ≡ true → IsReady limits number k r memory (record { hand = hand; running = o; lacks = lacks }) → wanted_by o ≡ Some step → IsAnswer memory step answer
+  going_with : (hand : Hand) (o : Option UnderWay) (lacks : Option Kind) → is_some (command_at o) ≡ true
+      → IsReady limits number k r memory (record { hand = hand; running = o; lacks = lacks }) → wanted_by o ≡ Some step → IsAnswer memory step answer
       → (going : IsGoing limits number k r (record { hand = hand; running = o; lacks = lacks }) answer) × (going.running.wanted ≡ step)
   going_with hand None lacks some ready is answered = cc
   going_with hand (Some running) lacks some ready is answered =
       let same : running.wanted ≡ step = same_Some running.wanted step is in
       (record { running = running; is = refl; shows = ready.0; fits = ready.1 answer (subst (λ s. IsAnswer memory s answer) (sym same) answered) }, same)
 
-  pub going : (at : Actor) → is_some (running_command at) ≡ true → IsReady limits number k r memory at → wanted_by at.running ≡ Some step → IsAnswer memory step answer → (going : IsGoing limits number k r at answer) × (going.running.wanted ≡ step)
+  pub going : (at : Actor) → is_some (running_command at) ≡ true → IsReady limits number k r memory at → wanted_by at.running ≡ Some step
+      → IsAnswer memory step answer → (going : IsGoing limits number k r at answer) × (going.running.wanted ≡ step)
   going at some ready is answered = going_with at.hand at.running at.lacks some ready is answered
 
   -- the actor is told that answer
-  pub told_by : (at : Actor) (told : Answer Record) → is_some (running_command at) ≡ true → IsReady limits number k r memory at → wanted_by at.running ≡ Some step → IsAnswer memory step answer → told ≡ answer → IsToldActor at told
+  pub told_by : (at : Actor) (told : Answer Record) → is_some (running_command at) ≡ true → IsReady limits number k r memory at
+      → wanted_by at.running ≡ Some step → IsAnswer memory step answer → told ≡ answer → IsToldActor at told
   told_by at told some ready is answered same = record { limits = limits; actor = number; k = k; r = r; going = subst (IsGoing limits number k r at) (sym same) (going at some ready is answered).0 }
 
   -- it goes on by that answer
-  pub goes_by : (at new : Actor) (told : Answer Record) (reply : Option Reply) → is_some (running_command at) ≡ true → IsReady limits number k r memory at → wanted_by at.running ≡ Some step → IsAnswer memory step answer → told ≡ answer
+  pub goes_by : (at new : Actor) (told : Answer Record) (reply : Option Reply) → is_some (running_command at) ≡ true → IsReady limits number k r memory at
+      → wanted_by at.running ≡ Some step → IsAnswer memory step answer → told ≡ answer
       → ((going : IsGoing limits number k r at told) → ActsOn limits number k r at going.running.wanted told reply new) → ActsOn limits number k r at step answer reply new
   goes_by at new told reply some ready is answered same goes =
       let on = going at some ready is answered in
-      let from : ActsOn limits number k r at on.0.running.wanted answer reply new = subst (λ a. (g : IsGoing limits number k r at a) → ActsOn limits number k r at g.running.wanted a reply new) same goes on.0 in
+      let from : ActsOn limits number k r at on.0.running.wanted answer reply new = subst
+      (λ a. (g : IsGoing limits number k r at a) → ActsOn limits number k r at g.running.wanted a reply new) same goes on.0 in
       subst (λ asked. ActsOn limits number k r at asked answer reply new) on.1 from
 
   -- where the reply has pairs, the step ends a cursor page
-  pub needs_room : (at new : Actor) (reply : Reply) → is_some (running_command at) ≡ true → IsActor limits number k r at → wanted_by at.running ≡ Some step → ActsOn limits number k r at step answer (Some reply) new → ShowsPairs reply → NeedsRoom at
+  pub needs_room : (at new : Actor) (reply : Reply) → is_some (running_command at) ≡ true → IsActor limits number k r at → wanted_by at.running ≡ Some step
+      → ActsOn limits number k r at step answer (Some reply) new → ShowsPairs reply → NeedsRoom at
   needs_room at new reply some shows is goes pairs =
       let page = asks_page limits number k reply goes.allowed.replied.1 pairs in
       subst (IsPageEnd (running_command at)) (sym is) (record { from = page.0; asks = sym (command_shown limits number k r at.hand at.running some shows) ∙ page.1; leaves = goes.allowed.replied.0 })
 
 -- the actor is told what the memory answers, whatever it knows
-pub told_of : (memory : Memory) (step : StepOf Record) (answer : Answer Record) (at : Actor) (told : Answer Record) → is_some (running_command at) ≡ true → (limits : Limits) × (number : ℕ) × (k : Knowledge) × (r : Recalled) × IsReady limits number k r memory at
+pub told_of : (memory : Memory) (step : StepOf Record) (answer : Answer Record) (at : Actor) (told : Answer Record) → is_some (running_command at) ≡ true
+    → (limits : Limits) × (number : ℕ) × (k : Knowledge) × (r : Recalled) × IsReady limits number k r memory at
     → wanted_by at.running ≡ Some step → IsAnswer memory step answer → told ≡ answer → IsToldActor at told
 told_of memory step answer at told some (limits, number, k, r, ready) is answered same = told_by limits number k r memory step answer at told some ready is answered same
 
@@ -120,7 +128,8 @@ spellable_within : (limits : Limits) (step : StepOf Record) → IsWithin limits 
 spellable_within limits (Place row content) within = within.2
 spellable_within limits step within = tt
 
-spellable_with : (limits : Limits) (number : ℕ) (k : Knowledge) (r : Recalled) (hand : Hand) (running : Option UnderWay) → IsActorWith limits number k r hand running → (step : StepOf Record) → wanted_by running ≡ Some step → PlacesSpellable step
+spellable_with : (limits : Limits) (number : ℕ) (k : Knowledge) (r : Recalled) (hand : Hand) (running : Option UnderWay)
+    → IsActorWith limits number k r hand running → (step : StepOf Record) → wanted_by running ≡ Some step → PlacesSpellable step
 spellable_with limits number k r hand None at step is = cc
 spellable_with limits number k r hand (Some running) at step is = subst PlacesSpellable (same_Some running.wanted step is) (spellable_within running.op.task.limits running.wanted at.goes.may.within)
 
@@ -153,15 +162,25 @@ read_stands memory step row content reads answered =
     stands ∙ ap Some (let back : found ≡ content = cc in back)
 
 -- once a record is read, it is among those that stand
-there_read : (memory : Memory) (k : Knowledge) (row : ℕ) (content : Record) → memory.rows row ≡ Some content → AreThere (StandsIn memory) k → AreThere (StandsIn memory) (learn k (Row row) (Content content))
+there_read : (memory : Memory) (k : Knowledge) (row : ℕ) (content : Record) → memory.rows row ≡ Some content → AreThere (StandsIn memory) k
+    → AreThere (StandsIn memory) (learn k (Row row) (Content content))
 there_read memory k row content stands there other found seen = elim (cases_eq other row) [
   | inl same ↦ ap memory.rows same ∙ stands ∙ sym (ap (replaced_at row (Some content) k.read.seen) same ∙ replaced_same row (Some content) k.read.seen) ∙ seen
   | inr apart ↦ there other found (sym (replaced_other row (Some content) k.read.seen other apart) ∙ seen)
 ]
 
 -- an actor that wants to read a row is told the record that stands there, beside those that it has read
-pub told_there : (memory : Memory) (at : Actor) (row : ℕ) (content : Record) → is_some (running_command at) ≡ true → (limits : Limits) × (number : ℕ) × (k : Knowledge) × (r : Recalled) × IsReady limits number k r memory at
+pub told_there : (memory : Memory) (at : Actor) (row : ℕ) (content : Record) → is_some (running_command at) ≡ true
+    → (limits : Limits) × (number : ℕ) × (k : Knowledge) × (r : Recalled) × IsReady limits number k r memory at
     → wanted_by at.running ≡ Some (Row row) → memory.rows row ≡ Some content → IsToldActorThere (StandsIn memory) at (Content content)
 told_there memory at row content some (limits, number, k, r, ready) is stands =
     let on = going limits number k r memory (Row row) (Content content) at some ready is (content, stands, refl) in
-    record { limits = limits; actor = number; k = k; r = r; going = on.0; there = subst (λ s. AreThere (StandsIn memory) (learn k s (Content content))) (sym on.1) (there_read memory k row content stands ready.2) }
+    record {
+      limits = limits;
+      actor = number;
+      k = k;
+      r = r;
+      going = on.0;
+      there = subst (λ s. AreThere (StandsIn memory) (learn k s (Content content)))
+          (sym on.1) (there_read memory k row content stands ready.2);
+    }

@@ -70,7 +70,8 @@ KeepsMore command (Some step) = MovesRecord step ⊎ EndsPage command step
 -- and the last one of a cursor page for its pairs.
 abbrev pub WantsMemory : Core → Turn → Type 0
 WantsMemory core (Begin actor command) = core.demand.room ≤ length core.entries
-WantsMemory core (Step actor) = (core.demand.room ≤ length core.entries) ⊎ ((wanted : Option (StepOf Record)) × (slice_get core.demand.wanted actor ≡ Some wanted) × KeepsMore (command_of core.entries actor) wanted)
+WantsMemory core (Step actor) =
+    (core.demand.room ≤ length core.entries) ⊎ ((wanted : Option (StepOf Record)) × (slice_get core.demand.wanted actor ≡ Some wanted) × KeepsMore (command_of core.entries actor) wanted)
 
 -- the step that the actor's operation wants is the leave
 abbrev pub LeavesAt : Core → ℕ → Type 0

@@ -43,7 +43,8 @@ base_in : Page → Record → Page
 base_in other (kind.Base page) = page
 base_in other _ = other
 
-pub split_due : (k : Knowledge) (page : Version) (plan : SplitPlan) (right row : ℕ) → IsSplitPlan page plan → k.own.pages right ≡ Ready row → k.own.rows row ≡ Written (kind.Base plan.upper) → MaySplit k page.head page.chain (kind.Split (split_to plan right))
+pub split_due : (k : Knowledge) (page : Version) (plan : SplitPlan) (right row : ℕ) → IsSplitPlan page plan → k.own.pages right ≡ Ready row
+    → k.own.rows row ≡ Written (kind.Base plan.upper) → MaySplit k page.head page.chain (kind.Split (split_to plan right))
 unfolding base_in
 split_due k page plan right row is ready base =
     let level : plan.upper.level ≡ level_in page.chain = ap (λ (r : Record). (base_in plan.upper r).level) is.base in
@@ -61,7 +62,8 @@ split_due k page plan right row is ready base =
       is = ap kind.Split (λ i. record { level = level i; next = is.over i; separator = plan.upper.low; page = right });
     }
 
-pub term_due : (k : Knowledge) (parent page : Version) (term : Term) → IsTermPlan parent page term → HasSeen k page → IsAfter k parent page → MayPost k parent.pid parent.head parent.chain (kind.Term term)
+pub term_due : (k : Knowledge) (parent page : Version) (term : Term) → IsTermPlan parent page term → HasSeen k page → IsAfter k parent page
+    → MayPost k parent.pid parent.head parent.chain (kind.Term term)
 term_due k parent page term is seen order = record {
   child = page.pid;
   row = page.head;
@@ -73,7 +75,8 @@ term_due k parent page term is seen order = record {
   is = ap kind.Term is.is;
 }
 
-pub root_due : (k : Knowledge) (left right : Version) (root : Page) (new row : ℕ) → IsRootPlan left right root → IsPageChain left.chain → HasSeen k left → k.own.pages new ≡ Ready row → k.own.rows row ≡ Written (kind.Base root) → MayRoot k left.pid new
+pub root_due : (k : Knowledge) (left right : Version) (root : Page) (new row : ℕ) → IsRootPlan left right root → IsPageChain left.chain → HasSeen k left
+    → k.own.pages new ≡ Ready row → k.own.rows row ≡ Written (kind.Base root) → MayRoot k left.pid new
 root_due k left right root new row is fitted seen ready base = record {
   row = left.head;
   basis = record { head = seen.head; chain = left.chain; read = seen.read; alive = is.stands };
@@ -102,7 +105,8 @@ hold_due parent page hold is fitted =
       is = ap kind.Hold is.is;
     }
 
-pub remove_due : (k : Knowledge) (parent page : Version) (remove : Remove) → IsRemovePlan parent page remove → IsPageChain parent.chain → is_removed parent.chain ≡ false → level_in parent.chain ≡ suc (level_in page.chain) → HasSeen k parent
+pub remove_due : (k : Knowledge) (parent page : Version) (remove : Remove) → IsRemovePlan parent page remove → IsPageChain parent.chain
+    → is_removed parent.chain ≡ false → level_in parent.chain ≡ suc (level_in page.chain) → HasSeen k parent
     → MayRemove k page.pid page.head page.chain (kind.Remove remove)
 remove_due k parent page remove is fitted alive level seen = let (items, are, none) = is.can.unheld in record {
   parent = parent.pid;
@@ -130,7 +134,8 @@ merge_due k left removed merge is seen = record {
   is = ap kind.Merge is.is;
 }
 
-pub unterm_due : (k : Knowledge) (parent left removed : Version) (unterm : Unterm) → IsUntermPlan parent left removed unterm → IsPageChain parent.chain → level_in parent.chain ≡ suc (level_in left.chain) → HasSeen k left → IsAfter k parent left
+pub unterm_due : (k : Knowledge) (parent left removed : Version) (unterm : Unterm) → IsUntermPlan parent left removed unterm → IsPageChain parent.chain
+    → level_in parent.chain ≡ suc (level_in left.chain) → HasSeen k left → IsAfter k parent left
     → MayUnterm k parent.pid parent.head parent.chain (kind.Unterm unterm)
 unterm_due k parent left removed unterm is fitted level seen order = record {
   key = low_in removed.chain;

@@ -81,7 +81,9 @@ module _ (key : List ℕ) (child : ℕ) where
       rw over first
 
 -- an unheld term that isn't the first is held, where fewer than 4 are and its neighbours aren't
-hold_fits : (chain : List Record) (page : Page) (hold : Hold) → Makes chain page → IsRuled page → IsSpellable (kind.Hold hold) → FitsHold page hold → key_cmp page.low hold.separator ≡ Less → IsTrue (is_in_range page.low page.high hold.separator) → held_count page.items < 4 → AreFree hold.separator page.items → FitsOver chain (kind.Hold hold)
+hold_fits : (chain : List Record) (page : Page) (hold : Hold) → Makes chain page → IsRuled page → IsSpellable (kind.Hold hold) → FitsHold page hold
+    → key_cmp page.low hold.separator ≡ Less → IsTrue (is_in_range page.low page.high hold.separator) → held_count page.items < 4
+    → AreFree hold.separator page.items → FitsOver chain (kind.Hold hold)
 hold_fits chain page hold makes rules spellable fit above covered few free =
     let key = hold.separator in
     let new : Item = record { key = key; content = Child hold.child true } in
@@ -111,7 +113,8 @@ hold_fits chain page hold makes rules spellable fit above covered few free =
     })
 
 -- a test of two items, and of their places
-module _ (key : List ℕ) (items : List Item) (i j : ℕ) (one other : Item) (within : i < length items) (inside : j < length items) (is_one : one ≡ get_or items i one) (is_other : other ≡ get_or items j other) where
+module _ (key : List ℕ) (items : List Item) (i j : ℕ) (one other : Item) (within : i < length items) (inside : j < length items)
+    (is_one : one ≡ get_or items i one) (is_other : other ≡ get_or items j other) where
   free_at : (one.key ≡ key → is_held other.content ≡ false) → IsFreeBeside key items i j
   free_at free at = at_read items (λ (item : Item). is_held item.content ≡ false) j other inside is_other (free (subst (λ (item : Item). item.key ≡ key) (sym is_one) (at one)))
 
@@ -125,7 +128,8 @@ below_or n m lt = elim (eqb_tells n m) [
 ]
 
 -- the items before a place and at it
-module _ (key : List ℕ) (items : List Item) (place : ℕ) (one other : Item) (some : 1 ≤ place) (within : place < length items) (is_one : one ≡ get_or items (place - 1) one) (is_other : other ≡ get_or items place other) where
+module _ (key : List ℕ) (items : List Item) (place : ℕ) (one other : Item) (some : 1 ≤ place) (within : place < length items)
+    (is_one : one ≡ get_or items (place - 1) one) (is_other : other ≡ get_or items place other) where
   abbrev AreFreeAt : ℕ → ℕ → Type 0
   AreFreeAt n m = IsFreeBeside key items n m × IsFreeBeside key items m n
 
@@ -139,11 +143,16 @@ module _ (key : List ℕ) (items : List Item) (place : ℕ) (one other : Item) (
         at_free key items place (place - 1) other one within (omega (arith, within)) is_other is_one both.1,
       )
 
-  pub free_so_far : ((n : ℕ) → suc n < place → AreFreeAt n (suc n)) → (one.key ≡ key → is_held other.content ≡ false) → (other.key ≡ key → is_held one.content ≡ false) → (n : ℕ) → suc n < place + 1 → AreFreeAt n (suc n)
+  pub free_so_far : ((n : ℕ) → suc n < place → AreFreeAt n (suc n)) → (one.key ≡ key → is_held other.content ≡ false)
+      → (other.key ≡ key → is_held one.content ≡ false) → (n : ℕ) → suc n < place + 1 → AreFreeAt n (suc n)
   free_so_far before free back n lt = elim (below_or (suc n) place lt) [
     | inl below ↦ before n below
     | inr is ↦
-        let here : AreFreeAt (place - 1) place = (free_at key items (place - 1) place one other (omega (arith, within)) within is_one is_other free, free_at key items place (place - 1) other one within (omega (arith, within)) is_other is_one back) in
+        let here : AreFreeAt (place - 1) place = (
+          free_at key items (place - 1) place one other (omega (arith, within)) within is_one is_other free,
+          free_at key
+              items place (place - 1) other one within (omega (arith, within)) is_other is_one back,
+        ) in
         let first : place - 1 ≡ n = omega (arith, is) in
         subst (λ m. AreFreeAt n m) (sym is) (subst (λ m. AreFreeAt m place) first here)
   ]
@@ -159,7 +168,8 @@ from_places key (item ∷ next ∷ items) h = (
 )
 
 -- the plan of a hold is one that may be linked
-pub planned : (parent page : Version) (made : Page) (hold : Hold) → is_removed parent.chain ≡ false → Makes parent.chain made → IsRuled made → hold ≡ hold_of parent page → CanHold parent page → IsHoldPlan parent page hold
+pub planned : (parent page : Version) (made : Page) (hold : Hold) → is_removed parent.chain ≡ false → Makes parent.chain made → IsRuled made
+    → hold ≡ hold_of parent page → CanHold parent page → IsHoldPlan parent page hold
 planned parent page made hold stands makes rules is can =
     let key = low_in page.chain in
     let there : content_at made.items key ≡ Some (Child page.pid false) = makes.items.contents key ∙ can.there in
@@ -173,5 +183,10 @@ planned parent page made hold stands makes rules is can =
     record {
       can = can;
       is = is;
-      fits = rw is (hold_fits parent.chain made (hold_of parent page) makes rules (rw (← makes.level) index, links parent page made makes rules above) fit above covered few free, (let short = can.short in omega (arith, short)));
+      fits =
+          rw is (
+            hold_fits parent.chain made (hold_of parent page) makes rules (rw (← makes.level) index, links parent page made makes rules above) fit above
+                covered few free,
+            (let short = can.short in omega (arith, short)),
+          );
     }

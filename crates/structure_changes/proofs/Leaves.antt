@@ -24,14 +24,16 @@ avoids row [] h = tt
 avoids row (x ∷ xs) h = ((λ e. h (0, omega arith, e)), avoids row xs (λ (k, lt, e). h (suc k, omega (arith, lt), e)))
 
 -- a chain stays where a row is written that is none of its own
-pub chain_stays : (rows : ℕ → Option Record) (row : ℕ) (new : Option Record) (start : ℕ) (chain : List Record) → IsChainFrom rows start chain → Avoids row (chain_rows start chain) → IsChainFrom (replaced_at row new rows) start chain
+pub chain_stays : (rows : ℕ → Option Record) (row : ℕ) (new : Option Record) (start : ℕ) (chain : List Record) → IsChainFrom rows start chain
+    → Avoids row (chain_rows start chain) → IsChainFrom (replaced_at row new rows) start chain
 chain_stays rows row new start [] h a = h
 chain_stays rows row new start (x ∷ xs) h a = (
   replaced_other row new rows start a.0 ∙ h.0,
-  elim (next_row x) as (λ o. MatchOption o (xs ≡ []) (λ next. IsChainFrom rows next xs) → Avoids row (chain_rows (unwrap_or o 0) xs) → MatchOption o (xs ≡ []) (λ next. IsChainFrom (replaced_at row new rows) next xs)) [
-    | None ↦ λ e b. e
-    | Some next ↦ λ under b. chain_stays rows row new next xs under b
-  ] h.1 a.1,
+  elim (next_row x) as
+      (λ o. MatchOption o (xs ≡ []) (λ next. IsChainFrom rows next xs) → Avoids row (chain_rows (unwrap_or o 0) xs) → MatchOption o (xs ≡ []) (λ next. IsChainFrom (replaced_at row new rows) next xs)) [
+        | None ↦ λ e b. e
+        | Some next ↦ λ under b. chain_stays rows row new next xs under b
+      ] h.1 a.1,
 )
 
 pub avoided : (memory : Memory) (row pid : ℕ) (chain : List Record) → IsSpareRow memory row → IsChainOf memory pid chain → Avoids row (chain_rows (memory.slots pid) chain)
@@ -90,7 +92,8 @@ abbrev pub Apart : ℕ → List LivePage → Type 0
 Apart pid pages = AllByRecursion (λ (page : LivePage). page.pid ≢ pid) pages
 
 -- a page among those from another on begins fewer
-shorter : (memory : Memory) (pid : ℕ) (pages : List LivePage) → IsSideChainFrom memory pid pages → (bound : ℕ) → length pages ≤ bound → (start : ℕ) (longer : List LivePage) → IsSideChainFrom memory start longer → bound < length longer → Apart start pages
+shorter : (memory : Memory) (pid : ℕ) (pages : List LivePage) → IsSideChainFrom memory pid pages → (bound : ℕ) → length pages ≤ bound
+    → (start : ℕ) (longer : List LivePage) → IsSideChainFrom memory start longer → bound < length longer → Apart start pages
 shorter memory pid [] h bound le start longer is lt = absurd h
 shorter memory pid (page ∷ pages) h bound le start longer is lt = (
   (λ e.
@@ -127,7 +130,8 @@ module _ (memory after : Memory) (one : ℕ) (stays : (pid : ℕ) (chain : List 
   stays_whole pid low pages s a = (pages, record { sides = sides_stay pid pages s.sides a; whole = s.whole; level = s.level }, (λ key value. ((λ h. h), (λ h. h))))
 
   -- the pages after a page, where none of them is that one
-  pub rest_stays : (right : Option ℕ) (pages : List LivePage) → MatchOption right (pages ≡ []) (λ next. IsSideChainFrom memory next pages) → Apart one pages → MatchOption right (pages ≡ []) (λ next. IsSideChainFrom after next pages)
+  pub rest_stays : (right : Option ℕ) (pages : List LivePage) → MatchOption right (pages ≡ []) (λ next. IsSideChainFrom memory next pages) → Apart one pages
+      → MatchOption right (pages ≡ []) (λ next. IsSideChainFrom after next pages)
   rest_stays None pages side a = side
   rest_stays (Some next) pages side a = sides_stay next pages side a
 
@@ -136,14 +140,18 @@ module _ (memory after : Memory) (one : ℕ) (stays : (pid : ℕ) (chain : List 
   Tail pages right high = (others : List LivePage) × MatchOption right (others ≡ []) (λ next. IsSideChainFrom after next others)
       × MatchOption high (others ≡ []) (λ key. IsWholeFrom key others) × AllByRecursion (λ (page : LivePage). level_in page.chain ≡ 0) others × AreAlike pages others
 
-  tail : (pages : List LivePage) (right : Option ℕ) (high : Option (List ℕ)) → MatchOption right (pages ≡ []) (λ next. IsSideChainFrom memory next pages) → MatchOption high (pages ≡ []) (λ key. IsWholeFrom key pages)
+  tail : (pages : List LivePage) (right : Option ℕ) (high : Option (List ℕ)) → MatchOption right (pages ≡ []) (λ next. IsSideChainFrom memory next pages)
+      → MatchOption high (pages ≡ []) (λ key. IsWholeFrom key pages)
       → AllByRecursion (λ (page : LivePage). level_in page.chain ≡ 0) pages → ((next : ℕ) (key : List ℕ) → Segment memory next key pages → Goes after next key pages) → Tail pages right high
   tail pages None None side whole level go = (pages, side, whole, level, (λ key value. ((λ h. h), (λ h. h))))
   tail pages None (Some high) side whole level go = absurd (subst (IsWholeFrom high) side whole)
   tail pages (Some right) None side whole level go = absurd (subst (IsSideChainFrom memory right) whole side)
-  tail pages (Some right) (Some high) side whole level go = let (others, segment, alike) = go right high (record { sides = side; whole = whole; level = level }) in (others, segment.sides, segment.whole, segment.level, alike)
+  tail pages (Some right) (Some high) side whole level go =
+      let (others, segment, alike) = go right high (record { sides = side; whole = whole; level = level }) in
+      (others, segment.sides, segment.whole, segment.level, alike)
 
-  after_page : (pid : ℕ) (low : List ℕ) (page : LivePage) (pages : List LivePage) → Segment memory pid low (page ∷ pages) → pid ≢ one → Tail pages (right_in page.chain) (high_in page.chain) → Goes after pid low (page ∷ pages)
+  after_page : (pid : ℕ) (low : List ℕ) (page : LivePage) (pages : List LivePage) → Segment memory pid low (page ∷ pages) → pid ≢ one
+      → Tail pages (right_in page.chain) (high_in page.chain) → Goes after pid low (page ∷ pages)
   after_page pid low page pages s other (others, side, whole, level, alike) = (
     page ∷ others,
     record { sides = (s.sides.0, stays pid page.chain other s.sides.1, side); whole = (s.whole.0, whole); level = (s.level.0, level) },
@@ -164,7 +172,8 @@ module _ (memory after : Memory) (one : ℕ) (stays : (pid : ℕ) (chain : List 
 
 -- linking
 
-pub link_stays : (memory : Memory) (page row : ℕ) (content : Record) (pid : ℕ) (chain : List Record) → pid ≢ page → IsChainOf memory pid chain → Avoids row (chain_rows (memory.slots pid) chain) → IsChainOf (linked page row content memory) pid chain
+pub link_stays : (memory : Memory) (page row : ℕ) (content : Record) (pid : ℕ) (chain : List Record) → pid ≢ page → IsChainOf memory pid chain
+    → Avoids row (chain_rows (memory.slots pid) chain) → IsChainOf (linked page row content memory) pid chain
 link_stays memory page row content pid chain other is avoid =
     let slot : replaced_at page row memory.slots pid ≡ memory.slots pid = replaced_other page row memory.slots pid other in
     record {

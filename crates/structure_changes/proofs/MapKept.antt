@@ -40,26 +40,33 @@ pub chain_of : (memory : Memory) (version : Version) → HasVersion memory versi
 chain_of memory version h = record { page = version.is_pid.0; linked = rw h.slot version.is_row.0; records = rw h.slot h.chain }
 
 -- every page but the linked one stands
-others_stay : (memory : Memory) (page row : ℕ) (content : Record) → IsSpareRow memory row → (pid : ℕ) (chain : List Record) → pid ≢ page → IsChainOf memory pid chain → IsChainOf (linked page row content memory) pid chain
+others_stay : (memory : Memory) (page row : ℕ) (content : Record) → IsSpareRow memory row → (pid : ℕ) (chain : List Record) → pid ≢ page
+    → IsChainOf memory pid chain → IsChainOf (linked page row content memory) pid chain
 others_stay memory page row content spare pid chain other is = link_stays memory page row content pid chain other is (avoided memory row pid chain spare is)
 
 -- a record over an index page
-above_keeps : (memory : Memory) (version : Version) (row : ℕ) (content : Record) → HasLeaves memory → HasVersion memory version → IsSpareRow memory row → 0 < level_in version.chain → KeepsMap memory (linked version.pid row content memory)
+above_keeps : (memory : Memory) (version : Version) (row : ℕ) (content : Record) → HasLeaves memory → HasVersion memory version → IsSpareRow memory row
+    → 0 < level_in version.chain → KeepsMap memory (linked version.pid row content memory)
 above_keeps memory version row content h holds spare index = beside_keeps memory (linked version.pid row content memory) version.pid h (others_stay memory version.pid row content spare)
     (λ chain is level.
     let same : chain ≡ version.chain = IsChainOf-unique memory version.pid chain version.chain is (chain_of memory version holds) in
     let leaf : level_in version.chain ≡ 0 = subst (λ (c : List Record). level_in c ≡ 0) same level in
     omega (arith, index, leaf))
 
-pub term_keeps : (memory : Memory) (parent page : Version) (term : Term) (row : ℕ) → IsTermPlan parent page term → HasLeaves memory → HasVersion memory parent → IsSpareRow memory row → KeepsMap memory (linked parent.pid row (kind.Term term) memory)
+pub term_keeps : (memory : Memory) (parent page : Version) (term : Term) (row : ℕ) → IsTermPlan parent page term → HasLeaves memory → HasVersion memory parent
+    → IsSpareRow memory row → KeepsMap memory (linked parent.pid row (kind.Term term) memory)
 term_keeps memory parent page term row is h holds spare = above_keeps memory parent row (kind.Term term) h holds spare (let level = is.can.level in omega (arith, level))
 
-pub hold_keeps : (memory : Memory) (parent page : Version) (hold : Hold) (row : ℕ) → IsHoldPlan parent page hold → IsPageChain parent.chain → HasLeaves memory → HasVersion memory parent → IsSpareRow memory row → KeepsMap memory (linked parent.pid row (kind.Hold hold) memory)
-hold_keeps memory parent page hold row is rules h holds spare = above_keeps memory parent row (kind.Hold hold) h holds spare (covered parent.chain rules.fitted (low_in page.chain) page.pid false is.can.there).1
+pub hold_keeps : (memory : Memory) (parent page : Version) (hold : Hold) (row : ℕ) → IsHoldPlan parent page hold → IsPageChain parent.chain → HasLeaves memory
+    → HasVersion memory parent → IsSpareRow memory row → KeepsMap memory (linked parent.pid row (kind.Hold hold) memory)
+hold_keeps memory parent page hold row is rules h holds spare =
+    above_keeps memory parent row (kind.Hold hold) h holds spare (covered parent.chain rules.fitted (low_in page.chain) page.pid false is.can.there).1
 
-pub unterm_keeps : (memory : Memory) (parent left removed : Version) (unterm : Unterm) (row : ℕ) → IsUntermPlan parent left removed unterm → IsPageChain parent.chain → HasLeaves memory → HasVersion memory parent → IsSpareRow memory row
+pub unterm_keeps : (memory : Memory) (parent left removed : Version) (unterm : Unterm) (row : ℕ) → IsUntermPlan parent left removed unterm
+    → IsPageChain parent.chain → HasLeaves memory → HasVersion memory parent → IsSpareRow memory row
     → KeepsMap memory (linked parent.pid row (kind.Unterm unterm) memory)
-unterm_keeps memory parent left removed unterm row is rules h holds spare = above_keeps memory parent row (kind.Unterm unterm) h holds spare (covered parent.chain rules.fitted (low_in removed.chain) removed.pid true is.can.held).1
+unterm_keeps memory parent left removed unterm row is rules h holds spare =
+    above_keeps memory parent row (kind.Unterm unterm) h holds spare (covered parent.chain rules.fitted (low_in removed.chain) removed.pid true is.can.held).1
 
 -- a page whose slot was empty
 pub ready_keeps : (memory : Memory) (page row : ℕ) (content : Record) → HasLeaves memory → memory.slots page ≡ 0 → IsSpareRow memory row → KeepsMap memory (linked page row content memory)
@@ -75,7 +82,8 @@ with_root_keeps memory page h = beside_keeps memory (with_root page memory) 0 h
     (λ chain is level. let some = is.page in omega (arith, some))
 
 -- a record over a page that was read
-pub over_chain : (memory : Memory) (version : Version) (row : ℕ) (content : Record) → HasVersion memory version → IsSpareRow memory row → next_row content ≡ Some version.head → IsChainOf (linked version.pid row content memory) version.pid (content ∷ version.chain)
+pub over_chain : (memory : Memory) (version : Version) (row : ℕ) (content : Record) → HasVersion memory version → IsSpareRow memory row
+    → next_row content ≡ Some version.head → IsChainOf (linked version.pid row content memory) version.pid (content ∷ version.chain)
 over_chain memory version row content holds spare next =
     let is = chain_of memory version holds in
     let slot : replaced_at version.pid row memory.slots version.pid ≡ row = replaced_same version.pid row memory.slots in
@@ -85,7 +93,8 @@ over_chain memory version row content holds spare next =
     record { page = is.page; linked = rw slot spare.some; records = rw slot records }
 
 -- a removal
-pub remove_keeps : (memory : Memory) (parent page : Version) (remove : Remove) (row : ℕ) → IsRemovePlan parent page remove → HasLeaves memory → HasVersion memory page → IsSpareRow memory row → KeepsMap memory (linked page.pid row (kind.Remove remove) memory)
+pub remove_keeps : (memory : Memory) (parent page : Version) (remove : Remove) (row : ℕ) → IsRemovePlan parent page remove → HasLeaves memory
+    → HasVersion memory page → IsSpareRow memory row → KeepsMap memory (linked page.pid row (kind.Remove remove) memory)
 remove_keeps memory parent page remove row is h holds spare = page_keeps memory (linked page.pid row (kind.Remove remove) memory) page.pid h stays here
   where
     stays : (pid : ℕ) (chain : List Record) → pid ≢ page.pid → IsChainOf memory pid chain → IsChainOf (linked page.pid row (kind.Remove remove) memory) pid chain
@@ -143,7 +152,8 @@ halves page plan right is key within = either (is_below key plan.upper.low)
     (λ reach. inr (in_range plan.upper.low (high_in page.chain) key (ap not reach) (ends (low_in page.chain) (high_in page.chain) key within), is.alike key reach))
 
 -- a split: the new page is made ready, and the split linked
-module _ (memory : Memory) (page : Version) (plan : SplitPlan) (right row base_row : ℕ) (is : IsSplitPlan page plan) (h : HasLeaves memory) (holds : HasVersion memory page) (some : 0 < right) (empty : memory.slots right ≡ 0)
+module _ (memory : Memory) (page : Version) (plan : SplitPlan) (right row base_row : ℕ) (is : IsSplitPlan page plan) (h : HasLeaves memory)
+    (holds : HasVersion memory page) (some : 0 < right) (empty : memory.slots right ≡ 0)
     (spare : IsSpareRow memory row) (spare_base : IsSpareRow memory base_row) (distinct : row ≢ base_row) where
   abbrev base : Record
   base = base_from page.chain plan.upper.low plan.upper.items
@@ -192,7 +202,8 @@ module _ (memory : Memory) (page : Version) (plan : SplitPlan) (right row base_r
       let records : IsChainFrom split_memory.rows base_row (base ∷ []) = (there, refl) in
       record { page = some; linked = rw slot spare_base.some; records = rw slot records }
 
-  halves_alike : (first : LivePage) (pages : List LivePage) → page.chain ≡ first.chain → AreAlike (first ∷ pages) (record { pid = page.pid; chain = split ∷ page.chain } ∷ record { pid = right; chain = base ∷ [] } ∷ pages)
+  halves_alike : (first : LivePage) (pages : List LivePage) → page.chain ≡ first.chain
+      → AreAlike (first ∷ pages) (record { pid = page.pid; chain = split ∷ page.chain } ∷ record { pid = right; chain = base ∷ [] } ∷ pages)
   halves_alike first pages same key value = (
     (λ shown. elim shown [
       | inl (within, content) ↦ parted (subst (λ (c : List Record). IsTrue (covers c key)) (sym same) within) (subst (λ (c : List Record). content_in c key ≡ Some (Value value)) (sym same) content)
@@ -205,7 +216,8 @@ module _ (memory : Memory) (page : Version) (plan : SplitPlan) (right row base_r
     ]),
   )
     where
-      parted : IsTrue (covers page.chain key) → content_in page.chain key ≡ Some (Value value) → Shows key value (record { pid = page.pid; chain = split ∷ page.chain } ∷ record { pid = right; chain = base ∷ [] } ∷ pages)
+      parted : IsTrue (covers page.chain key) → content_in page.chain key ≡ Some (Value value)
+          → Shows key value (record { pid = page.pid; chain = split ∷ page.chain } ∷ record { pid = right; chain = base ∷ [] } ∷ pages)
       parted within content = elim (halves page plan right is key within) [
         | inl (there, same) ↦ inl (there, same ∙ content)
         | inr (there, same) ↦ inr (inl (there, same ∙ content))
@@ -214,14 +226,16 @@ module _ (memory : Memory) (page : Version) (plan : SplitPlan) (right row base_r
       lower : IsTrue (covers (split ∷ page.chain) key) → content_in (split ∷ page.chain) key ≡ Some (Value value) → IsTrue (covers first.chain key) × (content_in first.chain key ≡ Some (Value value))
       lower within content =
           let below : is_below key plan.upper.low ≡ true = ends (low_in page.chain) (Some plan.upper.low) key within in (
-            subst (λ (c : List Record). IsTrue (covers c key)) same (in_range (low_in page.chain) (high_in page.chain) key (starts (low_in page.chain) (Some plan.upper.low) key within) (under_trans key plan.upper.low (high_in page.chain) below is.below)),
+            subst (λ (c : List Record). IsTrue (covers c key)) same (in_range (low_in page.chain) (high_in page.chain) key
+                (starts (low_in page.chain) (Some plan.upper.low) key within) (under_trans key plan.upper.low (high_in page.chain) below is.below)),
             subst (λ (c : List Record). content_in c key ≡ Some (Value value)) same (rw below at content),
           )
 
       upper : IsTrue (covers (base ∷ []) key) → content_in (base ∷ []) key ≡ Some (Value value) → IsTrue (covers first.chain key) × (content_in first.chain key ≡ Some (Value value))
       upper within content =
           let reach : is_below key plan.upper.low ≡ false = not_true (is_below key plan.upper.low) (starts plan.upper.low (high_in page.chain) key within) in (
-            subst (λ (c : List Record). IsTrue (covers c key)) same (in_range (low_in page.chain) (high_in page.chain) key (not_under (low_in page.chain) plan.upper.low key is.above reach) (ends plan.upper.low (high_in page.chain) key within)),
+            subst (λ (c : List Record). IsTrue (covers c key)) same
+                (in_range (low_in page.chain) (high_in page.chain) key (not_under (low_in page.chain) plan.upper.low key is.above reach) (ends plan.upper.low (high_in page.chain) key within)),
             subst (λ (c : List Record). content_in c key ≡ Some (Value value)) same (sym (is.alike key reach) ∙ content),
           )
 
@@ -252,7 +266,8 @@ module _ (left removed : Version) (merge : Merge) (is : IsMergePlan left removed
   left_spans : is_below (low_in left.chain) (low_in removed.chain) ≡ true
   left_spans =
       let (page, makes) = made left.chain rules.fitted in
-      let spans : IsTrue (is_under page.low (Some (low_in removed.chain))) = subst (λ bound. IsTrue (is_under page.low bound)) (makes.high ∙ is.can.next_to.high) (ruled left.chain page rules.fitted makes).is_page.spans in
+      let spans : IsTrue (is_under page.low (Some (low_in removed.chain))) = subst (λ bound. IsTrue (is_under page.low bound))
+      (makes.high ∙ is.can.next_to.high) (ruled left.chain page rules.fitted makes).is_page.spans in
       subst (λ low. IsTrue (is_below low (low_in removed.chain))) makes.low spans
 
   removed_spans : is_under (low_in removed.chain) (high_in removed.chain) ≡ true
@@ -268,14 +283,16 @@ module _ (left removed : Version) (merge : Merge) (is : IsMergePlan left removed
   pub from_left : (key : List ℕ) → IsTrue (covers left.chain key) → IsTrue (covers joined key) × (content_in joined key ≡ content_in left.chain key)
   from_left key within =
       let below : is_below key (low_in removed.chain) ≡ true = subst (λ bound. is_under key bound ≡ true) is.can.next_to.high (ends (low_in left.chain) (high_in left.chain) key within) in (
-        in_range (low_in left.chain) (high_in removed.chain) key (starts (low_in left.chain) (high_in left.chain) key within) (under_trans key (low_in removed.chain) (high_in removed.chain) below removed_spans),
+        in_range (low_in left.chain) (high_in removed.chain) key (starts (low_in left.chain) (high_in left.chain) key within)
+            (under_trans key (low_in removed.chain) (high_in removed.chain) below removed_spans),
         rw below refl,
       )
 
   pub from_removed : (key : List ℕ) → IsTrue (covers removed.chain key) → IsTrue (covers joined key) × (content_in joined key ≡ content_in removed.chain key)
   from_removed key within =
       let reach : is_below key (low_in removed.chain) ≡ false = not_true (is_below key (low_in removed.chain)) (starts (low_in removed.chain) (high_in removed.chain) key within) in (
-        in_range (low_in left.chain) (high_in removed.chain) key (not_under (low_in left.chain) (low_in removed.chain) key left_spans reach) (ends (low_in removed.chain) (high_in removed.chain) key within),
+        in_range (low_in left.chain) (high_in removed.chain) key (not_under (low_in left.chain) (low_in removed.chain) key left_spans reach)
+            (ends (low_in removed.chain) (high_in removed.chain) key within),
         rw within (is.has.contents key),
       )
 
@@ -291,7 +308,8 @@ module _ (memory : Memory) (left removed : Version) (merge : Merge) (row : ℕ) 
   merge_stays : (pid : ℕ) (chain : List Record) → pid ≢ left.pid → IsChainOf memory pid chain → IsChainOf merged_memory pid chain
   merge_stays = others_stay memory left.pid row due spare
 
-  both_alike : (first second : LivePage) (pages : List LivePage) → left.chain ≡ first.chain → removed.chain ≡ second.chain → AreAlike (first ∷ second ∷ pages) (record { pid = left.pid; chain = due ∷ left.chain } ∷ pages)
+  both_alike : (first second : LivePage) (pages : List LivePage) → left.chain ≡ first.chain → removed.chain ≡ second.chain
+      → AreAlike (first ∷ second ∷ pages) (record { pid = left.pid; chain = due ∷ left.chain } ∷ pages)
   both_alike first second pages same same_removed key value = (
     (λ shown. elim shown [
       | inl (within, content) ↦
@@ -312,10 +330,20 @@ module _ (memory : Memory) (left removed : Version) (merge : Merge) (row : ℕ) 
       parted within content = either (is_below key (low_in removed.chain))
           (λ below.
           let under : is_under key (high_in left.chain) ≡ true = subst (λ bound. is_under key bound ≡ true) (sym is.can.next_to.high) below in
-          inl (subst (λ (c : List Record). IsTrue (covers c key)) same (in_range (low_in left.chain) (high_in left.chain) key (starts (low_in left.chain) (high_in removed.chain) key within) under), subst (λ (c : List Record). content_in c key ≡ Some (Value value)) same (rw below at content)))
+          inl (
+            subst (λ (c : List Record). IsTrue (covers c key)) same
+                (in_range (low_in left.chain) (high_in left.chain) key (starts (low_in left.chain) (high_in removed.chain) key within) under),
+            subst
+                (λ (c : List Record). content_in c key ≡ Some (Value value)) same (rw below at content),
+          ))
           (λ reach.
-          let inside : is_in_range (low_in removed.chain) (high_in removed.chain) key ≡ true = in_range (low_in removed.chain) (high_in removed.chain) key (ap not reach) (ends (low_in left.chain) (high_in removed.chain) key within) in
-          inr (inl (subst (λ (c : List Record). IsTrue (covers c key)) same_removed inside, subst (λ (c : List Record). content_in c key ≡ Some (Value value)) same_removed (sym (is.has.contents key) ∙ (rw inside at content)))))
+          let inside : is_in_range (low_in removed.chain) (high_in removed.chain) key ≡ true = in_range (low_in removed.chain) (high_in removed.chain) key
+          (ap not reach) (ends (low_in left.chain) (high_in removed.chain) key within) in
+          inr (inl (
+            subst (λ (c : List Record). IsTrue (covers c key)) same_removed inside,
+            subst (λ (c : List Record). content_in c key ≡ Some (Value value))
+                same_removed (sym (is.has.contents key) ∙ (rw inside at content)),
+          )))
 
   merge_here : (low : List ℕ) (pages : List LivePage) → Segment memory left.pid low pages → Goes merged_memory left.pid low pages
   merge_here low [] s = absurd s.sides
@@ -335,7 +363,12 @@ module _ (memory : Memory) (left removed : Version) (merge : Merge) (row : ℕ) 
       let level : level_in left.chain ≡ 0 = subst (λ (c : List Record). level_in c ≡ 0) (sym same) s.level.0 in (
         record { pid = left.pid; chain = due ∷ left.chain } ∷ pages,
         record {
-          sides = (refl, over_chain memory left row due holds spare refl, rest_stays memory merged_memory left.pid merge_stays (right_in removed.chain) pages side (apart memory left.pid first (second ∷ pages) s.sides).1);
+          sides = (
+            refl,
+            over_chain memory left row due holds spare refl,
+            rest_stays memory merged_memory left.pid merge_stays (right_in removed.chain) pages side
+                (apart memory left.pid first (second ∷ pages) s.sides).1,
+          );
           whole = (lowest, rest);
           level = (level, s.level.1.1);
         },

@@ -52,7 +52,8 @@ held_append (item ∷ items) others none = ap (λ n. (if is_held item.content th
 -- the terms of a page, with those of the page to its right, of which none is held
 terms_append : (low : List ℕ) (items others : List Item) → AllByRecursion (λ (item : Item). is_held item.content ≡ false) others → AreTerms low items → AreTerms low (items ++ others)
 unfolding none_held
-terms_append low items others none terms = record { first = first_append low items others terms.first; few = rw (held_append items others none) terms.few; apart = apart_append items others terms.apart none }
+terms_append low items others none terms = record
+    { first = first_append low items others terms.first; few = rw (held_append items others none) terms.few; apart = apart_append items others terms.apart none }
 
 -- A page to the right comes in, which has a right exactly where it has an end, and of whose terms none is held.
 merge_fits : (chain : List Record) (page : Page) (merge : Merge) → Makes chain page → IsRuled page → IsSpellable (kind.Merge merge) → FitsMerge page merge
@@ -62,7 +63,12 @@ merge_fits chain page merge makes rules spellable fit ends unheld =
     let joined = IsPage-joined page next rules.is_page fit.merged fit.meets merge.right (sym fit.level) fit.room in
     fits_over chain (kind.Merge merge) page (record page { high = merge.high; right = merge.right; items = page.items ++ merge.items }) refl spellable makes fit
     (record { ascending = joined.ordered.ascending; contents = content_at-joined page next rules.is_page fit.merged fit.meets; level = refl; low = refl; high = refl; right = refl; removed = refl })
-    (record { is_page = record { spans = joined.spans; ordered = joined.ordered; within = joined.within; kinds = joined.kinds }; ends = ends; top = rules.top; terms = λ index. terms_append page.low page.items merge.items (unheld index) (rules.terms index) })
+    (record {
+      is_page = record { spans = joined.spans; ordered = joined.ordered; within = joined.within; kinds = joined.kinds };
+      ends = ends;
+      top = rules.top;
+      terms = λ index. terms_append page.low page.items merge.items (unheld index) (rules.terms index);
+    })
 
 unheld_from : (items : List Item) → held_count items ≡ 0 → AllByRecursion (λ (item : Item). is_held item.content ≡ false) items
 unheld_from [] none = tt
@@ -74,12 +80,15 @@ unheld_from (item ∷ items) none = by_mark (is_held item.content) refl none (un
     by_mark false is count rest = (is, rest (omega (arith, count)))
 
 -- the removed page, as it is copied
-module _ (left removed : Version) (made merged : Page) (fitted : IsFitted removed.chain) (makes : Makes left.chain made) (rules : IsRuled made) (makes_merged : Makes removed.chain merged) (can : CanMerge left removed) where
+module _ (left removed : Version) (made merged : Page) (fitted : IsFitted removed.chain) (makes : Makes left.chain made) (rules : IsRuled made)
+    (makes_merged : Makes removed.chain merged) (can : CanMerge left removed) where
   abbrev copied : Page
   copied = record { level = level_in left.chain; low = low_in removed.chain; high = high_in removed.chain; right = right_in removed.chain; removed = false; items = merged.items }
 
   copied_is : copied ≡ record merged { removed = false }
-  copied_is = λ i. record { level = (sym can.level ∙ sym makes_merged.level) i; low = sym makes_merged.low i; high = sym makes_merged.high i; right = sym makes_merged.right i; removed = false; items = merged.items }
+  copied_is =
+      λ i. record
+      { level = (sym can.level ∙ sym makes_merged.level) i; low = sym makes_merged.low i; high = sym makes_merged.high i; right = sym makes_merged.right i; removed = false; items = merged.items }
 
   stands : IsSpellablePage (record merged { removed = false })
   stands =
@@ -107,10 +116,13 @@ module _ (left removed : Version) (made merged : Page) (fitted : IsFitted remove
       let roomy = of_made left.chain made (λ items. length items < 16) makes can.roomy in
       let unheld = unheld_from merged.items (of_made removed.chain merged (λ items. held_count items ≡ 0) makes_merged can.unheld) in
       let due = merge_of left removed merged.items in
-      let fit : FitsMerge made due = record { alive = makes.removed ∙ can.alive; level = makes.level; meets = makes.high ∙ can.next_to.high; merged = copied_stands.ruled.is_page; room = omega (arith, few, roomy) } in
+      let fit : FitsMerge made due = record
+      { alive = makes.removed ∙ can.alive; level = makes.level; meets = makes.high ∙ can.next_to.high; merged = copied_stands.ruled.is_page; room = omega (arith, few, roomy) }
+      in
       record {
         can = can;
         has = rw is makes_merged.items;
         is = rw is refl;
-        fits = rw is (merge_fits left.chain made due makes rules (left.is_row, inner, few, copied_stands) fit copied_stands.ruled.ends (λ index. unheld), (let short = can.short in omega (arith, short)));
+        fits =
+            rw is (merge_fits left.chain made due makes rules (left.is_row, inner, few, copied_stands) fit copied_stands.ruled.ends (λ index. unheld), (let short = can.short in omega (arith, short)));
       }

@@ -83,10 +83,12 @@ above_low page key covered other = by_order page.low key
 
 -- what has a child is an index page
 pub index_at : (page : Page) → IsRuled page → (key : List ℕ) (child : ℕ) (held : Bool) → content_at page.items key ≡ Some (Child child held) → 0 < page.level
-index_at page rules key child held e = content_all (IsOfLevel page.level) page.items (recursion_from_All (λ (item : Item). IsOfLevel page.level item.content) page.items rules.is_page.kinds) key (Child child held) e
+index_at page rules key child held e =
+    content_all (IsOfLevel page.level) page.items (recursion_from_All (λ (item : Item). IsOfLevel page.level item.content) page.items rules.is_page.kinds) key (Child child held) e
 
 -- the first term's key has it, unheld
-pub at_first : (low : List ℕ) (items : List Item) (key : List ℕ) (found : Option Content) → IsFirstAt low items → content_at items key ≡ found → key ≡ low → (content : Content) × (found ≡ Some content) × (is_held content ≡ false)
+pub at_first : (low : List ℕ) (items : List Item) (key : List ℕ) (found : Option Content) → IsFirstAt low items → content_at items key ≡ found → key ≡ low
+    → (content : Content) × (found ≡ Some content) × (is_held content ≡ false)
 at_first low [] key found first e same = absurd first
 at_first low (item ∷ items) key found first e same = (item.content, (sym e ∙ subst (λ k. content_at (item ∷ items) k ≡ Some item.content) (first.0 ∙ sym same) (found_first item items)), first.1)
 
@@ -99,5 +101,6 @@ held_inner low items key child first e same =
     absurd cc
 
 -- a delta of a page's term over its parent is one that a row can spell
-pub links : (parent page : Version) (made : Page) → Makes parent.chain made → IsRuled made → key_cmp made.low (low_in page.chain) ≡ Less → IsSpellableLink (level_in parent.chain) parent.head (low_in page.chain) page.pid
+pub links : (parent page : Version) (made : Page) → Makes parent.chain made → IsRuled made → key_cmp made.low (low_in page.chain) ≡ Less
+    → IsSpellableLink (level_in parent.chain) parent.head (low_in page.chain) page.pid
 links parent page made makes rules above = record { top = rw (← makes.level) rules.top; over = parent.is_row; above = not_empty made.low (low_in page.chain) above; names = page.is_pid }

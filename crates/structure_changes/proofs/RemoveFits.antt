@@ -21,10 +21,16 @@ remove_fits : (chain : List Record) (page : Page) (remove : Remove) → Makes ch
 remove_fits chain page remove makes rules spellable fit =
     fits_over chain (kind.Remove remove) page (record page { removed = true }) refl spellable makes fit
     (record { ascending = rules.is_page.ordered.ascending; contents = λ key. refl; level = refl; low = refl; high = refl; right = refl; removed = refl })
-    (record { is_page = record { spans = rules.is_page.spans; ordered = rules.is_page.ordered; within = rules.is_page.within; kinds = rules.is_page.kinds }; ends = rules.ends; top = rules.top; terms = rules.terms })
+    (record {
+      is_page = record { spans = rules.is_page.spans; ordered = rules.is_page.ordered; within = rules.is_page.within; kinds = rules.is_page.kinds };
+      ends = rules.ends;
+      top = rules.top;
+      terms = rules.terms;
+    })
 
 -- the plan of a removal is one that may be linked: a page whose term is held isn't the first of its level
-pub planned : (parent page : Version) (made : Page) (remove : Remove) → IsFitted parent.chain → Makes page.chain made → IsRuled made → remove ≡ remove_of page → CanRemove parent page → IsRemovePlan parent page remove
+pub planned : (parent page : Version) (made : Page) (remove : Remove) → IsFitted parent.chain → Makes page.chain made → IsRuled made → remove ≡ remove_of page
+    → CanRemove parent page → IsRemovePlan parent page remove
 planned parent page made remove fitted makes rules is can =
     let key = low_in page.chain in
     let (above, names) = made_of parent.chain fitted in

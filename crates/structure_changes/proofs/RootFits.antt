@@ -28,9 +28,11 @@ unfolding IsStrictlySortedBy
 two_ascend page right separator some = ((below_from [] separator some, tt), (tt, tt))
 
 abbrev root_page : ℕ → ℕ → List ℕ → ℕ → Page
-root_page level page separator right = record { level = level; low = []; high = None; right = None; removed = false; items = record { key = []; content = Child page false } ∷ record { key = separator; content = Child right false } ∷ [] }
+root_page level page separator right = record
+    { level = level; low = []; high = None; right = None; removed = false; items = record { key = []; content = Child page false } ∷ record { key = separator; content = Child right false } ∷ [] }
 
-pub root_stands : (level page : ℕ) (separator : List ℕ) (right : ℕ) → IsPid page → IsPid right → 0 < level → level ≤ 15 → IsTrue (is_below [] separator) → IsSpellablePage (root_page level page separator right)
+pub root_stands : (level page : ℕ) (separator : List ℕ) (right : ℕ) → IsPid page → IsPid right → 0 < level → level ≤ 15 → IsTrue (is_below [] separator)
+    → IsSpellablePage (root_page level page separator right)
 root_stands level page separator right is_page is_right index top some =
     let items = (root_page level page separator right).items in
     record {
@@ -58,7 +60,8 @@ root_stands level page separator right is_page is_right index top some =
 pub some : (left right : Version) → IsFitted left.chain → low_in left.chain ≡ [] → IsNextTo left right → IsTrue (is_below [] (low_in right.chain))
 some left right fitted lowest next_to =
     let (page, makes) = made left.chain fitted in
-    let spans : IsTrue (is_under page.low (Some (low_in right.chain))) = subst (λ bound. IsTrue (is_under page.low bound)) (makes.high ∙ next_to.high) (ruled left.chain page fitted makes).is_page.spans in
+    let spans : IsTrue (is_under page.low (Some (low_in right.chain))) = subst (λ bound. IsTrue (is_under page.low bound)) (makes.high ∙ next_to.high)
+    (ruled left.chain page fitted makes).is_page.spans in
     subst (λ low. IsTrue (is_below low (low_in right.chain))) (makes.low ∙ lowest) spans
 
 -- two items, put one after the other
@@ -71,7 +74,8 @@ two_items items page right separator above ascending contents = items_unique ite
     apart q lowest = ap is_eq (subst (λ k. key_cmp k separator ≡ Less) (sym lowest) (below_from [] separator above))
 
     by_test : (q : List ℕ) (b : Bool) → is_eq (key_cmp q []) ≡ b
-        → (if is_eq (key_cmp q separator) then Some right else (if is_eq (key_cmp q []) then Some page else None)) ≡ content_at (record { key = []; content = page } ∷ record { key = separator; content = right } ∷ []) q
+        → (if is_eq (key_cmp q separator) then Some right else (if is_eq (key_cmp q []) then Some page else None)) ≡ content_at
+        (record { key = []; content = page } ∷ record { key = separator; content = right } ∷ []) q
     by_test q true e = rw (e, apart q (same q [] e)) refl
     by_test q false e = rw e refl
 
@@ -85,6 +89,7 @@ planned left right root fitted is can = record {
   fits = rw is (
     root_page (suc (level_in left.chain)) left.pid (low_in right.chain) right.pid,
     refl,
-    root_stands (suc (level_in left.chain)) left.pid (low_in right.chain) right.pid left.is_pid right.is_pid (omega arith) (let top = can.top in omega (arith, top)) (some left right fitted can.lowest can.next_to),
+    root_stands (suc (level_in left.chain)) left.pid (low_in right.chain) right.pid left.is_pid right.is_pid (omega arith)
+        (let top = can.top in omega (arith, top)) (some left right fitted can.lowest can.next_to),
   );
 }

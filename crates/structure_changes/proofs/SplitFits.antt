@@ -52,7 +52,8 @@ apart_drop (suc n) [] h = tt
 apart_drop (suc n) (item ∷ items) h = apart_drop n items (apart_rest item items h)
 
 -- of two neighbours at most one is held
-next_unheld : (items : List Item) (n : ℕ) (d : Item) → AreApart items → suc n < length items → is_held (slice_index_or items n d).content ≡ true → is_held (slice_index_or items (suc n) d).content ≡ false
+next_unheld : (items : List Item) (n : ℕ) (d : Item) → AreApart items → suc n < length items → is_held (slice_index_or items n d).content ≡ true
+    → is_held (slice_index_or items (suc n) d).content ≡ false
 next_unheld [] n d h lt e = absurd (omega arith)
 next_unheld (item ∷ []) n d h lt e = absurd (omega arith)
 next_unheld (item ∷ next ∷ items) zero d h lt e = h.0 e
@@ -61,15 +62,19 @@ next_unheld (item ∷ next ∷ items) (suc n) d h lt e = next_unheld (next ∷ i
 terms_take : (low : List ℕ) (n : ℕ) (items : List Item) → 0 < n → AreTerms low items → AreTerms low (take n items)
 terms_take low zero items some h = absurd (omega arith)
 terms_take low (suc n) [] some h = absurd h.first
-terms_take low (suc n) (item ∷ items) some h = record { first = h.first; few = (let more = held_take (suc n) (item ∷ items) in let few = h.few in omega (arith, more, few)); apart = apart_take (suc n) (item ∷ items) h.apart }
+terms_take low (suc n) (item ∷ items) some h = record
+    { first = h.first; few = (let more = held_take (suc n) (item ∷ items) in let few = h.few in omega (arith, more, few)); apart = apart_take (suc n) (item ∷ items) h.apart }
 
-first_drop : (separator : List ℕ) (n : ℕ) (items : List Item) (d : Item) → n < length items → (slice_index_or items n d).key ≡ separator → is_held (slice_index_or items n d).content ≡ false → IsFirstAt separator (drop n items)
+first_drop : (separator : List ℕ) (n : ℕ) (items : List Item) (d : Item) → n < length items → (slice_index_or items n d).key ≡ separator
+    → is_held (slice_index_or items n d).content ≡ false → IsFirstAt separator (drop n items)
 first_drop separator n [] d lt e unheld = absurd (omega arith)
 first_drop separator zero (item ∷ items) d lt e unheld = (e, unheld)
 first_drop separator (suc n) (item ∷ items) d lt e unheld = first_drop separator n items d (omega (arith, lt)) e unheld
 
-terms_drop : (low separator : List ℕ) (n : ℕ) (items : List Item) (d : Item) → n < length items → (slice_index_or items n d).key ≡ separator → is_held (slice_index_or items n d).content ≡ false → AreTerms low items → AreTerms separator (drop n items)
-terms_drop low separator n items d lt e unheld h = record { first = first_drop separator n items d lt e unheld; few = (let more = held_drop n items in let few = h.few in omega (arith, more, few)); apart = apart_drop n items h.apart }
+terms_drop : (low separator : List ℕ) (n : ℕ) (items : List Item) (d : Item) → n < length items → (slice_index_or items n d).key ≡ separator
+    → is_held (slice_index_or items n d).content ≡ false → AreTerms low items → AreTerms separator (drop n items)
+terms_drop low separator n items d lt e unheld h = record
+    { first = first_drop separator n items d lt e unheld; few = (let more = held_drop n items in let few = h.few in omega (arith, more, few)); apart = apart_drop n items h.apart }
 
 -- an item to stand where there is none
 abbrev blank : Item

@@ -65,7 +65,8 @@ module _ (new : Item) (unheld : is_held new.content ≡ false) where
       rw over (record { first = terms.first; few = rw over at few; apart = apart_put item items (rw over at lacks) terms.apart })
 
 -- a term that fits the page fits over the chain
-pub term_fits : (chain : List Record) (page : Page) (term : Term) → Makes chain page → IsRuled page → IsSpellable (kind.Term term) → FitsTerm page term → key_cmp page.low term.separator ≡ Less → FitsOver chain (kind.Term term)
+pub term_fits : (chain : List Record) (page : Page) (term : Term) → Makes chain page → IsRuled page → IsSpellable (kind.Term term) → FitsTerm page term
+    → key_cmp page.low term.separator ≡ Less → FitsOver chain (kind.Term term)
 term_fits chain page term makes rules spellable fit above =
     let new : Item = record { key = term.separator; content = Child term.child false } in
     let items = with_put new page.items in
@@ -90,7 +91,8 @@ term_fits chain page term makes rules spellable fit above =
 
 -- the plan of a term is one that may be linked
 pub planned : (parent page : Version) (made : Page) (term : Term) → is_removed parent.chain ≡ false → Makes parent.chain made → IsRuled made → length made.items < 16 → term ≡ term_of parent page
-    → is_removed page.chain ≡ false → level_in parent.chain ≡ suc (level_in page.chain) → IsTrue (covers parent.chain (low_in page.chain)) → content_in parent.chain (low_in page.chain) ≡ None → length parent.chain ≤ 8 → IsTermPlan parent page term
+    → is_removed page.chain ≡ false → level_in parent.chain ≡ suc (level_in page.chain) → IsTrue (covers parent.chain (low_in page.chain))
+    → content_in parent.chain (low_in page.chain) ≡ None → length parent.chain ≤ 8 → IsTermPlan parent page term
 planned parent page made term stands makes rules few is alive level covered absent short =
     let key = low_in page.chain in
     let inside : IsTrue (is_in_range made.low made.high key) = rw (makes.low, makes.high) covered in

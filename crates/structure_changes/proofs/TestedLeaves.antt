@@ -34,7 +34,8 @@ values_only (item ∷ items) h = (value item.content h.0, values_only items h.1)
     value (Value v) of = tt
     value (Child child held) of = absurd (omega (arith, of))
 
-pub delete_over : (chain : List Record) (key : List ℕ) → IsPageChain chain → is_removed chain ≡ false → level_in chain ≡ 0 → IsTrue (covers chain key) → FitsOver chain (kind.Delete (record { next = 3; key = key }))
+pub delete_over : (chain : List Record) (key : List ℕ) → IsPageChain chain → is_removed chain ≡ false → level_in chain ≡ 0 → IsTrue (covers chain key)
+    → FitsOver chain (kind.Delete (record { next = 3; key = key }))
 delete_over chain key is alive leaf covered =
     let (now, makes) = made chain is.fitted in
     delete_fits chain now (record { next = 3; key = key }) makes (ruled chain now is.fitted makes) (omega arith, omega arith)
@@ -47,7 +48,8 @@ module _ (page : Page) (is_page : IsPage page) (level : page.level ≡ 0) (high 
     alive = alive;
     right = rw right tt;
     children = All-from_recursion (λ (item : Item). HasPid item.content) page.items
-        (values_only page.items (recursion_from_All (λ (item : Item). IsOfLevel 0 item.content) page.items (subst (λ l. All (λ (item : Item). IsOfLevel l item.content) page.items) level is_page.kinds)));
+        (values_only page.items
+        (recursion_from_All (λ (item : Item). IsOfLevel 0 item.content) page.items (subst (λ l. All (λ (item : Item). IsOfLevel l item.content) page.items) level is_page.kinds)));
   }
 
   abbrev delete : Record

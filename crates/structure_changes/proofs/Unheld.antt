@@ -26,4 +26,5 @@ pub leaf_unheld : (chain : List Record) → IsFitted chain → level_in chain �
 leaf_unheld chain fitted leaf =
     let (page, makes) = made chain fitted in
     let rules = ruled chain page fitted makes in
-    from_made chain page (λ items. held_count items ≡ 0) makes (none_held page.level page.items (makes.level ∙ leaf) (recursion_from_All (λ item. IsOfLevel page.level item.content) page.items rules.is_page.kinds))
+    from_made chain page (λ items. held_count items ≡ 0) makes
+    (none_held page.level page.items (makes.level ∙ leaf) (recursion_from_All (λ item. IsOfLevel page.level item.content) page.items rules.is_page.kinds))

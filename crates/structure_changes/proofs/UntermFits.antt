@@ -28,7 +28,8 @@ without_same : (key : List ℕ) (items : List Item) → content_at items key ≡
 without_same key [] e = refl
 without_same key (item ∷ items) e = by_test (is_eq (key_cmp key item.key)) e (without_same key items)
   where
-    by_test : (b : Bool) → (if b then Some item.content else content_at items key) ≡ None → (content_at items key ≡ None → without key items ≡ items) → (if b then without key items else item ∷ without key items) ≡ item ∷ items
+    by_test : (b : Bool) → (if b then Some item.content else content_at items key) ≡ None → (content_at items key ≡ None → without key items ≡ items)
+        → (if b then without key items else item ∷ without key items) ≡ item ∷ items
     by_test true f more = cc
     by_test false f more = ap (λ (rest : List Item). item ∷ rest) (more f)
 
@@ -69,7 +70,8 @@ module _ (key : List ℕ) (child : ℕ) where
   apart_without (item ∷ []) ascending held apart = chosen AreApart (is_eq (key_cmp key item.key)) [] (item ∷ []) tt tt
   apart_without (item ∷ next ∷ items) ascending held apart = by_order key item.key
       (λ less. absurd (let none = lacks_first item (next ∷ items) key ascending less in cc))
-      (λ same. subst (λ (k : List ℕ). AreApart (without k (item ∷ next ∷ items))) (sym same) (rw (itself item.key) (subst AreApart (sym (without_same item.key (next ∷ items) (lacks_after item (next ∷ items) ascending))) apart.1)))
+      (λ same. subst (λ (k : List ℕ). AreApart (without k (item ∷ next ∷ items))) (sym same)
+      (rw (itself item.key) (subst AreApart (sym (without_same item.key (next ∷ items) (lacks_after item (next ∷ items) ascending))) apart.1)))
       (λ more.
       let above = greater key item.key more in
       let later : Held (next ∷ items) = rw above at held in
@@ -78,7 +80,10 @@ module _ (key : List ℕ) (child : ℕ) where
       by_next : Held (next ∷ items) → AreApart (without key (next ∷ items)) → AreApart (item ∷ without key (next ∷ items))
       by_next later rest = by_order key next.key
           (λ less. absurd (let none = lacks_first next items key (ascends_after item (next ∷ items) ascending) less in cc))
-          (λ same. subst (λ (k : List ℕ). AreApart (item ∷ without k (next ∷ items))) (sym same) (rw (itself next.key) (subst (λ (l : List Item). AreApart (item ∷ l)) (sym (without_same next.key items (lacks_after next items (ascends_after item (next ∷ items) ascending)))) (past_held item next items (held_next next items same later) apart))))
+          (λ same. subst (λ (k : List ℕ). AreApart (item ∷ without k (next ∷ items))) (sym same) (rw (itself next.key) (subst
+          (λ (l : List Item). AreApart (item ∷ l))
+          (sym (without_same next.key items (lacks_after next items (ascends_after item (next ∷ items) ascending))))
+          (past_held item next items (held_next next items same later) apart))))
           (λ more. let over = greater key next.key more in rw over (apart.0, rw over at rest))
 
   first_without : (low : List ℕ) (items : List Item) → Held items → IsFirstAt low items → IsFirstAt low (without key items)
@@ -90,7 +95,8 @@ module _ (key : List ℕ) (child : ℕ) where
       by_test false there = first
 
 -- a held term goes
-pub unterm_fits : (chain : List Record) (page : Page) (unterm : Unterm) → Makes chain page → IsRuled page → IsSpellable (kind.Unterm unterm) → FitsUnterm page unterm → FitsOver chain (kind.Unterm unterm)
+pub unterm_fits : (chain : List Record) (page : Page) (unterm : Unterm) → Makes chain page → IsRuled page → IsSpellable (kind.Unterm unterm)
+    → FitsUnterm page unterm → FitsOver chain (kind.Unterm unterm)
 unterm_fits chain page unterm makes rules spellable fit =
     let key = unterm.separator in
     let items = without key page.items in
@@ -118,7 +124,8 @@ unterm_fits chain page unterm makes rules spellable fit =
     })
 
 -- the plan of an unterm is one that may be linked
-pub planned : (parent left removed : Version) (unterm : Unterm) → is_removed parent.chain ≡ false → IsFitted parent.chain → unterm ≡ unterm_of parent removed → CanUnterm parent left removed → IsUntermPlan parent left removed unterm
+pub planned : (parent left removed : Version) (unterm : Unterm) → is_removed parent.chain ≡ false → IsFitted parent.chain → unterm ≡ unterm_of parent removed
+    → CanUnterm parent left removed → IsUntermPlan parent left removed unterm
 planned parent left removed unterm stands fitted is can =
     let key = low_in removed.chain in
     let (made, makes) = made_of parent.chain fitted in
@@ -131,5 +138,10 @@ planned parent left removed unterm stands fitted is can =
     record {
       can = can;
       is = is;
-      fits = rw is (unterm_fits parent.chain made (unterm_of parent removed) makes rules (rw (← makes.level) index, links parent removed made makes rules above) fit, (let short = can.short in omega (arith, short)));
+      fits =
+          rw is (
+            unterm_fits parent.chain made (unterm_of parent removed) makes rules (rw (← makes.level) index, links parent removed made makes rules above)
+                fit,
+            (let short = can.short in omega (arith, short)),
+          );
     }

@@ -23,7 +23,8 @@ read_before None t epoch later was = absurd was
 read_before (Some before) t epoch later was = omega (arith, later, was)
 
 -- the epoch was read, and is the stamp of what has none
-pub stamped_agrees : (limits : Limits) (actor t : ℕ) (last : Option ℕ) (stage : Option Stage) (limbo : known.LimboMark) → IfSome last (λ before. before ≤ t) → Agrees limits actor last stage limbo → Agrees limits actor (Some t) (after (stamped_by t) stage) (stamped t limbo)
+pub stamped_agrees : (limits : Limits) (actor t : ℕ) (last : Option ℕ) (stage : Option Stage) (limbo : known.LimboMark) → IfSome last (λ before. before ≤ t)
+    → Agrees limits actor last stage limbo → Agrees limits actor (Some t) (after (stamped_by t) stage) (stamped t limbo)
 stamped_agrees limits actor t last None known.Absent later h = tt
 stamped_agrees limits actor t last None known.Unstamped later h = absurd h
 stamped_agrees limits actor t last None (known.Stamped epoch passed) later h = absurd h
@@ -38,7 +39,8 @@ stamped_agrees limits actor t last (Some (Passed stamp)) known.Unstamped later h
 stamped_agrees limits actor t last (Some (Passed stamp)) (known.Stamped epoch passed) later h = (read_before last t epoch later h.0, h.1, h.2)
 
 -- the epoch was read outside of a sweep
-pub read_agrees : (limits : Limits) (actor t : ℕ) (last : Option ℕ) (stage : Option Stage) (limbo : known.LimboMark) → IfSome last (λ before. before ≤ t) → Agrees limits actor last stage limbo → Agrees limits actor (Some t) stage (stamped t limbo)
+pub read_agrees : (limits : Limits) (actor t : ℕ) (last : Option ℕ) (stage : Option Stage) (limbo : known.LimboMark) → IfSome last (λ before. before ≤ t)
+    → Agrees limits actor last stage limbo → Agrees limits actor (Some t) stage (stamped t limbo)
 read_agrees limits actor t last None known.Absent later h = tt
 read_agrees limits actor t last None known.Unstamped later h = absurd h
 read_agrees limits actor t last None (known.Stamped epoch passed) later h = absurd h
@@ -88,7 +90,8 @@ passes_below epoch stamp n low h = elim (or_cases (n == 0) (ltb stamp n) h) [
   | inr above ↦ or_right (n == 0) (ltb epoch n) (lt-ltb epoch n (let far = ltb-true stamp n above in omega (arith, low, far)))
 ]
 
-pub announced_agrees : (limits : Limits) (actor other n : ℕ) (last : Option ℕ) (stage : Option Stage) (limbo : known.LimboMark) → Agrees limits actor last stage limbo → Agrees limits actor last stage (passed_by other n limbo)
+pub announced_agrees : (limits : Limits) (actor other n : ℕ) (last : Option ℕ) (stage : Option Stage) (limbo : known.LimboMark)
+    → Agrees limits actor last stage limbo → Agrees limits actor last stage (passed_by other n limbo)
 announced_agrees limits actor other n last None known.Absent h = tt
 announced_agrees limits actor other n last None known.Unstamped h = absurd h
 announced_agrees limits actor other n last None (known.Stamped epoch passed) h = absurd h
@@ -102,7 +105,8 @@ announced_agrees limits actor other n last (Some (Passed stamp)) known.Absent h 
 announced_agrees limits actor other n last (Some (Passed stamp)) known.Unstamped h = absurd h
 announced_agrees limits actor other n last (Some (Passed stamp)) (known.Stamped epoch passed) h = (h.0, h.1, λ a below apart. still_passed other n epoch passed a (h.2 a below apart))
 
-more_told : (actor n : ℕ) (announces : List ℕ) (stamp epoch : ℕ) (passed : ℕ → Bool) → epoch ≤ stamp → HaveTold actor announces stamp passed → HaveTold actor (announces ++ n ∷ []) stamp (passed_then (other_at actor (length announces)) n epoch passed)
+more_told : (actor n : ℕ) (announces : List ℕ) (stamp epoch : ℕ) (passed : ℕ → Bool) → epoch ≤ stamp → HaveTold actor announces stamp passed
+    → HaveTold actor (announces ++ n ∷ []) stamp (passed_then (other_at actor (length announces)) n epoch passed)
 more_told actor n announces stamp epoch passed low h place lt has = elim (cases_lt place (length announces)) [
   | inl before ↦ still_passed (other_at actor (length announces)) n epoch passed (other_at actor place) (h place before (rw (get_or_append_left announces (n ∷ []) 0 place before) at has))
   | inr after ↦
@@ -111,7 +115,9 @@ more_told actor n announces stamp epoch passed low h place lt has = elim (cases_
       rw last (now_passed (other_at actor (length announces)) n epoch passed (passes_below epoch stamp n low heard))
 ]
 
-pub announced_told : (limits : Limits) (actor n : ℕ) (announces : List ℕ) (last : Option ℕ) (stage : Option Stage) (limbo : known.LimboMark) → Agrees limits actor last stage limbo → Told actor announces stage limbo → Told actor (announces ++ n ∷ []) stage (passed_by (other_at actor (length announces)) n limbo)
+pub announced_told : (limits : Limits) (actor n : ℕ) (announces : List ℕ) (last : Option ℕ) (stage : Option Stage) (limbo : known.LimboMark)
+    → Agrees limits actor last stage limbo → Told actor announces stage limbo
+    → Told actor (announces ++ n ∷ []) stage (passed_by (other_at actor (length announces)) n limbo)
 announced_told limits actor n announces last None limbo h told = tt
 announced_told limits actor n announces last (Some Unstamped) limbo h told = absurd told
 announced_told limits actor n announces last (Some (Stamped stamp)) known.Absent h told = tt
@@ -140,20 +146,25 @@ place_of limits actor other inside below apart = elim (cases_lt other actor) [
       ]),
     )
 
-all_passed : (limits : Limits) (actor stamp : ℕ) (announces : List ℕ) (passed : ℕ → Bool) → actor < limits.actors → limits.actors ≤ suc (length announces) → may_be_freed stamp announces ≡ true → HaveTold actor announces stamp passed → HavePassed limits actor passed
+all_passed : (limits : Limits) (actor stamp : ℕ) (announces : List ℕ) (passed : ℕ → Bool) → actor < limits.actors → limits.actors ≤ suc (length announces)
+    → may_be_freed stamp announces ≡ true → HaveTold actor announces stamp passed → HavePassed limits actor passed
 all_passed limits actor stamp announces passed inside all free told other below apart =
     let at = place_of limits actor other inside below apart in
     let lt : at.0 < length announces = (let small = at.1 in omega (arith, small, all)) in
     rw at.2 at (told at.0 lt (AllPass-from_list_all (has_passed stamp) announces free at.0 0 lt))
 
-freed_agrees : (limits : Limits) (actor : ℕ) (last : Option ℕ) (announces : List ℕ) (stamp epoch : ℕ) (passed : ℕ → Bool) → actor < limits.actors → limits.actors ≤ suc (length announces) → IsReadStamp last epoch → epoch ≤ stamp → HaveTold actor announces stamp passed
+freed_agrees : (limits : Limits) (actor : ℕ) (last : Option ℕ) (announces : List ℕ) (stamp epoch : ℕ) (passed : ℕ → Bool) → actor < limits.actors
+    → limits.actors ≤ suc (length announces) → IsReadStamp last epoch → epoch ≤ stamp → HaveTold actor announces stamp passed
     → Agrees limits actor last (Some (if may_be_freed stamp announces then Passed stamp else Stamped stamp)) (known.Stamped epoch passed)
-freed_agrees limits actor last announces stamp epoch passed inside all was low told = elim (may_be_freed stamp announces) as (λ b. may_be_freed stamp announces ≡ b → Agrees limits actor last (Some (if b then Passed stamp else Stamped stamp)) (known.Stamped epoch passed)) [
-  | true ↦ λ e. (was, low, all_passed limits actor stamp announces passed inside all e told)
-  | false ↦ λ e. (was, low)
-] refl
+freed_agrees limits actor last announces stamp epoch passed inside all was low told = elim (may_be_freed stamp announces) as
+    (λ b. may_be_freed stamp announces ≡ b → Agrees limits actor last (Some (if b then Passed stamp else Stamped stamp)) (known.Stamped epoch passed)) [
+      | true ↦ λ e. (was, low, all_passed limits actor stamp announces passed inside all e told)
+      | false ↦ λ e. (was, low)
+    ] refl
 
-pub compared_agrees : (limits : Limits) (actor : ℕ) (last : Option ℕ) (announces : List ℕ) (stage : Option Stage) (limbo : known.LimboMark) → actor < limits.actors → limits.actors ≤ suc (length announces) → Agrees limits actor last stage limbo → Told actor announces stage limbo → Agrees limits actor last (after (compared_with announces) stage) limbo
+pub compared_agrees : (limits : Limits) (actor : ℕ) (last : Option ℕ) (announces : List ℕ) (stage : Option Stage) (limbo : known.LimboMark)
+    → actor < limits.actors → limits.actors ≤ suc (length announces) → Agrees limits actor last stage limbo → Told actor announces stage limbo
+    → Agrees limits actor last (after (compared_with announces) stage) limbo
 compared_agrees limits actor last announces None limbo inside all h told = h
 compared_agrees limits actor last announces (Some Unstamped) limbo inside all h told = h
 compared_agrees limits actor last announces (Some (Stamped stamp)) known.Absent inside all h told = absurd h

@@ -85,14 +85,20 @@ module _ (limits : Limits) (actor : ℕ) where
   frees_shows k limbo after (Some (state.Retire epoch)) kept frees = absurd frees
   frees_shows k limbo after (Some (state.Announce announces)) kept frees = absurd frees
 
-  all_kept : (announces : List ℕ) (limbo : Limbo) (now : Limbos) → actor < limits.actors → limits.actors ≤ suc (length announces) → AreKept limits actor limbo now → AreTold actor announces limbo now → AreKept limits actor (all_restaged (compared_with announces) limbo) now
+  all_kept : (announces : List ℕ) (limbo : Limbo) (now : Limbos) → actor < limits.actors → limits.actors ≤ suc (length announces)
+      → AreKept limits actor limbo now → AreTold actor announces limbo now → AreKept limits actor (all_restaged (compared_with announces) limbo) now
   all_kept announces limbo now inside all kept told = record {
     lists = record { rows = kept.lists.rows; pids = kept.lists.pids };
-    rows = λ row. rw (restaged_stage (compared_with announces) limbo.rows.entries row) (compared_agrees limits actor now.epoch announces (stage_of limbo.rows row) (now.rows row) inside all (kept.rows row) (told.rows row));
-    pids = λ pid. rw (restaged_stage (compared_with announces) limbo.pids.entries pid) (compared_agrees limits actor now.epoch announces (stage_of limbo.pids pid) (now.pids pid) inside all (kept.pids pid) (told.pids pid));
+    rows =
+        λ row. rw (restaged_stage (compared_with announces) limbo.rows.entries row)
+        (compared_agrees limits actor now.epoch announces (stage_of limbo.rows row) (now.rows row) inside all (kept.rows row) (told.rows row));
+    pids =
+        λ pid. rw (restaged_stage (compared_with announces) limbo.pids.entries pid)
+        (compared_agrees limits actor now.epoch announces (stage_of limbo.pids pid) (now.pids pid) inside all (kept.pids pid) (told.pids pid));
   }
 
-  first_kept : (most : ℕ) (announces : List ℕ) (limbo : Limbo) (now : Limbos) → actor < limits.actors → limits.actors ≤ suc (length announces) → AreKept limits actor limbo now → AreTold actor announces limbo now → AreKept limits actor (firsts_restaged most (compared_with announces) limbo) now
+  first_kept : (most : ℕ) (announces : List ℕ) (limbo : Limbo) (now : Limbos) → actor < limits.actors → limits.actors ≤ suc (length announces)
+      → AreKept limits actor limbo now → AreTold actor announces limbo now → AreKept limits actor (firsts_restaged most (compared_with announces) limbo) now
   first_kept most announces limbo now inside all kept told = record {
     lists = record { rows = kept.lists.rows; pids = kept.lists.pids };
     rows = λ row. elim (first_stage (compared_with announces) most limbo.rows.entries row) [
@@ -105,20 +111,25 @@ module _ (limits : Limits) (actor : ℕ) where
     ];
   }
 
-  compared_kept : (announces : List ℕ) (limbo : Limbo) (now : Limbos) → actor < limits.actors → limits.actors ≤ suc (length announces) → AreKept limits actor limbo now → AreTold actor announces limbo now → AreKept limits actor (compared limits announces limbo) now
-  compared_kept announces limbo now inside all kept told = elim limits.is_large as (λ b. AreKept limits actor (if b then firsts_restaged MOST_COMPARED (compared_with announces) limbo else all_restaged (compared_with announces) limbo) now) [
-    | true ↦ first_kept MOST_COMPARED announces limbo now inside all kept told
-    | false ↦ all_kept announces limbo now inside all kept told
-  ]
+  compared_kept : (announces : List ℕ) (limbo : Limbo) (now : Limbos) → actor < limits.actors → limits.actors ≤ suc (length announces)
+      → AreKept limits actor limbo now → AreTold actor announces limbo now → AreKept limits actor (compared limits announces limbo) now
+  compared_kept announces limbo now inside all kept told = elim limits.is_large as
+      (λ b. AreKept limits actor (if b then firsts_restaged MOST_COMPARED (compared_with announces) limbo else all_restaged (compared_with announces) limbo) now) [
+        | true ↦ first_kept MOST_COMPARED announces limbo now inside all kept told
+        | false ↦ all_kept announces limbo now inside all kept told
+      ]
 
-  pub compares_shows : (k : Knowledge) (announces : List ℕ) (limbo after : Limbo) (next : Option State) → actor < limits.actors → AreKept limits actor limbo k.limbo → AreTold actor announces limbo k.limbo → Compares limits announces limbo next after → ShowsNext limits actor next after k
+  pub compares_shows : (k : Knowledge) (announces : List ℕ) (limbo after : Limbo) (next : Option State) → actor < limits.actors
+      → AreKept limits actor limbo k.limbo → AreTold actor announces limbo k.limbo → Compares limits announces limbo next after
+      → ShowsNext limits actor next after k
   compares_shows k announces limbo after next inside kept told compares = elim (cases_lt (suc (length announces)) limits.actors) [
     | inl more ↦ let is = compares.reads more in rw (is.0, is.1) (kept, told)
     | inr all ↦ frees_shows k (compared limits announces limbo) after next (compared_kept announces limbo k.limbo inside all kept told) (compares.frees all)
   ]
 
   -- ---- the epoch was read
-  stamped_kept : (k : Knowledge) (epoch : ℕ) (limbo : Limbo) → IfSome k.limbo.epoch (λ before. before ≤ epoch) → AreKept limits actor limbo k.limbo → AreKept limits actor (all_restaged (stamped_by epoch) limbo) (learn k step.Epoch (answer.Number epoch)).limbo
+  stamped_kept : (k : Knowledge) (epoch : ℕ) (limbo : Limbo) → IfSome k.limbo.epoch (λ before. before ≤ epoch) → AreKept limits actor limbo k.limbo
+      → AreKept limits actor (all_restaged (stamped_by epoch) limbo) (learn k step.Epoch (answer.Number epoch)).limbo
   stamped_kept k epoch limbo later kept = record {
     lists = record { rows = kept.lists.rows; pids = kept.lists.pids };
     rows = λ row. rw (restaged_stage (stamped_by epoch) limbo.rows.entries row) (stamped_agrees limits actor epoch k.limbo.epoch (stage_of limbo.rows row) (k.limbo.rows row) later (kept.rows row));
@@ -131,7 +142,9 @@ module _ (limits : Limits) (actor : ℕ) where
     pids = λ pid. rw (restaged_stage (stamped_by epoch) limbo.pids.entries pid) (stamped_told actor epoch (stage_of limbo.pids pid) (now.pids pid));
   }
 
-  stamps_shows : (k : Knowledge) (epoch : ℕ) (limbo after : Limbo) (next : Option State) → actor < limits.actors → IfSome k.limbo.epoch (λ before. before ≤ epoch) → AreKept limits actor limbo k.limbo → Stamps limits epoch limbo next after → ShowsNext limits actor next after (learn k step.Epoch (answer.Number epoch))
+  stamps_shows : (k : Knowledge) (epoch : ℕ) (limbo after : Limbo) (next : Option State) → actor < limits.actors
+      → IfSome k.limbo.epoch (λ before. before ≤ epoch) → AreKept limits actor limbo k.limbo → Stamps limits epoch limbo next after
+      → ShowsNext limits actor next after (learn k step.Epoch (answer.Number epoch))
   stamps_shows k epoch limbo after next inside later kept stamps =
       let now : Knowledge = learn k step.Epoch (answer.Number epoch) in
       let kept_now = stamped_kept k epoch limbo later kept in
@@ -143,7 +156,8 @@ module _ (limits : Limits) (actor : ℕ) where
 
   -- ---- an announced epoch was read
   announced_kept : (k : Knowledge) (announces : List ℕ) (n : ℕ) (limbo : Limbo) → AreKept limits actor limbo k.limbo → AreTold actor announces limbo k.limbo
-      → AreKept limits actor limbo (learn k (step.Announce (other_at actor (length announces))) (answer.Number n)).limbo × AreTold actor (announces ++ n ∷ []) limbo (learn k (step.Announce (other_at actor (length announces))) (answer.Number n)).limbo
+      → AreKept limits actor limbo (learn k (step.Announce (other_at actor (length announces))) (answer.Number n)).limbo × AreTold actor (announces ++ n ∷ [])
+      limbo (learn k (step.Announce (other_at actor (length announces))) (answer.Number n)).limbo
   announced_kept k announces n limbo kept told = (
     record {
       lists = kept.lists;
@@ -157,7 +171,8 @@ module _ (limits : Limits) (actor : ℕ) where
   )
 
   -- ---- any answer
-  pub moves_show : (k : Knowledge) (old : State) (told : Answer Record) (limbo after : Limbo) (next : Option State) → actor < limits.actors → Fits limits k (wanted_at actor old) told → ShowsState limits actor old limbo k → Moves limits old limbo told next after
+  pub moves_show : (k : Knowledge) (old : State) (told : Answer Record) (limbo after : Limbo) (next : Option State) → actor < limits.actors
+      → Fits limits k (wanted_at actor old) told → ShowsState limits actor old limbo k → Moves limits old limbo told next after
       → ShowsNext limits actor next after (learn k (wanted_at actor old) told)
   moves_show k state.Epoch (answer.Number n) limbo after next inside fits shows moves = stamps_shows k n limbo after next inside fits.2 shows moves
   moves_show k state.Epoch answer.Start limbo after next inside fits shows moves = absurd fits
@@ -176,7 +191,8 @@ module _ (limits : Limits) (actor : ℕ) where
   moves_show k (state.Reuse (Pids word bits)) told limbo after next inside fits shows moves = frees_shows (learn k (step.ReusePids word bits) told) limbo after next shows.1 moves
 
   -- nothing but the limbo is learnt
-  pub only_limbo : (k : Knowledge) (old : State) (told : Answer Record) → Fits limits k (wanted_at actor old) told → learn k (wanted_at actor old) told ≡ record k { limbo = (learn k (wanted_at actor old) told).limbo }
+  pub only_limbo : (k : Knowledge) (old : State) (told : Answer Record) → Fits limits k (wanted_at actor old) told
+      → learn k (wanted_at actor old) told ≡ record k { limbo = (learn k (wanted_at actor old) told).limbo }
   only_limbo k state.Epoch (answer.Number n) fits = refl
   only_limbo k state.Epoch answer.Start fits = absurd fits
   only_limbo k state.Epoch (answer.Content content) fits = absurd fits
@@ -191,15 +207,20 @@ module _ (limits : Limits) (actor : ℕ) where
   only_limbo k (state.Reuse (Rows word bits)) told fits = refl
   only_limbo k (state.Reuse (Pids word bits)) told fits = refl
 
-shown_then : (goes : Bool) (limits : Limits) (actor : ℕ) (next : State) (limbo : Limbo) (k : Knowledge) → IsFalse k.inside → ShowsNext limits actor (state_if goes next) limbo k → ShowsThen goes (record { limits = limits; actor = actor; state = next }) limbo k
+shown_then : (goes : Bool) (limits : Limits) (actor : ℕ) (next : State) (limbo : Limbo) (k : Knowledge) → IsFalse k.inside
+    → ShowsNext limits actor (state_if goes next) limbo k → ShowsThen goes (record { limits = limits; actor = actor; state = next }) limbo k
 shown_then true limits actor next limbo k outside h = record { outside = outside; stands = h }
 shown_then false limits actor next limbo k outside h = record { outside = outside; kept = h }
 
-pub follows : (old new : Sweep) (limbo after : Limbo) (told : Answer Record) (goes : Bool) → old.actor < old.limits.actors → HasNewState old new → Moves old.limits old.state limbo told (state_if goes new.state) after
+pub follows : (old new : Sweep) (limbo after : Limbo) (told : Answer Record) (goes : Bool) → old.actor < old.limits.actors → HasNewState old new
+    → Moves old.limits old.state limbo told (state_if goes new.state) after
     → (k : Knowledge) → Shows old limbo k → Fits old.limits k (wanted old) told → LearnsOfLimbo k (learn k (wanted old) told) new after goes
 follows old new limbo after told goes inside same moves k shows fits = record {
   only = only_limbo old.limits old.actor k old.state told fits;
-  shows = rw (same.limits, same.actor) (shown_then goes old.limits old.actor new.state after (learn k (wanted old) told) (let only = only_limbo old.limits old.actor k old.state told fits in ap (λ (k : Knowledge). k.inside) only ∙ shows.outside) (moves_show old.limits old.actor k old.state told limbo after (state_if goes new.state) inside fits shows.stands moves));
+  shows =
+      rw (same.limits, same.actor) (shown_then goes old.limits old.actor new.state after (learn k (wanted old) told)
+      (let only = only_limbo old.limits old.actor k old.state told fits in ap (λ (k : Knowledge). k.inside) only ∙ shows.outside)
+      (moves_show old.limits old.actor k old.state told limbo after (state_if goes new.state) inside fits shows.stands moves));
 }
 
 -- ---- the begin
@@ -223,7 +244,8 @@ told_first actor (Some (Passed stamp)) known.Absent stamped = tt
 told_first actor (Some (Passed stamp)) known.Unstamped stamped = tt
 told_first actor (Some (Passed stamp)) (known.Stamped epoch passed) stamped = λ place lt. absurd (omega (arith, lt))
 
-pub begins_show : (limits : Limits) (actor : ℕ) (limbo after : Limbo) (first : Option State) → actor < limits.actors → BeginsSweep limits limbo first after → (k : Knowledge) → AreKept limits actor limbo k.limbo → ShowsNext limits actor first after k
+pub begins_show : (limits : Limits) (actor : ℕ) (limbo after : Limbo) (first : Option State) → actor < limits.actors → BeginsSweep limits limbo first after
+    → (k : Knowledge) → AreKept limits actor limbo k.limbo → ShowsNext limits actor first after k
 begins_show limits actor limbo after first inside begins k kept = elim (no_item limbo) [
   | inl empty ↦ let is = begins.empty empty in rw (is.0, is.1) kept
   | inr some ↦ elim (cases_Bool (has_unstamped limbo)) [

@@ -14,11 +14,14 @@ use Rattle.sweep.proofs.Unlinking.{eqb_turned}
 
 module _ (limits : Limits) (actor : ℕ) (last : Option ℕ) where
   -- the entries and what is known agree with one number more
-  one_more : (k : ℕ) (stage : Stage) (mark : known.LimboMark) (entries : List Entry) (marks : ℕ → known.LimboMark) → Agrees limits actor last (Some stage) mark → ((n : ℕ) → Agrees limits actor last (stage_in entries n) (marks n)) → (n : ℕ) → Agrees limits actor last (stage_in (record { number = k; stage = stage } ∷ entries) n) (replaced_at k mark marks n)
-  one_more k stage mark entries marks here others n = rw (eqb_turned k n) (elim (eqb n k) as (λ b. Agrees limits actor last (if b then Some stage else stage_in entries n) (if b then mark else marks n)) [
-    | true ↦ here
-    | false ↦ others n
-  ])
+  one_more : (k : ℕ) (stage : Stage) (mark : known.LimboMark) (entries : List Entry) (marks : ℕ → known.LimboMark) → Agrees limits actor last (Some stage) mark
+      → ((n : ℕ) → Agrees limits actor last (stage_in entries n) (marks n)) → (n : ℕ)
+      → Agrees limits actor last (stage_in (record { number = k; stage = stage } ∷ entries) n) (replaced_at k mark marks n)
+  one_more k stage mark entries marks here others n = rw (eqb_turned k n)
+      (elim (eqb n k) as (λ b. Agrees limits actor last (if b then Some stage else stage_in entries n) (if b then mark else marks n)) [
+        | true ↦ here
+        | false ↦ others n
+      ])
 
 -- what is known of the rows, from row 7 on and from row 6 on
 abbrev seventh : ℕ → known.LimboMark

@@ -38,7 +38,9 @@ restaged_below f list below = All-map (λ (entry : Entry). entry.number < list.l
 first_below : (most : ℕ) (f : Stage → Stage) (list : LimboList) → AreBelow list → AreBelow (record list { entries = first_restaged most f list.entries })
 first_below most f list below =
     let is_below : Entry → Type 0 = λ entry. entry.number < list.limit in
-    All-append is_below (restaged f (take most list.entries)) (drop most list.entries) (restaged_below f (record list { entries = take most list.entries }) (All-take is_below most list.entries below)) (All-drop is_below most list.entries below)
+    All-append is_below (restaged f (take most list.entries)) (drop most list.entries)
+    (restaged_below f (record list { entries = take most list.entries }) (All-take is_below most list.entries below))
+    (All-drop is_below most list.entries below)
 
 -- what may go is a number that there is
 number_below : (list : LimboList) → AreBelow list → (n : ℕ) → may_go list.entries n ≡ true → n < list.limit
@@ -90,14 +92,15 @@ module _ (limits : Limits) where
   }
 
   compared_whole : (announces : List ℕ) (limbo : Limbo) → IsWhole limits limbo → IsWhole limits (compared limits announces limbo)
-  compared_whole announces limbo whole = elim limits.is_large as (λ b. IsWhole limits (if b then firsts_restaged MOST_COMPARED (compared_with announces) limbo else all_restaged (compared_with announces) limbo)) [
-    | true ↦ record {
-      rows = first_below MOST_COMPARED (compared_with announces) limbo.rows whole.rows;
-      pids = first_below MOST_COMPARED (compared_with announces) limbo.pids whole.pids;
-      lists = record { rows = whole.lists.rows; pids = whole.lists.pids };
-    }
-    | false ↦ restaged_whole (compared_with announces) limbo whole
-  ]
+  compared_whole announces limbo whole = elim limits.is_large as
+      (λ b. IsWhole limits (if b then firsts_restaged MOST_COMPARED (compared_with announces) limbo else all_restaged (compared_with announces) limbo)) [
+        | true ↦ record {
+          rows = first_below MOST_COMPARED (compared_with announces) limbo.rows whole.rows;
+          pids = first_below MOST_COMPARED (compared_with announces) limbo.pids whole.pids;
+          lists = record { rows = whole.lists.rows; pids = whole.lists.pids };
+        }
+        | false ↦ restaged_whole (compared_with announces) limbo whole
+      ]
 
   -- the first reuse
   frees_follow : (limbo after : Limbo) (next : State) → IsWhole limits limbo → Frees limbo (Some next) after → Follow limits after next (limits.rows / 64 + limits.pids / 64 + 1)
@@ -122,7 +125,8 @@ module _ (limits : Limits) where
   frees_follow limbo after (state.Announce announces) whole frees = absurd frees
 
   -- the next one has a later word
-  later_follow : (limbo after : Limbo) (reuse : Reuse) (next : State) → IsWhole limits limbo → HasPlace limits reuse → ComesFirst reuse limbo → Frees limbo (Some next) after → Follow limits after next (reuses_left limits reuse)
+  later_follow : (limbo after : Limbo) (reuse : Reuse) (next : State) → IsWhole limits limbo → HasPlace limits reuse → ComesFirst reuse limbo
+      → Frees limbo (Some next) after → Follow limits after next (reuses_left limits reuse)
   later_follow limbo after (Rows word bits) (state.Reuse (Rows word' bits')) whole place first frees =
       let h = frees_follow limbo after (state.Reuse (Rows word' bits')) whole frees in
       let some = frees.0.first.some in
@@ -148,7 +152,8 @@ module _ (limits : Limits) where
   later_follow limbo after reuse (state.Retire epoch) whole place first frees = absurd frees
   later_follow limbo after reuse (state.Announce announces) whole place first frees = absurd frees
 
-  pub compares_follow : (announces : List ℕ) (limbo after : Limbo) (next : State) → IsWhole limits limbo → length announces ≤ 15 → Compares limits announces limbo (Some next) after → Follow limits after next (suc (limits.rows / 64 + limits.pids / 64 + 15 - length announces))
+  pub compares_follow : (announces : List ℕ) (limbo after : Limbo) (next : State) → IsWhole limits limbo → length announces ≤ 15
+      → Compares limits announces limbo (Some next) after → Follow limits after next (suc (limits.rows / 64 + limits.pids / 64 + 15 - length announces))
   compares_follow announces limbo after next whole short compares = elim (cases_lt (suc (length announces)) limits.actors) [
     | inl more ↦ reads next (compares.reads more) more
     | inr all ↦
@@ -156,7 +161,8 @@ module _ (limits : Limits) where
         record { lists = h.lists; sound = h.sound; order = h.order; fewer = (let few = h.fewer in omega (arith, few, short)) }
   ]
     where
-      reads : (next : State) → (Some next ≡ Some (state.Announce announces)) × (after ≡ limbo) → suc (length announces) < limits.actors → Follow limits after next (suc (limits.rows / 64 + limits.pids / 64 + 15 - length announces))
+      reads : (next : State) → (Some next ≡ Some (state.Announce announces)) × (after ≡ limbo) → suc (length announces) < limits.actors
+          → Follow limits after next (suc (limits.rows / 64 + limits.pids / 64 + 15 - length announces))
       reads (state.Announce others) is more =
           let same : others ≡ announces = cc (is.0) in
           rw (is.1, same) (record { lists = whole.lists; sound = more; order = tt; fewer = omega arith })
@@ -180,7 +186,8 @@ module _ (limits : Limits) where
       retires (state.Announce announces) is below = absurd (cc (is.0))
       retires (state.Reuse reuse) is below = absurd (cc (is.0))
 
-  moves_follow : (old next : State) (told : Answer Record) (limbo after : Limbo) → IsWhole limits limbo → IsSoundState limits old → IsInOrder old limbo → Moves limits old limbo told (Some next) after → Follow limits after next (steps_left limits old)
+  moves_follow : (old next : State) (told : Answer Record) (limbo after : Limbo) → IsWhole limits limbo → IsSoundState limits old → IsInOrder old limbo
+      → Moves limits old limbo told (Some next) after → Follow limits after next (steps_left limits old)
   moves_follow state.Epoch next (answer.Number n) limbo after whole sound order moves = stamps_follow n limbo after next whole moves
   moves_follow state.Epoch next answer.Start limbo after whole sound order moves = absurd moves
   moves_follow state.Epoch next (answer.Content content) limbo after whole sound order moves = absurd moves
@@ -201,7 +208,8 @@ module _ (limits : Limits) where
   moves_follow (state.Reuse reuse) next told limbo after whole sound order moves = later_follow limbo after reuse next whole sound order moves
 
 -- a sweep that goes on
-pub goes_on : (old new : Sweep) (told : Answer Record) (limbo after : Limbo) → IsLimboList limbo.rows → IsLimboList limbo.pids → IsSoundState old.limits old.state → IsSoundSweep old limbo → HasNewState old new → Moves old.limits old.state limbo told (Some new.state) after
+pub goes_on : (old new : Sweep) (told : Answer Record) (limbo after : Limbo) → IsLimboList limbo.rows → IsLimboList limbo.pids
+    → IsSoundState old.limits old.state → IsSoundSweep old limbo → HasNewState old new → Moves old.limits old.state limbo told (Some new.state) after
     → IsSoundState new.limits new.state × IsSoundSweep new after × (steps_left old.limits new.state < steps_left old.limits old.state)
 goes_on old new told limbo after rows pids sound swept same moves =
     let h = moves_follow old.limits old.state new.state told limbo after (whole old.limits limbo rows pids swept.lists) sound swept.order moves in
@@ -220,16 +228,21 @@ none_first e rest stamped none = at_first e.stage refl
     at_first (Stamped stamp) is = (let h : true ≡ false = sym (may (ap (λ s. is_passed (compared_with [] s)) is)) ∙ none e.number in cc)
     at_first (Passed stamp) is = (let h : true ≡ false = sym (may (ap (λ s. is_passed (compared_with [] s)) is)) ∙ none e.number in cc)
 
-none_left : (large : Bool) (entries : List Entry) → list_any (λ (entry : Entry). is_unstamped entry.stage) entries ≡ false → HasNone (if large then first_restaged MOST_COMPARED (compared_with []) entries else restaged (compared_with []) entries) → entries ≡ []
+none_left : (large : Bool) (entries : List Entry) → list_any (λ (entry : Entry). is_unstamped entry.stage) entries ≡ false
+    → HasNone (if large then first_restaged MOST_COMPARED (compared_with []) entries else restaged (compared_with []) entries) → entries ≡ []
 none_left large [] stamped none = refl
 none_left true (e ∷ es) stamped none = absurd (none_first e _ (or_parts (is_unstamped e.stage) (list_any (λ (entry : Entry). is_unstamped entry.stage) es) stamped).0 none)
 none_left false (e ∷ es) stamped none = absurd (none_first e _ (or_parts (is_unstamped e.stage) (list_any (λ (entry : Entry). is_unstamped entry.stage) es) stamped).0 none)
 
-none_compared : (limits : Limits) (limbo : Limbo) → list_any (λ (entry : Entry). is_unstamped entry.stage) limbo.rows.entries ≡ false → list_any (λ (entry : Entry). is_unstamped entry.stage) limbo.pids.entries ≡ false → HasNone (compared limits [] limbo).rows.entries → HasNone (compared limits [] limbo).pids.entries → IsEmpty limbo
-none_compared limits limbo rows pids = elim limits.is_large as (λ b. HasNone (if b then firsts_restaged MOST_COMPARED (compared_with []) limbo else all_restaged (compared_with []) limbo).rows.entries → HasNone (if b then firsts_restaged MOST_COMPARED (compared_with []) limbo else all_restaged (compared_with []) limbo).pids.entries → IsEmpty limbo) [
-  | true ↦ λ no_rows no_pids. (none_left true limbo.rows.entries rows no_rows, none_left true limbo.pids.entries pids no_pids)
-  | false ↦ λ no_rows no_pids. (none_left false limbo.rows.entries rows no_rows, none_left false limbo.pids.entries pids no_pids)
-]
+none_compared : (limits : Limits) (limbo : Limbo) → list_any (λ (entry : Entry). is_unstamped entry.stage) limbo.rows.entries ≡ false
+    → list_any (λ (entry : Entry). is_unstamped entry.stage) limbo.pids.entries ≡ false → HasNone (compared limits [] limbo).rows.entries
+    → HasNone (compared limits [] limbo).pids.entries → IsEmpty limbo
+none_compared limits limbo rows pids = elim limits.is_large as (λ b. HasNone
+    (if b then firsts_restaged MOST_COMPARED (compared_with []) limbo else all_restaged (compared_with []) limbo).rows.entries → HasNone
+    (if b then firsts_restaged MOST_COMPARED (compared_with []) limbo else all_restaged (compared_with []) limbo).pids.entries → IsEmpty limbo) [
+      | true ↦ λ no_rows no_pids. (none_left true limbo.rows.entries rows no_rows, none_left true limbo.pids.entries pids no_pids)
+      | false ↦ λ no_rows no_pids. (none_left false limbo.rows.entries rows no_rows, none_left false limbo.pids.entries pids no_pids)
+    ]
 
 -- a sweep that doesn't begin has nothing to sweep
 pub begins_not : (limits : Limits) (limbo after : Limbo) → BeginsSweep limits limbo None after → IsEmpty limbo
@@ -248,7 +261,8 @@ begins_not limits limbo after begins = elim (no_item limbo) [
 ]
 
 -- one that begins is sound
-pub begins_sound : (limits : Limits) (actor : ℕ) (limbo after : Limbo) (first : State) → IsLimboList limbo.rows → IsLimboList limbo.pids → IsLimboOf limits limbo → BeginsSweep limits limbo (Some first) after
+pub begins_sound : (limits : Limits) (actor : ℕ) (limbo after : Limbo) (first : State) → IsLimboList limbo.rows → IsLimboList limbo.pids
+    → IsLimboOf limits limbo → BeginsSweep limits limbo (Some first) after
     → IsSoundState limits first × IsSoundSweep (record { limits = limits; actor = actor; state = first }) after
 begins_sound limits actor limbo after first rows pids lists begins = elim (no_item limbo) [
   | inl empty ↦ absurd (cc ((begins.empty empty).0))

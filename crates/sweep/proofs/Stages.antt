@@ -23,7 +23,8 @@ restaged_stage f (e ∷ es) n = elim (eqb e.number n) as (λ b. (if b then Some 
 ]
 
 -- the same of the first entries alone: the stage of a number changes, or stays
-pub first_stage : (f : Stage → Stage) (most : ℕ) (entries : List Entry) (n : ℕ) → (stage_in (first_restaged most f entries) n ≡ after f (stage_in entries n)) ⊎ (stage_in (first_restaged most f entries) n ≡ stage_in entries n)
+pub first_stage : (f : Stage → Stage) (most : ℕ) (entries : List Entry) (n : ℕ)
+    → (stage_in (first_restaged most f entries) n ≡ after f (stage_in entries n)) ⊎ (stage_in (first_restaged most f entries) n ≡ stage_in entries n)
 first_stage f zero entries n = inr refl
 first_stage f (suc most) [] n = inr refl
 first_stage f (suc most) (e ∷ es) n = elim (cases_eq e.number n) [
@@ -72,14 +73,17 @@ kept_stage (e ∷ es) word n free = elim (cases_eq e.number n) [
 ]
 
 -- what is taken out had passed
-pub passed_stage : (entries : List Entry) (word n : ℕ) → list_any (λ (entry : Entry). eqb entry.number n) (without word entries) ≡ false → may_go entries n ≡ true → (stamp : ℕ) × (stage_in entries n ≡ Some (Passed stamp))
+pub passed_stage : (entries : List Entry) (word n : ℕ) → list_any (λ (entry : Entry). eqb entry.number n) (without word entries) ≡ false
+    → may_go entries n ≡ true → (stamp : ℕ) × (stage_in entries n ≡ Some (Passed stamp))
 passed_stage [] word n gone may = cc
 passed_stage (e ∷ es) word n gone may = elim (cases_eq e.number n) [
   | inl same ↦ rw (eq-eqb e.number n same) (at_first e.stage refl (eq-eqb e.number n same))
   | inr other ↦
       let apart : eqb e.number n ≡ false = ne_eqb e.number n other in
       let rest_may : may_go es n ≡ true = rw apart at may in
-      let rest_gone : list_any (λ (entry : Entry). eqb entry.number n) (without word es) ≡ false = elim (not (eqb (e.number / 64) word && is_passed e.stage)) as (λ b. list_any (λ (entry : Entry). eqb entry.number n) (if b then e ∷ without word es else without word es) ≡ false → list_any (λ (entry : Entry). eqb entry.number n) (without word es) ≡ false) [
+      let rest_gone : list_any (λ (entry : Entry). eqb entry.number n) (without word es) ≡ false = elim (not (eqb (e.number / 64) word && is_passed e.stage)) as
+      (λ b. list_any (λ (entry : Entry). eqb entry.number n) (if b then e ∷ without word es else without word es) ≡ false → list_any
+      (λ (entry : Entry). eqb entry.number n) (without word es) ≡ false) [
         | true ↦ λ h. rw apart at h
         | false ↦ λ h. h
       ] gone in
@@ -102,7 +106,8 @@ away true p passed kept = (let h : not p ≡ true = kept in let k : not true ≡
 pub left_later : (entries : List Entry) (word n : ℕ) → may_go (without word entries) n ≡ true → (may_go entries n ≡ true) × (eqb (n / 64) word ≡ false)
 left_later [] word n may = cc
 left_later (e ∷ es) word n may =
-    elim (not (eqb (e.number / 64) word && is_passed e.stage)) as (λ b. not (eqb (e.number / 64) word && is_passed e.stage) ≡ b → may_go (if b then e ∷ without word es else without word es) n ≡ true → (may_go (e ∷ es) n ≡ true) × (eqb (n / 64) word ≡ false)) [
+    elim (not (eqb (e.number / 64) word && is_passed e.stage)) as
+    (λ b. not (eqb (e.number / 64) word && is_passed e.stage) ≡ b → may_go (if b then e ∷ without word es else without word es) n ≡ true → (may_go (e ∷ es) n ≡ true) × (eqb (n / 64) word ≡ false)) [
       | false ↦ λ kept h. later (left_later es word n h)
       | true ↦ λ kept h. elim (or_cases (eqb e.number n && is_passed e.stage) (may_go (without word es) n) h) [
         | inl here ↦ now kept (and_parts (eqb e.number n) (is_passed e.stage) here)

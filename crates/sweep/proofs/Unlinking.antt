@@ -36,7 +36,8 @@ new_still list rows n new apart = record {
   out = list_any-append (λ (entry : Entry). eqb entry.number n) list.entries (map fresh rows) ∙ rw (new.out, fresh_out rows n apart) refl;
 }
 
-pub new_next : (list : LimboList) (rows : List ℕ) (i : ℕ) → i < length rows → AllPairs (λ one other. one ≢ other) rows → All (λ row. IsNew list row) rows → IsNew (with_rows (take i rows) list) (get_or rows i 0)
+pub new_next : (list : LimboList) (rows : List ℕ) (i : ℕ) → i < length rows → AllPairs (λ one other. one ≢ other) rows → All (λ row. IsNew list row) rows
+    → IsNew (with_rows (take i rows) list) (get_or rows i 0)
 new_next list rows i lt apart news = new_still list (take i rows) (get_or rows i 0) (news i 0 lt) (λ k d before. others k d before)
   where
     others : (k d : ℕ) → k < length (take i rows) → get_or (take i rows) k d ≢ get_or rows i 0
@@ -90,23 +91,27 @@ eqb_turned a b = elim (cases_eq a b) [
 ]
 
 -- the walk is the chain
-pub walk_rows : (n : ℕ) (seen : ℕ → Option Record) (head : ℕ) (chain : List Record) → IsChainFrom seen head chain → length chain ≤ n → (row : ℕ) → is_on_walk n seen (Some head) row ≡ is_one (chain_rows head chain) row
+pub walk_rows : (n : ℕ) (seen : ℕ → Option Record) (head : ℕ) (chain : List Record) → IsChainFrom seen head chain → length chain ≤ n → (row : ℕ)
+    → is_on_walk n seen (Some head) row ≡ is_one (chain_rows head chain) row
 walk_rows n seen head [] is few row = absurd is
 walk_rows zero seen head (x ∷ xs) is few row = absurd (omega (arith, few))
 walk_rows (suc n) seen head (x ∷ xs) is few row =
-    rw (is.0, eqb_turned row head) (ap (λ b. eqb head row || b) (elim (next_row x) as (λ o. MatchOption o (xs ≡ []) (λ next. IsChainFrom seen next xs) → is_on_walk n seen o row ≡ is_one (chain_rows (unwrap_or o 0) xs) row) [
+    rw (is.0, eqb_turned row head)
+    (ap (λ b. eqb head row || b) (elim (next_row x) as (λ o. MatchOption o (xs ≡ []) (λ next. IsChainFrom seen next xs) → is_on_walk n seen o row ≡ is_one (chain_rows (unwrap_or o 0) xs) row) [
       | None ↦ λ empty. rw empty (nothing_walked n seen row)
       | Some next ↦ λ under. walk_rows n seen next xs under (omega (arith, few)) row
     ] is.1))
 
 -- from each row of a chain on there is a chain that is no longer
-rest_of : (seen : ℕ → Option Record) (head : ℕ) (chain : List Record) → IsChainFrom seen head chain → (row : ℕ) → is_one (chain_rows head chain) row ≡ true → (rest : List Record) × IsChainFrom seen row rest × (length rest ≤ length chain)
+rest_of : (seen : ℕ → Option Record) (head : ℕ) (chain : List Record) → IsChainFrom seen head chain → (row : ℕ) → is_one (chain_rows head chain) row ≡ true
+    → (rest : List Record) × IsChainFrom seen row rest × (length rest ≤ length chain)
 rest_of seen head [] is row on = absurd is
 rest_of seen head (x ∷ xs) is row on = elim (cases_eq head row) [
   | inl same ↦ (x ∷ xs, subst (λ r. IsChainFrom seen r (x ∷ xs)) same is, omega arith)
   | inr other ↦
       let below : is_one (chain_rows (unwrap_or (next_row x) 0) xs) row ≡ true = rw (ne_eqb head row other) at on in
-      elim (next_row x) as (λ o. MatchOption o (xs ≡ []) (λ next. IsChainFrom seen next xs) → is_one (chain_rows (unwrap_or o 0) xs) row ≡ true → (rest : List Record) × IsChainFrom seen row rest × (length rest ≤ suc (length xs))) [
+      elim (next_row x) as (λ o. MatchOption o (xs ≡ []) (λ next. IsChainFrom seen next xs) → is_one (chain_rows (unwrap_or o 0) xs) row ≡ true →
+      (rest : List Record) × IsChainFrom seen row rest × (length rest ≤ suc (length xs))) [
         | None ↦ λ empty h. absurd (let k : false ≡ true = rw empty at h in cc)
         | Some next ↦ λ under h. (let rest = rest_of seen next xs under row h in (rest.0, rest.1, (let few = rest.2 in omega (arith, few))))
       ] is.1 below
@@ -128,12 +133,14 @@ is_none (r ∷ rows) row none (suc k) d lt = is_none rows row rest k d (omega (a
     ] none
 
 -- so no row is there twice
-rows_apart : (seen : ℕ → Option Record) (one : OneChain seen) (head : ℕ) (chain : List Record) → IsChainFrom seen head chain → ((row : ℕ) → is_one (chain_rows head chain) row ≡ true → 0 < row) → AllPairs (λ one other. one ≢ other) (chain_rows head chain)
+rows_apart : (seen : ℕ → Option Record) (one : OneChain seen) (head : ℕ) (chain : List Record) → IsChainFrom seen head chain
+    → ((row : ℕ) → is_one (chain_rows head chain) row ≡ true → 0 < row) → AllPairs (λ one other. one ≢ other) (chain_rows head chain)
 rows_apart seen one head [] is some = absurd is
-rows_apart seen one head (x ∷ xs) is some = elim (next_row x) as (λ o. next_row x ≡ o → MatchOption o (xs ≡ []) (λ next. IsChainFrom seen next xs) → ((row : ℕ) → is_one (chain_rows (unwrap_or o 0) xs) row ≡ true → 0 < row) → AllPairs (λ one other. one ≢ other) (head ∷ chain_rows (unwrap_or o 0) xs)) [
-  | None ↦ λ e empty more. rw empty (λ i j d before within. absurd (omega (arith, before, within)))
-  | Some next ↦ λ e under more. AllPairs-cons (λ one other. one ≢ other) head (chain_rows next xs) (is_none (chain_rows next xs) head (not_below next under)) (rows_apart seen one next xs under more)
-] refl is.1 (λ row on. some row (or_right (eqb head row) (is_one (chain_rows (unwrap_or (next_row x) 0) xs) row) on))
+rows_apart seen one head (x ∷ xs) is some = elim (next_row x) as (λ o. next_row x ≡ o → MatchOption o (xs ≡ []) (λ next. IsChainFrom seen next xs) →
+    ((row : ℕ) → is_one (chain_rows (unwrap_or o 0) xs) row ≡ true → 0 < row) → AllPairs (λ one other. one ≢ other) (head ∷ chain_rows (unwrap_or o 0) xs)) [
+      | None ↦ λ e empty more. rw empty (λ i j d before within. absurd (omega (arith, before, within)))
+      | Some next ↦ λ e under more. AllPairs-cons (λ one other. one ≢ other) head (chain_rows next xs) (is_none (chain_rows next xs) head (not_below next under)) (rows_apart seen one next xs under more)
+    ] refl is.1 (λ row on. some row (or_right (eqb head row) (is_one (chain_rows (unwrap_or (next_row x) 0) xs) row) on))
   where
     not_below : (next : ℕ) → IsChainFrom seen next xs → is_one (chain_rows next xs) head ≡ false
     not_below next under = elim (cases_Bool (is_one (chain_rows next xs) head)) [
@@ -161,7 +168,8 @@ or_none None = refl
 or_none (Some stage) = refl
 
 module _ (limits : Limits) (actor : ℕ) (last : Option ℕ) where
-  taken_agrees : (list : LimboList) (rows : List ℕ) (limbo : known.LimboMark) (row : ℕ) (out : Bool) → is_one rows row ≡ out → (IsTrue out → limbo ≡ known.Absent) → Agrees limits actor last (stage_of list row) limbo
+  taken_agrees : (list : LimboList) (rows : List ℕ) (limbo : known.LimboMark) (row : ℕ) (out : Bool) → is_one rows row ≡ out
+      → (IsTrue out → limbo ≡ known.Absent) → Agrees limits actor last (stage_of list row) limbo
       → Agrees limits actor last (stage_of (with_rows rows list) row) (if out then known.Unstamped else limbo)
   taken_agrees list rows limbo row true on absent h =
       let none : stage_in list.entries row ≡ None = absent_stage limits actor last (stage_in list.entries row) (rw (absent refl) at h) in
@@ -169,8 +177,11 @@ module _ (limits : Limits) (actor : ℕ) (last : Option ℕ) where
   taken_agrees list rows limbo row false on absent h =
       rw (stage_append list.entries (map fresh rows) row, one_fresh rows row, on, or_none (stage_in list.entries row)) h
 
-  added_agrees : (list : LimboList) (pid : ℕ) (knows : ℕ → known.LimboMark) → knows pid ≡ known.Absent → ((n : ℕ) → Agrees limits actor last (stage_of list n) (knows n)) → (n : ℕ) → Agrees limits actor last (stage_of (added pid list) n) (replaced_at pid known.Unstamped knows n)
-  added_agrees list pid knows absent h n = rw (eqb_turned n pid) (taken_agrees list (pid ∷ []) (knows n) n (eqb pid n) (one_of_one (eqb pid n)) (λ same. ap knows (sym (eqb-true pid n same)) ∙ absent) (h n))
+  added_agrees : (list : LimboList) (pid : ℕ) (knows : ℕ → known.LimboMark) → knows pid ≡ known.Absent
+      → ((n : ℕ) → Agrees limits actor last (stage_of list n) (knows n)) → (n : ℕ)
+      → Agrees limits actor last (stage_of (added pid list) n) (replaced_at pid known.Unstamped knows n)
+  added_agrees list pid knows absent h n =
+      rw (eqb_turned n pid) (taken_agrees list (pid ∷ []) (knows n) n (eqb pid n) (one_of_one (eqb pid n)) (λ same. ap knows (sym (eqb-true pid n same)) ∙ absent) (h n))
     where
       one_of_one : (b : Bool) → (b || false) ≡ b
       one_of_one true = refl
@@ -182,7 +193,8 @@ module _ (limits : Limits) (actor : ℕ) (last : Option ℕ) where
     out = out_of list.entries n (absent_stage limits actor last (stage_in list.entries n) (rw absent at h));
   }
 
-module _ (limits : Limits) (actor : ℕ) (limbo : Limbo) (k : Knowledge) (head : ℕ) (chain : List Record) (kept : AreKept limits actor limbo k.limbo) (free : AreOutOfLimbo limits k head) (is : IsChainFrom k.read.seen head chain) (few : length chain ≤ 13) (one : OneChain k.read.seen) where
+module _ (limits : Limits) (actor : ℕ) (limbo : Limbo) (k : Knowledge) (head : ℕ) (chain : List Record) (kept : AreKept limits actor limbo k.limbo)
+    (free : AreOutOfLimbo limits k head) (is : IsChainFrom k.read.seen head chain) (few : length chain ≤ 13) (one : OneChain k.read.seen) where
   walked : (row : ℕ) → is_one (chain_rows head chain) row ≡ true → IsTrue (is_on_walk 13 k.read.seen (Some head) row)
   walked row on = walk_rows 13 k.read.seen head chain is few row ∙ on
 
@@ -197,7 +209,9 @@ module _ (limits : Limits) (actor : ℕ) (limbo : Limbo) (k : Knowledge) (head :
   chain_apart = rows_apart k.read.seen one head chain is (λ row on. (free row (walked row on)).0)
 
   chain_agrees : (row : ℕ) → Agrees limits actor k.limbo.epoch (stage_of (with_rows (chain_rows head chain) limbo.rows) row) (taken_out k.read.seen head k.limbo.rows row)
-  chain_agrees row = taken_agrees limits actor k.limbo.epoch limbo.rows (chain_rows head chain) (k.limbo.rows row) row (is_on_walk 13 k.read.seen (Some head) row) (sym (walk_rows 13 k.read.seen head chain is few row)) (λ on. (free row on).2) (kept.rows row)
+  chain_agrees row =
+      taken_agrees limits actor k.limbo.epoch limbo.rows (chain_rows head chain) (k.limbo.rows row) row (is_on_walk 13 k.read.seen (Some head) row)
+      (sym (walk_rows 13 k.read.seen head chain is few row)) (λ on. (free row on).2) (kept.rows row)
 
   pub chain_taken : IsTakenOut limits actor limbo (chain_rows head chain) None (record k.limbo { rows = taken_out k.read.seen head k.limbo.rows })
   chain_taken = record {
@@ -205,8 +219,11 @@ module _ (limits : Limits) (actor : ℕ) (limbo : Limbo) (k : Knowledge) (head :
     kept = record { lists = record { rows = kept.lists.rows; pids = kept.lists.pids }; rows = chain_agrees; pids = kept.pids };
   }
 
-  pub page_taken : (page : ℕ) → 0 < page → page < limits.pids → k.limbo.pids page ≡ known.Absent → IsTakenOut limits actor limbo (chain_rows head chain) (Some page) (record k.limbo { rows = taken_out k.read.seen head k.limbo.rows; pids = replaced_at page known.Unstamped k.limbo.pids })
+  pub page_taken : (page : ℕ) → 0 < page → page < limits.pids → k.limbo.pids page ≡ known.Absent
+      → IsTakenOut limits actor limbo (chain_rows head chain) (Some page) (record k.limbo { rows = taken_out k.read.seen head k.limbo.rows; pids = replaced_at page known.Unstamped k.limbo.pids })
   page_taken page some below absent = record {
-    new = record { apart = chain_apart; new_rows = chain_new; new_pid = new_one limits actor k.limbo.epoch limbo.pids limits.pids page kept.lists.pids below (k.limbo.pids page) absent (kept.pids page) };
-    kept = record { lists = record { rows = kept.lists.rows; pids = kept.lists.pids }; rows = chain_agrees; pids = added_agrees limits actor k.limbo.epoch limbo.pids page k.limbo.pids absent kept.pids };
+    new = record
+        { apart = chain_apart; new_rows = chain_new; new_pid = new_one limits actor k.limbo.epoch limbo.pids limits.pids page kept.lists.pids below (k.limbo.pids page) absent (kept.pids page) };
+    kept = record
+        { lists = record { rows = kept.lists.rows; pids = kept.lists.pids }; rows = chain_agrees; pids = added_agrees limits actor k.limbo.epoch limbo.pids page k.limbo.pids absent kept.pids };
   }

@@ -31,7 +31,8 @@ use Rattle.table_rule.proofs.Parts.{settled_back, spells_views}
 use Rattle.table_rule.proofs.Turns.{TableState, Rule, Ready, event}
 
 -- the other parts are the memory's, and the rows are as they were
-with_rows : (limits : Limits) (words words' : List ℕ) (m m' : Memory) (settled : ℕ → Type 0) → ((row j : ℕ) → row < limits.rows → j < row_size → get_or words' (row_at row j) 0 ≡ get_or words (row_at row j) 0) → m'.rows ≡ m.rows
+with_rows : (limits : Limits) (words words' : List ℕ) (m m' : Memory) (settled : ℕ → Type 0)
+    → ((row j : ℕ) → row < limits.rows → j < row_size → get_or words' (row_at row j) 0 ≡ get_or words (row_at row j) 0) → m'.rows ≡ m.rows
     → SpellsWhere limits words m settled → SpellsParts limits words' m' → SpellsWhere limits words' m' settled
 with_rows limits words words' m m' settled stay records sp parts = record {
   slots = parts.slots;
@@ -46,13 +47,15 @@ with_rows limits words words' m m' settled stay records sp parts = record {
 module _ (change : StepsChangeOneWord) (first : WordsStandApart) (limits : Limits) (law : Limits → List Entry → Type 0) where
   step_ready : (s : TableState) (h : Rule limits law s) (id actor : ℕ) (seen : List Entry) (begun : Option Command) (step : Step Record) (reply : Option Reply)
       → get_elem? s.views id ≡ some (alone limits actor seen Idle) → actor < 16 → HasWord limits step → SetsBits step
-      → Ready limits law s h id actor (changed_word limits actor step) (word_after step (get_or s.words (changed_word limits actor step) 0)) begun step (told step (get_or s.words (changed_word limits actor step) 0)) reply
+      → Ready limits law s h id actor (changed_word limits actor step) (word_after step (get_or s.words (changed_word limits actor step) 0)) begun step
+      (told step (get_or s.words (changed_word limits actor step) 0)) reply
   step_ready s h id actor seen begun step reply at few has bits =
       let m : Memory = memory_of limits h.run in
       let own : HasOwnWord limits actor step = first limits actor step few has in
       let parts : SpellsParts limits s.words m = spells_views limits s.words m (IsSettled s.views) (λ row. ⊥) (λ row none. absurd none) h.spells in
       let c : ChangesOneWord limits s.words m actor step = change limits s.words m actor step h.wide parts few has bits in
-      let stay : (row j : ℕ) → row < limits.rows → j < row_size → get_or (words_after limits actor step s.words) (row_at row j) 0 ≡ get_or s.words (row_at row j) 0 = λ row j below small. get_or-set_other s.words (changed_word limits actor step) (row_at row j) _ 0 (λ e. own.apart row j below small (sym e)) in
+      let stay : (row j : ℕ) → row < limits.rows → j < row_size → get_or (words_after limits actor step s.words) (row_at row j) 0 ≡ get_or s.words (row_at row j) 0 = λ row
+      j below small. get_or-set_other s.words (changed_word limits actor step) (row_at row j) _ 0 (λ e. own.apart row j below small (sym e)) in
       let spells : SpellsWhere limits (words_after limits actor step s.words) (memory_after actor step m) (IsSettled s.views)
       = with_rows limits s.words (words_after limits actor step s.words) m (memory_after actor step m) (IsSettled s.views) stay c.records h.spells c.spells in
       record {
@@ -64,7 +67,8 @@ module _ (change : StepsChangeOneWord) (first : WordsStandApart) (limits : Limit
         records = λ other row _ _. ap (λ (rows : ℕ → Option Record). rows row) c.records;
       }
 
-  acts : (slots id actor : ℕ) (me : Mine) (begun : Option Command) (step : Step Record) (reply : Option Reply) → SitsAt limits actor Idle me → IsLawfulStep law limits actor (seen_of me) begun step reply
+  acts : (slots id actor : ℕ) (me : Mine) (begun : Option Command) (step : Step Record) (reply : Option Reply) → SitsAt limits actor Idle me
+      → IsLawfulStep law limits actor (seen_of me) begun step reply
       → actor < 16 → HasWord limits step → SetsBits step → Allows (Rule limits law) slots id me (changed_word limits actor step) (word_after step) (Acts law begun step reply me)
   acts slots id actor me begun step reply is may few has bits = event limits law slots id actor me (changed_word limits actor step) (word_after step) begun step reply (told step) is may
       (λ s h at. step_ready s h id actor (seen_of me) begun step reply at few has bits)

@@ -9,7 +9,8 @@ use Rattle.tree_words.specs.Words.{words_in, SpellsWhere}
 
 module _ (limits : Limits) where
   -- A word of a row changes, and so no word but this row's.
-  pub spells_row : (words : List ℕ) (memory memory' : Memory) (P Q : ℕ → Type 0) → SpellsWhere limits words memory P → (row k x : ℕ) → row < limits.rows → k < row_size → memory' ≡ record memory { rows = memory'.rows }
+  pub spells_row : (words : List ℕ) (memory memory' : Memory) (P Q : ℕ → Type 0) → SpellsWhere limits words memory P → (row k x : ℕ) → row < limits.rows
+      → k < row_size → memory' ≡ record memory { rows = memory'.rows }
       → ((other j : ℕ) → other < limits.rows → j < row_size → Q other → get_or (set words (row_at row k) x) (row_at other j) 0 ≡ get_or (words_in (memory'.rows other)) j 0)
       → SpellsWhere limits (set words (row_at row k) x) memory' Q
   spells_row words memory memory' P Q sp row k x within small same rows = let at : ℕ = row_at row k in subst (λ z. SpellsWhere limits (set words at x) z Q) (sym same) (record {

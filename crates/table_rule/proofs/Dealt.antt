@@ -35,7 +35,12 @@ empty_ascends = tt
 
 empty_is_spellable : IsSpellablePage empty_leaf
 empty_is_spellable = record {
-  ruled = record { is_page = record { spans = refl; ordered = record { few = omega arith; ascending = empty_ascends }; within = All-nil _; kinds = All-nil _ }; ends = refl; top = omega arith; terms = λ h. absurd (omega arith) };
+  ruled = record {
+    is_page = record { spans = refl; ordered = record { few = omega arith; ascending = empty_ascends }; within = All-nil _; kinds = All-nil _ };
+    ends = refl;
+    top = omega arith;
+    terms = λ h. absurd (omega arith);
+  };
   alive = refl;
   right = tt;
   children = All-nil _;
@@ -74,7 +79,9 @@ module _ (limits : Limits) where
   opening_kept row content e = go (eqb row 1) refl e
     where
       go : (b : Bool) → eqb row 1 ≡ b → (if b then Some (Base empty_leaf) else None) ≡ Some content → IsSpelledRow limits row content
-      go true is e = let one : row ≡ 1 = eqb-true row 1 is in record { there = omega (arith, limits.allowed.some_rows); spelling = subst HasSpelling (same_Some (Base empty_leaf) content e) empty_is_spelt }
+      go true is e =
+          let one : row ≡ 1 = eqb-true row 1 is in
+          record { there = omega (arith, limits.allowed.some_rows); spelling = subst HasSpelling (same_Some (Base empty_leaf) content e) empty_is_spelt }
       go false is e = cc
 
   pub opens : (law : List Entry → Type 0) (words : List ℕ) → AreWordsOf limits (memory_opening limits) words → law [] → Running limits law (opening words [] (dealt limits))

@@ -55,7 +55,8 @@ pub record IsEnough (content : Record) (header first : ℕ) (written : List ℕ)
   pub old : used_by first ≤ length written + 1
 
 module _ (limits : Limits) (law : Limits → List Entry → Type 0) (apart : KeepsRowsApart limits (law limits)) where
-  module _ (slots id actor : ℕ) (me : Mine) (row first : ℕ) (written : List ℕ) (within : row < limits.rows) (is : SitsAt limits actor (Writing row first written) me) (owned : KnowsPlaceable (knows (seen_of me) actor) row) where
+  module _ (slots id actor : ℕ) (me : Mine) (row first : ℕ) (written : List ℕ) (within : row < limits.rows)
+      (is : SitsAt limits actor (Writing row first written) me) (owned : KnowsPlaceable (knows (seen_of me) actor) row) where
     -- what the seat knows now
     module _ (s : TableState) (h : Rule limits law s) (there : get_elem? s.views id ≡ some (alone limits actor (seen_of me) (Writing row first written))) where
       may_now : KnowsPlaceable (knows h.run actor) row
@@ -68,7 +69,8 @@ module _ (limits : Limits) (law : Limits → List Entry → Type 0) (apart : Kee
           ∙ h.spells.rows other j below short (settled_back s.views id limits actor (seen_of me) (Writing row first written) view other there ne st)
 
       -- a row into which another seat writes
-      others_row : (k x other row' j : ℕ) → k < row_size → other ≢ actor → KnowsPlaceable (knows h.run other) row' → j < row_size → get_or (set s.words (row_at row k) x) (row_at row' j) 0 ≡ get_or s.words (row_at row' j) 0
+      others_row : (k x other row' j : ℕ) → k < row_size → other ≢ actor → KnowsPlaceable (knows h.run other) row' → j < row_size
+          → get_or (set s.words (row_at row k) x) (row_at row' j) 0 ≡ get_or s.words (row_at row' j) 0
       others_row k x other row' j small ne may short =
           let no : row' ≢ row = no_other limits law apart actor other row row' h.run h.legal may_now ne may in get_or-set_other s.words (row_at row k) (row_at row' j) x 0 (λ e. no (omega arith))
 
@@ -76,7 +78,8 @@ module _ (limits : Limits) (law : Limits → List Entry → Type 0) (apart : Kee
     stand_with : (words : List ℕ) (x : ℕ) → row_at row (length written + 1) < length words → ((j : ℕ) → j < length written → get_or words (row_at row (j + 1)) 0 ≡ get_or written j 0)
         → (j : ℕ) → j < length (written ++ x ∷ []) → get_or (set words (row_at row (length written + 1)) x) (row_at row (j + 1)) 0 ≡ get_or (written ++ x ∷ []) j 0
     stand_with words x small stand j below = let at : ℕ = row_at row (length written + 1) in let more = length-append written (x ∷ []) in dite (ℕ_discrete j (length written))
-        (λ e. ap (λ (k : ℕ). get_or (set words at x) (row_at row (k + 1)) 0) e ∙ get_or-set_same words at x 0 small ∙ sym (get_or-append_seam written x [] 0) ∙ ap (λ (k : ℕ). get_or (written ++ x ∷ []) k 0) (sym e))
+        (λ e. ap (λ (k : ℕ). get_or (set words at x) (row_at row (k + 1)) 0) e ∙ get_or-set_same words at x 0 small ∙ sym (get_or-append_seam written x [] 0) ∙
+        ap (λ (k : ℕ). get_or (written ++ x ∷ []) k 0) (sym e))
         (λ ne. get_or-set_other words at (row_at row (j + 1)) x 0 (λ e. ne (omega arith)) ∙ stand j (omega arith) ∙ sym (get_or_append_left written (x ∷ []) 0 j (omega arith)))
 
     pub fills : (x : ℕ) → length written < last_at → Allows (Rule limits law) slots id me (row_at row (length written + 1)) (λ _. x) (λ _. Fills me x)
@@ -109,16 +112,19 @@ module _ (limits : Limits) (law : Limits → List Entry → Type 0) (apart : Kee
                 front = stand_with s.words x (omega arith) now_fits.front;
                 behind = λ j above small. get_or-set_other s.words at (row_at row j) x 0 (λ e. absurd (omega arith)) ∙ now_fits.behind j (omega arith) small;
               }
-              (spells_row limits s.words (memory_of limits h.run) (memory_of limits h.run) (IsSettled s.views) (IsSettled (set s.views id view)) h.spells row (length written + 1) x within (omega arith) refl
+              (spells_row limits s.words (memory_of limits h.run) (memory_of limits h.run) (IsSettled s.views) (IsSettled (set s.views id view)) h.spells row
+              (length written + 1) x within (omega arith) refl
               (λ other j below small st. other_row s h there at (length written + 1) x other j view refl (omega arith) below small (st id view stands).0 st)),
           λ limits' actor' row' first' written' is'. (
-            at_each (λ l b reach. SitsAt l b (with_word x reach) (view, me.1)) limits actor (Writing row first written) me is (ap (λ (c : List (ℕ × Unit {0})). (view, c)) (ap (λ (z : Mine). z.1) is)) limits' actor' (Writing row' first' written') is',
+            at_each (λ l b reach. SitsAt l b (with_word x reach) (view, me.1)) limits actor (Writing row first written) me is
+                (ap (λ (c : List (ℕ × Unit {0})). (view, c)) (ap (λ (z : Mine). z.1) is)) limits' actor' (Writing row' first' written') is',
             refl,
           ),
         )
 
     -- Once the header is written, the row has the record's words.
-    placed_word : (s : TableState) (h : Rule limits law s) (header : ℕ) (content : Record) (j : ℕ) → IsPartWritten limits s.words h.run actor row first written → IsEnough content header first written → j < row_size
+    placed_word : (s : TableState) (h : Rule limits law s) (header : ℕ) (content : Record) (j : ℕ) → IsPartWritten limits s.words h.run actor row first written
+        → IsEnough content header first written → j < row_size
         → get_or (set s.words (row_at row 0) header) (row_at row j) 0 ≡ get_or (words_of content) j 0
     placed_word s h header content zero fits enough small = let wide = h.wide in get_or-set_same s.words (row_at row 0) header 0 (omega arith) ∙ enough.head
     placed_word s h header content (suc j) fits enough small =
@@ -129,12 +135,14 @@ module _ (limits : Limits) (law : Limits → List Entry → Type 0) (apart : Kee
         get_or-set_other s.words (row_at row 0) (row_at row (suc j)) header 0 (omega arith)
         ∙ ⊎_elim
         (λ below. ap (λ (k : ℕ). get_or s.words (row_at row k) 0) next ∙ fits.front j below ∙ enough.front j below ∙ ap (λ (k : ℕ). get_or (words_of content) k 0) (sym next))
-        (λ above. fits.behind (suc j) (omega (arith, above)) small ∙ zero_behind_in there (λ one e. (h.kept row one e).spelling) (suc j) (omega (arith, old, above)) ∙ sym (zero_behind content enough.spelled (suc j) (omega (arith, new, above))))
+        (λ above. fits.behind (suc j) (omega (arith, above)) small ∙ zero_behind_in there (λ one e. (h.kept row one e).spelling) (suc j)
+        (omega (arith, old, above)) ∙ sym (zero_behind content enough.spelled (suc j) (omega (arith, new, above))))
         (cases_lt j (length written))
 
     pub places : (header : ℕ) (content : Record) → IsEnough content header first written → IsLawfulStep law limits actor (seen_of me) None (Place row content) None
         → Allows (Rule limits law) slots id me (row_at row 0) (λ _. header) (λ _. Places law (Place row content) me header)
-    places header content enough may = event_telling limits law slots id actor me (Writing row first written) (row_at row 0) (λ _. header) None (Place row content) None (λ _. Places law (Place row content) me header) tt is may
+    places header content enough may =
+        event_telling limits law slots id actor me (Writing row first written) (row_at row 0) (λ _. header) None (Place row content) None (λ _. Places law (Place row content) me header) tt is may
         (λ s h there.
         let at : ℕ = row_at row 0 in
         let memory : Memory = memory_of limits h.run in
@@ -146,8 +154,10 @@ module _ (limits : Limits) (law : Limits → List Entry → Type 0) (apart : Kee
             spells = λ view _. spells_row limits s.words memory (record memory { rows = rows }) (IsSettled s.views) (IsSettled (set s.views id view)) h.spells row 0 header within (omega arith) refl
                 (λ other j below small st. dite (ℕ_discrete other row)
                 (λ e. subst (λ (z : ℕ). get_or (set s.words at header) (row_at z j) 0 ≡ get_or (words_in (rows z)) j 0) (sym e)
-                (placed_word s h header content j (fits_now limits law s h id actor (seen_of me) (Writing row first written) tt there).reach enough small ∙ ap (λ o. get_or (words_in o) j 0) (sym (replaced_same row (Some content) memory.rows))))
-                (λ ne. other_row s h there at 0 header other j view refl (omega arith) below small (λ e. ne (sym e)) st ∙ ap (λ o. get_or (words_in o) j 0) (sym (replaced_other row (Some content) memory.rows other ne))));
+                (placed_word s h header content j (fits_now limits law s h id actor (seen_of me) (Writing row first written) tt there).reach enough small ∙ ap
+                (λ o. get_or (words_in o) j 0) (sym (replaced_same row (Some content) memory.rows))))
+                (λ ne. other_row s h there at 0 header other j view refl (omega arith) below small (λ e. ne (sym e)) st ∙ ap (λ o. get_or (words_in o) j 0)
+                (sym (replaced_other row (Some content) memory.rows other ne))));
             kept = λ other stays e. dite (ℕ_discrete other row)
                 (λ same. let new : Some content ≡ Some stays = sym (ap rows same ∙ replaced_same row (Some content) memory.rows) ∙ e in
                 record { there = subst (λ z. z < limits.rows) (sym same) within; spelling = subst HasSpelling (same_Some content stays new) enough.spelled })
@@ -156,11 +166,13 @@ module _ (limits : Limits) (law : Limits → List Entry → Type 0) (apart : Kee
             records = λ other row' ne may'. replaced_other row (Some content) memory.rows row' (no_other limits law apart actor other row row' h.run h.legal now ne may');
           },
           λ me' is_after took limits' actor' row' first' written' is'.
-              at_each (λ l b _. SitsAt l b Idle me' × Took law l b (seen_of me) None (Place row content) Done None (seen_of me')) limits actor (Writing row first written) me is (is_after, took) limits' actor' (Writing row' first' written') is',
+              at_each (λ l b _. SitsAt l b Idle me' × Took law l b (seen_of me) None (Place row content) Done None (seen_of me')) limits actor
+              (Writing row first written) me is (is_after, took) limits' actor' (Writing row' first' written') is',
         ))
 
 -- the same as the functions ask for them
-module _ (law : Limits → List Entry → Type 0) (key limits : Limits) (own : key ≡ limits) (apart : KeepsRowsApart limits (law limits)) (slots id actor : ℕ) (me : Mine) (row first : ℕ) (written : List ℕ) (word : ℕ) (seen : List Entry) (is_seen : seen_of me ≡ seen)
+module _ (law : Limits → List Entry → Type 0) (key limits : Limits) (own : key ≡ limits) (apart : KeepsRowsApart limits (law limits)) (slots id actor : ℕ)
+    (me : Mine) (row first : ℕ) (written : List ℕ) (word : ℕ) (seen : List Entry) (is_seen : seen_of me ≡ seen)
     (within : row < limits.rows) (is : SitsAt limits actor (Writing row first written) me) (owned : KnowsPlaceable (knows seen actor) row) where
   owned_of : KnowsPlaceable (knows (seen_of me) actor) row
   owned_of = subst (λ (z : List Entry). KnowsPlaceable (knows z actor) row) (sym is_seen) owned
@@ -171,8 +183,10 @@ module _ (law : Limits → List Entry → Type 0) (key limits : Limits) (own : k
 
   pub places_at : (header : ℕ) (content : Record) (told : StepOf Record) → word ≡ row_at row 0 → Place row content ≡ told → IsEnough content header first written
       → IsLawfulStep law limits actor seen None (Place row content) None → Allows (Rule key law) slots id me word (λ _. header) (λ _. Places law told me header)
-  places_at header content told at is_told enough may = subst (λ (z : Limits × ℕ × StepOf Record). Allows (Rule z.0 law) slots id me z.1 (λ _. header) (λ _. Places law z.2 me header)) (λ k. (sym own k, sym at k, is_told k))
-      (places limits law apart slots id actor me row first written within is owned_of header content enough (subst (λ (z : List Entry). IsLawfulStep law limits actor z None (Place row content) None) (sym is_seen) may))
+  places_at header content told at is_told enough may =
+      subst (λ (z : Limits × ℕ × StepOf Record). Allows (Rule z.0 law) slots id me z.1 (λ _. header) (λ _. Places law z.2 me header)) (λ k. (sym own k, sym at k, is_told k))
+      (places limits law apart slots id actor me row first written within is owned_of header content enough
+      (subst (λ (z : List Entry). IsLawfulStep law limits actor z None (Place row content) None) (sym is_seen) may))
 
 pub next_in_tail : (xs : List ℕ) (i : ℕ) → get_or xs (i + 1) 0 ≡ get_or (tail_from xs) i 0
 next_in_tail [] i = refl
@@ -183,7 +197,8 @@ tail_length [] long = absurd (omega arith)
 tail_length (x ∷ xs) long = omega arith
 
 -- The words that are written over are enough.
-pub enough_written : (first : ℕ) (content : Record) (words : List ℕ) → length words ≡ row_size → used_by first ≤ row_size → IsSpelling content words → IsEnough content (get_or words 0 0) first (written_over first words)
+pub enough_written : (first : ℕ) (content : Record) (words : List ℕ) → length words ≡ row_size → used_by first ≤ row_size → IsSpelling content words
+    → IsEnough content (get_or words 0 0) first (written_over first words)
 enough_written first content words long room spelt =
     let tail : List ℕ = tail_from words in
     let many : ℕ = used_by_either first (get_or words 0 0) in

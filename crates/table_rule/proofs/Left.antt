@@ -68,7 +68,8 @@ module _ (limits : Limits) (law : List Entry → Type 0) where
       = subst (λ reach. total limits.actors (λ actor. mark (is_at actor part.actor reach)) ≡ 1) (sym idle.0) (marked_once limits.actors part.actor fits.0.there) in
       let sum = total_plus limits.actors (λ actor. mark (is_at actor part.actor part.reach)) (λ actor. times actor parts) in omega arith
 
-  all_stand : (s : TableState) (h : Running limits law s) (id : ℕ) (parts : List Part) → get_elem? s.views id ≡ some parts → limits.actors ≤ length parts → AreIdle parts → (actor : ℕ) → actor < limits.actors → 1 ≤ times actor parts
+  all_stand : (s : TableState) (h : Running limits law s) (id : ℕ) (parts : List Part) → get_elem? s.views id ≡ some parts → limits.actors ≤ length parts
+      → AreIdle parts → (actor : ℕ) → actor < limits.actors → 1 ≤ times actor parts
   all_stand s h id parts at many idle = all_ones limits.actors (λ actor. times actor parts)
       (λ actor. let one = everywhere_one s.views id parts actor at in let o = h.once actor in omega arith)
       (let sum = all_times s.words h.run parts (h.each id parts at) idle in omega arith)
@@ -83,10 +84,12 @@ module _ (limits : Limits) (law : List Entry → Type 0) where
   apart_leaves row actor Noted apart = tt
 
   -- Where all actors stand in another seat, these are notes.
-  notes_leave : (words : List ℕ) (run : List Entry) (row : ℕ) (others : List Part) → Each (PartFits limits words run) others → ((actor : ℕ) → actor < limits.actors → Each (λ part. IsApart actor part.actor part.reach) others)
+  notes_leave : (words : List ℕ) (run : List Entry) (row : ℕ) (others : List Part) → Each (PartFits limits words run) others
+      → ((actor : ℕ) → actor < limits.actors → Each (λ part. IsApart actor part.actor part.reach) others)
       → Each (λ part. LeavesRow row part.reach) others
   notes_leave words run row [] fits apart = tt
-  notes_leave words run row (part ∷ others) fits apart = (apart_leaves row part.actor part.reach (apart part.actor fits.0.there).0, notes_leave words run row others fits.1 (λ actor below. (apart actor below).1))
+  notes_leave words run row (part ∷ others) fits apart =
+      (apart_leaves row part.actor part.reach (apart part.actor fits.0.there).0, notes_leave words run row others fits.1 (λ actor below. (apart actor below).1))
 
   pub closes : LeavesWords limits law
   closes id parts words homes stand f =
@@ -95,7 +98,8 @@ module _ (limits : Limits) (law : List Entry → Type 0) where
       let at : get_elem? s.views id ≡ some parts = f.1.1 in
       let all : (actor : ℕ) → actor < limits.actors → 1 ≤ times actor parts = all_stand s h id parts at stand.all stand.idle in
       let settled : (row : ℕ) → IsSettled s.views row = λ row j view there. dite (ℕ_discrete j id)
-      (λ e. subst (λ z. Each (λ part. LeavesRow row part.reach) z) (same_view s.views id j parts view at there e) (each_map (λ part. part.reach ≡ Idle) (λ part. LeavesRow row part.reach) (leaves_idle row) parts stand.idle))
+      (λ e. subst (λ z. Each (λ part. LeavesRow row part.reach) z) (same_view s.views id j parts view at there e)
+      (each_map (λ part. part.reach ≡ Idle) (λ part. LeavesRow row part.reach) (leaves_idle row) parts stand.idle))
       (λ ne. notes_leave s.words h.run row view (h.each j view there) (λ actor below. elsewhere s.views id j parts view actor h.once at (all actor below) there ne)) in record {
         run = h.run;
         legal = h.legal;

@@ -74,11 +74,13 @@ others_begin : (actor other : ℕ) (begun : Option Command) → other ≢ actor 
 others_begin actor other None ne = refl
 others_begin actor other (Some command) ne = none_of_one other (Begin actor command) (ne_eqb other actor ne)
 
-pub others_events : (actor other : ℕ) (begun : Option Command) (step : StepOf Record) (answer : Answer Record) (reply : Option Reply) → other ≢ actor → AreOthers other (events actor begun step answer reply)
+pub others_events : (actor other : ℕ) (begun : Option Command) (step : StepOf Record) (answer : Answer Record) (reply : Option Reply) → other ≢ actor
+    → AreOthers other (events actor begun step answer reply)
 others_events actor other begun step answer reply ne =
     others_append other (opened actor begun) (Step actor step answer reply ∷ []) (others_begin actor other begun ne) (none_of_one other (Step actor step answer reply) (ne_eqb other actor ne))
 
-pub with_events : (run : List Entry) (actor : ℕ) (begun : Option Command) (step : StepOf Record) (answer : Answer Record) (reply : Option Reply) → with_step run actor begun step answer reply ≡ run ++ events actor begun step answer reply
+pub with_events : (run : List Entry) (actor : ℕ) (begun : Option Command) (step : StepOf Record) (answer : Answer Record) (reply : Option Reply)
+    → with_step run actor begun step answer reply ≡ run ++ events actor begun step answer reply
 with_events run actor begun step answer reply = append_assoc run (opened actor begun) (Step actor step answer reply ∷ [])
 
 -- More entries, which begin with steps too, leave each begin with its step.
@@ -111,7 +113,8 @@ memory_stepped limits run actor begun step answer reply =
     memory_of-push limits (run ++ opened actor begun) (Step actor step answer reply) ∙ ap (memory_after actor step) (memory_begun limits run actor begun)
 
 -- No reach but that of the seat id is changed, and it did not write the row r before.
-pub settled_back : (views : List (List Part)) (id : ℕ) (limits : Limits) (a : ℕ) (seen : List Entry) (h : Reach) (w : List Part) (r : ℕ) → get_elem? views id ≡ some (alone limits a seen h) → LeavesRow r h
+pub settled_back : (views : List (List Part)) (id : ℕ) (limits : Limits) (a : ℕ) (seen : List Entry) (h : Reach) (w : List Part) (r : ℕ)
+    → get_elem? views id ≡ some (alone limits a seen h) → LeavesRow r h
     → IsSettled (set views id w) r → IsSettled views r
 settled_back views id limits a seen h w r at leaves settled j v here = dite (ℕ_discrete j id)
     (λ e. subst (λ u. Each (λ p. LeavesRow r p.reach) u) (some-injective _ _ (sym at ∙ ap (get_elem? views) (sym e) ∙ here)) (leaves, tt))
@@ -162,7 +165,8 @@ everywhere_one (x ∷ xs) zero v a at = let is : times a x ≡ times a v = ap (t
 everywhere_one (x ∷ xs) (suc id) v a at = let r = everywhere_one xs id v a at in omega arith
 
 -- the actor of one seat stands in no other
-pub elsewhere : (views : List (List Part)) (id j : ℕ) (v w : List Part) (a : ℕ) → ((b : ℕ) → everywhere b views ≤ 1) → get_elem? views id ≡ some v → 1 ≤ times a v → get_elem? views j ≡ some w → j ≢ id → Each (λ p. IsApart a p.actor p.reach) w
+pub elsewhere : (views : List (List Part)) (id j : ℕ) (v w : List Part) (a : ℕ) → ((b : ℕ) → everywhere b views ≤ 1) → get_elem? views id ≡ some v
+    → 1 ≤ times a v → get_elem? views j ≡ some w → j ≢ id → Each (λ p. IsApart a p.actor p.reach) w
 elsewhere views id j v w a once at has there ne = times_none a w
     (let t = everywhere_set views id v [] a at in let u = everywhere_one (set views id []) j w a (set_else views id j [] ne ∙ there) in let o = once a in omega arith)
 

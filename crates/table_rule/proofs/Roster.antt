@@ -46,7 +46,8 @@ pub same_view : (views : List (List Part)) (id j : ℕ) (v u : List Part) → ge
 same_view views id j v u at there e = some-injective v u (sym at ∙ ap (get_elem? views) (sym e) ∙ there)
 
 -- the rows that are settled in one roster are settled in the other
-with_views : (limits : Limits) (words : List ℕ) (views views' : List (List Part)) (m : Memory) → ((r : ℕ) → IsSettled views' r → IsSettled views r) → SpellsWhere limits words m (IsSettled views) → SpellsWhere limits words m (IsSettled views')
+with_views : (limits : Limits) (words : List ℕ) (views views' : List (List Part)) (m : Memory) → ((r : ℕ) → IsSettled views' r → IsSettled views r)
+    → SpellsWhere limits words m (IsSettled views) → SpellsWhere limits words m (IsSettled views')
 with_views limits words views views' m back sp = spells_views limits words m (IsSettled views) (IsSettled views') back sp
 
 pub first_and_others : (v : List Part) → v ≡ first_part v ++ other_parts v
@@ -62,9 +63,11 @@ module _ (limits : Limits) (law : List Entry → Type 0) where
 
   fits_refreshed : (words : List ℕ) (run : List Entry) (v : List Part) → Each (Fits words run) v → Each (Fits words run) (map (refreshed run) v)
   fits_refreshed words run [] t = tt
-  fits_refreshed words run (p ∷ ps) t = (record { extends = extends_goes p.reach p.actor run run (extends_self p.actor run); reach = t.0.reach; there = t.0.there; own_limits = t.0.own_limits }, fits_refreshed words run ps t.1)
+  fits_refreshed words run (p ∷ ps) t =
+      (record { extends = extends_goes p.reach p.actor run run (extends_self p.actor run); reach = t.0.reach; there = t.0.there; own_limits = t.0.own_limits }, fits_refreshed words run ps t.1)
 
-  pub view_refreshed : (s : TableState) (h : R s) (id : ℕ) (v : List Part) → get_elem? s.views id ≡ some v → R record { words = s.words; homes = s.homes; views = set s.views id (map (refreshed h.run) v) }
+  pub view_refreshed : (s : TableState) (h : R s) (id : ℕ) (v : List Part) → get_elem? s.views id ≡ some v
+      → R record { words = s.words; homes = s.homes; views = set s.views id (map (refreshed h.run) v) }
   view_refreshed s h id v at = let w : List Part = map (refreshed h.run) v in record {
     run = h.run;
     legal = h.legal;
@@ -90,7 +93,14 @@ module _ (limits : Limits) (law : List Entry → Type 0) where
     keeps,
     tt,
     subst (λ (ws : List ℕ). R record { words = ws; homes = s.homes; views = set s.views id (map (refreshed h.run) me.0) }) (sym (set-get_or s.words i 0)) (view_refreshed s h id me.0 at),
-    record { run = h.run; legal = h.legal; begins = h.begins; saw = refl; extends = each_map (Fits s.words h.run) (λ p. ExtendsFor p.reach p.actor p.seen h.run) (λ p f. f.extends) me.0 (h.each id me.0 at) },
+    record {
+      run = h.run;
+      legal = h.legal;
+      begins = h.begins;
+      saw = refl;
+      extends = each_map (Fits s.words h.run) (λ p. ExtendsFor p.reach p.actor p.seen h.run)
+          (λ p f. f.extends) me.0 (h.each id me.0 at);
+    },
   )
 
   pub joins : (id other : ℕ) (v w : List Part) → Joins R id v other w (v ++ w) []
@@ -113,7 +123,9 @@ module _ (limits : Limits) (law : List Entry → Type 0) where
         begins = h.begins;
         actors = h.actors;
         once = λ a. let t = everywhere_set s.views id v (v ++ w) a at in let u = everywhere_set first other w [] a there in let o = h.once a in let sum = times_append a v w in omega arith;
-        somewhere = λ a below. let t = everywhere_set s.views id v (v ++ w) a at in let u = everywhere_set first other w [] a there in let o = h.somewhere a below in let sum = times_append a v w in omega arith;
+        somewhere =
+            λ a below. let t = everywhere_set s.views id v (v ++ w) a at in let u = everywhere_set first other w [] a there in let o = h.somewhere a below in
+            let sum = times_append a v w in omega arith;
         each = λ j u is. ⊎_elim
             (λ t. subst (λ z. Each (Fits s.words h.run) z) t.1 tt)
             (λ t. ⊎_elim
@@ -136,7 +148,8 @@ module _ (limits : Limits) (law : List Entry → Type 0) where
         wide = h.wide;
         spells = with_views limits s.words s.views last (memory_of limits h.run)
             (λ r st j u is. dite (ℕ_discrete j id)
-            (λ e. subst (λ z. Each (λ p. LeavesRow r p.reach) z) (sym cut ∙ same_view s.views id j v u at is e) (each_append (λ p. LeavesRow r p.reach) left right (st id left here) (st (length first) right there)))
+            (λ e. subst (λ z. Each (λ p. LeavesRow r p.reach) z) (sym cut ∙ same_view s.views id j v u at is e)
+            (each_append (λ p. LeavesRow r p.reach) left right (st id left here) (st (length first) right there)))
             (λ ne. st j u (at_longer first (right ∷ []) j u (set_else s.views id j left ne ∙ is)))) h.spells;
         begins = h.begins;
         actors = h.actors;
@@ -214,6 +227,7 @@ module _ (limits : Limits) (law : List Entry → Type 0) where
 first_limits : (limits : Limits) (words : List ℕ) (run : List Entry) (v : List Part) (p : Part) (ps : List Part) → v ≡ p ∷ ps → Each (PartFits limits words run) v → p.limits ≡ limits
 first_limits limits words run v p ps e fits = let all : Each (PartFits limits words run) (p ∷ ps) = subst (λ z. Each (PartFits limits words run) z) e fits in all.0.own_limits
 
-pub refreshes_of : (limits key : Limits) (law : Limits → List Entry → Type 0) → key ≡ limits → (slots id : ℕ) (me : Mine) (i : ℕ) → Allows (Running key (law key)) slots id me i (λ n. n) (Refreshes law (step slots i 0 0 none) me)
+pub refreshes_of : (limits key : Limits) (law : Limits → List Entry → Type 0) → key ≡ limits → (slots id : ℕ) (me : Mine) (i : ℕ)
+    → Allows (Running key (law key)) slots id me i (λ n. n) (Refreshes law (step slots i 0 0 none) me)
 refreshes_of limits key law own slots id me i s h count at small = let t = refreshes key (law key) slots id me i s h count at small in
     (t.0, t.1, t.2, t.3, λ p ps e. subst (λ l. IsRefreshed (law l) me (t.0, carried_after me.1 t.1)) (sym (first_limits key s.words h.run me.0 p ps e (h.each id me.0 at))) t.4)

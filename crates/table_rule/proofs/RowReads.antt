@@ -35,7 +35,8 @@ module _ (limits : Limits) (law : Limits → List Entry → Type 0) (apart : Kee
       go Noted fits = tt
       go (Writing at first written) fits = λ e. absurd (apart.unread other.actor actor row run legal (subst (λ (z : ℕ). KnowsPlaceable (knows run other.actor) z) e fits.may) may)
 
-  each_leaves : (words : List ℕ) (run : List Entry) (actor row : ℕ) (view : List Part) → law limits run → KnowsReadable (knows run actor) row → Each (PartFits limits words run) view → Each (λ p. LeavesRow row p.reach) view
+  each_leaves : (words : List ℕ) (run : List Entry) (actor row : ℕ) (view : List Part) → law limits run → KnowsReadable (knows run actor) row
+      → Each (PartFits limits words run) view → Each (λ p. LeavesRow row p.reach) view
   each_leaves words run actor row [] legal may fits = tt
   each_leaves words run actor row (other ∷ view) legal may fits = (leaves_by words run actor row other legal may fits.0, each_leaves words run actor row view legal may fits.1)
 
@@ -44,11 +45,13 @@ module _ (limits : Limits) (law : Limits → List Entry → Type 0) (apart : Kee
   settled s h actor row may id view there = each_leaves s.words h.run actor row view h.legal may (h.each id view there)
 
   -- the word j of the record of a row that the actor may read
-  word_is : (s : TableState) (h : Rule limits law s) (actor row j : ℕ) → KnowsReadable (knows h.run actor) row → row < limits.rows → j < row_size → get_or s.words (row_at row j) 0 ≡ get_or (words_in ((memory_of limits h.run).rows row)) j 0
+  word_is : (s : TableState) (h : Rule limits law s) (actor row j : ℕ) → KnowsReadable (knows h.run actor) row → row < limits.rows → j < row_size
+      → get_or s.words (row_at row j) 0 ≡ get_or (words_in ((memory_of limits h.run).rows row)) j 0
   word_is s h actor row j may within small = h.spells.rows row j within small (settled s h actor row may)
 
   -- the record of a row that the actor may read
-  row_is : (s : TableState) (h : Rule limits law s) (actor row : ℕ) → KnowsReadable (knows h.run actor) row → (content : Record) × ((memory_of limits h.run).rows row ≡ Some content) × HasSpelling content
+  row_is : (s : TableState) (h : Rule limits law s) (actor row : ℕ) → KnowsReadable (knows h.run actor) row
+      → (content : Record) × ((memory_of limits h.run).rows row ≡ Some content) × HasSpelling content
   row_is s h actor row may = let p = apart.placed actor row h.run h.legal may in (p.0, p.1, (h.kept row p.0 p.1).spelling)
 
   module _ (slots id actor : ℕ) (me : Mine) (row : ℕ) (within : row < limits.rows) (is : SitsAt limits actor Idle me) (known : KnowsReadable (knows (seen_of me) actor) row) where
@@ -66,7 +69,8 @@ module _ (limits : Limits) (law : Limits → List Entry → Type 0) (apart : Kee
           view,
           keeps,
           tt,
-          turn limits law s h id actor (seen_of me) Idle tt there me.1 at n h.run (seen_of me) Idle tt h.legal (spares_quiet limits law actor at s.words h.run) (extends_now limits law s h id actor (seen_of me) Idle tt there) h.kept h.begins h.actors tt
+          turn limits law s h id actor (seen_of me) Idle tt there me.1 at n h.run (seen_of me) Idle tt h.legal (spares_quiet limits law actor at s.words h.run)
+              (extends_now limits law s h id actor (seen_of me) Idle tt there) h.kept h.begins h.actors tt
               (spells_quiet limits law s h id actor (seen_of me) there at view),
           (
             ap (λ (c : List (ℕ × Unit {0})). (view, c)) (ap (λ (z : Mine). z.1) is) ∙ sym is,
@@ -74,7 +78,9 @@ module _ (limits : Limits) (law : Limits → List Entry → Type 0) (apart : Kee
                 let who : actor ≡ actor' = same_actor limits limits' actor actor' Idle Idle me is is' in
                 let row_same : row ≡ row' = omega arith in
                 let place_same : place ≡ place' = omega arith in
-                let seen : (knows h.run actor).read.seen row ≡ Some content = ap (λ k. k.read.seen row) (knows_now limits law s h id actor (seen_of me) Idle tt there) ∙ ap (λ (z : ℕ × ℕ). (knows (seen_of me) z.0).read.seen z.1) (λ k. (who k, row_same k)) ∙ has.seen in
+                let seen : (knows h.run actor).read.seen row ≡ Some content = ap (λ k. k.read.seen row)
+                (knows_now limits law s h id actor (seen_of me) Idle tt there) ∙ ap (λ (z : ℕ × ℕ). (knows (seen_of me) z.0).read.seen z.1)
+                (λ k. (who k, row_same k)) ∙ has.seen in
                 word_is s h actor row place (may_now s h there) within small
                 ∙ ap (λ o. get_or (words_in o) place 0) (apart.stands actor row content h.run h.legal seen)
                 ∙ ap (λ (j : ℕ). get_or (words_of content) j 0) place_same,

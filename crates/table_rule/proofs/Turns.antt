@@ -56,7 +56,8 @@ pub at_each : (P : Limits → ℕ → Reach → Type 0) (limits : Limits) (actor
     → (limits' : Limits) (actor' : ℕ) (reach' : Reach) → SitsAt limits' actor' reach' me → P limits' actor' reach'
 at_each P limits actor reach me is p limits' actor' reach' is' =
     let same : reach ≡ reach' = ap (λ (z : Mine). reach_in z.0) (sym is ∙ is') in
-    subst (λ (z : Limits × ℕ × Reach). P z.0 z.1 z.2) (λ k. (same_limits limits limits' actor actor' reach reach' me is is' k, same_actor limits limits' actor actor' reach reach' me is is' k, same k)) p
+    subst (λ (z : Limits × ℕ × Reach). P z.0 z.1 z.2)
+    (λ k. (same_limits limits limits' actor actor' reach reach' me is is' k, same_actor limits limits' actor actor' reach reach' me is is' k, same k)) p
 
 module _ (limits : Limits) (law : Limits → List Entry → Type 0) where
   abbrev pub Rule : TableState → Type 0
@@ -81,7 +82,8 @@ module _ (limits : Limits) (law : Limits → List Entry → Type 0) where
     pub writes : (other row : ℕ) → other ≢ actor → KnowsPlaceable (knows run other) row → row < limits.rows → (j : ℕ) → j < row_size → get_or words' (row_at row j) 0 ≡ get_or words (row_at row j) 0
     pub records : (other row : ℕ) → other ≢ actor → KnowsPlaceable (knows run other) row → (memory_of limits run').rows row ≡ (memory_of limits run).rows row
 
-  spared : (actor other : ℕ) (words words' : List ℕ) (seen run run' : List Entry) (reach : Reach) → IsApart actor other reach → Spares actor words words' run run' → ExtendsFor reach other seen run → ReachFits limits words run other reach
+  spared : (actor other : ℕ) (words words' : List ℕ) (seen run run' : List Entry) (reach : Reach) → IsApart actor other reach
+      → Spares actor words words' run run' → ExtendsFor reach other seen run → ReachFits limits words run other reach
       → ExtendsFor reach other seen run' × ReachFits limits words' run' other reach
   spared actor other words words' seen run run' Idle apart spares goes fits = (spares.extends other seen (apart_ne actor other apart) goes, tt)
   spared actor other words words' seen run run' (Writing row first written) apart spares goes fits =
@@ -101,7 +103,8 @@ module _ (limits : Limits) (law : Limits → List Entry → Type 0) where
       )
   spared actor other words words' seen run run' Noted apart spares goes fits = (starts_on seen run run' goes spares.grows, tt)
 
-  part_spared : (actor : ℕ) (words words' : List ℕ) (run run' : List Entry) → Spares actor words words' run run' → (p : Part) → IsApart actor p.actor p.reach → PartFits limits words run p → PartFits limits words' run' p
+  part_spared : (actor : ℕ) (words words' : List ℕ) (run run' : List Entry) → Spares actor words words' run run' → (p : Part) → IsApart actor p.actor p.reach
+      → PartFits limits words run p → PartFits limits words' run' p
   part_spared actor words words' run run' spares p apart fits = let kept = spared actor p.actor words words' p.seen run run' p.reach apart spares fits.extends fits.reach in record {
     extends = kept.0;
     reach = kept.1;
@@ -122,33 +125,38 @@ module _ (limits : Limits) (law : Limits → List Entry → Type 0) where
   pub spells_quiet : (s : TableState) (h : Rule s) (id actor : ℕ) (seen : List Entry) → get_elem? s.views id ≡ some (alone limits actor seen Idle) → (at : ℕ) (view : List Part)
       → SpellsWhere limits (set s.words at (get_or s.words at 0)) (memory_of limits h.run) (IsSettled (set s.views id view))
   spells_quiet s h id actor seen there at view = subst (λ (words : List ℕ). SpellsWhere limits words (memory_of limits h.run) (IsSettled (set s.views id view))) (sym (set-get_or s.words at 0))
-      (spells_views limits s.words (memory_of limits h.run) (IsSettled s.views) (IsSettled (set s.views id view)) (λ other st. settled_back s.views id limits actor seen Idle view other there tt st) h.spells)
+      (spells_views limits s.words (memory_of limits h.run) (IsSettled s.views) (IsSettled (set s.views id view))
+      (λ other st. settled_back s.views id limits actor seen Idle view other there tt st) h.spells)
 
   -- one turn: the word i becomes x, and the one seat has a new view
   pub turn : (s : TableState) (h : Rule s) (id actor : ℕ) (seen : List Entry) (reach : Reach) → Stands reach → get_elem? s.views id ≡ some (alone limits actor seen reach)
-      → (carried : List (ℕ × Unit {0})) (i x : ℕ) (run' seen' : List Entry) (reach' : Reach) → Stands reach' → law limits run' → Spares actor s.words (set s.words i x) h.run run' → Extends actor seen' run'
+      → (carried : List (ℕ × Unit {0})) (i x : ℕ) (run' seen' : List Entry) (reach' : Reach) → Stands reach' → law limits run'
+      → Spares actor s.words (set s.words i x) h.run run' → Extends actor seen' run'
       → ((row : ℕ) (content : Record) → (memory_of limits run').rows row ≡ Some content → IsSpelledRow limits row content)
-      → BeginWithSteps run' → Each (λ entry. entry_actor entry < limits.actors) run' → ReachFits limits (set s.words i x) run' actor reach' → SpellsWhere limits (set s.words i x) (memory_of limits run') (IsSettled (set s.views id (alone limits actor seen' reach')))
+      → BeginWithSteps run' → Each (λ entry. entry_actor entry < limits.actors) run' → ReachFits limits (set s.words i x) run' actor reach'
+      → SpellsWhere limits (set s.words i x) (memory_of limits run') (IsSettled (set s.views id (alone limits actor seen' reach')))
       → Rule (stepped s i x id carried (alone limits actor seen' reach') keeps)
-  turn s h id actor seen reach stands at carried i x run' seen' reach' stands' legal spares extends kept begins actors fits spells = let one = times_alone limits actor seen reach stands in let mine = h.each id (alone limits actor seen reach) at in record {
-    run = run';
-    legal = legal;
-    wide = length-set s.words i x ∙ h.wide;
-    spells = spells;
-    kept = kept;
-    begins = begins;
-    actors = actors;
-    once = λ b. let same = moved b in let o = h.once b in omega arith;
-    somewhere = λ b below. let same = moved b in let o = h.somewhere b below in omega arith;
-    each = λ j view here. ⊎_elim
-        (λ t. subst (λ u. Each (PartFits limits (set s.words i x) run') u) t.1 (record { extends = extends_goes reach' actor seen' run' extends; reach = fits; there = mine.0.there; own_limits = mine.0.own_limits }, tt))
-        (λ t. each_zip (λ p. IsApart actor p.actor p.reach) (PartFits limits s.words h.run) (PartFits limits (set s.words i x) run') (part_spared actor s.words (set s.words i x) h.run run' spares)
-        view (elsewhere s.views id j (alone limits actor seen reach) view actor h.once at (omega arith) t.1 t.0) (h.each j view t.1))
-        (at_set s.views id j (alone limits actor seen' reach') view here);
-  } where
-    moved : (b : ℕ) → everywhere b (set s.views id (alone limits actor seen' reach')) ≡ everywhere b s.views
-    moved b = let t = everywhere_set s.views id (alone limits actor seen reach) (alone limits actor seen' reach') b at in
-        let before = times_of_one limits b actor seen reach stands in let after = times_of_one limits b actor seen' reach' stands' in omega arith
+  turn s h id actor seen reach stands at carried i x run' seen' reach' stands' legal spares extends kept begins actors fits spells = let one = times_alone
+      limits actor seen reach stands in let mine = h.each id (alone limits actor seen reach) at in record {
+        run = run';
+        legal = legal;
+        wide = length-set s.words i x ∙ h.wide;
+        spells = spells;
+        kept = kept;
+        begins = begins;
+        actors = actors;
+        once = λ b. let same = moved b in let o = h.once b in omega arith;
+        somewhere = λ b below. let same = moved b in let o = h.somewhere b below in omega arith;
+        each = λ j view here. ⊎_elim
+            (λ t. subst (λ u. Each (PartFits limits (set s.words i x) run') u) t.1
+            (record { extends = extends_goes reach' actor seen' run' extends; reach = fits; there = mine.0.there; own_limits = mine.0.own_limits }, tt))
+            (λ t. each_zip (λ p. IsApart actor p.actor p.reach) (PartFits limits s.words h.run) (PartFits limits (set s.words i x) run') (part_spared actor s.words (set s.words i x) h.run run' spares)
+            view (elsewhere s.views id j (alone limits actor seen reach) view actor h.once at (omega arith) t.1 t.0) (h.each j view t.1))
+            (at_set s.views id j (alone limits actor seen' reach') view here);
+      } where
+        moved : (b : ℕ) → everywhere b (set s.views id (alone limits actor seen' reach')) ≡ everywhere b s.views
+        moved b = let t = everywhere_set s.views id (alone limits actor seen reach) (alone limits actor seen' reach') b at in
+            let before = times_of_one limits b actor seen reach stands in let after = times_of_one limits b actor seen' reach' stands' in omega arith
 
   -- what has to be shown of a step at one state
   pub record Ready (s : TableState) (h : Rule s) (id actor i x : ℕ) (begun : Option Command) (step : StepOf Record) (answer : Answer Record) (reply : Option Reply) : Type 0 where
@@ -156,7 +164,8 @@ module _ (limits : Limits) (law : Limits → List Entry → Type 0) where
     pub spells : (view : List Part) → view ≡ alone limits actor (with_step h.run actor begun step answer reply) Idle
         → SpellsWhere limits (set s.words i x) (memory_after actor step (memory_of limits h.run)) (IsSettled (set s.views id view))
     pub kept : (row : ℕ) (content : Record) → (memory_after actor step (memory_of limits h.run)).rows row ≡ Some content → IsSpelledRow limits row content
-    pub writes : (other row : ℕ) → other ≢ actor → KnowsPlaceable (knows h.run other) row → row < limits.rows → (j : ℕ) → j < row_size → get_or (set s.words i x) (row_at row j) 0 ≡ get_or s.words (row_at row j) 0
+    pub writes : (other row : ℕ) → other ≢ actor → KnowsPlaceable (knows h.run other) row → row < limits.rows → (j : ℕ) → j < row_size
+        → get_or (set s.words i x) (row_at row j) 0 ≡ get_or s.words (row_at row j) 0
     pub records : (other row : ℕ) → other ≢ actor → KnowsPlaceable (knows h.run other) row → (memory_after actor step (memory_of limits h.run)).rows row ≡ (memory_of limits h.run).rows row
 
   -- a step, and all that it can tell
@@ -191,7 +200,9 @@ module _ (limits : Limits) (law : Limits → List Entry → Type 0) where
         tt,
         turn s h id actor (seen_of me) reach stands at' me.1 i (f (get_or s.words i 0)) later later Idle tt legal spares (extends_self actor later)
             (subst (λ m. (row : ℕ) (content : Record) → m.rows row ≡ Some content → IsSpelledRow limits row content) (sym after) r.kept)
-            begins (subst (Each (λ entry. entry_actor entry < limits.actors)) (sym grown) (each_append (λ entry. entry_actor entry < limits.actors) h.run more h.actors (actors_events limits actor begun step answer reply fit.there))) tt
+            begins (subst (Each (λ entry. entry_actor entry < limits.actors)) (sym grown)
+            (each_append (λ entry. entry_actor entry < limits.actors) h.run more h.actors (actors_events limits actor begun step answer reply fit.there)))
+            tt
             (subst (λ m. SpellsWhere limits (set s.words i (f (get_or s.words i 0))) m (IsSettled (set s.views id (alone limits actor later Idle)))) (sym after) (r.spells _ refl)),
         t.2 (alone limits actor later Idle, me.1) (ap (λ (c : List (ℕ × Unit {0})). (alone limits actor later Idle, c)) (ap (λ (z : Mine). z.1) is))
             record { run = h.run; legal = h.legal; extends = extends; answered = r.answered; grown = refl; begins = begins; kept = legal },
@@ -206,5 +217,7 @@ module _ (limits : Limits) (law : Limits → List Entry → Type 0) where
       (λ s h at. (
         got (get_or s.words i 0),
         ready s h at,
-        λ me' is' took limits' other. at_each (λ l b _. SitsAt l b Idle me' × Took law l b (seen_of me) begun step (got (get_or s.words i 0)) reply (seen_of me')) limits actor Idle me is (is', took) limits' other Idle,
+        λ me' is' took limits' other. at_each
+            (λ l b _. SitsAt l b Idle me' × Took law l b (seen_of me) begun step (got (get_or s.words i 0)) reply (seen_of me')) limits actor Idle me is
+            (is', took) limits' other Idle,
       ))

@@ -30,7 +30,8 @@ module _ (content : Record) (spelled : HasSpelling content) where
   with_zeros : (used : ℕ) → used ≡ end → take used (words_of content) ++ replicate (row_size - used) 0 ≡ words_of content
   with_zeros used at =
       let left : row_size - used ≡ words_left (row_of content).count = omega arith in
-      ap (λ (words : List ℕ). take used (words_of content) ++ words) (ap (λ (n : ℕ). replicate n 0) left ∙ sym (row_spelled (words_of content) content spelled).rest ∙ ap (λ (n : ℕ). drop n (words_of content)) (sym at))
+      ap (λ (words : List ℕ). take used (words_of content) ++ words)
+      (ap (λ (n : ℕ). replicate n 0) left ∙ sym (row_spelled (words_of content) content spelled).rest ∙ ap (λ (n : ℕ). drop n (words_of content)) (sym at))
       ∙ take-append-drop used (words_of content)
 
   pub zero_behind : (j : ℕ) → used_by (get_or (words_of content) 0 0) ≤ j → get_or (words_of content) j 0 ≡ 0
@@ -39,7 +40,8 @@ module _ (content : Record) (spelled : HasSpelling content) where
       let room = few in
       let front : List ℕ = take end (words_of content) in
       let short : length front ≤ end = let is = length-take end (words_of content) in omega arith in
-      ap (λ (words : List ℕ). get_or words j 0) (sym (with_zeros end refl)) ∙ get_or-append_right front (replicate (row_size - end) 0) j 0 (omega (arith, short, used, above)) ∙ zeros_are (row_size - end) (j - length front)
+      ap (λ (words : List ℕ). get_or words j 0) (sym (with_zeros end refl)) ∙ get_or-append_right front (replicate (row_size - end) 0) j 0
+      (omega (arith, short, used, above)) ∙ zeros_are (row_size - end) (j - length front)
 
 -- The same of a row, in which a record stands or none.
 pub few_in : (there : Option Record) → ((content : Record) → there ≡ Some content → HasSpelling content) → used_by (get_or (words_in there) 0 0) ≤ row_size

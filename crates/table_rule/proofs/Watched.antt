@@ -66,7 +66,14 @@ module _ (change : StepsChangeOneWord) (limits : Limits) (law : Limits → List 
             let saw : seen_of (view, me.1) ≡ run = ap seen_of now in (
               subst (λ (seen : List Entry). (view, me.1) ≡ (alone limits' actor seen Idle, [])) (sym saw) now,
               subst (λ (z : Limits × List Entry). Watched law z.0 actor (seen_of me) step (get_or s.words i 0) z.1) (λ k. (sym fits.own_limits k, sym saw k))
-                  record { legal = h.legal; extends = fits.extends; begins = h.begins; answered = answered s h actor i step few (subst (λ (l : Limits). HasWord l step) fits.own_limits has) reads (subst (λ (l : Limits). i ≡ changed_word l actor step) fits.own_limits word) },
+                  record {
+                    legal = h.legal;
+                    extends = fits.extends;
+                    begins = h.begins;
+                    answered = answered s h actor i step few
+                        (subst (λ (l : Limits). HasWord l step) fits.own_limits has) reads
+                        (subst (λ (l : Limits). i ≡ changed_word l actor step) fits.own_limits word);
+                  },
             ),
       )
 

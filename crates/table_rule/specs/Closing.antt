@@ -28,4 +28,5 @@ pub record AreLeft (limits : Limits) (law : List Entry → Type 0) (parts : List
 
 -- So are the words of a table that was closed with a seat in which all actors stand.
 abbrev pub LeavesWords : Limits → (List Entry → Type 0) → Type 0
-LeavesWords limits law = (id : ℕ) (parts : List Part) (words : List ℕ) (homes : List (Unit {0})) → AllStand limits parts → Final (Seen (Running limits law) id parts) words homes → AreLeft limits law parts words
+LeavesWords limits law =
+    (id : ℕ) (parts : List Part) (words : List ℕ) (homes : List (Unit {0})) → AllStand limits parts → Final (Seen (Running limits law) id parts) words homes → AreLeft limits law parts words

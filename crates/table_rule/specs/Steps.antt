@@ -54,7 +54,8 @@ pub record Took (law : Limits → List Entry → Type 0) (limits : Limits) (acto
 
 -- A record was read: this is its first word, and the record has a spelling.
 abbrev pub ReadsFirst : (Limits → List Entry → Type 0) → Limits → ℕ → List Entry → ℕ → ℕ → List Entry → Type 0
-ReadsFirst law limits actor seen row word later = (content : Record) × HasSpelling content × (word ≡ slice_index (words_of content) 0) × Took law limits actor seen None (Row row) (Content content) None later
+ReadsFirst law limits actor seen row word later =
+    (content : Record) × HasSpelling content × (word ≡ slice_index (words_of content) 0) × Took law limits actor seen None (Row row) (Content content) None later
 
 -- The actor may read the row, and has read this record there since it entered.
 pub record HasReadRecord (k : Knowledge) (row : ℕ) (content : Record) : Type 0 where
@@ -83,12 +84,14 @@ pub record Watched (law : Limits → List Entry → Type 0) (limits : Limits) (a
   pub answered : IsAnswer (memory_of limits later) step (Number word)
 
 abbrev pub Watches : (Limits → List Entry → Type 0) → Made (Unit {0}) → Mine → ℕ → Mine → Type 0
-Watches law made me found me' = (limits : Limits) (actor : ℕ) (step : StepOf Record) → SitsAt limits actor Idle me → actor < 16 → HasWord limits step → operation_of step ≡ Load → made.word ≡ changed_word limits actor step
+Watches law made me found me' =
+    (limits : Limits) (actor : ℕ) (step : StepOf Record) → SitsAt limits actor Idle me → actor < 16 → HasWord limits step → operation_of step ≡ Load → made.word ≡ changed_word limits actor step
     → SitsAt limits actor Idle me' × Watched law limits actor (seen_of me) step found (seen_of me')
 
 -- A word of a row whose record was read is looked at, and the seat is as it was. No step is taken.
 abbrev pub Looks : Made (Unit {0}) → Mine → ℕ → Mine → Type 0
-Looks made me found me' = (me' ≡ me) × ((limits : Limits) (actor row place : ℕ) (content : Record) → SitsAt limits actor Idle me → place < row_size → HasReadRecord (knows (seen_of me) actor) row content
+Looks made me found me' =
+    (me' ≡ me) × ((limits : Limits) (actor row place : ℕ) (content : Record) → SitsAt limits actor Idle me → place < row_size → HasReadRecord (knows (seen_of me) actor) row content
     → made.word ≡ row_at row place → found ≡ slice_index (words_of content) place)
 
 -- how many words a record uses, by its first word; and how many the one or the other of two uses

@@ -32,8 +32,10 @@ IsSideChainFrom-unique memory pid (p ∷ ps) [] h k = absurd k
 IsSideChainFrom-unique memory pid (p ∷ ps) (q ∷ qs) h k =
     let chains : p.chain ≡ q.chain = IsChainOf-unique memory pid p.chain q.chain h.1 k.1 in
     let same : p ≡ q = same_page p q (h.0 ∙ sym k.0) chains in
-    let under : MatchOption (right_in p.chain) (qs ≡ []) (λ right. IsSideChainFrom memory right qs) = subst (λ c. MatchOption (right_in c) (qs ≡ []) (λ right. IsSideChainFrom memory right qs)) (sym chains) k.2 in
-    let rest : ps ≡ qs = elim (right_in p.chain) as (λ o. MatchOption o (ps ≡ []) (λ right. IsSideChainFrom memory right ps) → MatchOption o (qs ≡ []) (λ right. IsSideChainFrom memory right qs) → ps ≡ qs) [
+    let under : MatchOption (right_in p.chain) (qs ≡ []) (λ right. IsSideChainFrom memory right qs) = subst
+    (λ c. MatchOption (right_in c) (qs ≡ []) (λ right. IsSideChainFrom memory right qs)) (sym chains) k.2 in
+    let rest : ps ≡ qs = elim (right_in p.chain) as
+    (λ o. MatchOption o (ps ≡ []) (λ right. IsSideChainFrom memory right ps) → MatchOption o (qs ≡ []) (λ right. IsSideChainFrom memory right qs) → ps ≡ qs) [
       | None ↦ λ a b. a ∙ sym b
       | Some right ↦ λ a b. IsSideChainFrom-unique memory right ps qs a b
     ] h.2 under in
@@ -44,7 +46,8 @@ chain_placed : (rows : ℕ → Option Record) (start : ℕ) (chain : List Record
 chain_placed rows start [] h row among none = absurd h
 chain_placed rows start (x ∷ xs) h row (zero, lt, e) none = let first : rows start ≡ None = subst (λ r. rows r ≡ None) (sym e) none in cc (h.0, first)
 chain_placed rows start (x ∷ xs) h row (suc k, lt, e) none =
-    elim (next_row x) as (λ o. MatchOption o (xs ≡ []) (λ next. IsChainFrom rows next xs) → k < length (chain_rows (unwrap_or o 0) xs) → slice_index_or (chain_rows (unwrap_or o 0) xs) k row ≡ row → ⊥) [
+    elim (next_row x) as
+    (λ o. MatchOption o (xs ≡ []) (λ next. IsChainFrom rows next xs) → k < length (chain_rows (unwrap_or o 0) xs) → slice_index_or (chain_rows (unwrap_or o 0) xs) k row ≡ row → ⊥) [
       | None ↦ λ empty within at. nothing_under empty within
       | Some next ↦ λ under within at. chain_placed rows next xs under row (k, within, at) none
     ] h.1 (omega arith) e

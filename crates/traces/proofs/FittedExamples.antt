@@ -49,8 +49,17 @@ above_09 q more = nat_list_cmp_total.antisymm q k09 ∙ ap ordering_reverse more
 of_leaf : (page : Page) → IsPage page → page.level ≡ 0 → is_some page.right ≡ is_some page.high → IsRuled page
 of_leaf page is leaf ends = record { is_page = is; ends = ends; top = omega (arith, leaf); terms = λ index. absurd (omega (arith, leaf, index)) }
 
-is_page : (page : Page) → IsTrue (is_under page.low page.high) → AreItems page.items → AllByRecursion (λ item. IsTrue (is_in_range page.low page.high item.key)) page.items → AllByRecursion (λ item. IsOfLevel page.level item.content) page.items → IsPage page
-is_page page spans ordered within kinds = record { spans = spans; ordered = ordered; within = All-from_recursion (λ (item : Item). IsTrue (is_in_range page.low page.high item.key)) page.items within; kinds = All-from_recursion (λ (item : Item). IsOfLevel page.level item.content) page.items kinds }
+is_page : (page : Page) → IsTrue (is_under page.low page.high) → AreItems page.items
+    → AllByRecursion (λ item. IsTrue (is_in_range page.low page.high item.key)) page.items
+    → AllByRecursion (λ item. IsOfLevel page.level item.content) page.items → IsPage page
+is_page page spans ordered within kinds = record {
+  spans = spans;
+  ordered = ordered;
+  within = All-from_recursion
+      (λ (item : Item). IsTrue (is_in_range page.low page.high item.key)) page.items within;
+  kinds = All-from_recursion
+      (λ (item : Item). IsOfLevel page.level item.content) page.items kinds;
+}
 
 abbrev item_07 : Item
 item_07 = record { key = k07; content = Value (codes "v07") }
@@ -90,7 +99,8 @@ ruled_merged = of_leaf merged (is_page merged refl (record { few = omega arith; 
 
 ruled_with_07 : IsRuled with_07
 unfolding IsStrictlySortedBy
-ruled_with_07 = of_leaf with_07 (is_page with_07 refl (record { few = omega arith; ascending = ((refl, (refl, tt)), ((refl, tt), (tt, tt))) }) (refl, (refl, (refl, tt))) (refl, (refl, (refl, tt)))) refl refl
+ruled_with_07 =
+    of_leaf with_07 (is_page with_07 refl (record { few = omega arith; ascending = ((refl, (refl, tt)), ((refl, tt), (tt, tt))) }) (refl, (refl, (refl, tt))) (refl, (refl, (refl, tt)))) refl refl
 
 ruled_without_08 : IsRuled without_08
 unfolding IsStrictlySortedBy
@@ -294,7 +304,10 @@ unterm_fits = fits_over held_page unterm (both 2 true) index refl (omega arith, 
 
 pub index_chain_fits : IsPageChain index_chain
 index_chain_fits = record {
-  fitted = (term_fits untermed_page 7 3 (omega arith, omega arith) (omega arith, omega arith) unterm_makes, (unterm_fits, (hold_fits, (term_fits index_page 4 2 (omega arith, omega arith) (omega arith, omega arith) index_makes, (index, refl, stands_index)))));
+  fitted = (
+    term_fits untermed_page 7 3 (omega arith, omega arith) (omega arith, omega arith) unterm_makes,
+    (unterm_fits, (hold_fits, (term_fits index_page 4 2 (omega arith, omega arith) (omega arith, omega arith) index_makes, (index, refl, stands_index)))),
+  );
   short = omega arith;
 }
 
@@ -391,7 +404,8 @@ pub put_outside_unfit : ¬ IsPageChain put_outside
 put_outside_unfit h =
     let over = h.fitted.0 in
     let high : over.page.high ≡ Some k09 = over.makes.high in
-    let inside : not (is_below k09 over.page.low) && is_under k09 (Some k09) ≡ true = subst (λ (bound : Option (List ℕ)). not (is_below k09 over.page.low) && is_under k09 bound ≡ true) high over.fits.covered in
+    let inside : not (is_below k09 over.page.low) && is_under k09 (Some k09) ≡ true = subst
+    (λ (bound : Option (List ℕ)). not (is_below k09 over.page.low) && is_under k09 bound ≡ true) high over.fits.covered in
     let below : is_under k09 (Some k09) ≡ true = subst (λ (low : List ℕ). not (is_below k09 low) && is_under k09 (Some k09) ≡ true) over.makes.low inside in
     cc
 

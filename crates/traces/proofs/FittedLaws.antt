@@ -149,7 +149,8 @@ content_all P (item ∷ items) all key content e = by_test (is_eq (key_cmp key i
     by_test false later more = more later
 
 -- what all contents are, each item's is
-pub all_contents : (P : Content → Type 0) (items : List Item) → IsAscending items → ((key : List ℕ) (content : Content) → content_at items key ≡ Some content → P content) → AllByRecursion (λ item. P item.content) items
+pub all_contents : (P : Content → Type 0) (items : List Item) → IsAscending items
+    → ((key : List ℕ) (content : Content) → content_at items key ≡ Some content → P content) → AllByRecursion (λ item. P item.content) items
 all_contents P [] ascending each = tt
 all_contents P (item ∷ items) ascending each = (each item.key item.content (found_first item items), all_contents P items (ascends_after item items ascending) rest)
   where
@@ -185,7 +186,8 @@ pub first_spellable : (newest : Record) (under : List Record) → IsFitted (newe
 first_spellable newest [] (page, is, stands) = subst IsSpellable (sym is) stands
 first_spellable newest (older ∷ under) h = h.0.spellable
 
-said_or : (newest : Record) (under : List Record) → IsSpellable newest → (key : List ℕ) (content : Content) → (content_in under key ≡ Some content → HasPid content) → content_in (newest ∷ under) key ≡ Some content → HasPid content
+said_or : (newest : Record) (under : List Record) → IsSpellable newest → (key : List ℕ) (content : Content)
+    → (content_in under key ≡ Some content → HasPid content) → content_in (newest ∷ under) key ≡ Some content → HasPid content
 said_or newest under h key content below e = by_name (names newest key) e
   where
     by_name : (b : Bool) → (if b then content_said newest key else content_in under key) ≡ Some content → HasPid content

@@ -35,15 +35,17 @@ fold_own (entry ∷ entries) ks ks' actor same = elim (is_entry_of actor entry) 
 
 -- two traces with the same own entries let the actor know the same
 pub knows_own : (run other : List Entry) (actor : ℕ) → own_entries actor run ≡ own_entries actor other → knows run actor ≡ knows other actor
-knows_own run other actor same = fold_own run (λ b. nothing) (λ b. nothing) actor refl ∙ ap (λ es. fold knows_after (λ b. nothing) es actor) same ∙ sym (fold_own other (λ b. nothing) (λ b. nothing) actor refl)
+knows_own run other actor same =
+    fold_own run (λ b. nothing) (λ b. nothing) actor refl ∙ ap (λ es. fold knows_after (λ b. nothing) es actor) same ∙ sym (fold_own other (λ b. nothing) (λ b. nothing) actor refl)
 
 -- the own entries of a longer run
 pub own_append : (actor : ℕ) (run more : List Entry) → own_entries actor (run ++ more) ≡ own_entries actor run ++ own_entries actor more
 own_append actor [] more = refl
-own_append actor (entry ∷ run) more = elim (is_entry_of actor entry) as (λ t. (if t then entry ∷ own_entries actor (run ++ more) else own_entries actor (run ++ more)) ≡ (if t then entry ∷ own_entries actor run else own_entries actor run) ++ own_entries actor more) [
-  | true ↦ ap (λ (es : List Entry). entry ∷ es) (own_append actor run more)
-  | false ↦ own_append actor run more
-]
+own_append actor (entry ∷ run) more = elim (is_entry_of actor entry) as
+    (λ t. (if t then entry ∷ own_entries actor (run ++ more) else own_entries actor (run ++ more)) ≡ (if t then entry ∷ own_entries actor run else own_entries actor run) ++ own_entries actor more) [
+      | true ↦ ap (λ (es : List Entry). entry ∷ es) (own_append actor run more)
+      | false ↦ own_append actor run more
+    ]
 
 pub own_push : (actor : ℕ) (run : List Entry) (entry : Entry) → is_entry_of actor entry ≡ true → own_entries actor (run ++ entry ∷ []) ≡ own_entries actor run ++ entry ∷ []
 own_push actor run entry own = own_append actor run (entry ∷ []) ∙ ap (λ (b : Bool). own_entries actor run ++ (if b then entry ∷ [] else [])) own

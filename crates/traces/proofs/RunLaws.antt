@@ -37,13 +37,15 @@ abbrev pub EachNext : Limits → List Entry → List Entry → Type 0
 EachNext limits before [] = Unit {0}
 EachNext limits before (entry ∷ entries) = IsNext limits before entry × EachNext limits (before ++ entry ∷ []) entries
 
-next_along : (limits : Limits) (before entries : List Entry) → EachNext limits before entries → (n : ℕ) (entry : Entry) → slice_get entries n ≡ Some entry → IsNext limits (before ++ take n entries) entry
+next_along : (limits : Limits) (before entries : List Entry) → EachNext limits before entries → (n : ℕ) (entry : Entry) → slice_get entries n ≡ Some entry
+    → IsNext limits (before ++ take n entries) entry
 next_along limits before [] h n entry e = cc
 next_along limits before (first ∷ entries) h zero entry e = rw append-nil (subst (IsNext limits before) same h.0)
   where
     same : first ≡ entry
     same = cc
-next_along limits before (first ∷ entries) h (suc n) entry e = subst (λ front. IsNext limits front entry) (append_assoc before (first ∷ []) (take n entries)) (next_along limits (before ++ first ∷ []) entries h.1 n entry e)
+next_along limits before (first ∷ entries) h (suc n) entry e =
+    subst (λ front. IsNext limits front entry) (append_assoc before (first ∷ []) (take n entries)) (next_along limits (before ++ first ∷ []) entries h.1 n entry e)
 
 pub IsRun-from_steps : (limits : Limits) (entries : List Entry) → EachNext limits [] entries → IsRun limits entries
 IsRun-from_steps limits entries h = record { each = next_along limits [] entries h }

@@ -27,7 +27,8 @@ module _ (entries : List Entry) (entry : Entry) where
   pub TakesStep-kept : (n actor : ℕ) (step : StepOf Record) (answer : Answer Record) → TakesStep entries n actor step answer → TakesStep (entries ++ entry ∷ []) n actor step answer
   TakesStep-kept n actor step answer h = (h.0, slice_get_kept entries (entry ∷ []) n _ h.1)
 
-  pub TakesStep-push_cases : (n actor : ℕ) (step : StepOf Record) (answer : Answer Record) → TakesStep (entries ++ entry ∷ []) n actor step answer → TakesStep entries n actor step answer ⊎ ((n ≡ length entries) × IsStep entry actor step answer)
+  pub TakesStep-push_cases : (n actor : ℕ) (step : StepOf Record) (answer : Answer Record) → TakesStep (entries ++ entry ∷ []) n actor step answer
+      → TakesStep entries n actor step answer ⊎ ((n ≡ length entries) × IsStep entry actor step answer)
   TakesStep-push_cases n actor step answer h = elim (slice_get-push_cases entries entry n _ h.1) [ inl before ↦ inl (h.0, before) | inr last ↦ inr (last.0, (h.0, sym last.1)) ]
 
   pub ShowsRow-kept : (n actor row : ℕ) → ShowsRow entries n actor row → ShowsRow (entries ++ entry ∷ []) n actor row
@@ -50,7 +51,8 @@ module _ (entries : List Entry) (entry : Entry) where
       elim (TakesStep-push_cases n actor _ _ shown.2) [
         | inl before ↦ inl (
           (n, inl (shown.0, shown.1, before), λ later answer after leaves. stays later answer after (TakesStep-kept later actor _ _ leaves)),
-          λ answer leave. stays (length entries) answer (slice_get_below entries n _ before.1) (leave.0, subst (λ e. slice_get (entries ++ entry ∷ []) (length entries) ≡ Some e) leave.1 (slice_get-push entries entry)),
+          λ answer leave. stays (length entries) answer (slice_get_below entries n _ before.1)
+              (leave.0, subst (λ e. slice_get (entries ++ entry ∷ []) (length entries) ≡ Some e) leave.1 (slice_get-push entries entry)),
         )
         | inr last ↦ inr (inl (shown.0, shown.1, subst (λ k. TakesStep (entries ++ entry ∷ []) k actor (Slot shown.0) (Number row)) last.0 shown.2))
       ]
@@ -58,7 +60,8 @@ module _ (entries : List Entry) (entry : Entry) where
       elim (TakesStep-push_cases n actor _ _ shown.2) [
         | inl before ↦ inl (
           (n, inr (shown.0, shown.1, before, shown.3), λ later answer after leaves. stays later answer after (TakesStep-kept later actor _ _ leaves)),
-          λ answer leave. stays (length entries) answer (slice_get_below entries n _ before.1) (leave.0, subst (λ e. slice_get (entries ++ entry ∷ []) (length entries) ≡ Some e) leave.1 (slice_get-push entries entry)),
+          λ answer leave. stays (length entries) answer (slice_get_below entries n _ before.1)
+              (leave.0, subst (λ e. slice_get (entries ++ entry ∷ []) (length entries) ≡ Some e) leave.1 (slice_get-push entries entry)),
         )
         | inr last ↦ inr (inr (shown.0, shown.1, subst (λ k. TakesStep (entries ++ entry ∷ []) k actor (Row shown.0) (Content shown.1)) last.0 shown.2, shown.3))
       ]

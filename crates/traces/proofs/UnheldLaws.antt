@@ -18,7 +18,8 @@ counted true count none = absurd (omega (arith, none))
 counted false count none = (refl, omega (arith, none))
 
 -- it is the first item's, or one of the others
-either : (first : Content) (rest : Option Content) (child : ℕ) (here : Bool) → is_held first ≡ false → (rest ≡ Some (Child child true) → ⊥) → (if here then Some first else rest) ≡ Some (Child child true) → ⊥
+either : (first : Content) (rest : Option Content) (child : ℕ) (here : Bool) → is_held first ≡ false → (rest ≡ Some (Child child true) → ⊥)
+    → (if here then Some first else rest) ≡ Some (Child child true) → ⊥
 either first rest child true free none e = let held : is_held first ≡ true = ap is_held (same_Some first (Child child true) e) in absurd cc
 either first rest child false free none e = none e
 

@@ -52,7 +52,8 @@ module _ (limits : Limits) (entries : List Entry) (operation : Operation) where
     pub begins : TakesOwnStep entries operation at (Slot 0) (Number root)
     pub last : TakesNone limits entries operation at (length entries) (IsTheStep limits entries operation (Slot 0))
     pub slots : (page : ℕ) → walk.removed ≡ false → IsUnread page walk.visited → TakesNone limits entries operation at (length entries) (IsTheStep limits entries operation (Slot page))
-    pub rows : (n row : ℕ) (answer : Answer Record) → at < n → TakesOwnStep entries operation n (Row row) answer → (content : Record) × (seen row ≡ Some content) × (is_removal content ≡ true → (walk.removed ≡ true) × (walk.level ≤ removal_level content))
+    pub rows : (n row : ℕ) (answer : Answer Record) → at < n → TakesOwnStep entries operation n (Row row) answer
+        → (content : Record) × (seen row ≡ Some content) × (is_removal content ≡ true → (walk.removed ≡ true) × (walk.level ≤ removal_level content))
     pub named : (page : ℕ) → AnyNames walk.records page → (n row : ℕ) × (content : Record) × (at < n) × TakesOwnStep entries operation n (Row row) (Content content) × NamesPage content page
 
   -- The causes from entry m on, and ten more, pay for the steps that the operation has taken since, and for this many more.
@@ -76,9 +77,11 @@ module _ (limits : Limits) (entries : List Entry) (operation : Operation) where
 pub record IsDirectState (limits : Limits) (entries : List Entry) : Type 0 where
   pub direct : IsDirect limits entries
   pub recollects : (operation : Operation) → IsLast entries operation → Recollects limits entries operation (recalls entries operation.actor)
-  pub walks : (operation : Operation) → IsLast entries operation → (recalls entries operation.actor).walk.rooted ≡ true → Walks limits entries operation (knows entries operation.actor).read.seen (recalls entries operation.actor).walk
+  pub walks : (operation : Operation) → IsLast entries operation → (recalls entries operation.actor).walk.rooted ≡ true
+      → Walks limits entries operation (knows entries operation.actor).read.seen (recalls entries operation.actor).walk
   pub foreign : (actor page head base : ℕ) → (recalls entries actor).heads page ≡ Some head → (knows entries actor).own.pages page ≡ Ready base → ⊥
-  pub linked : (operation : Operation) (n : ℕ) (kind : Link) → IsLast entries operation → Links limits entries operation n kind → IsUpdateLink kind → IsSome (knows entries operation.actor).asked.linked
+  pub linked : (operation : Operation) (n : ℕ) (kind : Link) → IsLast entries operation → Links limits entries operation n kind → IsUpdateLink kind
+      → IsSome (knows entries operation.actor).asked.linked
 
 -- The actor's last operation, if it has begun one, can afford this many steps more.
 abbrev pub Accounts : Limits → List Entry → ℕ → ℕ → Type 0
@@ -92,12 +95,15 @@ pub record StaysDirect (limits : Limits) (entries : List Entry) (entry : Entry) 
 
 -- A begin keeps one, with 2^18 steps at most.
 abbrev pub BeginsDirectly : Type 0
-BeginsDirectly = (limits : Limits) (entries : List Entry) (actor left : ℕ) (command : Command) → IsDirectState limits entries → left ≤ cause_worth limits → StaysDirect limits entries (Begin actor command) actor left
+BeginsDirectly =
+    (limits : Limits) (entries : List Entry) (actor left : ℕ) (command : Command) → IsDirectState limits entries → left ≤ cause_worth limits
+    → StaysDirect limits entries (Begin actor command) actor left
 
 -- A step that is allowed, and of use, keeps one, where its operation has spent a step, or was paid, and few are left.
 abbrev pub StepsDirectly : Type 0
 StepsDirectly = (limits : Limits) (entries : List Entry) (actor left rest : ℕ) (step : StepOf Record) (answer : Answer Record) (reply : Option Reply) → IsState limits entries
-    → IsAllowed limits actor (knows entries actor) step reply → IsOfUse (knows entries actor) step → IsAnswer (memory_of limits entries) step answer → IsDirectState limits entries → Accounts limits entries actor left
+    → IsAllowed limits actor (knows entries actor) step reply → IsOfUse (knows entries actor) step → IsAnswer (memory_of limits entries) step answer
+    → IsDirectState limits entries → Accounts limits entries actor left
     → IsStepSpent limits (recalls entries actor) step answer left rest → rest ≤ cause_worth limits * 10 → StaysDirect limits entries (Step actor step answer reply) actor rest
 
 -- Along these entries each operation says how many steps it has left: 2^18 at most when it begins; and with each step, which is
@@ -105,7 +111,9 @@ StepsDirectly = (limits : Limits) (entries : List Entry) (actor left rest : ℕ)
 abbrev pub SpendsFrom : Limits → (ℕ → ℕ) → List Entry → List Entry → Type 0
 SpendsFrom limits left before [] = ⊤
 SpendsFrom limits left before (Begin actor command ∷ entries) = (rest : ℕ) × (rest ≤ cause_worth limits) × SpendsFrom limits (replaced_at actor rest left) (before ++ Begin actor command ∷ []) entries
-SpendsFrom limits left before (Step actor step answer reply ∷ entries) = (rest : ℕ) × IsOfUse (knows before actor) step × IsStepSpent limits (recalls before actor) step answer (left actor) rest × (rest ≤ cause_worth limits * 10) × SpendsFrom limits (replaced_at actor rest left) (before ++ Step actor step answer reply ∷ []) entries
+SpendsFrom limits left before (Step actor step answer reply ∷ entries) =
+    (rest : ℕ) × IsOfUse (knows before actor) step × IsStepSpent limits (recalls before actor) step answer (left actor) rest × (rest ≤ cause_worth limits * 10)
+    × SpendsFrom limits (replaced_at actor rest left) (before ++ Step actor step answer reply ∷ []) entries
 
 -- Then a trace in which each actor obeys its discipline is direct.
 abbrev pub DirectRuns : Type 0

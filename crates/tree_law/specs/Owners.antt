@@ -104,7 +104,9 @@ IsOut w s = (s ≡ None) × IsCleared w
 -- there until the page is cleared; what another one names is in the tree.
 abbrev pub HeadFits : Owners → Shared → List (List Update) → ℕ → Option ℕ → Type 0
 HeadFits o m logs p None = ⊤
-HeadFits o m logs p (Some x) = (l : List Update) × Among l logs × (h : SpellsLog o m x l) × Reached 0 (level_in h.chain) (low_in h.chain) (o.page p) × (is_removed h.chain ≡ true → (m.slots p ≡ Some x) ⊎ IsOut (o.page p) (m.slots p)) × (is_removed h.chain ≡ false → ChainNames o h.chain)
+HeadFits o m logs p (Some x) =
+    (l : List Update) × Among l logs × (h : SpellsLog o m x l) × Reached 0 (level_in h.chain) (low_in h.chain) (o.page p) ×
+    (is_removed h.chain ≡ true → (m.slots p ≡ Some x) ⊎ IsOut (o.page p) (m.slots p)) × (is_removed h.chain ≡ false → ChainNames o h.chain)
 
 -- the row over which the operation linked its update spelled the log at its point, until its actor leaves
 abbrev pub LinkFits : Owners → Shared → Option (List Update) → Option (Option ℕ) → Type 0
@@ -120,12 +122,15 @@ pub record InOrder (o : Owners) (m : Shared) (logs : List (List Update)) (p y f 
   pub is_chain : IsChain m.rows chain (Some x)
   pub placed : Reached 0 (level_in chain) (low_in chain) (o.page f)
   -- as long as f is as it was, the page that was then there has not been cleared
-  pub uncleared : (c d : List Record) → IsChain m.rows c (Some x) → IsChain m.rows d (Some y) → is_removed c ≡ false → is_removed d ≡ false → level_in c ≡ suc (level_in d) → Covers c (low_in d) → m.slots f ≡ Some x → IsCleared (o.page p) → ⊥
+  pub uncleared : (c d : List Record) → IsChain m.rows c (Some x) → IsChain m.rows d (Some y) → is_removed c ≡ false → is_removed d ≡ false
+      → level_in c ≡ suc (level_in d) → Covers c (low_in d) → m.slots f ≡ Some x → IsCleared (o.page p) → ⊥
   -- a page with a held term that then was not where it had to be was merged
-  pub merged : (c d : List Record) (s : Key) (q : ℕ) → IsChain m.rows c (Some x) → IsChain m.rows d (Some y) → is_removed c ≡ false → is_removed d ≡ false → level_in c ≡ suc (level_in d) → Covers c s → content_in c s ≡ Some (Child q true)
+  pub merged : (c d : List Record) (s : Key) (q : ℕ) → IsChain m.rows c (Some x) → IsChain m.rows d (Some y) → is_removed c ≡ false → is_removed d ≡ false
+      → level_in c ≡ suc (level_in d) → Covers c s → content_in c s ≡ Some (Child q true)
       → IsBelow (low_in d) s → IsWithinEnd s (high_in d) → (high_in d ≡ Some s → right_in d ≡ Some q → ⊥) → Reached 4 (level_in d) s (o.page q)
   -- a removed leaf that then was right of the page spelled the log
-  pub spelled : (c d : List Record) → IsChain m.rows c (Some x) → IsChain m.rows d (Some y) → is_removed c ≡ true → is_removed d ≡ false → level_in c ≡ 0 → right_in d ≡ Some f → (l : List Update) × Among l logs × ((k : Key) → Covers c k → content_in c k ≡ leaf_map l k)
+  pub spelled : (c d : List Record) → IsChain m.rows c (Some x) → IsChain m.rows d (Some y) → is_removed c ≡ true → is_removed d ≡ false → level_in c ≡ 0
+      → right_in d ≡ Some f → (l : List Update) × Among l logs × ((k : Key) → Covers c k → content_in c k ≡ leaf_map l k)
   -- what a removed page names that then was right of the page is in the tree, where it says
   pub beyond : (c d : List Record) → IsChain m.rows c (Some x) → IsChain m.rows d (Some y) → is_removed c ≡ true → is_removed d ≡ false → right_in d ≡ Some f → ChainNames o c
 
@@ -135,7 +140,8 @@ OrderFits o m logs p f (Some y) None = ⊤
 OrderFits o m logs p f (Some y) (Some x) = InOrder o m logs p y f x
 
 -- what an actor has read is so
-pub record Knows (o : Owners) (m : Shared) (seen : ℕ → Option Record) (learnt roots : ℕ → Bool) (heads : ℕ → Option ℕ) (before : ℕ → ℕ → Option ℕ) (linked : Option (Option ℕ)) (point : Option (List Update)) (logs : List (List Update)) : Type 0 where
+pub record Knows (o : Owners) (m : Shared) (seen : ℕ → Option Record) (learnt roots : ℕ → Bool) (heads : ℕ → Option ℕ) (before : ℕ → ℕ → Option ℕ) (linked : Option (Option ℕ)) (point : Option (List Update)) (logs : List (List Update)) : Type
+    0 where
   pub seen_fits : (r : ℕ) → SeenFits (o.row r) (m.rows r) (seen r)
   pub learnt_fits : (r : ℕ) → learnt r ≡ true → o.row r ≡ Linked
   pub roots_fit : (p : ℕ) → roots p ≡ true → (l : ℕ) × Reached 0 l [] (o.page p)

@@ -38,7 +38,10 @@ LinkMoves m a (Merge merge) p f f' = (q l : ℕ) × (f q ≡ Placed Removed l me
 -- A won exchange of slot 0 puts the new page above the old root, whose right becomes indexed with it. One of another slot
 -- to 0 is of an own page or of one that the actor cleared; one from 0 is of an own page.
 abbrev pub Exchanged : ℕ → Shared → ℕ → ℕ → ℕ → (ℕ → PageOwner) → (ℕ → PageOwner) → Type 0
-Exchanged a m zero x y f f' = (b l : ℕ) × (s : Key) × (f x ≡ Placed Indexed l []) × (f b ≡ Placed Fresh l s) × (f y ≡ Keeps a) × (f' ≡ put (put f b (Placed Indexed l s)) y (Placed Indexed (suc l) [])) × ((r level : ℕ) × (m.slots y ≡ Some r) × (m.rows r ≡ Some (root_over level x s b))) × IsBelow [] s
+Exchanged a m zero x y f f' =
+    (b l : ℕ) × (s : Key) × (f x ≡ Placed Indexed l []) × (f b ≡ Placed Fresh l s) × (f y ≡ Keeps a) ×
+    (f' ≡ put (put f b (Placed Indexed l s)) y (Placed Indexed (suc l) [])) ×
+    ((r level : ℕ) × (m.slots y ≡ Some r) × (m.rows r ≡ Some (root_over level x s b))) × IsBelow [] s
 Exchanged a m (suc p) x zero f f' = (f' ≡ f) × ((f (suc p) ≡ Keeps a) ⊎ ((l : ℕ) × (s : Key) × (f (suc p) ≡ Cleared a l s)))
 Exchanged a m (suc p) zero (suc y) f f' = (f' ≡ f) × (f (suc p) ≡ Keeps a)
 Exchanged a m (suc p) (suc x) (suc y) f f' = (w : Record) × (m.rows (suc y) ≡ Some w) × LinkMoves m a w (suc p) f f'

@@ -48,7 +48,8 @@ pub record Tells (entries : List Entry) (points : List Bool) (actor : ℕ) (aske
   pub start : ℕ
   pub begins : slice_get entries start ≡ Some (Begin actor asked)
   pub unended : IsUnended entries start actor
-  pub logs_at : (log : List Update) → Among log logs → (m : ℕ) × IsOwnStep entries (operation_from start actor asked) m × (log_at entries points m ≡ log) × (command_of (take m entries) actor ≡ Some asked)
+  pub logs_at : (log : List Update) → Among log logs
+      → (m : ℕ) × IsOwnStep entries (operation_from start actor asked) m × (log_at entries points m ≡ log) × (command_of (take m entries) actor ≡ Some asked)
   pub point_at : MatchOption point
       ((m : ℕ) → IsOwnStep entries (operation_from start actor asked) m → IsPoint points m → ⊥)
       (λ log. (m : ℕ) × IsOwnStep entries (operation_from start actor asked) m × IsPoint points m × (log_at entries points m ≡ log))

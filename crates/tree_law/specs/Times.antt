@@ -57,7 +57,8 @@ pub record HeldBeside (rows : ℕ → Option Record) (page_out : ℕ → Option 
   pub since : is_removed chain ≡ true → is_removed left ≡ false → right_in left ≡ Some f → NamesSince page_out entered chain
 
 -- what an actor knows, it knows from this stay, and it was in the tree when the stay began
-pub record Holds (rows : ℕ → Option Record) (row_out page_out : ℕ → Option Outing) (entered : ℕ) (inside : Bool) (seen : ℕ → Option Record) (learnt roots : ℕ → Bool) (heads : ℕ → Option ℕ) (before : ℕ → ℕ → Option ℕ) (linked : Option (Option ℕ)) : Type 0 where
+pub record Holds (rows : ℕ → Option Record) (row_out page_out : ℕ → Option Outing) (entered : ℕ) (inside : Bool) (seen : ℕ → Option Record) (learnt roots : ℕ → Bool) (heads : ℕ → Option ℕ) (before : ℕ → ℕ → Option ℕ) (linked : Option (Option ℕ)) : Type
+    0 where
   pub learnt_inside : (r : ℕ) → learnt r ≡ true → inside ≡ true
   pub learnt_since : (r : ℕ) → learnt r ≡ true → IsSince entered (row_out r)
   pub seen_learnt : (r : ℕ) (w : Record) → seen r ≡ Some w → learnt r ≡ true
@@ -84,7 +85,9 @@ LimboFits a inside entered out (Stamped epoch passed) = (w : Outing) × (out ≡
 
 pub record Timed (limits : Limits) (m : Memory) (o : Owners) (knows : ℕ → Knowledge) (now : ℕ) (t : Times) : Type 0 where
   pub within : (b : ℕ) → (knows b).inside ≡ true → b < limits.actors
-  pub holds : (b : ℕ) → Holds m.rows t.row_out t.page_out (t.entered b) (knows b).inside (knows b).read.seen (knows b).read.learnt (knows b).read.roots (knows b).read.heads (knows b).read.before (knows b).asked.linked
+  pub holds : (b : ℕ)
+      → Holds m.rows t.row_out t.page_out (t.entered b) (knows b).inside (knows b).read.seen (knows b).read.learnt (knows b).read.roots (knows b).read.heads
+      (knows b).read.before (knows b).asked.linked
   pub announced : (b : ℕ) → (knows b).inside ≡ true → IsAnnounced t m.epoch (m.announced b) now (t.entered b)
   pub epochs : (b e : ℕ) → (knows b).limbo.epoch ≡ Some e → e ≤ m.epoch
   -- the row in a slot of the tree is on that page, and in the tree

@@ -48,7 +48,9 @@ Opens IsSuch = (limits : Limits) → IsSuch limits []
 
 -- a begin keeps one, where the actor is there and has no operation
 abbrev pub BeginsKeep : (Limits → List Entry → Type 0) → Type 0
-BeginsKeep IsSuch = (limits : Limits) (entries : List Entry) (actor : ℕ) (command : Command) → IsSuch limits entries → actor < limits.actors → command_of entries actor ≡ None → IsSuch limits (entries ++ Begin actor command ∷ [])
+BeginsKeep IsSuch =
+    (limits : Limits) (entries : List Entry) (actor : ℕ) (command : Command) → IsSuch limits entries → actor < limits.actors → command_of entries actor ≡ None
+    → IsSuch limits (entries ++ Begin actor command ∷ [])
 
 -- an allowed step keeps one of the tree, with the memory's answer
 abbrev pub Steps : Type 0
@@ -103,7 +105,9 @@ LeavesHaveMap = (limits : Limits) (entries : List Entry) (linear : IsLinearized 
 
 -- a row that an actor may read has a record
 abbrev pub RowsStand : Type 0
-RowsStand = (limits : Limits) (entries : List Entry) (actor row : ℕ) → IsState limits entries → May actor (knows entries actor) (Row row) → (content : Record) × ((memory_of limits entries).rows row ≡ Some content)
+RowsStand =
+    (limits : Limits) (entries : List Entry) (actor row : ℕ) → IsState limits entries → May actor (knows entries actor) (Row row)
+    → (content : Record) × ((memory_of limits entries).rows row ≡ Some content)
 
 -- a row that stands in the slot of a page has a record
 abbrev pub HeadsStand : Type 0

@@ -40,15 +40,19 @@ BeginLaw = (m : Shared) (log : List Update) (o : Owners) (knows : ℕ → Knowle
     → (a : ℕ) (command : Command) → IsTree m log o (put knows a (begun (knows a) command)) (put point a None) (put logs a [])
 
 -- What a step leaves, and what actors hold then.
-pub record Stepped (limits : Limits) (memory : Memory) (log : List Update) (o : Owners) (knows : ℕ → Knowledge) (point : ℕ → Option (List Update)) (logs : ℕ → List (List Update)) (now a : ℕ) (s : StepOf Record) (x : Answer Record) (r : Option Reply) : Type 0 where
+pub record Stepped (limits : Limits) (memory : Memory) (log : List Update) (o : Owners) (knows : ℕ → Knowledge) (point : ℕ → Option (List Update)) (logs : ℕ → List (List Update)) (now a : ℕ) (s : StepOf Record) (x : Answer Record) (r : Option Reply) : Type
+    0 where
   pub after : After a (shared memory) (shared (memory_after a s memory)) log o knows point logs s x r
   pub times : Times
   pub timed : Timed limits (memory_after a s memory) after.owners (put knows a (finished (learn (knows a) s x) r)) (suc now) times
 
 -- Each allowed step with the memory's answer keeps the invariant, with what the step adds to the log, and what actors hold.
 abbrev pub StepLaw : Type 0
-StepLaw = (limits : Limits) (memory : Memory) (log : List Update) (o : Owners) (knows : ℕ → Knowledge) (point : ℕ → Option (List Update)) (logs : ℕ → List (List Update)) (now : ℕ) (t : Times) → IsTree (shared memory) log o knows point logs → Timed limits memory o knows now t
-    → (a : ℕ) → a < limits.actors → (s : StepOf Record) (x : Answer Record) (r : Option Reply) → IsAllowed limits a (knows a) s r → IsAnswer memory s x → Stepped limits memory log o knows point logs now a s x r
+StepLaw =
+    (limits : Limits) (memory : Memory) (log : List Update) (o : Owners) (knows : ℕ → Knowledge) (point : ℕ → Option (List Update)) (logs : ℕ → List (List Update)) (now : ℕ) (t : Times)
+    → IsTree (shared memory) log o knows point logs → Timed limits memory o knows now t
+    → (a : ℕ) → a < limits.actors → (s : StepOf Record) (x : Answer Record) (r : Option Reply) → IsAllowed limits a (knows a) s r → IsAnswer memory s x
+    → Stepped limits memory log o knows point logs now a s x r
 
 -- A reply that an actor may give is its command's by a log of its operation.
 abbrev pub AnswerLaw : Type 0
@@ -57,4 +61,6 @@ AnswerLaw = (m : Shared) (log : List Update) (o : Owners) (knows : ℕ → Knowl
 
 -- The levels are whole side chains, and the index between them is exact.
 abbrev pub IndexLaw : Type 0
-IndexLaw = (memory : Memory) (log : List Update) (o : Owners) (knows : ℕ → Knowledge) (point : ℕ → Option (List Update)) (logs : ℕ → List (List Update)) → IsTree (shared memory) log o knows point logs → IsIndexed memory o
+IndexLaw =
+    (memory : Memory) (log : List Update) (o : Owners) (knows : ℕ → Knowledge) (point : ℕ → Option (List Update)) (logs : ℕ → List (List Update))
+    → IsTree (shared memory) log o knows point logs → IsIndexed memory o

@@ -48,7 +48,8 @@ head_of limits memory number first has = go has.pages refl has.side has.each
     go (page ∷ later) whole side each =
         let made = page_of page.chain each.0.fits.fitted in
         let rules = ruled page.chain made.0 each.0.fits.fitted made.1 in
-        record { page = page; later = later; whole = whole; stands = side.1; top = (let top = rules.top in let is = made.1.level in omega (arith, top, is)); level = each.0.level_is; fits = each.0.fits }
+        record
+        { page = page; later = later; whole = whole; stands = side.1; top = (let top = rules.top in let is = made.1.level in omega (arith, top, is)); level = each.0.level_is; fits = each.0.fits }
 
 abbrev no_levels : List (List LivePage)
 no_levels = []
@@ -108,7 +109,9 @@ module _ (limits : Limits) (memory : Memory) (has : HasAllLevels limits memory) 
         first_is = ap first_child (sym (is ∙ head.whole)) ∙ some
 
         under : (rest : List (List LivePage)) → AreLevelsFrom memory child rest → AreLevels memory ((levels ++ pages ∷ []) ++ rest)
-        under rest are = subst (λ ls. AreLevels memory ls) (sym (append_assoc levels (pages ∷ []) rest)) (at.under (pages ∷ rest) (side, subst (λ o. MatchOption o (rest ≡ []) (λ child. AreLevelsFrom memory child rest)) (sym some) are))
+        under rest are =
+            subst (λ ls. AreLevels memory ls) (sym (append_assoc levels (pages ∷ []) rest))
+            (at.under (pages ∷ rest) (side, subst (λ o. MatchOption o (rest ≡ []) (λ child. AreLevelsFrom memory child rest)) (sym some) are))
 
         go : (number : ℕ) → at.number ≡ number → IsDown limits memory has (levels ++ pages ∷ []) (count + 1) child
         go zero e = absurd (leaf_has_no_child head.page.chain child (head.level ∙ e) head.fits first_is)

@@ -19,7 +19,8 @@ level_more : (pages : List LivePage) (page : LivePage) → level_height (pages +
 level_more [] page = omega arith
 level_more (first ∷ pages) page = omega (arith, level_more pages page)
 
-pub level_next : (pages : List LivePage) (i : ℕ) (page : LivePage) → i < length pages → page ≡ slice_index_or pages i page → level_height (take (i + 1) pages) ≡ level_height (take i pages) + (page_height page - level_height (take i pages))
+pub level_next : (pages : List LivePage) (i : ℕ) (page : LivePage) → i < length pages → page ≡ slice_index_or pages i page
+    → level_height (take (i + 1) pages) ≡ level_height (take i pages) + (page_height page - level_height (take i pages))
 level_next pages i page there is = ap level_height (take_next pages i page there is) ∙ level_more (take i pages) page
 
 -- no page is higher than its level
@@ -46,9 +47,11 @@ flat_next {X} {Y} f xs i x there is = ap (flat_map f) (take_next xs i x there is
 pub told_next : {Y : Type 0} (start so_far more all own : List Y) → so_far ≡ start ++ more → all ≡ more ++ own → so_far ++ own ≡ start ++ all
 told_next {Y} start so_far more all own before next = ap (λ (ys : List Y). ys ++ own) before ∙ append_assoc start more own ∙ ap (λ (ys : List Y). start ++ ys) (sym next)
 
-pub levels_next : (levels : List (List LivePage)) (i : ℕ) (level : List LivePage) → i < length levels → level ≡ slice_index_or levels i level → levels_height (take (i + 1) levels) ≡ levels_height (take i levels) + with_drop level
+pub levels_next : (levels : List (List LivePage)) (i : ℕ) (level : List LivePage) → i < length levels → level ≡ slice_index_or levels i level
+    → levels_height (take (i + 1) levels) ≡ levels_height (take i levels) + with_drop level
 levels_next levels i level there is = sum_by_more with_drop levels i level there ∙ ap (λ l. levels_height (take i levels) + with_drop l) (sym is)
 
 -- what stands down to the end of a level is within all levels
-pub within_levels : (levels : List (List LivePage)) (i : ℕ) (level : List LivePage) → i < length levels → level ≡ slice_index_or levels i level → levels_height (take i levels) + with_drop level ≤ levels_height levels
+pub within_levels : (levels : List (List LivePage)) (i : ℕ) (level : List LivePage) → i < length levels → level ≡ slice_index_or levels i level
+    → levels_height (take i levels) + with_drop level ≤ levels_height levels
 within_levels levels i level there is = subst (λ l. levels_height (take i levels) + with_drop l ≤ levels_height levels) (sym is) (sum_by_more_le with_drop levels i level there)

@@ -13,7 +13,8 @@ none_laid width bottom x y = record { laid = record { within = All-nil (IsOnShee
     none : (j : ℕ) → j < 0 → ⊥
     none j there = omega (arith, there)
 
-pub one_more : {width bottom x y : ℕ} {boxes : List Rectangle} → AreLaidTo width bottom x y boxes → (r : Rectangle) → r.x ≡ x → r.y ≡ y → IsOnSheet width bottom r → (next : ℕ) → x + r.width ≤ next → AreLaidTo width bottom next y (boxes ++ r ∷ [])
+pub one_more : {width bottom x y : ℕ} {boxes : List Rectangle} → AreLaidTo width bottom x y boxes → (r : Rectangle) → r.x ≡ x → r.y ≡ y
+    → IsOnSheet width bottom r → (next : ℕ) → x + r.width ≤ next → AreLaidTo width bottom next y (boxes ++ r ∷ [])
 one_more {width} {bottom} {x} {y} {boxes} to r x_is y_is within next further = record {
   laid = record {
     within = All-push (IsOnSheet width bottom) boxes r to.laid.within within;
@@ -30,7 +31,8 @@ one_more {width} {bottom} {x} {y} {boxes} to r x_is y_is within next further = r
     later one (inl (same, left)) = inl (same, omega (arith, left, further))
     later one (inr above) = inr above
 
-pub next_level : {width bottom x y : ℕ} {boxes : List Rectangle} → AreLaidTo width bottom x y boxes → (lower x_next y_next : ℕ) → bottom ≤ lower → bottom ≤ y_next → AreLaidTo width lower x_next y_next boxes
+pub next_level : {width bottom x y : ℕ} {boxes : List Rectangle} → AreLaidTo width bottom x y boxes → (lower x_next y_next : ℕ) → bottom ≤ lower
+    → bottom ≤ y_next → AreLaidTo width lower x_next y_next boxes
 next_level {width} {bottom} {x} {y} {boxes} to lower x_next y_next deeper under = record {
   laid = record { within = λ k d there. wider (slice_index_or boxes k d) (to.laid.within k d there); ordered = to.laid.ordered };
   past = λ k d there. above (slice_index_or boxes k d) (to.laid.within k d there);

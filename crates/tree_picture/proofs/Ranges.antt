@@ -66,7 +66,8 @@ pub page_ends : (pid : ℕ) (mark : Mark) (words low : List ℕ) (high : Option 
 page_ends pid mark words low high small are = ends_in_box pid mark words small (let fits = range_fits low high in let same = ap length are in omega (arith, fits, same))
 
 -- the words, where none stood before
-pub whole_range : (old words low low_now : List ℕ) (high high_now : Option (List ℕ)) → Adds old words (range_text low high) → old ≡ [] → low ≡ low_now → high ≡ high_now → words ≡ range_text low_now high_now
+pub whole_range : (old words low low_now : List ℕ) (high high_now : Option (List ℕ)) → Adds old words (range_text low high) → old ≡ [] → low ≡ low_now
+    → high ≡ high_now → words ≡ range_text low_now high_now
 whole_range old words low low_now high high_now adds none low_is high_is =
     adds (omega (arith, range_fits low high, ap length none)) ∙ ap (λ (first : List ℕ). first ++ range_text low high) none
     ∙ ap (λ (key : List ℕ). range_text key high) low_is ∙ ap (λ (key : Option (List ℕ)). range_text low_now key) high_is

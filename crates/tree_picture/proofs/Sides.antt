@@ -33,14 +33,16 @@ record IsNext (limits : Limits) (memory : Memory) (number : ℕ) (pages front : 
   pub on : IsPageOn limits memory number page
   pub right : MatchOption (right_in page.chain) (later ≡ []) (λ right. IsSideChainFrom memory right later)
 
-module _ (limits : Limits) (memory : Memory) (number first : ℕ) (has : HasPagesOn limits memory number first) (front : List LivePage) (count pid : ℕ) (at : IsFront memory has.pages front count pid) where
+module _ (limits : Limits) (memory : Memory) (number first : ℕ) (has : HasPagesOn limits memory number first) (front : List LivePage) (count pid : ℕ)
+    (at : IsFront memory has.pages front count pid) where
   next_page : IsNext limits memory number has.pages front pid
   next_page = go at.rest at.whole at.next
     where
       go : (rest : List LivePage) → has.pages ≡ front ++ rest → IsSideChainFrom memory pid rest → IsNext limits memory number has.pages front pid
       go [] whole next = absurd next
       go (page ∷ later) whole next =
-          let each : AllByRecursion (IsPageOn limits memory number) (page ∷ later) = back_all (IsPageOn limits memory number) front (page ∷ later) (subst (AllByRecursion (IsPageOn limits memory number)) whole has.each) in
+          let each : AllByRecursion (IsPageOn limits memory number) (page ∷ later) = back_all (IsPageOn limits memory number) front (page ∷ later)
+          (subst (AllByRecursion (IsPageOn limits memory number)) whole has.each) in
           record { page = page; later = later; whole = whole; pid_is = next.0; on = each.0; right = next.2 }
 
   -- there is a page more

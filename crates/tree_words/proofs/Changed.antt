@@ -23,7 +23,8 @@ module _ (limits : Limits) (words : List ℕ) (m : Memory) (long : length words 
   slot_set : (i x : ℕ) → i < limits.pids → SpellsParts limits (set words (slot_at limits i) x) (record m { slots = replaced_at i x m.slots })
   slot_set i x within = record {
     slots = λ p below. dite (ℕ_discrete p i)
-        (λ e. ap (λ k. get_or (set words (slot_at limits i) x) (slot_at limits k) 0) e ∙ get_or-set_same words (slot_at limits i) x 0 (omega arith) ∙ sym (replaced_same i x m.slots) ∙ ap (replaced_at i x m.slots) (sym e))
+        (λ e. ap (λ k. get_or (set words (slot_at limits i) x) (slot_at limits k) 0) e ∙ get_or-set_same words (slot_at limits i) x 0 (omega arith) ∙ sym
+        (replaced_same i x m.slots) ∙ ap (replaced_at i x m.slots) (sym e))
         (λ ne. get_or-set_other words (slot_at limits i) (slot_at limits p) x 0 (λ e. ne (omega arith)) ∙ sp.slots p below ∙ sym (replaced_other i x m.slots p ne));
     pid_bits = λ w below. subst (IsWordOf m.free_pids w) (sym (get_or-set_other words (slot_at limits i) (pid_bits_at limits w) x 0 (omega arith))) (sp.pid_bits w below);
     row_bits = λ w below. subst (IsWordOf m.free_rows w) (sym (get_or-set_other words (slot_at limits i) (row_bits_at limits w) x 0 (omega arith))) (sp.row_bits w below);
@@ -51,7 +52,8 @@ module _ (limits : Limits) (words : List ℕ) (m : Memory) (long : length words 
     row_bits = λ w below. subst (IsWordOf m.free_rows w) (sym (get_or-set_other words (announced_at a) (row_bits_at limits w) x 0 (omega arith))) (sp.row_bits w below);
     epoch = get_or-set_other words (announced_at a) epoch_at x 0 (omega arith) ∙ sp.epoch;
     announced = λ b below. dite (ℕ_discrete b a)
-        (λ e. ap (λ k. get_or (set words (announced_at a) x) (announced_at k) 0) e ∙ get_or-set_same words (announced_at a) x 0 (omega arith) ∙ sym (replaced_same a x m.announced) ∙ ap (replaced_at a x m.announced) (sym e))
+        (λ e. ap (λ k. get_or (set words (announced_at a) x) (announced_at k) 0) e ∙ get_or-set_same words (announced_at a) x 0 (omega arith) ∙ sym
+        (replaced_same a x m.announced) ∙ ap (replaced_at a x m.announced) (sym e))
         (λ ne. get_or-set_other words (announced_at a) (announced_at b) x 0 (λ e. ne (omega arith)) ∙ sp.announced b below ∙ sym (replaced_other a x m.announced b ne));
     pads = λ k pad. get_or-set_other words (announced_at a) k x 0 (pad.2 a within) ∙ sp.pads k pad;
     rows = λ row j rl jl none. absurd none;
@@ -63,8 +65,10 @@ module _ (limits : Limits) (words : List ℕ) (m : Memory) (long : length words 
   pid_bits_set w x free within here there = record {
     slots = λ p below. get_or-set_other words (pid_bits_at limits w) (slot_at limits p) x 0 (omega arith) ∙ sp.slots p below;
     pid_bits = λ v below. dite (ℕ_discrete v w)
-        (λ e. subst (λ k. IsWordOf free k (get_or (set words (pid_bits_at limits w) x) (pid_bits_at limits k) 0)) (sym e) (subst (IsWordOf free w) (sym (get_or-set_same words (pid_bits_at limits w) x 0 (omega arith))) here))
-        (λ ne. subst (IsWordOf free v) (sym (get_or-set_other words (pid_bits_at limits w) (pid_bits_at limits v) x 0 (λ e. ne (omega arith)))) (there v (get_or words (pid_bits_at limits v) 0) ne (sp.pid_bits v below)));
+        (λ e. subst (λ k. IsWordOf free k (get_or (set words (pid_bits_at limits w) x) (pid_bits_at limits k) 0)) (sym e)
+        (subst (IsWordOf free w) (sym (get_or-set_same words (pid_bits_at limits w) x 0 (omega arith))) here))
+        (λ ne. subst (IsWordOf free v) (sym (get_or-set_other words (pid_bits_at limits w) (pid_bits_at limits v) x 0 (λ e. ne (omega arith))))
+        (there v (get_or words (pid_bits_at limits v) 0) ne (sp.pid_bits v below)));
     row_bits = λ v below. subst (IsWordOf m.free_rows v) (sym (get_or-set_other words (pid_bits_at limits w) (row_bits_at limits v) x 0 (omega arith))) (sp.row_bits v below);
     epoch = get_or-set_other words (pid_bits_at limits w) epoch_at x 0 (omega arith) ∙ sp.epoch;
     announced = λ b below. get_or-set_other words (pid_bits_at limits w) (announced_at b) x 0 (omega arith) ∙ sp.announced b below;
@@ -78,8 +82,10 @@ module _ (limits : Limits) (words : List ℕ) (m : Memory) (long : length words 
     slots = λ p below. get_or-set_other words (row_bits_at limits w) (slot_at limits p) x 0 (omega arith) ∙ sp.slots p below;
     pid_bits = λ v below. subst (IsWordOf m.free_pids v) (sym (get_or-set_other words (row_bits_at limits w) (pid_bits_at limits v) x 0 (omega arith))) (sp.pid_bits v below);
     row_bits = λ v below. dite (ℕ_discrete v w)
-        (λ e. subst (λ k. IsWordOf free k (get_or (set words (row_bits_at limits w) x) (row_bits_at limits k) 0)) (sym e) (subst (IsWordOf free w) (sym (get_or-set_same words (row_bits_at limits w) x 0 (omega arith))) here))
-        (λ ne. subst (IsWordOf free v) (sym (get_or-set_other words (row_bits_at limits w) (row_bits_at limits v) x 0 (λ e. ne (omega arith)))) (there v (get_or words (row_bits_at limits v) 0) ne (sp.row_bits v below)));
+        (λ e. subst (λ k. IsWordOf free k (get_or (set words (row_bits_at limits w) x) (row_bits_at limits k) 0)) (sym e)
+        (subst (IsWordOf free w) (sym (get_or-set_same words (row_bits_at limits w) x 0 (omega arith))) here))
+        (λ ne. subst (IsWordOf free v) (sym (get_or-set_other words (row_bits_at limits w) (row_bits_at limits v) x 0 (λ e. ne (omega arith))))
+        (there v (get_or words (row_bits_at limits v) 0) ne (sp.row_bits v below)));
     epoch = get_or-set_other words (row_bits_at limits w) epoch_at x 0 (omega arith) ∙ sp.epoch;
     announced = λ b below. get_or-set_other words (row_bits_at limits w) (announced_at b) x 0 (omega arith) ∙ sp.announced b below;
     pads = λ k pad. get_or-set_other words (row_bits_at limits w) k x 0 (let high = pad.1 in omega arith) ∙ sp.pads k pad;
@@ -110,20 +116,27 @@ module _ (limits : Limits) (words : List ℕ) (m : Memory) (long : length words 
     changes (Place row content) within bits = absurd within
     changes (Exchange slot old new) within bits = record {
       answers = ap (λ found. Whether (eqb found old)) (sp.slots slot within);
-      spells = subst (λ (found : ℕ). SpellsParts limits (set words (slot_at limits slot) (if eqb found old then new else get_or words (slot_at limits slot) 0)) (memory_after actor (Exchange slot old new) m)) (sym (sp.slots slot within))
+      spells =
+          subst
+          (λ (found : ℕ). SpellsParts limits (set words (slot_at limits slot) (if eqb found old then new else get_or words (slot_at limits slot) 0)) (memory_after actor (Exchange slot old new) m))
+          (sym (sp.slots slot within))
           (slot_exchanged slot new within (eqb (m.slots slot) old));
       records = refl;
     }
     changes (TakePid pid) within bits = record {
       answers = ap Whether (found_free m.free_pids pid (get_or words (pid_bits_at limits (pid / 64)) 0) (sp.pid_bits (pid / 64) (let p = limits.allowed.whole_pids in omega arith)));
-      spells = pid_bits_set (pid / 64) (word_after (TakePid pid) (get_or words (pid_bits_at limits (pid / 64)) 0)) (replaced_at pid false m.free_pids) (let p = limits.allowed.whole_pids in omega arith)
-          (taken m.free_pids pid (get_or words (pid_bits_at limits (pid / 64)) 0) (sp.pid_bits (pid / 64) (let p = limits.allowed.whole_pids in omega arith))) (λ v x ne other. word_kept m.free_pids v x other pid ne);
+      spells =
+          pid_bits_set (pid / 64) (word_after (TakePid pid) (get_or words (pid_bits_at limits (pid / 64)) 0)) (replaced_at pid false m.free_pids) (let p = limits.allowed.whole_pids in omega arith)
+          (taken m.free_pids pid (get_or words (pid_bits_at limits (pid / 64)) 0) (sp.pid_bits (pid / 64) (let p = limits.allowed.whole_pids in omega arith)))
+          (λ v x ne other. word_kept m.free_pids v x other pid ne);
       records = refl;
     }
     changes (TakeRow row) within bits = record {
       answers = ap Whether (found_free m.free_rows row (get_or words (row_bits_at limits (row / 64)) 0) (sp.row_bits (row / 64) (let r = limits.allowed.whole_rows in omega arith)));
-      spells = row_bits_set (row / 64) (word_after (TakeRow row) (get_or words (row_bits_at limits (row / 64)) 0)) (replaced_at row false m.free_rows) (let r = limits.allowed.whole_rows in omega arith)
-          (taken m.free_rows row (get_or words (row_bits_at limits (row / 64)) 0) (sp.row_bits (row / 64) (let r = limits.allowed.whole_rows in omega arith))) (λ v x ne other. word_kept m.free_rows v x other row ne);
+      spells =
+          row_bits_set (row / 64) (word_after (TakeRow row) (get_or words (row_bits_at limits (row / 64)) 0)) (replaced_at row false m.free_rows) (let r = limits.allowed.whole_rows in omega arith)
+          (taken m.free_rows row (get_or words (row_bits_at limits (row / 64)) 0) (sp.row_bits (row / 64) (let r = limits.allowed.whole_rows in omega arith)))
+          (λ v x ne other. word_kept m.free_rows v x other row ne);
       records = refl;
     }
     changes (Enter epoch) within bits = record { answers = refl; spells = announced_set actor epoch few; records = refl }

@@ -61,11 +61,16 @@ high_word count word whole some within = record {
   says = λ i below. rw (le-leb 2 (64 * word + i) (omega arith), lt-ltb (64 * word + i) count (omega arith)) (bit_at_ones 64 i below);
 }
 
-free_inside : (count from word : ℕ) (ws : List ℕ) → count % 64 ≡ 0 → 64 ≤ count → word < count / 64 → from + count / 64 ≤ length ws → Free count word (get_or (with_free from (count / 64) ws) (from + word) 0)
+free_inside : (count from word : ℕ) (ws : List ℕ) → count % 64 ≡ 0 → 64 ≤ count → word < count / 64 → from + count / 64 ≤ length ws
+    → Free count word (get_or (with_free from (count / 64) ws) (from + word) 0)
 free_inside count from word ws whole some within long = let len = ones_length from (count / 64) ws in elim (same_or_not word 0) [
   | inl first ↦ subst (λ w. Free count w (get_or (with_free from (count / 64) ws) (from + w) 0)) (sym first)
-      (subst (Free count 0) (sym (ap (λ i. get_or (with_free from (count / 64) ws) i 0) (omega arith) ∙ get_or-set_same (with_ones from (count / 64) ws) from 18446744073709551612 0 (omega arith))) (low_word count some))
-  | inr other ↦ subst (Free count word) (sym (get_or-set_other (with_ones from (count / 64) ws) from (from + word) 18446744073709551612 0 (λ e. other (omega arith)) ∙ ones_inside from (count / 64) ws word within long)) (high_word count word whole (omega arith) within)
+      (subst (Free count 0)
+      (sym (ap (λ i. get_or (with_free from (count / 64) ws) i 0) (omega arith) ∙ get_or-set_same (with_ones from (count / 64) ws) from 18446744073709551612 0 (omega arith)))
+      (low_word count some))
+  | inr other ↦ subst (Free count word)
+      (sym (get_or-set_other (with_ones from (count / 64) ws) from (from + word) 18446744073709551612 0 (λ e. other (omega arith)) ∙ ones_inside from (count / 64) ws word within long))
+      (high_word count word whole (omega arith) within)
 ]
 
 -- the words of the row that opens: a header, the mark of no bound, and else 0
@@ -146,24 +151,35 @@ module _ (limits : Limits) where
 
   -- but for five words
   else_where : (i : ℕ) → i ≢ slot_at limits 0 → i ≢ slot_at limits 1 → i ≢ epoch_at → i ≢ row_at 1 0 → i ≢ row_at 1 second_at → get_or (opening_words limits) i 0 ≡ get_or L2 i 0
-  else_where i a b c d e = get_or-set_other L6 (row_at 1 second_at) i no_bound 0 e ∙ get_or-set_other L5 (row_at 1 0) i (header_word 1 0 0) 0 d ∙ get_or-set_other L4 epoch_at i limits.epoch 0 c ∙ get_or-set_other L3 (slot_at limits 1) i 1 0 b ∙ get_or-set_other L2 (slot_at limits 0) i 1 0 a
+  else_where i a b c d e =
+      get_or-set_other L6 (row_at 1 second_at) i no_bound 0 e ∙ get_or-set_other L5 (row_at 1 0) i (header_word 1 0 0) 0 d
+      ∙ get_or-set_other L4 epoch_at i limits.epoch 0 c ∙ get_or-set_other L3 (slot_at limits 1) i 1 0 b ∙ get_or-set_other L2 (slot_at limits 0) i 1 0 a
 
   zero_at : (i : ℕ) → i < width limits → get_or L0 i 0 ≡ 0
   zero_at i h = get_or-replicate (width limits) i 0 0 h
 
-  nowhere : (i : ℕ) → i < width limits → i ≢ slot_at limits 0 → i ≢ slot_at limits 1 → i ≢ epoch_at → i ≢ row_at 1 0 → i ≢ row_at 1 second_at → ((k : ℕ) → k < limits.pids / 64 → i ≢ pid_bits_at limits k) → ((k : ℕ) → k < limits.rows / 64 → i ≢ row_bits_at limits k) → get_or (opening_words limits) i 0 ≡ 0
+  nowhere : (i : ℕ) → i < width limits → i ≢ slot_at limits 0 → i ≢ slot_at limits 1 → i ≢ epoch_at → i ≢ row_at 1 0 → i ≢ row_at 1 second_at
+      → ((k : ℕ) → k < limits.pids / 64 → i ≢ pid_bits_at limits k) → ((k : ℕ) → k < limits.rows / 64 → i ≢ row_bits_at limits k)
+      → get_or (opening_words limits) i 0 ≡ 0
   nowhere i h a b c d e f g = else_where i a b c d e ∙ free2 i h f g
     where
       free2 : (i : ℕ) → i < width limits → ((k : ℕ) → k < limits.pids / 64 → i ≢ pid_bits_at limits k) → ((k : ℕ) → k < limits.rows / 64 → i ≢ row_bits_at limits k) → get_or L2 i 0 ≡ 0
       free2 i h f g = let p = few_pids in let r = few_rows in let sp = some_pids in let sr = some_rows in
-          free_outside (row_bits_at limits 0) (limits.rows / 64) L1 i (omega arith) (λ k lt e. g k lt (omega (arith, e))) ∙ free_outside (pid_bits_at limits 0) (limits.pids / 64) L0 i (omega arith) (λ k lt e. f k lt (omega (arith, e))) ∙ zero_at i h
+          free_outside (row_bits_at limits 0) (limits.rows / 64) L1 i (omega arith) (λ k lt e. g k lt (omega (arith, e))) ∙ free_outside (pid_bits_at limits 0)
+          (limits.pids / 64) L0 i (omega arith) (λ k lt e. f k lt (omega (arith, e))) ∙ zero_at i h
 
   slot_word : (pid : ℕ) → pid < limits.pids → get_or (opening_words limits) (slot_at limits pid) 0 ≡ (opening limits).slots pid
   slot_word pid lt = let sp = some_pids in let sr = some_rows in elim (same_or_not pid 0) [
-    | inl zero_is ↦ rw zero_is (get_or-set_other L6 (row_at 1 second_at) (slot_at limits 0) no_bound 0 (λ e. absurd (omega arith)) ∙ get_or-set_other L5 (row_at 1 0) (slot_at limits 0) (header_word 1 0 0) 0 (λ e. absurd (omega arith)) ∙ get_or-set_other L4 epoch_at (slot_at limits 0) limits.epoch 0 (λ e. absurd (omega arith)) ∙ get_or-set_other L3 (slot_at limits 1) (slot_at limits 0) 1 0 (λ e. absurd (omega arith)) ∙ get_or-set_same L2 (slot_at limits 0) 1 0 (let l = l2 in omega arith))
+    | inl zero_is ↦ rw zero_is (get_or-set_other L6 (row_at 1 second_at) (slot_at limits 0) no_bound 0 (λ e. absurd (omega arith)) ∙ get_or-set_other L5
+        (row_at 1 0) (slot_at limits 0) (header_word 1 0 0) 0 (λ e. absurd (omega arith)) ∙ get_or-set_other L4 epoch_at (slot_at limits 0) limits.epoch 0
+        (λ e. absurd (omega arith)) ∙ get_or-set_other L3 (slot_at limits 1) (slot_at limits 0) 1 0 (λ e. absurd (omega arith)) ∙ get_or-set_same L2
+        (slot_at limits 0) 1 0 (let l = l2 in omega arith))
     | inr some ↦ elim (same_or_not pid 1) [
-      | inl one_is ↦ rw one_is (get_or-set_other L6 (row_at 1 second_at) (slot_at limits 1) no_bound 0 (λ e. absurd (omega arith)) ∙ get_or-set_other L5 (row_at 1 0) (slot_at limits 1) (header_word 1 0 0) 0 (λ e. absurd (omega arith)) ∙ get_or-set_other L4 epoch_at (slot_at limits 1) limits.epoch 0 (λ e. absurd (omega arith)) ∙ get_or-set_same L3 (slot_at limits 1) 1 0 (let l = l3 in omega arith))
-      | inr more ↦ rw (lt-leb pid 1 (omega arith)) (nowhere (slot_at limits pid) (omega arith) (λ e. some (omega arith)) (λ e. more (omega arith)) (λ e. absurd (omega arith)) (λ e. absurd (omega arith)) (λ e. absurd (omega arith)) (λ k h e. absurd (omega arith)) (λ k h e. absurd (omega arith)))
+      | inl one_is ↦ rw one_is (get_or-set_other L6 (row_at 1 second_at) (slot_at limits 1) no_bound 0 (λ e. absurd (omega arith)) ∙ get_or-set_other L5
+          (row_at 1 0) (slot_at limits 1) (header_word 1 0 0) 0 (λ e. absurd (omega arith)) ∙ get_or-set_other L4 epoch_at (slot_at limits 1) limits.epoch 0
+          (λ e. absurd (omega arith)) ∙ get_or-set_same L3 (slot_at limits 1) 1 0 (let l = l3 in omega arith))
+      | inr more ↦ rw (lt-leb pid 1 (omega arith)) (nowhere (slot_at limits pid) (omega arith) (λ e. some (omega arith)) (λ e. more (omega arith))
+          (λ e. absurd (omega arith)) (λ e. absurd (omega arith)) (λ e. absurd (omega arith)) (λ k h e. absurd (omega arith)) (λ k h e. absurd (omega arith)))
     ]
   ]
 
@@ -172,25 +188,33 @@ module _ (limits : Limits) where
       let there : get_or (opening_words limits) (pid_bits_at limits word) 0 ≡ get_or L1 (pid_bits_at limits word) 0 =
       else_where (pid_bits_at limits word) (λ e. absurd (omega arith)) (λ e. absurd (omega arith)) (λ e. absurd (omega arith)) (λ e. absurd (omega arith)) (λ e. absurd (omega arith))
       ∙ free_outside (row_bits_at limits 0) (limits.rows / 64) L1 (pid_bits_at limits word) (omega arith) (λ k h e. absurd (omega arith)) in
-      subst (Free limits.pids word) (sym there) (subst (λ i. Free limits.pids word (get_or L1 i 0)) (omega arith) (free_inside limits.pids (pid_bits_at limits 0) word L0 limits.allowed.whole_pids sp lt (let l = l0 in omega arith)))
+      subst (Free limits.pids word) (sym there)
+      (subst (λ i. Free limits.pids word (get_or L1 i 0)) (omega arith) (free_inside limits.pids (pid_bits_at limits 0) word L0 limits.allowed.whole_pids sp lt (let l = l0 in omega arith)))
 
   row_word : (word : ℕ) → word < limits.rows / 64 → Free limits.rows word (get_or (opening_words limits) (row_bits_at limits word) 0)
   row_word word lt = let sp = some_pids in let sr = some_rows in
       let there : get_or (opening_words limits) (row_bits_at limits word) 0 ≡ get_or L2 (row_bits_at limits word) 0 =
       else_where (row_bits_at limits word) (λ e. absurd (omega arith)) (λ e. absurd (omega arith)) (λ e. absurd (omega arith)) (λ e. absurd (omega arith)) (λ e. absurd (omega arith)) in
-      subst (Free limits.rows word) (sym there) (subst (λ i. Free limits.rows word (get_or L2 i 0)) (omega arith) (free_inside limits.rows (row_bits_at limits 0) word L1 limits.allowed.whole_rows sr lt (let l = l1 in omega arith)))
+      subst (Free limits.rows word) (sym there)
+      (subst (λ i. Free limits.rows word (get_or L2 i 0)) (omega arith) (free_inside limits.rows (row_bits_at limits 0) word L1 limits.allowed.whole_rows sr lt (let l = l1 in omega arith)))
 
   record_word : (row j : ℕ) → row < limits.rows → j < row_size → get_or (opening_words limits) (row_at row j) 0 ≡ get_or (words_in ((opening limits).rows row)) j 0
   record_word row j rl jl = elim (same_or_not row 1) [
     | inl one ↦ subst (λ r. get_or (opening_words limits) (row_at r j) 0 ≡ get_or (words_in ((opening limits).rows r)) j 0) (sym one) (elim (same_or_not j 0) [
-      | inl none ↦ subst (λ k. get_or (opening_words limits) (row_at 1 k) 0 ≡ get_or (words_of (Base empty_leaf)) k 0) (sym none) (get_or-set_other L6 (row_at 1 second_at) (row_at 1 0) no_bound 0 (λ e. absurd (omega arith)) ∙ get_or-set_same L5 (row_at 1 0) (header_word 1 0 0) 0 (let l = l5 in let s = some_rows in omega arith))
+      | inl none ↦ subst (λ k. get_or (opening_words limits) (row_at 1 k) 0 ≡ get_or (words_of (Base empty_leaf)) k 0) (sym none) (get_or-set_other L6
+          (row_at 1 second_at) (row_at 1 0) no_bound 0 (λ e. absurd (omega arith)) ∙ get_or-set_same L5 (row_at 1 0) (header_word 1 0 0) 0
+          (let l = l5 in let s = some_rows in omega arith))
       | inr some ↦ elim (same_or_not j second_at) [
-        | inl bound ↦ subst (λ k. get_or (opening_words limits) (row_at 1 k) 0 ≡ get_or (words_of (Base empty_leaf)) k 0) (sym bound) (get_or-set_same L6 (row_at 1 second_at) no_bound 0 (let l = l6 in let s = some_rows in omega arith))
-        | inr other ↦ nowhere (row_at 1 j) (let s = some_rows in omega arith) (λ e. absurd (omega arith)) (λ e. absurd (omega arith)) (λ e. absurd (omega arith)) (λ e. some (omega arith)) (λ e. other (omega arith)) (λ k h e. absurd (omega arith)) (λ k h e. absurd (omega arith)) ∙ sym (base_word j some other)
+        | inl bound ↦ subst (λ k. get_or (opening_words limits) (row_at 1 k) 0 ≡ get_or (words_of (Base empty_leaf)) k 0) (sym bound)
+            (get_or-set_same L6 (row_at 1 second_at) no_bound 0 (let l = l6 in let s = some_rows in omega arith))
+        | inr other ↦ nowhere (row_at 1 j) (let s = some_rows in omega arith) (λ e. absurd (omega arith)) (λ e. absurd (omega arith))
+            (λ e. absurd (omega arith)) (λ e. some (omega arith)) (λ e. other (omega arith)) (λ k h e. absurd (omega arith)) (λ k h e. absurd (omega arith)) ∙
+            sym (base_word j some other)
       ]
     ])
     | inr apart ↦ rw (ne_eqb row 1 apart)
-        (nowhere (row_at row j) (omega arith) (λ e. absurd (omega arith)) (λ e. absurd (omega arith)) (λ e. absurd (omega arith)) (λ e. apart (omega arith)) (λ e. apart (omega arith)) (λ k h e. absurd (omega arith)) (λ k h e. absurd (omega arith)) ∙ sym (get_or-replicate row_size j 0 0 jl))
+        (nowhere (row_at row j) (omega arith) (λ e. absurd (omega arith)) (λ e. absurd (omega arith)) (λ e. absurd (omega arith)) (λ e. apart (omega arith))
+        (λ e. apart (omega arith)) (λ k h e. absurd (omega arith)) (λ k h e. absurd (omega arith)) ∙ sym (get_or-replicate row_size j 0 0 jl))
   ]
 
   pub opening_is : AreWordsOf limits (opening limits) (opening_words limits)
@@ -200,9 +224,17 @@ module _ (limits : Limits) where
       slots = slot_word;
       pid_bits = pid_word;
       row_bits = row_word;
-      epoch = get_or-set_other L6 (row_at 1 second_at) epoch_at no_bound 0 (λ e. absurd (omega arith)) ∙ get_or-set_other L5 (row_at 1 0) epoch_at (header_word 1 0 0) 0 (λ e. absurd (omega arith)) ∙ get_or-set_same L4 epoch_at limits.epoch 0 (let l = l4 in omega arith);
-      announced = λ a al. nowhere (announced_at a) (omega arith) (λ e. absurd (omega arith)) (λ e. absurd (omega arith)) (λ e. absurd (omega arith)) (λ e. absurd (omega arith)) (λ e. absurd (omega arith)) (λ k h e. absurd (omega arith)) (λ k h e. absurd (omega arith));
-      pads = λ i pad. let low = pad.0 in let high = pad.1 in nowhere i (omega arith) (λ e. absurd (omega arith)) (λ e. absurd (omega arith)) (λ e. absurd (omega arith)) (λ e. absurd (omega arith)) (λ e. absurd (omega arith)) (λ k h e. absurd (omega arith)) (λ k h e. absurd (omega arith));
+      epoch =
+          get_or-set_other L6 (row_at 1 second_at) epoch_at no_bound 0 (λ e. absurd (omega arith))
+          ∙ get_or-set_other L5 (row_at 1 0) epoch_at (header_word 1 0 0) 0 (λ e. absurd (omega arith))
+          ∙ get_or-set_same L4 epoch_at limits.epoch 0 (let l = l4 in omega arith);
+      announced =
+          λ a al. nowhere (announced_at a) (omega arith) (λ e. absurd (omega arith)) (λ e. absurd (omega arith)) (λ e. absurd (omega arith))
+          (λ e. absurd (omega arith)) (λ e. absurd (omega arith)) (λ k h e. absurd (omega arith)) (λ k h e. absurd (omega arith));
+      pads =
+          λ i pad. let low = pad.0 in let high = pad.1 in nowhere i (omega arith) (λ e. absurd (omega arith)) (λ e. absurd (omega arith))
+          (λ e. absurd (omega arith)) (λ e. absurd (omega arith)) (λ e. absurd (omega arith)) (λ k h e. absurd (omega arith))
+          (λ k h e. absurd (omega arith));
       rows = λ r j rl jl _. record_word r j rl jl;
     };
   }

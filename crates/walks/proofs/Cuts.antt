@@ -40,8 +40,10 @@ pub cut_is : (bound : Option (List ℕ)) (pairs : List Pair) → PairsAscend pai
 unfolding IsStrictlySortedBy
 cut_is bound [] ascend = refl
 cut_is bound (pair ∷ pairs) ascend = take_while-cons (test bound) pair pairs ∙ either (is_under pair.0 bound)
-    (λ inn. ap (λ b. cond b (pair ∷ take_while (test bound) pairs) []) inn ∙ ap (λ rest. pair ∷ rest) (cut_is bound pairs ascend.1) ∙ sym (ap (λ b. cond b (pair ∷ pairs_under bound pairs) (pairs_under bound pairs)) inn))
-    (λ out. ap (λ b. cond b (pair ∷ take_while (test bound) pairs) []) out ∙ sym (none_above bound pair.0 pairs out ascend.0) ∙ sym (ap (λ b. cond b (pair ∷ pairs_under bound pairs) (pairs_under bound pairs)) out))
+    (λ inn. ap (λ b. cond b (pair ∷ take_while (test bound) pairs) []) inn ∙ ap (λ rest. pair ∷ rest) (cut_is bound pairs ascend.1) ∙ sym
+    (ap (λ b. cond b (pair ∷ pairs_under bound pairs) (pairs_under bound pairs)) inn))
+    (λ out. ap (λ b. cond b (pair ∷ take_while (test bound) pairs) []) out ∙ sym (none_above bound pair.0 pairs out ascend.0) ∙ sym
+    (ap (λ b. cond b (pair ∷ pairs_under bound pairs) (pairs_under bound pairs)) out))
 
 -- what passes a test
 module _ {X : Type 0} (p : X → Bool) where

@@ -48,13 +48,16 @@ replied false seat later from budget answered same ready h = record {
 replied true seat later from budget answered same ready h =
     let (before, is) = last_unanswered seat.actor seat.seen (command.Page from) ready in record {
       grows = h.grows;
-      more = λ e. let as_many : length (own_entries seat.actor seat.seen) ≡ length (own_entries later.actor later.seen) = λ i. length (own_entries (sym same.actor i) (sym e i)) in let some = h.some in omega arith;
+      more =
+          λ e. let as_many : length (own_entries seat.actor seat.seen) ≡ length (own_entries later.actor later.seen) = λ i. length
+          (own_entries (sym same.actor i) (sym e i)) in let some = h.some in omega arith;
       ends = h.ends;
       calls = before;
       last = h.calls ∙ ap (λ calls. answered_last calls answered) is ∙ answered_snoc before (command.Page from) None answered;
     }
 
-module _ (old : Cursor) (seat later : Seat) (from : List ℕ) (budget : ℕ) (came : Called) (answered : Reply) (at : old.at ≡ Some from) (same : IsSame seat later) (ready : unfinished_command seat ≡ cursor_command old)
+module _ (old : Cursor) (seat later : Seat) (from : List ℕ) (budget : ℕ) (came : Called) (answered : Reply) (at : old.at ≡ Some from) (same : IsSame seat later)
+    (ready : unfinished_command seat ≡ cursor_command old)
     (runs : IsRunOn old.asked seat (command.Page from) budget came later) (is_done : came ≡ called.Done answered) (history : IsOneHistory later.limits later.seen) where
   abbrev done : IsRunOn old.asked seat (command.Page from) budget (called.Done answered) later
   done = subst (λ z. IsRunOn old.asked seat (command.Page from) budget z later) is_done runs
@@ -71,7 +74,8 @@ module _ (old : Cursor) (seat later : Seat) (from : List ℕ) (budget : ℕ) (ca
   -- the reply is a cursor page
   pub is_paged : IsPaged later.seen history.linearized.points mine from answered
   is_paged = paged later.limits later.seen history.linearized.points mine from refl answered
-      (history.linearized.answered.each mine (length r.ends.0) answered (is_operation later.limits later.seen r.ends.0 later.actor (command.Page from) answered r.calls history.linearized.run.run r.ends.1 r.last) ends_so)
+      (history.linearized.answered.each mine (length r.ends.0) answered
+      (is_operation later.limits later.seen r.ends.0 later.actor (command.Page from) answered r.calls history.linearized.run.run r.ends.1 r.last) ends_so)
 
   pub items_ascend : (items : List (List ℕ × List ℕ)) (high : Option (List ℕ)) → answered ≡ reply.Page items high → PairsAscend items
   items_ascend items high is = let same_items : is_paged.items ≡ items = of_page (sym is_paged.is ∙ is) in subst PairsAscend same_items is_paged.pairs.ascending
@@ -82,7 +86,8 @@ module _ (old : Cursor) (seat later : Seat) (from : List ℕ) (budget : ℕ) (ca
   begun_after : (early : List Entry) → WasIdle seat early → length early ≤ mine.start
   begun_after early idle = elim (fronts early (idle.0.0 ++ r.grows.0) r.ends.0 (Step later.actor Leave answer.Done (Some answered)) whole) [
     | inl none ↦ absurd (r.more (r.grows.1 ∙ ap (λ rest. seat.seen ++ rest) (both_none idle.0.0 r.grows.0 none) ∙ append-nil seat.seen))
-    | inr rest ↦ since later.limits later.seen r.ends.0 later.actor (command.Page from) answered r.calls history.linearized.run.run r.ends.1 r.last early rest.0 rest.1 (subst (λ actor. command_of early actor ≡ None) (sym same.actor) idle.1)
+    | inr rest ↦ since later.limits later.seen r.ends.0 later.actor (command.Page from) answered r.calls history.linearized.run.run r.ends.1 r.last early rest.0
+        rest.1 (subst (λ actor. command_of early actor ≡ None) (sym same.actor) idle.1)
   ]
     where
       both_none : {X : Type 0} (xs ys : List X) → xs ++ ys ≡ [] → ys ≡ []

@@ -35,7 +35,8 @@ pub record IsPaged (run : List Entry) (points : List Bool) (operation : Operatio
   pub pairs : IsPairsOf (log_at run points step) from high items
 
 module _ (limits : Limits) (run : List Entry) (points : List Bool) (operation : Operation) (from : List ℕ) (asks : operation.command ≡ command.Page from) where
-  shown : (answer : Reply) (n : ℕ) → IsOwnStep run operation n → IsPoint points n → (page : ShowsPage (memory_at limits run n) (log_at run points n) operation.command answer) → IsPaged run points operation from answer
+  shown : (answer : Reply) (n : ℕ) → IsOwnStep run operation n → IsPoint points n
+      → (page : ShowsPage (memory_at limits run n) (log_at run points n) operation.command answer) → IsPaged run points operation from answer
   shown answer n own point page =
       let same : page.from ≡ from = from_same (sym page.asks ∙ asks) in record {
         items = page.items;
@@ -69,10 +70,12 @@ module _ (limits : Limits) (run : List Entry) (points : List Bool) (operation : 
   paged other is = at_point other is
 
 -- what a page shows is the map's at its operation's point
-pub page_is_shown : (limits : Limits) (turns : List Turn) (run : List Entry) (bound : Option (List ℕ)) (page : WalkedPage) (linear : IsLinearized limits turns run) → IsPageOf run bound page → IsPageShown run linear.points bound page
+pub page_is_shown : (limits : Limits) (turns : List Turn) (run : List Entry) (bound : Option (List ℕ)) (page : WalkedPage) (linear : IsLinearized limits turns run)
+    → IsPageOf run bound page → IsPageShown run linear.points bound page
 page_is_shown limits turns run bound page linear is =
     let p : IsPaged run linear.points (page_operation page) page.from (reply.Page is.items is.high) =
-    paged limits run linear.points (page_operation page) page.from refl (reply.Page is.items is.high) (linear.answered.each (page_operation page) page.done (reply.Page is.items is.high) is.begins is.ends) in
+    paged limits run linear.points (page_operation page) page.from refl (reply.Page is.items is.high)
+    (linear.answered.each (page_operation page) page.done (reply.Page is.items is.high) is.begins is.ends) in
     let same_items : is.items ≡ p.items = items_same p.is in
     let same_high : is.high ≡ p.high = high_same p.is in
     let cut = cut_pairs (logged_value (log_at run linear.points p.step)) page.from p.high bound p.items p.pairs in

@@ -19,7 +19,8 @@ use Rattle.walks.specs.declared.cursor.Walk.TheVariants as walk
 use Rattle.walks.proofs.Replying.{page_is_shown}
 use Rattle.walks.proofs.Walking.{shown_on, walk_on, walk_stays, walk_tells}
 
-done_idle : (asked : Bool) (seat later : Seat) (from : List ℕ) (budget : ℕ) (reply : Reply) → IsRunOn asked seat (command.Page from) budget (called.Done reply) later → (StartsWith later.seen seat.seen) × (unfinished_command later ≡ None)
+done_idle : (asked : Bool) (seat later : Seat) (from : List ℕ) (budget : ℕ) (reply : Reply)
+    → IsRunOn asked seat (command.Page from) budget (called.Done reply) later → (StartsWith later.seen seat.seen) × (unfinished_command later ≡ None)
 done_idle false seat later from budget reply run = (run.grows, run.idle)
 done_idle true seat later from budget reply run = (run.grows, run.idle)
 
@@ -57,7 +58,8 @@ pages_on a b c one more = (
 idle_still : (seat later : Seat) (early : List Entry) → IsSame seat later → StartsWith later.seen seat.seen → WasIdle seat early → WasIdle later early
 idle_still seat later early same grows idle = (starts_on early seat.seen later.seen idle.0 grows, subst (λ actor. command_of early actor ≡ None) (sym same.actor) idle.1)
 
-walked_page : (old new : Cursor) (seat later : Seat) (budget : ℕ) (before : List (List ℕ × List ℕ)) → IsSame seat later → HasShown old seat budget new later → HasWalked old seat before (before ++ new.pairs) new later
+walked_page : (old new : Cursor) (seat later : Seat) (budget : ℕ) (before : List (List ℕ × List ℕ)) → IsSame seat later → HasShown old seat budget new later
+    → HasWalked old seat before (before ++ new.pairs) new later
 walked_page old new seat later budget before same h =
     let (grows, idle) = done_idle old.asked seat later h.page.from budget h.reply h.run in
     let last = h.last in record {
@@ -69,7 +71,8 @@ walked_page old new seat later budget before same h =
       alone = pages_alone old.asked seat later h.page.from budget (called.Done h.reply) h.run;
     }
 
-walked_none : (old new : Cursor) (seat later : Seat) (before : List (List ℕ × List ℕ)) → IsSame seat later → StartsWith later.seen seat.seen → CallsPages seat later → new.at ≡ old.at → new.bound ≡ old.bound → HasWalked old seat before (before ++ []) new later
+walked_none : (old new : Cursor) (seat later : Seat) (before : List (List ℕ × List ℕ)) → IsSame seat later → StartsWith later.seen seat.seen
+    → CallsPages seat later → new.at ≡ old.at → new.bound ≡ old.bound → HasWalked old seat before (before ++ []) new later
 walked_none old new seat later before same grows alone at bound = record {
   pages = [];
   shown = refl;
@@ -83,14 +86,18 @@ pub walked_next : (old new : Cursor) (seat later : Seat) (budget : ℕ) (answere
     → HasWalked old seat before (before ++ added_by answered new) new later
 walked_next old new seat later budget walk.Page before same h = walked_page old new seat later budget before same h
 walked_next old new seat later budget walk.Spent before same h =
-    walked_none old new seat later before same (spent_grows old.asked seat later h.from budget h.run) (pages_alone old.asked seat later h.from budget called.Spent h.run) (ap (λ z. z.at) h.stands) (ap (λ z. z.bound) h.stands)
+    walked_none old new seat later before same (spent_grows old.asked seat later h.from budget h.run)
+    (pages_alone old.asked seat later h.from budget called.Spent h.run) (ap (λ z. z.at) h.stands) (ap (λ z. z.bound) h.stands)
 walked_next old new seat later budget walk.End before same h =
     walked_none old new seat later before same ([], ap (λ z. z.seen) h.2 ∙ sym (append-nil seat.seen)) (no_page seat later (ap commands_in h.2)) (ap (λ z. z.at) h.1) (ap (λ z. z.bound) h.1)
 
-pub walked_on : (first mid last : Cursor) (seat between later : Seat) (before middle after : List (List ℕ × List ℕ)) → HasWalked first seat before middle mid between → HasWalked mid between middle after last later → HasWalked first seat before after last later
+pub walked_on : (first mid last : Cursor) (seat between later : Seat) (before middle after : List (List ℕ × List ℕ))
+    → HasWalked first seat before middle mid between → HasWalked mid between middle after last later → HasWalked first seat before after last later
 walked_on first mid last seat between later before middle after one more = record {
   pages = one.pages ++ more.pages;
-  shown = more.shown ∙ ap (λ pairs. pairs ++ pairs_shown more.pages) one.shown ∙ append_assoc before (pairs_shown one.pages) (pairs_shown more.pages) ∙ ap (λ pairs. before ++ pairs) (sym (shown_on one.pages more.pages));
+  shown =
+      more.shown ∙ ap (λ pairs. pairs ++ pairs_shown more.pages) one.shown ∙ append_assoc before (pairs_shown one.pages) (pairs_shown more.pages)
+      ∙ ap (λ pairs. before ++ pairs) (sym (shown_on one.pages more.pages));
   walk = λ early was.
       let (early', was', walk) = one.walk early was in
       let (late, idle, walk') = more.walk early' was' in (
@@ -106,7 +113,8 @@ walked_on first mid last seat between later before middle after one more = recor
 }
 
 -- one answer more
-module _ (first mid last : Cursor) (seat between later : Seat) (budget : ℕ) (answered : Walk) (before middle after : List (List ℕ × List ℕ)) (same : IsSame between later) (next : IsNextOf mid between budget answered last later)
+module _ (first mid last : Cursor) (seat between later : Seat) (budget : ℕ) (answered : Walk) (before middle after : List (List ℕ × List ℕ))
+    (same : IsSame between later) (next : IsNextOf mid between budget answered last later)
     (adds : after ≡ middle ++ added_by answered last) where
   pub walked_more : HasWalked first seat before middle mid between → HasWalked first seat before after last later
   walked_more walked = walked_on first mid last seat between later before middle after walked
@@ -115,7 +123,8 @@ module _ (first mid last : Cursor) (seat between later : Seat) (budget : ℕ) (a
   pub spent_on : answered ≡ walk.Spent → HasWalked first seat before middle mid between → IsSpentAt seat budget last later
   spent_on is walked = record { old = mid; seat = between; same = same; grows = walked.grows; asked = subst (λ one. IsNextOf mid between budget one last later) is next }
 
-  pub walked_counted : answered ≡ walk.Page → (n : ℕ) → (walked : HasWalked first seat before middle mid between) × (length walked.pages ≡ n) → (walked : HasWalked first seat before after last later) × (length walked.pages ≡ n + 1)
+  pub walked_counted : answered ≡ walk.Page → (n : ℕ) → (walked : HasWalked first seat before middle mid between) × (length walked.pages ≡ n)
+      → (walked : HasWalked first seat before after last later) × (length walked.pages ≡ n + 1)
   unfolding walked_on walked_page
   walked_counted is n (walked, count) =
       let shows : HasShown mid between budget last later = subst (λ one. IsNextOf mid between budget one last later) is next in
@@ -127,7 +136,11 @@ module _ (first mid last : Cursor) (seat between later : Seat) (budget : ℕ) (a
 
 -- nothing walked yet
 pub walked_nothing : (cursor : Cursor) (seat : Seat) (pairs : List (List ℕ × List ℕ)) → (walked : HasWalked cursor seat pairs pairs cursor seat) × (length walked.pages ≡ 0)
-walked_nothing cursor seat pairs = (record { pages = []; shown = sym (append-nil pairs); walk = λ early was. (early, was, (refl, omega arith)); bound = refl; grows = ([], sym (append-nil seat.seen)); alone = no_page seat seat refl }, refl)
+walked_nothing cursor seat pairs = (
+  record
+      { pages = []; shown = sym (append-nil pairs); walk = λ early was. (early, was, (refl, omega arith)); bound = refl; grows = ([], sym (append-nil seat.seen)); alone = no_page seat seat refl },
+  refl,
+)
 
 -- and what it tells of the map
 pub has_told : (old : Cursor) (seat : Seat) (before after : List (List ℕ × List ℕ)) (new : Cursor) (later : Seat) → HasWalked old seat before after new later → HasTold old seat before after new later
@@ -136,9 +149,11 @@ has_told old seat before after new later w = record {
   added = w.shown;
   tells = λ from early at idle.
       let (late, was, walk) = w.walk early idle in
-      let walk_from : IsWalk later.seen old.bound (Some from) (length early) w.pages new.at (length late) = subst (λ at. IsWalk later.seen old.bound at (length early) w.pages new.at (length late)) at walk in (
+      let walk_from : IsWalk later.seen old.bound (Some from) (length early) w.pages new.at (length late) = subst
+      (λ at. IsWalk later.seen old.bound at (length early) w.pages new.at (length late)) at walk in (
         late,
         was,
-        λ limits turns linear. walk_tells later.seen linear.points old.bound (λ page is. page_is_shown limits turns later.seen old.bound page linear is) from (length early) w.pages new.at (length late) walk_from,
+        λ limits turns linear. walk_tells later.seen linear.points old.bound (λ page is. page_is_shown limits turns later.seen old.bound page linear is) from
+            (length early) w.pages new.at (length late) walk_from,
       );
 }

@@ -41,9 +41,11 @@ page_stays run later bound page (rest, more) is = subst (λ es. IsPageOf es boun
   pairs = is.pairs;
 })
 
-pub walk_stays : (run later : List Entry) (bound at : Option (List ℕ)) (since : ℕ) (pages : List WalkedPage) (to : Option (List ℕ)) (till : ℕ) → StartsWith later run → IsWalk run bound at since pages to till → IsWalk later bound at since pages to till
+pub walk_stays : (run later : List Entry) (bound at : Option (List ℕ)) (since : ℕ) (pages : List WalkedPage) (to : Option (List ℕ)) (till : ℕ)
+    → StartsWith later run → IsWalk run bound at since pages to till → IsWalk later bound at since pages to till
 walk_stays run later bound at since [] to till more walk = walk
-walk_stays run later bound at since (page ∷ pages) to till more walk = (walk.0, walk.1, page_stays run later bound page more walk.2, walk_stays run later bound page.next (page.done + 1) pages to till more walk.3)
+walk_stays run later bound at since (page ∷ pages) to till more walk =
+    (walk.0, walk.1, page_stays run later bound page more walk.2, walk_stays run later bound page.next (page.done + 1) pages to till more walk.3)
 
 -- a walk takes its time
 pub walk_lasts : (run : List Entry) (bound at : Option (List ℕ)) (since : ℕ) (pages : List WalkedPage) (to : Option (List ℕ)) (till : ℕ) → IsWalk run bound at since pages to till → since ≤ till
@@ -51,7 +53,8 @@ walk_lasts run bound at since [] to till walk = walk.1
 walk_lasts run bound at since (page ∷ pages) to till walk =
     let rest = walk_lasts run bound page.next (page.done + 1) pages to till walk.3 in let begun = walk.1 in let ends = walk.2.ends.2.begun in omega arith
 
-walk_from : (run : List Entry) (bound at : Option (List ℕ)) (early since : ℕ) (pages : List WalkedPage) (to : Option (List ℕ)) (till : ℕ) → early ≤ since → IsWalk run bound at since pages to till → IsWalk run bound at early pages to till
+walk_from : (run : List Entry) (bound at : Option (List ℕ)) (early since : ℕ) (pages : List WalkedPage) (to : Option (List ℕ)) (till : ℕ) → early ≤ since
+    → IsWalk run bound at since pages to till → IsWalk run bound at early pages to till
 walk_from run bound at early since [] to till le walk = let then' = walk.1 in (walk.0, omega arith)
 walk_from run bound at early since (page ∷ pages) to till le walk = let then' = walk.1 in (walk.0, omega arith, walk.2, walk.3)
 
@@ -81,7 +84,8 @@ sorted_on (pair ∷ xs) ys one other apart = (
     above_all key [] h = tt
     above_all key (next ∷ ys) h = (h next.0 next.1 (0, omega arith, refl), above_all key ys (λ y w among. h y w (Contains-append_right (next ∷ []) ys (y, w) among)))
 
-    above : (xs ys : List Pair) (key : List ℕ) → AllByRecursion (λ other. key_cmp key other ≡ Less) (keys xs) → ((y w : List ℕ) → Contains ys (y, w) → key_cmp key y ≡ Less) → AllByRecursion (λ other. key_cmp key other ≡ Less) (keys (xs ++ ys))
+    above : (xs ys : List Pair) (key : List ℕ) → AllByRecursion (λ other. key_cmp key other ≡ Less) (keys xs)
+        → ((y w : List ℕ) → Contains ys (y, w) → key_cmp key y ≡ Less) → AllByRecursion (λ other. key_cmp key other ≡ Less) (keys (xs ++ ys))
     above [] ys key own h = above_all key ys h
     above (next ∷ xs) ys key own h = (own.0, above xs ys key own.1 h)
 
@@ -90,21 +94,28 @@ none_in x (k, within, is) = omega arith
 
 module _ (run : List Entry) (points : List Bool) where
   -- pairs up to a key, and pairs from there on
-  join_tells : (since mid till : ℕ) (from next : List ℕ) (end : Option (List ℕ)) (xs ys : List Pair) → since ≤ mid → is_below from next ≡ true → ((key : List ℕ) → is_below key next ≡ true → is_under key end ≡ true)
+  join_tells : (since mid till : ℕ) (from next : List ℕ) (end : Option (List ℕ)) (xs ys : List Pair) → since ≤ mid → is_below from next ≡ true
+      → ((key : List ℕ) → is_below key next ≡ true → is_under key end ≡ true)
       → TellMap run points since till from (Some next) xs → TellMap run points mid till next end ys → TellMap run points since till from end (xs ++ ys)
   join_tells since mid till from next end xs ys le ahead under one more = record {
     ascending = sorted_on xs ys one.ascending more.ascending (λ x y v w here there.
-        below_reach x next y (below_from x next (and_right (not (is_below x from)) (is_below x next) (one.within x v here))) (not_true (is_below y next) (and_left (not (is_below y next)) (is_under y end) (more.within y w there))));
+        below_reach x next y (below_from x next (and_right (not (is_below x from)) (is_below x next) (one.within x v here)))
+        (not_true (is_below y next) (and_left (not (is_below y next)) (is_under y end) (more.within y w there))));
     within = λ key value among. elim (Contains-append_cases xs ys (key, value) among) [
-      | inl here ↦ let in' = one.within key value here in and_both _ _ (and_left (not (is_below key from)) (is_below key next) in') (under key (and_right (not (is_below key from)) (is_below key next) in'))
-      | inr there ↦ let in' = more.within key value there in and_both _ _ (above_from key (not_true (is_below key next) (and_left (not (is_below key next)) (is_under key end) in'))) (and_right (not (is_below key next)) (is_under key end) in')
+      | inl here ↦ let in' = one.within key value here in and_both _ _ (and_left (not (is_below key from)) (is_below key next) in')
+          (under key (and_right (not (is_below key from)) (is_below key next) in'))
+      | inr there ↦ let in' = more.within key value there in and_both _ _
+          (above_from key (not_true (is_below key next) (and_left (not (is_below key next)) (is_under key end) in')))
+          (and_right (not (is_below key next)) (is_under key end) in')
     ];
     there = λ key in' has. either (is_below key next)
         (λ before. let at = one.there key (and_both _ _ (and_left (not (is_below key from)) (is_under key end) in') before) has in (at.0, Contains-append_left xs ys (key, at.0) at.1))
-        (λ after. let at = more.there key (and_both _ _ (ap not after) (and_right (not (is_below key from)) (is_under key end) in')) (λ n late soon. has n (omega arith) soon) in (at.0, Contains-append_right xs ys (key, at.0) at.1));
+        (λ after. let at = more.there key (and_both _ _ (ap not after) (and_right (not (is_below key from)) (is_under key end) in'))
+        (λ n late soon. has n (omega arith) soon) in (at.0, Contains-append_right xs ys (key, at.0) at.1));
     stays = λ key value in' has. either (is_below key next)
         (λ before. Contains-append_left xs ys (key, value) (one.stays key value (and_both _ _ (and_left (not (is_below key from)) (is_under key end) in') before) has))
-        (λ after. Contains-append_right xs ys (key, value) (more.stays key value (and_both _ _ (ap not after) (and_right (not (is_below key from)) (is_under key end) in')) (λ n late soon. has n (omega arith) soon)));
+        (λ after. Contains-append_right xs ys (key, value)
+        (more.stays key value (and_both _ _ (ap not after) (and_right (not (is_below key from)) (is_under key end) in')) (λ n late soon. has n (omega arith) soon)));
     was = λ key value among. elim (Contains-append_cases xs ys (key, value) among) [
       | inl here ↦ one.was key value here
       | inr there ↦ let (n, late, soon, is) = more.was key value there in (n, omega arith, soon, is)
@@ -117,7 +128,8 @@ module _ (run : List Entry) (points : List Bool) where
           (λ after. ap not after)
 
   module _ (bound : Option (List ℕ)) (shown : (page : WalkedPage) → IsPageOf run bound page → IsPageShown run points bound page) where
-    one_tells : (page : WalkedPage) (since till : ℕ) → IsPageOf run bound page → since ≤ page.begun → page.done + 1 ≤ till → TellMap run points since till page.from (end_under bound page.next) page.pairs
+    one_tells : (page : WalkedPage) (since till : ℕ) → IsPageOf run bound page → since ≤ page.begun → page.done + 1 ≤ till
+        → TellMap run points since till page.from (end_under bound page.next) page.pairs
     one_tells page since till is early late =
         let s = shown page is in let begun = s.own.2.1.begun in let done = s.within in record {
           ascending = s.pairs.ascending;
@@ -139,7 +151,8 @@ module _ (run : List Entry) (points : List Bool) where
         by_high : (high : Option (List ℕ)) → place_under bound high ≡ Some next → is_under next bound ≡ true
         by_high None e = cc
         by_high (Some high) e = either (is_under high bound)
-            (λ within. let some : Some high ≡ Some next = subst (λ b. (if b then Some high else None) ≡ Some next) within e in let same : high ≡ next = cc in subst (λ key. is_under key bound ≡ true) same within)
+            (λ within. let some : Some high ≡ Some next = subst (λ b. (if b then Some high else None) ≡ Some next) within e in let same : high ≡ next = cc in
+            subst (λ key. is_under key bound ≡ true) same within)
             (λ past. let none : None ≡ Some next = subst (λ b. (if b then Some high else None) ≡ Some next) past e in absurd (cc))
 
     goes_ahead : (page : WalkedPage) (next : List ℕ) → IsPageOf run bound page → page.next ≡ Some next → is_below page.from next ≡ true
@@ -162,20 +175,26 @@ module _ (run : List Entry) (points : List Bool) where
             subst (λ end. is_under key (end_under bound end) ≡ true) (sym none.1) (below_bound bound key bound from under below)
         go (Some next) goes more =
             let ahead : is_below from next ≡ true = subst (λ key. is_below key next ≡ true) (sym same) (goes_ahead page next walk.2 goes) in
-            more next (next_under page next walk.2 goes) (subst (λ at. IsWalk run bound at (page.done + 1) pages to till) goes walk.3) (ap is_lt (below-trans key from next (below_from key from below) (below_from from next ahead)))
+            more next (next_under page next walk.2 goes) (subst (λ at. IsWalk run bound at (page.done + 1) pages to till) goes walk.3)
+            (ap is_lt (below-trans key from next (below_from key from below) (below_from from next ahead)))
 
     tell_none : (from : List ℕ) (since till : ℕ) → TellMap run points since till from (Some from) []
     unfolding IsStrictlySortedBy
     tell_none from since till = record {
       ascending = tt;
       within = λ key value among. absurd (none_in (key, value) among);
-      there = λ key in' has. let out = not_true (is_below key from) (and_left (not (is_below key from)) (is_below key from) in') in let below = and_right (not (is_below key from)) (is_below key from) in' in absurd (cc);
-      stays = λ key value in' has. let out = not_true (is_below key from) (and_left (not (is_below key from)) (is_below key from) in') in let below = and_right (not (is_below key from)) (is_below key from) in' in absurd (cc);
+      there =
+          λ key in' has. let out = not_true (is_below key from) (and_left (not (is_below key from)) (is_below key from) in') in let below = and_right
+          (not (is_below key from)) (is_below key from) in' in absurd (cc);
+      stays =
+          λ key value in' has. let out = not_true (is_below key from) (and_left (not (is_below key from)) (is_below key from) in') in let below = and_right
+          (not (is_below key from)) (is_below key from) in' in absurd (cc);
       was = λ key value among. absurd (none_in (key, value) among);
     }
 
     -- a walk tells of the map from where it began to where it stands
-    pub walk_tells : (from : List ℕ) (since : ℕ) (pages : List WalkedPage) (to : Option (List ℕ)) (till : ℕ) → IsWalk run bound (Some from) since pages to till → TellMap run points since till from (end_under bound to) (pairs_shown pages)
+    pub walk_tells : (from : List ℕ) (since : ℕ) (pages : List WalkedPage) (to : Option (List ℕ)) (till : ℕ) → IsWalk run bound (Some from) since pages to till
+        → TellMap run points since till from (end_under bound to) (pairs_shown pages)
     walk_tells from since [] to till walk = subst (λ end. TellMap run points since till from (end_under bound end) []) (sym walk.0) (tell_none from since till)
     walk_tells from since (page ∷ pages) to till walk = go page.next refl (λ next rest. walk_tells next (page.done + 1) pages to till rest)
       where
@@ -193,11 +212,13 @@ module _ (run : List Entry) (points : List Bool) where
             → TellMap run points since till from (end_under bound to) (page.pairs ++ pairs_shown pages)
         go None goes more =
             let none = ended (page.done + 1) pages to till (subst (λ at. IsWalk run bound at (page.done + 1) pages to till) goes walk.3) in
-            let here : TellMap run points since till from (end_under bound to) page.pairs = subst (λ end. TellMap run points since till from (end_under bound end) page.pairs) (goes ∙ sym none.1) one in
+            let here : TellMap run points since till from (end_under bound to) page.pairs = subst
+            (λ end. TellMap run points since till from (end_under bound end) page.pairs) (goes ∙ sym none.1) one in
             subst (TellMap run points since till from (end_under bound to)) (sym (ap (λ ps. page.pairs ++ pairs_shown ps) none.0 ∙ append-nil page.pairs)) here
         go (Some next) goes more =
             let rest = subst (λ at. IsWalk run bound at (page.done + 1) pages to till) goes walk.3 in
             let here : TellMap run points since till from (Some next) page.pairs = subst (λ end. TellMap run points since till from (end_under bound end) page.pairs) goes one in
             let early = walk.1 in let begun = walk.2.ends.2.begun in
-            join_tells since (page.done + 1) till from next (end_under bound to) page.pairs (pairs_shown pages) (omega arith) (subst (λ key. is_below key next ≡ true) same (goes_ahead page next walk.2 goes))
+            join_tells since (page.done + 1) till from next (end_under bound to) page.pairs (pairs_shown pages) (omega arith)
+            (subst (λ key. is_below key next ≡ true) same (goes_ahead page next walk.2 goes))
             (below_end next (page.done + 1) pages to till (next_under page next walk.2 goes) rest) here (more next rest)

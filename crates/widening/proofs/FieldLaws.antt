@@ -42,15 +42,18 @@ marked_wide count word text rest h =
 pub field_wide : (count : ℕ) (text rest : List ℕ) → IsNarrow text → spread_fields (suc count) (field_words_in first_form text ++ rest) ≡ field_words text ++ spread_fields count rest
 field_wide count text rest h = marked_wide count (length text) text rest h
 
-pub bound_wide : (count : ℕ) (bound : Option (List ℕ)) (rest : List ℕ) → IfSome bound IsNarrow → spread_fields (suc count) (bound_words_in first_form bound ++ rest) ≡ bound_words bound ++ spread_fields count rest
+pub bound_wide : (count : ℕ) (bound : Option (List ℕ)) (rest : List ℕ) → IfSome bound IsNarrow
+    → spread_fields (suc count) (bound_words_in first_form bound ++ rest) ≡ bound_words bound ++ spread_fields count rest
 bound_wide count None rest h = spread_field count no_bound 0 0 0 0 rest
 bound_wide count (Some key) rest h = field_wide count key rest h
 
-content_wide : (count : ℕ) (content : Content) (rest : List ℕ) → HasTextIn IsNarrow content → spread_fields (suc count) (content_words_in first_form content ++ rest) ≡ content_words content ++ spread_fields count rest
+content_wide : (count : ℕ) (content : Content) (rest : List ℕ) → HasTextIn IsNarrow content
+    → spread_fields (suc count) (content_words_in first_form content ++ rest) ≡ content_words content ++ spread_fields count rest
 content_wide count (Value value) rest h = field_wide count value rest h
 content_wide count (Child page held) rest h = spread_field count page 0 0 0 0 rest
 
-item_wide : (count : ℕ) (item : Item) (rest : List ℕ) → HasItemTexts IsNarrow item → spread_fields (suc (suc count)) (item_words_in first_form item ++ rest) ≡ item_words item ++ spread_fields count rest
+item_wide : (count : ℕ) (item : Item) (rest : List ℕ) → HasItemTexts IsNarrow item
+    → spread_fields (suc (suc count)) (item_words_in first_form item ++ rest) ≡ item_words item ++ spread_fields count rest
 item_wide count item rest h =
     let first : ℕ = length item.key + (if is_held item.content then held_mark else 0) in
     marked_wide (suc count) first item.key (content_words_in first_form item.content ++ rest) h.0

@@ -48,7 +48,8 @@ pub field_more : (left place count : ℕ) (words before now whole : List ℕ) �
     → now ++ spread_fields left (drop (first_field * (place + 1)) words) ≡ whole
 field_more left place count words before now whole e so more =
     let rest : List ℕ = drop (first_field * place) words in
-    let next : drop first_field rest ≡ drop (first_field * (place + 1)) words = drop-drop first_field (first_field * place) words ∙ ap (λ n. drop n words) (let f : first_field * place + first_field ≡ first_field * (place + 1) = omega arith in f) in
+    let next : drop first_field rest ≡ drop (first_field * (place + 1)) words = drop-drop first_field (first_field * place) words ∙ ap (λ n. drop n words)
+    (let f : first_field * place + first_field ≡ first_field * (place + 1) = omega arith in f) in
     ap (λ ws. ws ++ spread_fields left (drop (first_field * (place + 1)) words)) more
     ∙ append_assoc (before ++ take first_field rest) (replicate grown_by 0) (spread_fields left (drop (first_field * (place + 1)) words))
     ∙ append_assoc before (take first_field rest) (replicate grown_by 0 ++ spread_fields left (drop (first_field * (place + 1)) words))
@@ -71,8 +72,10 @@ fields_one (suc count) xs ys h g e =
     let sx : List ℕ = spread_fields count (drop first_field xs) in
     let sy : List ℕ = spread_fields count (drop first_field ys) in
     let same : take first_field xs ++ (replicate grown_by 0 ++ sx) ≡ take first_field ys ++ (replicate grown_by 0 ++ sy) = sym (spread_more count xs) ∙ e ∙ spread_more count ys in
-    let one : take first_field xs ≡ take first_field ys = sym (front first_field (take first_field xs) (replicate grown_by 0 ++ sx) tx) ∙ ap (take first_field) same ∙ front first_field (take first_field ys) (replicate grown_by 0 ++ sy) ty in
-    let rest : replicate grown_by 0 ++ sx ≡ replicate grown_by 0 ++ sy = sym (back first_field (take first_field xs) (replicate grown_by 0 ++ sx) tx) ∙ ap (drop first_field) same ∙ back first_field (take first_field ys) (replicate grown_by 0 ++ sy) ty in
+    let one : take first_field xs ≡ take first_field ys = sym (front first_field (take first_field xs) (replicate grown_by 0 ++ sx) tx) ∙ ap (take first_field)
+    same ∙ front first_field (take first_field ys) (replicate grown_by 0 ++ sy) ty in
+    let rest : replicate grown_by 0 ++ sx ≡ replicate grown_by 0 ++ sy = sym (back first_field (take first_field xs) (replicate grown_by 0 ++ sx) tx) ∙ ap
+    (drop first_field) same ∙ back first_field (take first_field ys) (replicate grown_by 0 ++ sy) ty in
     let others = fields_one count (drop first_field xs) (drop first_field ys) (omega arith) (omega arith) (ap (drop grown_by) rest) in
     sym (take-append-drop first_field xs) ∙ (λ i. one i ++ others i) ∙ take-append-drop first_field ys
 
@@ -82,7 +85,8 @@ cut (a ∷ []) h = absurd (omega arith)
 cut (a ∷ b ∷ []) h = absurd (omega arith)
 cut (a ∷ b ∷ c ∷ words) h = refl
 
-pub spread_is : (words : List ℕ) → spread words ≡ (get_or words 0 0 + form_unit * this_form.number) ∷ get_or words 1 0 ∷ get_or words 2 0 ∷ (spread_fields fields (drop first_at words) ++ replicate behind 0)
+pub spread_is : (words : List ℕ)
+    → spread words ≡ (get_or words 0 0 + form_unit * this_form.number) ∷ get_or words 1 0 ∷ get_or words 2 0 ∷ (spread_fields fields (drop first_at words) ++ replicate behind 0)
 unfolding spread
 spread_is words = refl
 
@@ -99,12 +103,14 @@ spread_one xs ys h g e =
     let next : get_or xs 1 0 ≡ get_or ys 1 0 = ap (λ ws. get_or ws 1 0) same in
     let page : get_or xs 2 0 ≡ get_or ys 2 0 = ap (λ ws. get_or ws 2 0) same in
     let bodies : spread_fields fields (drop first_at xs) ≡ spread_fields fields (drop first_at ys) =
-    sym (front 453 (spread_fields fields (drop first_at xs)) (replicate behind 0) (omega arith)) ∙ ap (λ ws. take 453 (drop first_at ws)) same ∙ front 453 (spread_fields fields (drop first_at ys)) (replicate behind 0) (omega arith) in
+    sym (front 453 (spread_fields fields (drop first_at xs)) (replicate behind 0) (omega arith)) ∙ ap (λ ws. take 453 (drop first_at ws)) same ∙ front 453
+    (spread_fields fields (drop first_at ys)) (replicate behind 0) (omega arith) in
     let rest = fields_one fields (drop first_at xs) (drop first_at ys) (omega arith) (omega arith) bodies in
     cut xs (omega arith) ∙ (λ i. first i ∷ next i ∷ page i ∷ rest i) ∙ sym (cut ys (omega arith))
 
 -- a row that is written part by part
-pub spread_written : (words a b c d f z : List ℕ) (left : ℕ) → length words ≡ 256 → a ≡ [] → b ≡ a ++ (get_or words 0 0 + form_unit * this_form.number) ∷ [] → c ≡ b ++ get_or words 1 0 ∷ [] → d ≡ c ++ get_or words 2 0 ∷ []
+pub spread_written : (words a b c d f z : List ℕ) (left : ℕ) → length words ≡ 256 → a ≡ [] → b ≡ a ++ (get_or words 0 0 + form_unit * this_form.number) ∷ []
+    → c ≡ b ++ get_or words 1 0 ∷ [] → d ≡ c ++ get_or words 2 0 ∷ []
     → f ≡ d ++ spread_fields fields (drop first_at words) → left ≡ 512 - length f → z ≡ f ++ replicate left 0 → z ≡ spread words
 spread_written words a b c d f z left long at bt ct dt ft lt zt =
     let head : ℕ = get_or words 0 0 + form_unit * this_form.number in

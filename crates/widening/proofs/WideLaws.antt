@@ -61,7 +61,8 @@ bound_size None = refl
 bound_size (Some key) = refl
 
 module _ (kind level next page : ℕ) (first : List ℕ) (second : Option (List ℕ)) (items : List Item) (few : length items ≤ 24) where
-  row_wide : IsNarrow first → IfSome second IsNarrow → All (HasItemTexts IsNarrow) items → spread (row_words_in first_form kind level next page first second items) ≡ row_words kind level next page first second items
+  row_wide : IsNarrow first → IfSome second IsNarrow → All (HasItemTexts IsNarrow) items
+      → spread (row_words_in first_form kind level next page first second items) ≡ row_words kind level next page first second items
   row_wide f s i =
       let left : ℕ = words_left_in first_form (length items) in
       let n : ℕ = 48 - 2 * length items in
@@ -130,7 +131,8 @@ empty_narrow = record { short = record { short = omega arith; bytes_fit = tt }; 
 no_items : All (HasItemTexts IsNarrow) []
 no_items = All-nil (HasItemTexts IsNarrow)
 
-link_wide : (kind level next page : ℕ) (separator : List ℕ) → IsNarrow separator → spread (row_words_in first_form kind level next page separator (Some []) []) ≡ row_words kind level next page separator (Some []) []
+link_wide : (kind level next page : ℕ) (separator : List ℕ) → IsNarrow separator
+    → spread (row_words_in first_form kind level next page separator (Some []) []) ≡ row_words kind level next page separator (Some []) []
 link_wide kind level next page separator n = row_wide kind level next page separator (Some []) [] (omega arith) n empty_narrow no_items
 
 record_wide : (content : Record) → length (items_of content) ≤ 24 → HasTexts IsNarrow content → spread (words_of_in first_form content) ≡ words_of content

@@ -43,7 +43,8 @@ pub none_begun : {A : Type 0} (limit id : ℕ) (ones : List (Begun A)) → ones 
 none_begun limit id ones none = record { count = ap length none; each = λ place old one at_old at_one. cc }
 
 -- one worker more was begun
-pub begun_more : {A : Type 0} (limit id place : ℕ) (olds : List (Worker A)) (ones news : List (Begun A)) (old : Worker A) (one : Begun A) → AreBegun limit id olds ones → place ≡ length ones → news ≡ ones ++ one ∷ [] → IsBegun limit id place old one → AreBegun limit id (olds ++ old ∷ []) news
+pub begun_more : {A : Type 0} (limit id place : ℕ) (olds : List (Worker A)) (ones news : List (Begun A)) (old : Worker A) (one : Begun A)
+    → AreBegun limit id olds ones → place ≡ length ones → news ≡ ones ++ one ∷ [] → IsBegun limit id place old one → AreBegun limit id (olds ++ old ∷ []) news
 begun_more limit id place olds ones news old one before at longer is = subst (AreBegun limit id (olds ++ old ∷ [])) (sym longer) record {
   count = count_more olds ones old one before.count;
   each = each_more (IsBegun limit id) olds ones old one before.count before.each (subst (λ k. IsBegun limit id k old one) at is);
@@ -54,7 +55,8 @@ pub none_joined : {A : Type 0} (told : Bool) (news : List (Worker A)) → news �
 none_joined told news none = record { count = ap length none; each = λ place one new at_one at_new. cc }
 
 -- one worker more came back
-pub joined_more : {A : Type 0} (told : Bool) (ones : List (Begun A)) (news longer : List (Worker A)) (one : Begun A) (new : Worker A) → HaveJoined told ones news → longer ≡ news ++ new ∷ [] → HasJoined told one new → HaveJoined told (ones ++ one ∷ []) longer
+pub joined_more : {A : Type 0} (told : Bool) (ones : List (Begun A)) (news longer : List (Worker A)) (one : Begun A) (new : Worker A)
+    → HaveJoined told ones news → longer ≡ news ++ new ∷ [] → HasJoined told one new → HaveJoined told (ones ++ one ∷ []) longer
 joined_more told ones news longer one new before is joined = subst (HaveJoined told (ones ++ one ∷ [])) (sym is) record {
   count = count_more ones news one new before.count;
   each = each_more (λ place. HasJoined told) ones news one new before.count before.each joined;
@@ -72,7 +74,8 @@ all_told limit id olds ones is k d below =
     subst (IsToldBy id) (sym (index_is ones k one.0 d one.1)) (told_by limit id k old.0 one.0 (is.each k old.0 one.0 old.1 one.1))
 
 -- what was begun and has joined came back
-pub came_back : {A : Type 0} (told same : Bool) (limit id : ℕ) (olds news : List (Worker A)) (ones : List (Begun A)) → AreBegun limit id olds ones → HaveJoined told ones news → same ≡ told → HaveComeBack same limit olds news
+pub came_back : {A : Type 0} (told same : Bool) (limit id : ℕ) (olds news : List (Worker A)) (ones : List (Begun A)) → AreBegun limit id olds ones
+    → HaveJoined told ones news → same ≡ told → HaveComeBack same limit olds news
 came_back told same limit id olds news ones is joined says = subst (λ z. HaveComeBack z limit olds news) (sym says) record {
   count = joined.count ∙ is.count;
   each = λ place old new at_old at_new.

@@ -34,7 +34,8 @@ zipped (a ∷ xs) [] x y long = absurd (omega (arith, long))
 zipped (a ∷ xs) (b ∷ ys) x y long = ap (λ z. (a, Some b) ∷ z) (zipped xs ys x y (omega (arith, long)))
 
 -- one command of many was run
-pub ran : (first mid new : Seat) (commands : List Command) (i : ℕ) (item command : Command) (replies news : List Reply) (reply : Reply) → GoesOn first (zip (take i commands) (map Some replies)) mid → GoesOn mid ((command, Some reply) ∷ []) new
+pub ran : (first mid new : Seat) (commands : List Command) (i : ℕ) (item command : Command) (replies news : List Reply) (reply : Reply)
+    → GoesOn first (zip (take i commands) (map Some replies)) mid → GoesOn mid ((command, Some reply) ∷ []) new
     → command ≡ item → i < length commands → item ≡ slice_index_or commands i item → length replies ≡ i → news ≡ replies ++ reply ∷ []
     → GoesOn first (zip (take (i + 1) commands) (map Some news)) new
 ran first mid new commands i item command replies news reply before now same below is count grown =

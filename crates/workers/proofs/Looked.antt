@@ -13,7 +13,9 @@ use Rattle.workers.specs.Jobs.{AreResultsOf, IsResultOf}
 abbrev pub AreLooked : {A : Type 0} → List Job → List (JobResult A) → ℕ → Type 0
 AreLooked {A = A} jobs results place = (n : ℕ) (job : Job) (given : JobResult A) → n < place → slice_get jobs n ≡ Some job → slice_get results n ≡ Some given → IsResultOf job given
 
-pub one_looked : {A : Type 0} (jobs : List Job) (results : List (JobResult A)) (place : ℕ) (one : Job) (other : JobResult A) → one ≡ slice_index_or jobs place one → other ≡ slice_index_or results place other → IsResultOf one other → AreLooked jobs results place → AreLooked jobs results (place + 1)
+pub one_looked : {A : Type 0} (jobs : List Job) (results : List (JobResult A)) (place : ℕ) (one : Job) (other : JobResult A)
+    → one ≡ slice_index_or jobs place one → other ≡ slice_index_or results place other → IsResultOf one other → AreLooked jobs results place
+    → AreLooked jobs results (place + 1)
 one_looked jobs results place one other is is_other right before n job given below at at_given = dite (ℕ_discrete n place)
     (λ same.
     let is_job : one ≡ job = is ∙ ap (λ k. slice_index_or jobs k one) (sym same) ∙ index_is jobs n job one at in
@@ -22,7 +24,9 @@ one_looked jobs results place one other is is_other right before n job given bel
     (λ apart. before n job given (omega (arith, below, apart)) at at_given)
 
 -- results are not the jobs' where one is not its job's
-pub one_wrong : {A : Type 0} (jobs : List Job) (results : List (JobResult A)) (place : ℕ) (one : Job) (other : JobResult A) → one ≡ slice_index_or jobs place one → other ≡ slice_index_or results place other → place < length jobs → (IsResultOf one other → ⊥) → AreResultsOf jobs results → ⊥
+pub one_wrong : {A : Type 0} (jobs : List Job) (results : List (JobResult A)) (place : ℕ) (one : Job) (other : JobResult A)
+    → one ≡ slice_index_or jobs place one → other ≡ slice_index_or results place other → place < length jobs → (IsResultOf one other → ⊥)
+    → AreResultsOf jobs results → ⊥
 one_wrong jobs results place one other is is_other below wrong all =
     let job = there jobs place below in
     let given = there results place (omega (arith, below, all.count)) in

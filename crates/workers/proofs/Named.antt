@@ -17,7 +17,8 @@ abbrev pub ArePlaced : {A : Type 0} → ℕ → List (Worker A) → Type 0
 ArePlaced {A = A} base workers = (n : ℕ) (worker : Worker A) → slice_get workers n ≡ Some worker → All (λ result. result.seat ≡ base + n) (done_by worker)
 
 shifted : {A : Type 0} (base : ℕ) (first : Worker A) (workers : List (Worker A)) → ArePlaced base (first ∷ workers) → ArePlaced (suc base) workers
-shifted base first workers placed n worker at = All-weaker (λ result. result.seat ≡ base + suc n) (λ result. result.seat ≡ suc base + n) (λ result e. omega (arith, e)) (done_by worker) (placed (suc n) worker at)
+shifted base first workers placed n worker at =
+    All-weaker (λ result. result.seat ≡ base + suc n) (λ result. result.seat ≡ suc base + n) (λ result e. omega (arith, e)) (done_by worker) (placed (suc n) worker at)
 
 others_apart : {A : Type 0} (place base : ℕ) (workers : List (Worker A)) → place < base → ArePlaced base workers → All (λ result. result.seat ≡ place → ⊥) (flat_map done_by workers)
 others_apart place base [] below placed = All-nil (λ result. result.seat ≡ place → ⊥)
@@ -40,7 +41,8 @@ between xs order others =
     (subst (IsPermutation ((xs ++ order) ++ others)) (append_assoc order xs others) (IsPermutation-append_left others (xs ++ order) (order ++ xs) (IsPermutation-append_comm xs order)))
 
 -- the results that name a place are those of the worker there
-pub named : {A : Type 0} (base : ℕ) (workers : List (Worker A)) → ArePlaced base workers → (n : ℕ) (worker : Worker A) → slice_get workers n ≡ Some worker → AreNamed (base + n) (flat_map done_by workers) (done_by worker)
+pub named : {A : Type 0} (base : ℕ) (workers : List (Worker A)) → ArePlaced base workers → (n : ℕ) (worker : Worker A) → slice_get workers n ≡ Some worker
+    → AreNamed (base + n) (flat_map done_by workers) (done_by worker)
 named base [] placed n worker at = cc
 named base (first ∷ workers) placed zero worker at = subst (λ w. AreNamed (base + 0) (flat_map done_by (first ∷ workers)) (done_by w)) (same_Some first worker at) record {
   others = flat_map done_by workers;

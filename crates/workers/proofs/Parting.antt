@@ -31,23 +31,27 @@ abbrev pub seat_of : {A : Type 0} → Worker A → Seat
 seat_of worker = worker.seat
 
 -- one worker more was parted
-pub seats_more : {A : Type 0} (seats news : List Seat) (ones : List (Worker A)) (seat : Seat) (one : Worker A) → news ≡ seats ++ seat ∷ [] → seat ≡ one.seat → seats ≡ map seat_of ones → news ≡ map seat_of (ones ++ one ∷ [])
+pub seats_more : {A : Type 0} (seats news : List Seat) (ones : List (Worker A)) (seat : Seat) (one : Worker A) → news ≡ seats ++ seat ∷ [] → seat ≡ one.seat
+    → seats ≡ map seat_of ones → news ≡ map seat_of (ones ++ one ∷ [])
 seats_more seats news ones seat one more is before = more ∙ ap (λ z. seats ++ z ∷ []) is ∙ ap (λ z. z ++ one.seat ∷ []) before ∙ sym (map-append seat_of ones (one ∷ []))
 
-pub results_more : {A : Type 0} (results news : List (JobResult A)) (ones : List (Worker A)) (done : Vec (JobResult A) A) (one : Worker A) → news ≡ results ++ done.items → done ≡ one.done → results ≡ flat_map done_by ones → news ≡ flat_map done_by (ones ++ one ∷ [])
+pub results_more : {A : Type 0} (results news : List (JobResult A)) (ones : List (Worker A)) (done : Vec (JobResult A) A) (one : Worker A)
+    → news ≡ results ++ done.items → done ≡ one.done → results ≡ flat_map done_by ones → news ≡ flat_map done_by (ones ++ one ∷ [])
 results_more results news ones done one more is before =
     more ∙ ap (λ z. results ++ z.items) is ∙ ap (λ z. z ++ one.done.items) before ∙ sym (flat_map-append done_by ones (one ∷ []) ∙ ap (λ z. flat_map done_by ones ++ z) (append-nil one.done.items))
 
 times_more : (n k : ℕ) → (n + 1) * k ≡ n * k + k
 times_more n k = omega arith
 
-pub few_more : {A : Type 0} (before after limit count more : ℕ) (done : Vec (JobResult A) A) (one : Worker A) → after ≡ before + vec_len done → done ≡ one.done → vec_len one.done ≤ limit → before ≤ count * limit → more ≡ count + 1 → after ≤ more * limit
+pub few_more : {A : Type 0} (before after limit count more : ℕ) (done : Vec (JobResult A) A) (one : Worker A) → after ≡ before + vec_len done → done ≡ one.done
+    → vec_len one.done ≤ limit → before ≤ count * limit → more ≡ count + 1 → after ≤ more * limit
 few_more before after limit count more done one added is few some next =
     let long = ap (λ z. vec_len z) is in
     let times = ap (λ n. n * limit) next ∙ times_more count limit in omega (arith, added, long, few, some, times)
 
 -- and there is room for its results
-pub has_room : {A : Type 0} (before room limit count all : ℕ) (done : Vec (JobResult A) A) (one : Worker A) → done ≡ one.done → vec_len one.done ≤ limit → before ≤ count * limit → count < all → all * limit ≤ room → room < before + vec_len done → ⊥
+pub has_room : {A : Type 0} (before room limit count all : ℕ) (done : Vec (JobResult A) A) (one : Worker A) → done ≡ one.done → vec_len one.done ≤ limit
+    → before ≤ count * limit → count < all → all * limit ≤ room → room < before + vec_len done → ⊥
 has_room before room limit count all done one is few some below given full =
     let long = ap (λ z. vec_len z) is in
     let most : (count + 1) * limit ≤ all * limit = mul-le-mul_right limit (omega (arith, below)) in
@@ -66,7 +70,8 @@ all_mapped f P (x ∷ xs) each zero d below = each 0 (f x) refl
 all_mapped f P (x ∷ xs) each (suc n) d below = all_mapped f P xs (λ m y e. each (suc m) y e) n d (omega (arith, below))
 
 -- what holds of each seat holds of each worker's
-pub all_seats : {A : Type 0} (P : Seat → Type 0) (workers : List (Worker A)) → ((n : ℕ) (seat : Seat) → slice_get (map seat_of workers) n ≡ Some seat → P seat) → All (λ worker. P (seat_of worker)) workers
+pub all_seats : {A : Type 0} (P : Seat → Type 0) (workers : List (Worker A)) → ((n : ℕ) (seat : Seat) → slice_get (map seat_of workers) n ≡ Some seat → P seat)
+    → All (λ worker. P (seat_of worker)) workers
 all_seats P workers each = all_mapped seat_of P workers each
 
 -- two lists of one length, of which each element of the one is that of the other
@@ -105,7 +110,8 @@ none_more : (place : ℕ) → 0 + place ≡ place
 none_more place = omega arith
 
 -- where jobs might be run all seats have worked
-pub have_worked : {A : Type 0} (told : Bool) (limit : ℕ) (olds news : List (Worker A)) → HaveComeBack told limit olds news → told ≡ true → HaveWorked (flat_map done_by news) (map seat_of olds) (map seat_of news)
+pub have_worked : {A : Type 0} (told : Bool) (limit : ℕ) (olds news : List (Worker A)) → HaveComeBack told limit olds news → told ≡ true
+    → HaveWorked (flat_map done_by news) (map seat_of olds) (map seat_of news)
 have_worked told limit olds news comes is =
     let back = subst (λ z. HaveComeBack z limit olds news) is comes in
     let many = length-map olds seat_of in
@@ -149,7 +155,8 @@ idle_after results olds news worked place after at =
     let old = there olds place (omega (arith, below, worked.count)) in
     (worked.each place old.0 after old.1 at).goes.idle
 
-pub worked_as : {A : Type 0} (results others : List (JobResult A)) (olds before news after : List Seat) → HaveWorked results olds news → others ≡ results → before ≡ olds → after ≡ news → HaveWorked others before after
+pub worked_as : {A : Type 0} (results others : List (JobResult A)) (olds before news after : List Seat) → HaveWorked results olds news → others ≡ results
+    → before ≡ olds → after ≡ news → HaveWorked others before after
 worked_as results others olds before news after worked same_results same_olds same_news =
     subst (λ z. HaveWorked z before after) (sym same_results)
     (subst (λ z. HaveWorked results z after) (sym same_olds) (subst (HaveWorked results olds) (sym same_news) worked))
@@ -184,14 +191,16 @@ pub one_history : (mids news : List Seat) → HaveGathered mids news → HaveOne
 one_history mids news g = (g.run, λ n seat at. let mid = was_there mids news g n seat at in (g.each n mid.0 seat mid.1 at).all)
 
 -- what a refusal is told with
-pub stopped : {A : Type 0} (jobs : List Job) (refusal : JobsRefusal) (results given : List (JobResult A)) (olds news backs : List Seat) → refusal ≡ Results → given ≡ results → backs ≡ news → HaveWorked results olds news → HaveOneHistory news
+pub stopped : {A : Type 0} (jobs : List Job) (refusal : JobsRefusal) (results given : List (JobResult A)) (olds news backs : List Seat) → refusal ≡ Results
+    → given ≡ results → backs ≡ news → HaveWorked results olds news → HaveOneHistory news
     → IsNonDecreasingBy (λ result. result.job) results → (AreResultsOf jobs results → ⊥) → HaveStopped jobs refusal given olds backs
 stopped jobs refusal results given olds news backs is same_results same worked one order other =
     subst (λ z. HaveStopped jobs z given olds backs) (sym is)
     (subst (λ z. HaveStopped jobs Results z olds backs) (sym same_results) (subst (HaveStopped jobs Results results olds) (sym same) (worked, one, order, other)))
 
 -- where no job was run the seats are as they were
-pub not_run : {A : Type 0} (jobs : List Job) (refusal : JobsRefusal) (results : List (JobResult A)) (olds backs : List Seat) → refusal ≡ NotRun → backs ≡ olds → results ≡ [] → HaveStopped jobs refusal results olds backs
+pub not_run : {A : Type 0} (jobs : List Job) (refusal : JobsRefusal) (results : List (JobResult A)) (olds backs : List Seat) → refusal ≡ NotRun → backs ≡ olds
+    → results ≡ [] → HaveStopped jobs refusal results olds backs
 not_run jobs refusal results olds backs is same none = subst (λ z. HaveStopped jobs z results olds backs) (sym is) (same, none)
 
 -- what is so where a test is false

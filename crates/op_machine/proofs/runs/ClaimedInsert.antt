@@ -80,7 +80,8 @@ no_points points has answered quiet =
     at : (n : ℕ) → IsOwnStep claimed_insert the_insert n → slice_get points n ≡ Some true → logged_value (log_at claimed_insert points n) (codes "a") ≡ None → ⊥
     at n (step, answer, (answered_by, own)) marked none =
         let below : n < 7 = slice_get_below claimed_insert n (Step 0 step answer answered_by) own.entry in
-        let by : updates_at (take n claimed_insert) (Step 0 step answer answered_by) (log_at claimed_insert points n) ≡ updates_by 0 (Some insert) (log_at claimed_insert points n) = updates n (Step 0 step answer answered_by) own.entry own.begun (log_at claimed_insert points n) in
+        let by : updates_at (take n claimed_insert) (Step 0 step answer answered_by) (log_at claimed_insert points n) ≡ updates_by 0 (Some insert) (log_at claimed_insert points n) = updates
+        n (Step 0 step answer answered_by) own.entry own.begun (log_at claimed_insert points n) in
         let sets : updates_by 0 (Some insert) (log_at claimed_insert points n) ≡ set 0 (codes "a") (codes "1") ∷ [] = ap (λ old. option_to_list (update_of 0 insert old)) none in
         let grown : log_at claimed_insert points (suc n) ≡ log_at claimed_insert points n ++ set 0 (codes "a") (codes "1") ∷ [] =
         log_at-step claimed_insert points n (Step 0 step answer answered_by) true has.beside own.entry marked ∙ ap (λ more. log_at claimed_insert points n ++ more) (by ∙ sets) in

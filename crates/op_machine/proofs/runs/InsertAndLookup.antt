@@ -111,7 +111,8 @@ before n slot row = one_leaf (memory_at small insert_and_lookup n) [] (opening_l
 
 after : (n : ℕ) → (memory_at small insert_and_lookup n).slots 1 ≡ 2 → (memory_at small insert_and_lookup n).rows 2 ≡ Some put_a → (memory_at small insert_and_lookup n).rows 1 ≡ Some opening_leaf
     → HasMapOf (memory_at small insert_and_lookup n) (set 0 (codes "a") (codes "1") ∷ [])
-after n slot put leaf = one_leaf (memory_at small insert_and_lookup n) _ (put_a ∷ opening_leaf ∷ []) (record { page = lit< tt; linked = rw slot (lit< tt); records = rw slot (put, (leaf, refl)) }) refl refl refl (λ key. by_cases (is_eq (key_cmp key (codes "a"))))
+after n slot put leaf =
+    one_leaf (memory_at small insert_and_lookup n) _ (put_a ∷ opening_leaf ∷ []) (record { page = lit< tt; linked = rw slot (lit< tt); records = rw slot (put, (leaf, refl)) }) refl refl refl (λ key. by_cases (is_eq (key_cmp key (codes "a"))))
   where
     by_cases : (b : Bool) → (if b then Some (Value (codes "1")) else None) ≡ option_map Value (if b then Some (codes "1") else None)
     by_cases true = refl
@@ -124,10 +125,25 @@ is_quiet = record { at_each = UpTo-at Has 19 (UpTo-parts Has 9 9 empty full) }
     Has k = HasMapOf (memory_at small insert_and_lookup k) (log_at insert_and_lookup points k)
 
     empty : UpTo Has 9
-    empty = (before 0 refl refl, (before 1 refl refl, (before 2 refl refl, (before 3 refl refl, (before 4 refl refl, (before 5 refl refl, (before 6 refl refl, (before 7 refl refl, (before 8 refl refl, before 9 refl refl)))))))))
+    empty = (
+      before 0 refl refl,
+      (
+        before 1 refl refl,
+        (before 2 refl refl, (before 3 refl refl, (before 4 refl refl, (before 5 refl refl, (before 6 refl refl, (before 7 refl refl, (before 8 refl refl, before 9 refl refl))))))),
+      ),
+    )
 
     full : UpTo (behind 9 Has) 9
-    full = (after 10 refl refl refl, (after 11 refl refl refl, (after 12 refl refl refl, (after 13 refl refl refl, (after 14 refl refl refl, (after 15 refl refl refl, (after 16 refl refl refl, (after 17 refl refl refl, (after 18 refl refl refl, after 19 refl refl refl)))))))))
+    full = (
+      after 10 refl refl refl,
+      (
+        after 11 refl refl refl,
+        (
+          after 12 refl refl refl,
+          (after 13 refl refl refl, (after 14 refl refl refl, (after 15 refl refl refl, (after 16 refl refl refl, (after 17 refl refl refl, (after 18 refl refl refl, after 19 refl refl refl)))))),
+        ),
+      ),
+    )
 
 abbrev the_insert : Operation
 the_insert = record { start = 0; actor = 0; command = Insert (codes "a") (codes "1") }
@@ -135,7 +151,8 @@ the_insert = record { start = 0; actor = 0; command = Insert (codes "a") (codes 
 abbrev the_get : Operation
 the_get = record { start = 11; actor = 0; command = Get (codes "a") }
 
-begins : (n actor : ℕ) (command : Command) → slice_get insert_and_lookup n ≡ Some (Begin actor command) → ((n ≡ 0) × (actor ≡ 0) × (command ≡ Insert (codes "a") (codes "1"))) ⊎ ((n ≡ 11) × (actor ≡ 0) × (command ≡ Get (codes "a")))
+begins : (n actor : ℕ) (command : Command) → slice_get insert_and_lookup n ≡ Some (Begin actor command)
+    → ((n ≡ 0) × (actor ≡ 0) × (command ≡ Insert (codes "a") (codes "1"))) ⊎ ((n ≡ 11) × (actor ≡ 0) × (command ≡ Get (codes "a")))
 begins n actor command e = by_place (stands_at is_begin insert_and_lookup n _ e refl)
   where
     at : (k : ℕ) → n ≡ k → slice_get insert_and_lookup k ≡ Some (Begin actor command)
@@ -173,7 +190,9 @@ apart operation is first second = elim (both operation is) [
   | inr same ↦ let own : IsOwnStep insert_and_lookup the_get 9 = subst (λ o. IsOwnStep insert_and_lookup o 9) same first in let late : 11 < 9 = own.2.1.begun in omega arith
 ]
 
-ends : (n actor : ℕ) (step : StepOf Record) (answer : Answer Record) (answered : Reply) → slice_get insert_and_lookup n ≡ Some (Step actor step answer (Some answered)) → ((n ≡ 10) × (answered ≡ reply.Inserted)) ⊎ ((n ≡ 18) × (answered ≡ reply.Value (codes "1")))
+ends : (n actor : ℕ) (step : StepOf Record) (answer : Answer Record) (answered : Reply)
+    → slice_get insert_and_lookup n ≡ Some (Step actor step answer (Some answered))
+    → ((n ≡ 10) × (answered ≡ reply.Inserted)) ⊎ ((n ≡ 18) × (answered ≡ reply.Value (codes "1")))
 ends n actor step answer answered e = elim (stands_at is_done insert_and_lookup n _ e refl) [
   | inl is ↦ inl (is, one_reply (subst (λ k. slice_get insert_and_lookup k ≡ Some (Step actor step answer (Some answered))) is e))
   | inr is ↦ inr (is, one_reply (subst (λ k. slice_get insert_and_lookup k ≡ Some (Step actor step answer (Some answered))) is e))
@@ -283,7 +302,10 @@ is_faithful = record {
     }
 
 ends_at_leaves : EndAtLeaves insert_and_lookup
-ends_at_leaves = record { each = EachAt-get (λ n entry. RepliesAtLeave entry) insert_and_lookup (tt, (refl, (refl, (refl, (refl, (refl, (refl, (refl, (refl, (refl, (refl, (tt, (refl, (refl, (refl, (refl, (refl, (refl, (refl, tt))))))))))))))))))) }
+ends_at_leaves = record {
+  each = EachAt-get (λ n entry. RepliesAtLeave entry) insert_and_lookup
+      (tt, (refl, (refl, (refl, (refl, (refl, (refl, (refl, (refl, (refl, (refl, (tt, (refl, (refl, (refl, (refl, (refl, (refl, (refl, tt)))))))))))))))))));
+}
 
 pub is_linearized : IsLinearized small (map turn_of insert_and_lookup) insert_and_lookup
 is_linearized = record {

@@ -61,7 +61,8 @@ pub own : (a : ℕ) (entries : List Entry) → all_at (λ n. is_of a) entries �
 own a entries all n actor step answer h = eqb-true actor a (passes_at (λ k. is_of a) entries all n _ h.1)
 
 -- where nobody else took a step, a taken row without a record may be written
-pub may_place : (entries : List Entry) (row : ℕ) → all_at (λ n. is_of 0) entries ≡ true → (memory_of small entries).free_rows row ≡ false → (memory_of small entries).rows row ≡ None → MayPlace small entries 0 row
+pub may_place : (entries : List Entry) (row : ℕ) → all_at (λ n. is_of 0) entries ≡ true → (memory_of small entries).free_rows row ≡ false
+    → (memory_of small entries).rows row ≡ None → MayPlace small entries 0 row
 may_place entries row all taken empty = record {
   taken = taken;
   unlinked = unplaced (memory_of small entries) row empty;
@@ -69,7 +70,8 @@ may_place entries row all taken empty = record {
 }
 
 -- the page of the opening tree, as long as nobody has written its slot
-pub leaf_at : (entries : List Entry) (k : ℕ) → (memory_at small entries k).slots 1 ≡ 1 → (memory_at small entries k).rows 1 ≡ Some opening_leaf → IsChainOf (memory_at small entries k) 1 (opening_leaf ∷ [])
+pub leaf_at : (entries : List Entry) (k : ℕ) → (memory_at small entries k).slots 1 ≡ 1 → (memory_at small entries k).rows 1 ≡ Some opening_leaf
+    → IsChainOf (memory_at small entries k) 1 (opening_leaf ∷ [])
 leaf_at entries k slot row = record { page = lit< tt; linked = rw slot (lit< tt); records = rw slot (row, refl) }
 
 -- outside the epoch no page is touched
@@ -92,5 +94,6 @@ one_reply e = cc
 pub one_row : {a b row other : ℕ} {x y : Answer Record} {r u : Option Reply} → Some (Step a (Row row) x r) ≡ Some (Step b (Row other) y u) → (b ≡ a) × (other ≡ row)
 one_row e = (cc, cc)
 
-pub one_reuse : {a b word other bits more : ℕ} {x y : Answer Record} {r u : Option Reply} → Some (Step a (ReuseRows word bits) x r) ≡ Some (Step b (ReuseRows other more) y u) → (b ≡ a) × (other ≡ word) × (more ≡ bits)
+pub one_reuse : {a b word other bits more : ℕ} {x y : Answer Record} {r u : Option Reply}
+    → Some (Step a (ReuseRows word bits) x r) ≡ Some (Step b (ReuseRows other more) y u) → (b ≡ a) × (other ≡ word) × (more ≡ bits)
 one_reuse e = (cc, cc, cc)

@@ -169,7 +169,9 @@ moves_none n pid from to moves = none_moves moves.entry (looks n moves.entry mov
     odd : false ≡ true → ⊥
     odd e = cc
 
-    none_moves : {memory : Memory} {pid : ℕ} {from to : Phase} (entry : Entry) → ((actor : ℕ) (step : StepOf Record) (answer : Answer Record) → IsStep entry actor step answer → only_looks step ≡ true) → MovesPhase memory entry pid from to → ⊥
+    none_moves : {memory : Memory} {pid : ℕ} {from to : Phase} (entry : Entry)
+        → ((actor : ℕ) (step : StepOf Record) (answer : Answer Record) → IsStep entry actor step answer → only_looks step ≡ true)
+        → MovesPhase memory entry pid from to → ⊥
     none_moves entry l (takes a is) = odd (l _ _ _ is)
     none_moves entry l (splits a b h e) = odd (l _ _ _ h.3.0)
     none_moves entry l (becomes_root h) = odd (l _ _ _ h.2.0)
@@ -309,20 +311,30 @@ has_few_changes = record {
 
 is_exact_index : IsExactIndex small lookup
 is_exact_index = record {
-  rooted = λ n h. (0, UpTo-at (λ k. IsRootLevel (memory_at small lookup k) 0) 7 (leafy 0 refl refl, (leafy 1 refl refl, (leafy 2 refl refl, (leafy 3 refl refl, (leafy 4 refl refl, (leafy 5 refl refl, (leafy 6 refl refl, leafy 7 refl refl))))))) n h);
+  rooted =
+      λ n h. (
+        0,
+        UpTo-at (λ k. IsRootLevel (memory_at small lookup k) 0) 7
+            (leafy 0 refl refl, (leafy 1 refl refl, (leafy 2 refl refl, (leafy 3 refl refl, (leafy 4 refl refl, (leafy 5 refl refl, (leafy 6 refl refl, leafy 7 refl refl)))))))
+            n h,
+      );
   each = λ n level top h root below. absurd (too_low n top h root below);
 }
   where
     leafy : (k : ℕ) → (memory_at small lookup k).slots 1 ≡ 1 → (memory_at small lookup k).rows 1 ≡ Some opening_leaf → IsPageOfLevel (memory_at small lookup k) 0 1
     leafy k slot row = (opening_leaf ∷ [], leaf_at lookup k slot row, refl)
 
-    leaf : (k : ℕ) → (memory_at small lookup k).slots 0 ≡ 1 → (memory_at small lookup k).slots 1 ≡ 1 → (memory_at small lookup k).rows 1 ≡ Some opening_leaf → (top : ℕ) → IsRootLevel (memory_at small lookup k) top → top ≡ 0
+    leaf : (k : ℕ) → (memory_at small lookup k).slots 0 ≡ 1 → (memory_at small lookup k).slots 1 ≡ 1 → (memory_at small lookup k).rows 1 ≡ Some opening_leaf
+        → (top : ℕ) → IsRootLevel (memory_at small lookup k) top → top ≡ 0
     leaf k root slot row top (chain, other, level) = let other_1 : IsChainOf (memory_at small lookup k) 1 chain = subst (λ p. IsChainOf (memory_at small lookup k) p chain) root other in
         let same : chain ≡ opening_leaf ∷ [] = IsChainOf-unique (memory_at small lookup k) 1 chain (opening_leaf ∷ []) other_1 (leaf_at lookup k slot row) in sym level ∙ ap level_in same
 
     too_low : {level : ℕ} (n top : ℕ) → n ≤ 7 → IsRootLevel (memory_at small lookup n) top → level < top → ⊥
-    too_low n top h root below = let zero_top : top ≡ 0 = UpTo-at (λ k. (t : ℕ) → IsRootLevel (memory_at small lookup k) t → t ≡ 0) 7
-        (leaf 0 refl refl refl, (leaf 1 refl refl refl, (leaf 2 refl refl refl, (leaf 3 refl refl refl, (leaf 4 refl refl refl, (leaf 5 refl refl refl, (leaf 6 refl refl refl, leaf 7 refl refl refl))))))) n h top root in omega arith
+    too_low n top h root below = let zero_top : top ≡ 0 = UpTo-at (λ k. (t : ℕ) → IsRootLevel (memory_at small lookup k) t → t ≡ 0) 7 (
+      leaf 0 refl refl refl,
+      (leaf 1 refl refl refl, (leaf 2 refl refl refl, (leaf 3 refl refl refl, (leaf 4 refl refl refl, (leaf 5 refl refl refl, (leaf 6 refl refl refl, leaf 7 refl refl refl)))))),
+    )
+        n h top root in omega arith
 
 ends_at_leaves : EndAtLeaves lookup
 ends_at_leaves = record { each = EachAt-get (λ n entry. RepliesAtLeave entry) lookup (tt, (refl, (refl, (refl, (refl, (refl, (refl, tt))))))) }
@@ -342,7 +354,8 @@ is_linearized = record {
 unhindered : IsUnhindered small lookup
 unhindered = record {
   few = λ operation n is own none. ([], record { increasing = λ k h. absurd (omega arith); each = λ k d h. absurd (omega arith) }, once_more (few_steps operation n is (at_most n own)));
-  since = λ operation m n is after le own none. ([], record { increasing = λ k h. absurd (omega arith); each = λ k d h. absurd (omega arith) }, tenfold_more (cause_worth small) (few_since operation m n));
+  since =
+      λ operation m n is after le own none. ([], record { increasing = λ k h. absurd (omega arith); each = λ k d h. absurd (omega arith) }, tenfold_more (cause_worth small) (few_since operation m n));
 }
   where
     once_more : {m n : ℕ} → m ≤ n → m ≤ n * (0 + 1)

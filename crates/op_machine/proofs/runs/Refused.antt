@@ -45,7 +45,8 @@ not_direct direct = let same : ◌≡◌ {A = ℕ} 4 6 = direct.once operation 4
 
 pub not_useful : ¬ IsDirect small needless_base
 not_useful direct = let long : 1 < 1 = direct.useful operation 3 1 1 2 (opening_leaf ∷ []) refl
-    (None, record { begun = lit< tt; entry = refl; not_ended = λ later command low high e. begun_once later command low e }) refl (record { page = lit< tt; linked = lit< tt; records = (refl, refl) }) in omega arith
+    (None, record { begun = lit< tt; entry = refl; not_ended = λ later command low high e. begun_once later command low e }) refl
+    (record { page = lit< tt; linked = lit< tt; records = (refl, refl) }) in omega arith
   where
     begun_once : (later : ℕ) (command : Command) → 0 < later → slice_get needless_base later ≡ Some (Begin 0 command) → ⊥
     begun_once later command after e = let first : later ≡ 0 = stands_at is_begin needless_base later _ e refl in omega arith

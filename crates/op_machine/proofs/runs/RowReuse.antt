@@ -25,8 +25,16 @@ use Rattle.op_machine.proofs.Listed.{EachAt-get, all_below-at, and_left, and_rig
 use Rattle.op_machine.proofs.runs.Kinds.{frees_pids, frees_rows, may_place, one_reuse, reads_announced}
 
 pub is_run : IsRun small row_reuse
-is_run = IsRun-from_steps small row_reuse
-    ((lit< tt, refl), ((refl, tt, refl), ((refl, tt, refl), ((refl, tt, refl), ((refl, tt, (opening_leaf, refl, refl)), ((refl, tt, refl), ((refl, may_place (take 6 row_reuse) 2 refl refl refl, refl), ((refl, tt, refl), ((refl, tt, refl), ((refl, tt, refl), ((refl, tt, refl), ((refl, tt, refl), ((refl, tt, refl), tt)))))))))))))
+is_run = IsRun-from_steps small row_reuse (
+  (lit< tt, refl),
+  (
+    (refl, tt, refl),
+    (
+      (refl, tt, refl),
+      ((refl, tt, refl), ((refl, tt, (opening_leaf, refl, refl)), ((refl, tt, refl), ((refl, may_place (take 6 row_reuse) 2 refl refl refl, refl), ((refl, tt, refl), ((refl, tt, refl), ((refl, tt, refl), ((refl, tt, refl), ((refl, tt, refl), ((refl, tt, refl), tt)))))))))),
+    ),
+  ),
+)
 
 -- after the exchange PID 1 alone has a chain, from row 2
 linked : (pid : ℕ) → 0 < pid → 0 < (memory_at small row_reuse 8).slots pid → (memory_at small row_reuse 8).slots pid ≡ 2
@@ -78,8 +86,17 @@ frees n actor word bits answer is =
     let one = one_reuse (subst (λ k. slice_get row_reuse k ≡ Some (Step actor (ReuseRows word bits) answer is.0)) last is.1) in (last, one.0, one.1, one.2)
 
 kept : (between other : ℕ) (step : StepOf Record) (answer : Answer Record) → 7 < between → between < 12 → TakesStep row_reuse between other step answer → ¬ HandsRow 1 step answer
-kept between other step answer low high is = EachAt-get (λ k e. 7 < k → k < 12 → (a : ℕ) (s : StepOf Record) (b : Answer Record) (r : Option Reply) → e ≡ Step a s b r → ¬ HandsRow 1 s b) row_reuse
-    (λ low high a s b r e. absurd (omega arith), (λ low high a s b r e. absurd (omega arith), (λ low high a s b r e. absurd (omega arith), (λ low high a s b r e. absurd (omega arith), (λ low high a s b r e. absurd (omega arith), (λ low high a s b r e. absurd (omega arith), (λ low high a s b r e. absurd (omega arith), (λ low high a s b r e. absurd (omega arith), (λ low high a s b r e. hands Leave s b (λ h. h) cc, (λ low high a s b r e. hands Epoch s b (λ h. h) cc, (λ low high a s b r e. hands (Retire 1) s b (λ h. h) cc, (λ low high a s b r e. hands (Announce 1) s b (λ h. h) cc, (λ low high a s b r e. absurd (omega arith), tt))))))))))))) between _ is.1 low high other step answer is.0 refl
+kept between other step answer low high is = EachAt-get (λ k e. 7 < k → k < 12 → (a : ℕ) (s : StepOf Record) (b : Answer Record) (r : Option Reply) → e ≡ Step a s b r → ¬ HandsRow 1 s b) row_reuse (
+  λ low high a s b r e. absurd (omega arith),
+  (
+    λ low high a s b r e. absurd (omega arith),
+    (
+      λ low high a s b r e. absurd (omega arith),
+      (λ low high a s b r e. absurd (omega arith), (λ low high a s b r e. absurd (omega arith), (λ low high a s b r e. absurd (omega arith), (λ low high a s b r e. absurd (omega arith), (λ low high a s b r e. absurd (omega arith), (λ low high a s b r e. hands Leave s b (λ h. h) cc, (λ low high a s b r e. hands Epoch s b (λ h. h) cc, (λ low high a s b r e. hands (Retire 1) s b (λ h. h) cc, (λ low high a s b r e. hands (Announce 1) s b (λ h. h) cc, (λ low high a s b r e. absurd (omega arith), tt)))))))))),
+    ),
+  ),
+)
+    between _ is.1 low high other step answer is.0 refl
   where
     hands : (s t : StepOf Record) (b : Answer Record) → ¬ HandsRow 1 s b → s ≡ t → ¬ HandsRow 1 t b
     hands s t b h e = subst (λ x. ¬ HandsRow 1 x b) e h

@@ -24,7 +24,9 @@ Wants op hand asked = (k : Knowledge) (r : Recalled) → Shows op hand k r → G
 
 -- Whatever is known that the operation showed, and that the answer fits: it shows what is known then.
 abbrev pub ShowsOn : Op → Hand → Answer Record → Op → Hand → Type 0
-ShowsOn old had told new has = (k : Knowledge) (r : Recalled) → Shows old had k r → FitsLast old.task.limits k (wanted_of old had) told → Shows new has (learn_last k (wanted_of old had) told) (recall_last r (wanted_of old had) told)
+ShowsOn old had told new has =
+    (k : Knowledge) (r : Recalled) → Shows old had k r → FitsLast old.task.limits k (wanted_of old had) told
+    → Shows new has (learn_last k (wanted_of old had) told) (recall_last r (wanted_of old had) told)
 
 -- The operation has taken the answer, and wants a step: whichever it wants, it obeys by it, with fewer steps left, at the same task. In a
 -- round it has made of the answer what the round makes of it; where it meets a removed page, it goes to the left of that page.

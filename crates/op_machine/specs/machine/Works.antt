@@ -53,11 +53,14 @@ pub record IsToldChange (state : State) (hand : Hand) (told : Answer Record) : T
 -- The answer turns a state into this one, whatever is known that the state shows: it goes on, or the operation has come to this.
 pub record TurnsInto (old : State) (had : Spares) (told : Answer Record) (new : State) (has : Spares) (outcome : Option Outcome) : Type 0 where
   pub comes : (task : Task) (k : Knowledge) (r : Recalled) → ShowsState task had k r old → FitsLast task.limits k (wanted_at had old) told → Comes task k r (wanted_at had old) told new has outcome
-  pub leaves : (task : Task) (k : Knowledge) (r : Recalled) → ShowsState task had k r old → FitsLast task.limits k (wanted_at had old) told → LeavesFor task.limits r (wanted_at had old) told (left_at task.limits r had old) new has outcome
+  pub leaves : (task : Task) (k : Knowledge) (r : Recalled) → ShowsState task had k r old → FitsLast task.limits k (wanted_at had old) told
+      → LeavesFor task.limits r (wanted_at had old) told (left_at task.limits r had old) new has outcome
 
 -- It has fewer steps left, or a cause paid for more.
 abbrev pub IsSpentOn : Recalled → Op → Spares → Answer Record → Op → Spares → Type 0
-IsSpentOn r old had told new has = IsSpentLast old.task.limits r (asked_of old had) told (with_errands old.task.limits old.task.errands (left_at old.task.limits r had old.state)) (with_errands old.task.limits new.task.errands (left_at old.task.limits (recall_last r (asked_of old had) told) has new.state))
+IsSpentOn r old had told new has =
+    IsSpentLast old.task.limits r (asked_of old had) told (with_errands old.task.limits old.task.errands (left_at old.task.limits r had old.state))
+    (with_errands old.task.limits new.task.errands (left_at old.task.limits (recall_last r (asked_of old had) told) has new.state))
 
 -- The limbo list keeps what is known to be in limbo.
 abbrev pub KeepsLimbo : Op → Hand → Answer Record → Hand → Type 0
@@ -66,7 +69,8 @@ KeepsLimbo old had told has = (k : Knowledge) (r : Recalled) → Works old had.s
 
 -- It has taken the answer and asks for a step: it shows what is known then, with fewer steps left, at the same task.
 pub record AsksOn (old : Op) (had : Spares) (told : Answer Record) (new : Op) (has : Spares) : Type 0 where
-  pub works : (k : Knowledge) (r : Recalled) → Works old had k r → FitsLast old.task.limits k (asked_of old had) told → Works new has (learn_last k (asked_of old had) told) (recall_last r (asked_of old had) told)
+  pub works : (k : Knowledge) (r : Recalled) → Works old had k r → FitsLast old.task.limits k (asked_of old had) told
+      → Works new has (learn_last k (asked_of old had) told) (recall_last r (asked_of old had) told)
   pub spends : (k : Knowledge) (r : Recalled) → Works old had k r → FitsLast old.task.limits k (asked_of old had) told → IsSpentOn r old had told new has
   pub asks : IsSome (asked_of new has)
   pub same : IsSameTask old.task new.task
@@ -81,7 +85,8 @@ LeavesWith state (Done reply) = state ≡ Leave reply (lacks_at state)
 -- It goes from what it has come to into the state that follows, which asks for a step.
 pub record FollowsOutcome (old : Op) (spares : Spares) (outcome : Outcome) (new : Op) : Type 0 where
   pub stands : (k : Knowledge) (r : Recalled) → Faces old.task spares k r outcome → Works new spares k r
-  pub few : (k : Knowledge) (r : Recalled) → Faces old.task spares k r outcome → with_errands old.task.limits new.task.errands (left_at old.task.limits r spares new.state) ≤ with_errands old.task.limits old.task.errands (left_for old.task.limits outcome)
+  pub few : (k : Knowledge) (r : Recalled) → Faces old.task spares k r outcome
+      → with_errands old.task.limits new.task.errands (left_at old.task.limits r spares new.state) ≤ with_errands old.task.limits old.task.errands (left_for old.task.limits outcome)
   pub asks : IsSome (asked_of new spares)
   pub same : IsSameTask old.task new.task
   pub sweep : new.sweep ≡ old.sweep

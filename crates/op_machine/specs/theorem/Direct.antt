@@ -48,7 +48,9 @@ module _ (limits : Limits) (entries : List Entry) (operation : Operation) where
 
   -- Its exchange lost, though it had read the expected number in the slot.
   abbrev pub Loses : ℕ → Type 0
-  Loses n = (slot old new m : ℕ) × TakesOwnStep entries operation n (Exchange slot old new) (Whether false) × (m < n) × TakesOwnStep entries operation m (Slot slot) (Number old) × TakesNone m n (IsExchangeOf slot)
+  Loses n =
+      (slot old new m : ℕ) × TakesOwnStep entries operation n (Exchange slot old new) (Whether false) × (m < n) × TakesOwnStep entries operation m (Slot slot)
+      (Number old) × TakesNone m n (IsExchangeOf slot)
 
   -- It did not get what it had read as free.
   abbrev pub MissesNumber : ℕ → Type 0
@@ -74,7 +76,8 @@ is_step_of actor (Step other step answer reply) = other == actor
 abbrev pub IsOfTree : Limits → List Entry → ℕ → ℕ → Type 0
 IsOfTree limits entries n pid = (phase : Phase) × IsInPhase limits entries n pid phase × (phase ≢ free) × (phase ≢ owned) × (pid < limits.pids)
 
--- Of each operation that has got as far as step n: the causes pay for the steps, and those from any later entry on, and ten more, for the steps since; it links one update at most, it consolidates no base alone, a
+-- Of each operation that has got as far as step n: the causes pay for the steps, and those from any later entry on, and ten more, for the steps since; it links
+-- one update at most, it consolidates no base alone, a
 -- reader only reads, and a slot that is found empty is that of a page that was cleared. A slot in which it finds a row is that of a page of the
 -- tree; each exchange that it wins has a link, and one that fills a slot, or empties it again, is of a page which nobody has put into the tree yet.
 pub record IsDirect (limits : Limits) (entries : List Entry) : Type 0 where
@@ -88,7 +91,8 @@ pub record IsDirect (limits : Limits) (entries : List Entry) : Type 0 where
       → (first ≡ link.Put) ⊎ (first ≡ link.Delete) → (second ≡ link.Put) ⊎ (second ≡ link.Delete) → m ≡ n
   pub useful : (operation : Operation) (n slot old new : ℕ) (chain : List Record) → IsOperation entries operation → TakesOwnStep entries operation n (Exchange slot old new) (Whether true)
       → link_of (memory_at limits entries n) slot old new ≡ Some link.Base → IsChainOf (memory_at limits entries n) slot chain → 1 < length chain
-  pub reads : (operation : Operation) (n : ℕ) (step : StepOf Record) (answer : Answer Record) → IsOperation entries operation → is_writer operation.command ≡ false → TakesOwnStep entries operation n step answer → IsReading step
+  pub reads : (operation : Operation) (n : ℕ) (step : StepOf Record) (answer : Answer Record) → IsOperation entries operation
+      → is_writer operation.command ≡ false → TakesOwnStep entries operation n step answer → IsReading step
   pub emptied : (operation : Operation) (n pid : ℕ) → IsOperation entries operation → TakesOwnStep entries operation n (Slot pid) (Number 0) → IsInPhase limits entries n pid cleared
   pub settled : (operation : Operation) (n pid row : ℕ) → IsOperation entries operation → TakesOwnStep entries operation n (Slot pid) (Number row) → 0 < pid → 0 < row → IsOfTree limits entries n pid
   pub links : (operation : Operation) (n slot old new : ℕ) → IsOperation entries operation → TakesOwnStep entries operation n (Exchange slot old new) (Whether true)

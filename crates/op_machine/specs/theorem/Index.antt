@@ -22,7 +22,9 @@ IsRootLevel memory level = IsPageOfLevel memory level (memory.slots 0)
 module _ (limits : Limits) (entries : List Entry) where
   -- The PID is that of the first page of the level that slot 0 held, before step n.
   abbrev pub IsLeftmost : ℕ → ℕ → ℕ → Type 0
-  IsLeftmost n level pid = (m : ℕ) × (m ≤ n) × ((memory_at limits entries m).slots 0 ≡ pid) × IsRootLevel (memory_at limits entries m) level × ((earlier : ℕ) → earlier < m → ¬ IsRootLevel (memory_at limits entries earlier) level)
+  IsLeftmost n level pid =
+      (m : ℕ) × (m ≤ n) × ((memory_at limits entries m).slots 0 ≡ pid) × IsRootLevel (memory_at limits entries m) level ×
+      ((earlier : ℕ) → earlier < m → ¬ IsRootLevel (memory_at limits entries earlier) level)
 
   -- The pages are those of the level before step n, from left to right.
   abbrev pub IsLevel : ℕ → ℕ → List LivePage → Type 0

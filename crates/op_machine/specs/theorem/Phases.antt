@@ -43,10 +43,12 @@ pub data MovesPhase (memory : Memory) (entry : Entry) (pid : ℕ) : Phase → Ph
   splits : (slot : ℕ) (split : Split) → Installs memory entry slot (delta.Split split) → split.page ≡ pid → MovesPhase memory entry pid owned fresh
   becomes_root : MakesRoot memory entry pid → MovesPhase memory entry pid owned indexed
   terms : (slot : ℕ) (term : Term) → Installs memory entry slot (delta.Term term) → term.child ≡ pid → MovesPhase memory entry pid fresh indexed
-  under_root : (root : ℕ) (chain : List Record) (key : List ℕ) (held : Bool) → MakesRoot memory entry root → IsChainOf memory root chain → IsTrue (is_below (low_in chain) key) → content_in chain key ≡ Some (Child pid held) → MovesPhase memory entry pid fresh indexed
+  under_root : (root : ℕ) (chain : List Record) (key : List ℕ) (held : Bool) → MakesRoot memory entry root → IsChainOf memory root chain
+      → IsTrue (is_below (low_in chain) key) → content_in chain key ≡ Some (Child pid held) → MovesPhase memory entry pid fresh indexed
   holds : (slot : ℕ) (hold : Hold) → Installs memory entry slot (delta.Hold hold) → hold.child ≡ pid → MovesPhase memory entry pid indexed held
   removes : (remove : Remove) → Installs memory entry pid (delta.Remove remove) → MovesPhase memory entry pid held removed
-  merges : (slot : ℕ) (merge : Merge) (chain : List Record) → Installs memory entry slot (delta.Merge merge) → IsChainOf memory slot chain → right_in chain ≡ Some pid → MovesPhase memory entry pid removed merged
+  merges : (slot : ℕ) (merge : Merge) (chain : List Record) → Installs memory entry slot (delta.Merge merge) → IsChainOf memory slot chain
+      → right_in chain ≡ Some pid → MovesPhase memory entry pid removed merged
   unterms : (slot : ℕ) (unterm : Unterm) → Installs memory entry slot (delta.Unterm unterm) → unterm.child ≡ pid → MovesPhase memory entry pid merged cleared
   reuses : (actor word bits : ℕ) (answer : Answer Record) → IsStep entry actor (ReusePids word bits) answer → is_among word bits pid ≡ true → MovesPhase memory entry pid cleared free
 
@@ -71,4 +73,5 @@ module _ (limits : Limits) (entries : List Entry) where
   pub record KeepsPhases : Type 0 where
     pub in_order : (n pid : ℕ) (from to : Phase) → MovesAt n pid from to → IsInPhase n pid from
     pub emptied : (n actor pid old : ℕ) → Happens limits entries n (λ memory entry. Wins memory entry actor pid old 0 link.Clear) → IsInPhase n pid cleared
-    pub unheld : (n pid : ℕ) (remove : Remove) (chain : List Record) → Happens limits entries n (λ memory entry. Installs memory entry pid (delta.Remove remove) × IsChainOf memory pid chain) → IsUnheld chain
+    pub unheld : (n pid : ℕ) (remove : Remove) (chain : List Record)
+        → Happens limits entries n (λ memory entry. Installs memory entry pid (delta.Remove remove) × IsChainOf memory pid chain) → IsUnheld chain

@@ -65,5 +65,7 @@ pub record HasPoints (entries : List Entry) (points : List Bool) : Type 0 where
   pub beside : length points ≡ length entries
   pub own : (n : ℕ) → IsPoint points n → (operation : Operation) × IsOperation entries operation × IsOwnStep entries operation n
   pub one : (operation : Operation) (m n : ℕ) → IsOperation entries operation → IsOwnStep entries operation m → IsOwnStep entries operation n → IsPoint points m → IsPoint points n → m ≡ n
-  pub pointed : (operation : Operation) (n : ℕ) (reply : Reply) → IsOperation entries operation → Finishes entries operation n reply → IsTrue (has_point reply) → (m : ℕ) × IsOwnStep entries operation m × IsPoint points m
-  pub pointless : (operation : Operation) (m n : ℕ) (reply : Reply) → IsOperation entries operation → Finishes entries operation n reply → IsFalse (has_point reply) → IsOwnStep entries operation m → ¬ IsPoint points m
+  pub pointed : (operation : Operation) (n : ℕ) (reply : Reply) → IsOperation entries operation → Finishes entries operation n reply → IsTrue (has_point reply)
+      → (m : ℕ) × IsOwnStep entries operation m × IsPoint points m
+  pub pointless : (operation : Operation) (m n : ℕ) (reply : Reply) → IsOperation entries operation → Finishes entries operation n reply
+      → IsFalse (has_point reply) → IsOwnStep entries operation m → ¬ IsPoint points m

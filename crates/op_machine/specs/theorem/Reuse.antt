@@ -44,9 +44,12 @@ module _ (limits : Limits) (entries : List Entry) where
     pub stamp_after : unlinked_at < stamped_at
     pub stamped : TakesStep entries stamped_at actor Epoch (Number stamp)
     pub stamp_before : stamped_at < n
-    pub passed : (other : ℕ) → other < limits.actors → other ≢ actor → (at epoch : ℕ) × (stamped_at < at) × (at < n) × TakesStep entries at actor (Announce other) (Number epoch) × ((epoch ≡ 0) ⊎ (stamp < epoch))
+    pub passed : (other : ℕ) → other < limits.actors → other ≢ actor
+        → (at epoch : ℕ) × (stamped_at < at) × (at < n) × TakesStep entries at actor (Announce other) (Number epoch) × ((epoch ≡ 0) ⊎ (stamp < epoch))
     pub kept : (between other : ℕ) (step : StepOf Record) (answer : Answer Record) → unlinked_at < between → between < n → TakesStep entries between other step answer → ¬ Hands step answer
 
   pub record IsFreedByRule : Type 0 where
-    pub pids : (n actor word bits pid : ℕ) (answer : Answer Record) → TakesStep entries n actor (ReusePids word bits) answer → is_among word bits pid ≡ true → IsFreed actor n (UnlinksPid actor pid) (HandsPid pid)
-    pub rows : (n actor word bits row : ℕ) (answer : Answer Record) → TakesStep entries n actor (ReuseRows word bits) answer → is_among word bits row ≡ true → IsFreed actor n (UnlinksRow actor row) (HandsRow row)
+    pub pids : (n actor word bits pid : ℕ) (answer : Answer Record) → TakesStep entries n actor (ReusePids word bits) answer → is_among word bits pid ≡ true
+        → IsFreed actor n (UnlinksPid actor pid) (HandsPid pid)
+    pub rows : (n actor word bits row : ℕ) (answer : Answer Record) → TakesStep entries n actor (ReuseRows word bits) answer → is_among word bits row ≡ true
+        → IsFreed actor n (UnlinksRow actor row) (HandsRow row)

@@ -41,12 +41,15 @@ module _ (limits : Limits) (entries : List Entry) where
   -- steps. Where it runs alone from its begin on, these changes do. However long others were in its way, it takes no more steps from entry m on
   -- than the limits say. (Obstruction-freedom)
   pub record EndsAlone : Type 0 where
-    pub few : (operation : Operation) (m n : ℕ) → IsOperation entries operation → operation.start < m → IsOwnStep entries operation n → RunsAlone entries operation.actor m n → PlacesNoRemoval (take n entries)
+    pub few : (operation : Operation) (m n : ℕ) → IsOperation entries operation → operation.start < m → IsOwnStep entries operation n
+        → RunsAlone entries operation.actor m n → PlacesNoRemoval (take n entries)
         → (hindrances : List ℕ) × AreAmong limits entries operation.start m (Hinders operation.actor) hindrances
         × (steps_from entries operation.actor operation.start n ≤ cause_worth limits * (length hindrances + 154 * limits.pids + 8 * limits.actors + 1))
-    pub whole : (operation : Operation) (n : ℕ) → IsOperation entries operation → IsOwnStep entries operation n → RunsAlone entries operation.actor (suc operation.start) n → PlacesNoRemoval (take n entries)
+    pub whole : (operation : Operation) (n : ℕ) → IsOperation entries operation → IsOwnStep entries operation n
+        → RunsAlone entries operation.actor (suc operation.start) n → PlacesNoRemoval (take n entries)
         → steps_from entries operation.actor operation.start n ≤ cause_worth limits * (154 * limits.pids + 8 * limits.actors + 1)
-    pub since : (operation : Operation) (m n : ℕ) → IsOperation entries operation → operation.start < m → m ≤ n → IsOwnStep entries operation n → RunsAlone entries operation.actor m n → PlacesNoRemoval (take n entries)
+    pub since : (operation : Operation) (m n : ℕ) → IsOperation entries operation → operation.start < m → m ≤ n → IsOwnStep entries operation n
+        → RunsAlone entries operation.actor m n → PlacesNoRemoval (take n entries)
         → steps_from entries operation.actor m n ≤ cause_worth limits * (155 * limits.pids + 8 * limits.actors + 11)
 
   -- All operations together take few steps for each that was begun, and for the numbers that there are. So they do for each that has ended, and each
@@ -55,4 +58,5 @@ module _ (limits : Limits) (entries : List Entry) where
     pub few : (n : ℕ) → PlacesNoRemoval (take n entries)
         → count_by is_step (take n entries) ≤ cause_worth limits * (count_by is_begin (take n entries) + limits.actors * (32 * count_by is_begin (take n entries) + limits.rows + limits.pids))
     pub ended : (n : ℕ) → PlacesNoRemoval (take n entries)
-        → count_by is_step (take n entries) ≤ cause_worth limits * (count_by is_end (take n entries) + limits.actors + limits.actors * (32 * (count_by is_end (take n entries) + limits.actors) + limits.rows + limits.pids))
+        → count_by is_step (take n entries) ≤ cause_worth limits *
+        (count_by is_end (take n entries) + limits.actors + limits.actors * (32 * (count_by is_end (take n entries) + limits.actors) + limits.rows + limits.pids))

@@ -58,11 +58,13 @@ module _ (limits : Limits) (entries : List Entry) (state : IsState limits entrie
       let e = expected_reached limits entries state actor within visit.pid o.level o.low o.earlier o.on_way.expected in
       same.slots visit.pid o.on_way.shows.page (reached_in e.least e.level e.low (state.owners.page visit.pid) e.reached)
 
-  first_same : (rows others : ℕ → Option Record) (row : ℕ) (rest : List Record) (content : Record) → IsChainFrom rows row rest → IsChainFrom others row rest → rows row ≡ Some content → others row ≡ Some content
+  first_same : (rows others : ℕ → Option Record) (row : ℕ) (rest : List Record) (content : Record) → IsChainFrom rows row rest → IsChainFrom others row rest
+      → rows row ≡ Some content → others row ≡ Some content
   first_same rows others row [] content a b e = absurd a
   first_same rows others row (newest ∷ under) content a b e = b.0 ∙ sym a.0 ∙ e
 
-  row_same : (within : Limits) (r : Recalled) (visit : Visit) (head row left : ℕ) (chain : List Record) → OnItsWay within r visit → visit.state ≡ Row head row → IsChainOf w.memory visit.pid chain → IsLeft w.memory chain visit.part (Row head row) left → head ≡ w.memory.slots visit.pid
+  row_same : (within : Limits) (r : Recalled) (visit : Visit) (head row left : ℕ) (chain : List Record) → OnItsWay within r visit → visit.state ≡ Row head row
+      → IsChainOf w.memory visit.pid chain → IsLeft w.memory chain visit.part (Row head row) left → head ≡ w.memory.slots visit.pid
       → (content : Record) → memory.rows row ≡ Some content → w.memory.rows row ≡ Some content
   row_same within r visit head row left chain o at is_chain is_left at_head content there =
       let reads : seen.Reads k visit.pid head visit.part row = subst (λ (s : VisitState). seen.ShowsState k visit.pid visit.part s) at o.on_way.shows.stands in
@@ -83,26 +85,35 @@ module _ (limits : Limits) (entries : List Entry) (state : IsState limits entrie
     is_left : IsLeft w.memory chain visit.part visit.state left
     at_head : IsAtHead w.memory visit.pid visit.state
 
-  at_visit : (leg : Leg) (goal : ReadGoal) (key : Key) (visit : Visit) (steps : ℕ) → StandsAt w leg goal key (Page visit) steps ⊎ SettledAt w leg goal (Page visit) steps → (visit.state ≡ Slot) ⊎ Reading visit
-  at_visit leg goal key visit steps (inl v) = inr (record { chain = v.page.chain; left = v.left; is_chain = subst (λ (n : ℕ). IsChainOf w.memory n v.page.chain) v.is_pid v.stands.stands; is_left = v.is_left; at_head = v.at_head })
-  at_visit leg goal key visit steps (inr (inl v)) = inr (record { chain = v.page.chain; left = v.left; is_chain = subst (λ (n : ℕ). IsChainOf w.memory n v.page.chain) v.is_pid v.loose.stands.stands; is_left = v.is_left; at_head = v.at_head })
+  at_visit : (leg : Leg) (goal : ReadGoal) (key : Key) (visit : Visit) (steps : ℕ)
+      → StandsAt w leg goal key (Page visit) steps ⊎ SettledAt w leg goal (Page visit) steps → (visit.state ≡ Slot) ⊎ Reading visit
+  at_visit leg goal key visit steps (inl v) =
+      inr (record { chain = v.page.chain; left = v.left; is_chain = subst (λ (n : ℕ). IsChainOf w.memory n v.page.chain) v.is_pid v.stands.stands; is_left = v.is_left; at_head = v.at_head })
+  at_visit leg goal key visit steps (inr (inl v)) =
+      inr (record { chain = v.page.chain; left = v.left; is_chain = subst (λ (n : ℕ). IsChainOf w.memory n v.page.chain) v.is_pid v.loose.stands.stands; is_left = v.is_left; at_head = v.at_head })
   at_visit leg goal key visit steps (inr (inr v)) = inl v.at_slot
 
-  visit_same : (within : Limits) (r : Recalled) (visit : Visit) → OnItsWay within r visit → (visit.state ≡ Slot) ⊎ Reading visit → (answer : Answer Record) → (state : VisitState) → visit.state ≡ state → IsAnswer memory (seen.wanted_at visit.pid state) answer → IsAnswer w.memory (seen.wanted_at visit.pid state) answer
+  visit_same : (within : Limits) (r : Recalled) (visit : Visit) → OnItsWay within r visit → (visit.state ≡ Slot) ⊎ Reading visit → (answer : Answer Record)
+      → (state : VisitState) → visit.state ≡ state → IsAnswer memory (seen.wanted_at visit.pid state) answer
+      → IsAnswer w.memory (seen.wanted_at visit.pid state) answer
   visit_same within r visit o here answer Slot e is = is ∙ ap (λ (n : ℕ). Number n) (slot_same within r visit o)
   visit_same within r visit o here answer (Row head row) e (content, there, is) = elim here [
     | inl at_slot ↦ absurd (let both : Slot ≡ Row head row = sym at_slot ∙ e in cc)
     | inr v ↦ (
       content,
-      row_same within r visit head row v.left v.chain o e v.is_chain (subst (λ (s : VisitState). IsLeft w.memory v.chain visit.part s v.left) e v.is_left) (subst (λ (s : VisitState). IsAtHead w.memory visit.pid s) e v.at_head) content there,
+      row_same within r visit head row v.left v.chain o e v.is_chain (subst (λ (s : VisitState). IsLeft w.memory v.chain visit.part s v.left) e v.is_left)
+          (subst (λ (s : VisitState). IsAtHead w.memory visit.pid s) e v.at_head) content there,
       is,
     )
   ]
 
-  state_same : (within : Limits) (key : Key) (goal : ReadGoal) (leg : Leg) (r : Recalled) (steps : ℕ) (at : WayState) → ShowsState within key goal leg k r at → StandsAt w leg goal key at steps ⊎ SettledAt w leg goal at steps
+  state_same : (within : Limits) (key : Key) (goal : ReadGoal) (leg : Leg) (r : Recalled) (steps : ℕ) (at : WayState) → ShowsState within key goal leg k r at
+      → StandsAt w leg goal key at steps ⊎ SettledAt w leg goal at steps
       → (answer : Answer Record) → IsAnswer memory (way.wanted_at at) answer → IsAnswer w.memory (way.wanted_at at) answer
   state_same within key goal leg r steps Root shows has answer is = is ∙ ap (λ (n : ℕ). Number n) same.root
-  state_same within key goal leg r steps (Page visit) shows has answer is = visit_same within r visit (way_of within key goal leg r visit shows) (at_visit leg goal key visit steps has) answer visit.state refl is
+  state_same within key goal leg r steps (Page visit) shows has answer is =
+      visit_same within r visit (way_of within key goal leg r visit shows) (at_visit leg goal key visit steps has) answer visit.state refl is
 
-  pub answer_same : (round : ReadRound) (r : Recalled) (steps : ℕ) → read.Shows round k r → HasLeft w round steps ⊎ SettledLeft w round steps → (answer : Answer Record) → IsAnswer memory (wanted round) answer → IsAnswer w.memory (wanted round) answer
+  pub answer_same : (round : ReadRound) (r : Recalled) (steps : ℕ) → read.Shows round k r → HasLeft w round steps ⊎ SettledLeft w round steps
+      → (answer : Answer Record) → IsAnswer memory (wanted round) answer → IsAnswer w.memory (wanted round) answer
   answer_same round r steps shows has answer is = state_same round.limits round.key round.goal round.leg r steps round.state shows has answer is

@@ -82,7 +82,11 @@ module _ (limits : Limits) (actor : ℕ) (task : Task) where
   price = (4 + limits.pids) * one_walk limits
 
   some_price : 14 ≤ price
-  some_price = let product = suc-mul (3 + limits.pids) (one_walk limits) in let same : suc (3 + limits.pids) ≡ 4 + limits.pids = omega arith in let steps = ap (λ (n : ℕ). n * one_walk limits) same in omega (arith, product, steps)
+  some_price =
+      let product = suc-mul (3 + limits.pids) (one_walk limits) in
+      let same : suc (3 + limits.pids) ≡ 4 + limits.pids = omega arith in
+      let steps = ap (λ (n : ℕ). n * one_walk limits) same in
+      omega (arith, product, steps)
 
   -- few steps are left by a memory, and what was read of the page is that memory's
   abbrev Settled : Standing → ReadRound → ℕ → Type 0
@@ -138,10 +142,12 @@ module _ (limits : Limits) (actor : ℕ) (task : Task) where
     is_in = shown_in limits entries state actor round r shows
 
     -- a page that is read on
-    stale_visit : (steps : ℕ) (visit : Visit) (head row : ℕ) → visit.state ≡ seen.Row head row → IsVisitIn (tree limits entries state actor) round.goal round.leg visit.pid visit.part visit.state → price ≤ steps + length visit.part
+    stale_visit : (steps : ℕ) (visit : Visit) (head row : ℕ) → visit.state ≡ seen.Row head row
+        → IsVisitIn (tree limits entries state actor) round.goal round.leg visit.pid visit.part visit.state → price ≤ steps + length visit.part
         → StaleVisit now round.leg round.goal visit steps × (length visit.part ≤ 13)
     stale_visit steps visit head row at_row is few =
-        let reads : IsReadIn (tree limits entries state actor) round.goal round.leg visit.pid visit.part row = subst (λ (s : VisitState). IsVisitIn (tree limits entries state actor) round.goal round.leg visit.pid visit.part s) at_row is in
+        let reads : IsReadIn (tree limits entries state actor) round.goal round.leg visit.pid visit.part row = subst
+        (λ (s : VisitState). IsVisitIn (tree limits entries state actor) round.goal round.leg visit.pid visit.part s) at_row is in
         let short = reads.fits.short in
         let all = length-append visit.part reads.rest in
         let enough_here = placed in (
@@ -163,16 +169,22 @@ module _ (limits : Limits) (actor : ℕ) (task : Task) where
     fresh : Here entries state round price
     fresh = by_state round.state refl is_in.state (stands_at now round price is_in placed)
       where
-        by_visit : (visit : Visit) (at_visit : VisitState) → visit.state ≡ at_visit → round.state ≡ Page visit → IsVisitIn (tree limits entries state actor) round.goal round.leg visit.pid visit.part visit.state → AnyAt now round.leg round.goal (Page visit) price → Here entries state round price
+        by_visit : (visit : Visit) (at_visit : VisitState) → visit.state ≡ at_visit → round.state ≡ Page visit
+            → IsVisitIn (tree limits entries state actor) round.goal round.leg visit.pid visit.part visit.state
+            → AnyAt now round.leg round.goal (Page visit) price → Here entries state round price
         by_visit visit (seen.Row head row) e is v any =
             let s = stale_visit price visit head row e v (omega arith) in
             inr (record { visit = visit; head = head; row = row; at_page = is; at_row = e; few = omega arith; short = s.1 })
         by_visit visit seen.Slot e is v (inl settled) = inl (now, same_now, inr (subst (λ (s : WayState). SettledAt now round.leg round.goal s price) (sym is) settled))
         by_visit visit seen.Slot e is v (inr stale) = absurd (let both : seen.Slot ≡ seen.Row stale.head stale.row = sym e ∙ stale.at_row in cc)
 
-        by_state : (state_at : WayState) → round.state ≡ state_at → IsStateIn (tree limits entries state actor) round.goal round.leg round.state → AnyAt now round.leg round.goal round.state price → Here entries state round price
-        by_state Root is v any = inl (now, same_now, inr (subst (λ (s : WayState). SettledAt now round.leg round.goal s price) (sym is) (subst (λ (s : WayState). AnyAt now round.leg round.goal s price) is any)))
-        by_state (Page visit) is v any = by_visit visit visit.state refl is (subst (λ (s : WayState). IsStateIn (tree limits entries state actor) round.goal round.leg s) is v) (subst (λ (s : WayState). AnyAt now round.leg round.goal s price) is any)
+        by_state : (state_at : WayState) → round.state ≡ state_at → IsStateIn (tree limits entries state actor) round.goal round.leg round.state
+            → AnyAt now round.leg round.goal round.state price → Here entries state round price
+        by_state Root is v any =
+            inl (now, same_now, inr (subst (λ (s : WayState). SettledAt now round.leg round.goal s price) (sym is) (subst (λ (s : WayState). AnyAt now round.leg round.goal s price) is any)))
+        by_state (Page visit) is v any =
+            by_visit visit visit.state refl is (subst (λ (s : WayState). IsStateIn (tree limits entries state actor) round.goal round.leg s) is v)
+            (subst (λ (s : WayState). AnyAt now round.leg round.goal s price) is any)
 
     -- a page is read on
     abbrev StaleState : Leg → ReadGoal → WayState → ℕ → Type 0
@@ -187,7 +199,8 @@ module _ (limits : Limits) (actor : ℕ) (task : Task) where
     stale_as old new None steps c = (c.0, c.1, inl c.2)
     stale_as old new (Some end) steps c = c
 
-    reads_on : (old : ReadRound) (visit next : Visit) (steps : ℕ) (told : Answer Record) → StaleState old.leg old.goal (Page visit) steps → IsAnswer (memory_of limits entries) (seen.wanted visit) told → seen.Responds visit told next None → StaleEnds old (at old (Page next)) None steps
+    reads_on : (old : ReadRound) (visit next : Visit) (steps : ℕ) (told : Answer Record) → StaleState old.leg old.goal (Page visit) steps
+        → IsAnswer (memory_of limits entries) (seen.wanted visit) told → seen.Responds visit told next None → StaleEnds old (at old (Page next)) None steps
     reads_on old visit next steps told s answer responds = by_steps steps refl
       where
         o : (m : ℕ) × (m < steps) × StaleVisit now old.leg old.goal next m
@@ -195,7 +208,8 @@ module _ (limits : Limits) (actor : ℕ) (task : Task) where
 
         short : length next.part ≤ 13
         short =
-            let left : IsLeft (memory_of limits entries) o.2.page.chain next.part (seen.Row o.2.head o.2.row) o.2.left = subst (λ (t : VisitState). IsLeft (memory_of limits entries) o.2.page.chain next.part t o.2.left) o.2.at_row o.2.is_left in
+            let left : IsLeft (memory_of limits entries) o.2.page.chain next.part (seen.Row o.2.head o.2.row) o.2.left = subst
+            (λ (t : VisitState). IsLeft (memory_of limits entries) o.2.page.chain next.part t o.2.left) o.2.at_row o.2.is_left in
             let all = length-append next.part left.0 in
             let whole = ap length left.3 in
             let fits = o.2.stale.fits.short in
@@ -253,18 +267,22 @@ module _ (limits : Limits) (actor : ℕ) (task : Task) where
 
     own_step : (new : State) (steps : ℕ) → Here entries state round steps → ReadsIn (memory_of limits entries) task round new → FoundHere new steps
     own_step new steps (inr s) reads = stale_step new steps s reads
-    own_step new steps (inl (w, same, has)) reads = elim (settled_step w round new steps has (record { answer = reads.answer; told = answer_same limits entries state actor w same round r steps shows has reads.answer reads.told; steps = reads.steps })) [
-      | inl leaving ↦ inl leaving
-      | inr (next, m, is, less, settled) ↦ inr (next, m, is, less, inl (w, same, settled))
-    ]
+    own_step new steps (inl (w, same, has)) reads = elim (settled_step w round new steps has
+        (record { answer = reads.answer; told = answer_same limits entries state actor w same round r steps shows has reads.answer reads.told; steps = reads.steps })) [
+          | inl leaving ↦ inl leaving
+          | inr (next, m, is, less, settled) ↦ inr (next, m, is, less, inl (w, same, settled))
+        ]
 
   abbrev is_own : Moment → Bool
   is_own moment = is_step_of actor moment.entry
 
   abbrev Rest : List Moment → Type 0
-  Rest moments = (entries : List Entry) (state : IsState limits entries) (round : ReadRound) (steps : ℕ) → AreLawful limits actor task entries round moments → Here entries state round steps → many is_own moments < steps + all_changes limits entries moments * price
+  Rest moments =
+      (entries : List Entry) (state : IsState limits entries) (round : ReadRound) (steps : ℕ) → AreLawful limits actor task entries round moments
+      → Here entries state round steps → many is_own moments < steps + all_changes limits entries moments * price
 
-  anew : (moments : List Moment) (entries : List Entry) (state : IsState limits entries) (round : ReadRound) → AreLawful limits actor task entries round moments → Rest moments → many is_own moments < price + all_changes limits entries moments * price
+  anew : (moments : List Moment) (entries : List Entry) (state : IsState limits entries) (round : ReadRound) → AreLawful limits actor task entries round moments
+      → Rest moments → many is_own moments < price + all_changes limits entries moments * price
   anew [] entries state round are rest = let some = some_price in omega (arith, some)
   anew (moment ∷ moments) entries state round are rest = rest entries state round price are (fresh entries state round are.0.r are.0.shows)
 
@@ -283,10 +301,13 @@ module _ (limits : Limits) (actor : ℕ) (task : Task) where
     changes = all_changes limits (entries ++ moment.entry ∷ []) moments
 
     -- the entry doesn't change the tree
-    unchanged : changes_tree (memory_of limits entries) moment.entry ≡ false → (left : ℕ) → left ≤ steps → (next : ReadRound) → moment.round ≡ next → Here entries state next left → many is_own moments < left + changes * price
+    unchanged : changes_tree (memory_of limits entries) moment.entry ≡ false → (left : ℕ) → left ≤ steps → (next : ReadRound) → moment.round ≡ next
+        → Here entries state next left → many is_own moments < left + changes * price
     unchanged off left le next is found =
         rest (entries ++ moment.entry ∷ []) m.later moment.round left are
-        (stays_here entries moment.entry state m.later moment.round left (λ w same. same_next limits w entries moment.entry state m.next m.later m.direct off same) (subst (λ (o : ReadRound). Here entries state o left) (sym is) found))
+        (stays_here entries moment.entry state m.later moment.round left
+        (λ w same. same_next limits w entries moment.entry state m.next m.later m.direct off same)
+        (subst (λ (o : ReadRound). Here entries state o left) (sym is) found))
 
     none_more : changes_tree (memory_of limits entries) moment.entry ≡ false → all_changes limits entries (moment ∷ moments) ≡ changes
     none_more off = let zeroth : ◌≡◌ {A = ℕ} (if changes_tree (memory_of limits entries) moment.entry then 1 else 0) 0 = ap (λ (b : Bool). if◌then◌else◌ {A = ℕ} b 1 0) off in omega (arith, zeroth)
@@ -343,7 +364,8 @@ module _ (limits : Limits) (actor : ℕ) (task : Task) where
   within [] entries state round steps are here = let some = here_some entries state round steps here in omega (arith, some)
   within (moment ∷ moments) entries state round steps are here = advance moment moments entries state round steps are.0 are.1 here (λ e t r n a h. within moments e t r n a h)
 
-  pub among_changes : (entries : List Entry) (round : ReadRound) (moments : List Moment) → IsState limits entries → AreLawful limits actor task entries round moments → own_steps actor moments < (1 + all_changes limits entries moments) * price
+  pub among_changes : (entries : List Entry) (round : ReadRound) (moments : List Moment) → IsState limits entries
+      → AreLawful limits actor task entries round moments → own_steps actor moments < (1 + all_changes limits entries moments) * price
   among_changes entries round moments state are =
       let few = anew moments entries state round are (within moments) in
       let own = many_is_count is_own moments in

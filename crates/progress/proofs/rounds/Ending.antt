@@ -54,7 +54,8 @@ module _ (limits : Limits) (memory : Memory) (tree : HasWholeTree limits memory)
   unfolding standing
   all_count = many_is_count (λ (leaf : LivePage). is_removed leaf.chain) (tree.pages 0)
 
-  begin_left : (task : Task) (leaf : Version) (round : ReadRound) (n : ℕ) → Keeps standing (Left leaf) round.key (n * one_walk limits) → EndsWithin memory task (read_left_of leaf round) ((1 + n) * one_walk limits) × FindsEach memory task (read_left_of leaf round)
+  begin_left : (task : Task) (leaf : Version) (round : ReadRound) (n : ℕ) → Keeps standing (Left leaf) round.key (n * one_walk limits)
+      → EndsWithin memory task (read_left_of leaf round) ((1 + n) * one_walk limits) × FindsEach memory task (read_left_of leaf round)
   unfolding standing
   begin_left task leaf round n keeps =
       let one = round_few in
@@ -63,17 +64,21 @@ module _ (limits : Limits) (memory : Memory) (tree : HasWholeTree limits memory)
 
   pub lookup_ends : (task : Task) → EndsWithin memory task (first_read task) (2 * one_walk limits) × FindsEach memory task (first_read task)
   unfolding standing
-  lookup_ends task = ends_within standing task (first_read task) (2 * one_walk limits) (record { down = refl; later = one_round standing; keeps = omega arith; few = (let one = round_few in omega (arith, one)) })
+  lookup_ends task =
+      ends_within standing task (first_read task) (2 * one_walk limits) (record { down = refl; later = one_round standing; keeps = omega arith; few = (let one = round_few in omega (arith, one)) })
 
-  pub left_round_ends : (task : Task) (leaf : Version) (round : ReadRound) → IsRemovedLeaf tree leaf → EndsWithin memory task (read_left_of leaf round) ((1 + removed_leaves tree) * one_walk limits) × FindsEach memory task (read_left_of leaf round)
+  pub left_round_ends : (task : Task) (leaf : Version) (round : ReadRound) → IsRemovedLeaf tree leaf
+      → EndsWithin memory task (read_left_of leaf round) ((1 + removed_leaves tree) * one_walk limits) × FindsEach memory task (read_left_of leaf round)
   unfolding standing
   left_round_ends task leaf round removed =
       let up = times_up standing (removed_after standing round.key (low_in leaf.chain)) (all_removed standing) (after_few standing round.key (low_in leaf.chain)) in
       let all = times_few (all_removed standing) in
       let same = ap (λ (n : ℕ). n * one_walk limits) all_count in
-      begin_left task leaf round (removed_leaves tree) (inl (record { stands = removed.stands; gone = removed.gone; above = removed.above; on = removed.on; term = removed.term }, omega (arith, up, all, same)))
+      begin_left task leaf round (removed_leaves tree)
+      (inl (record { stands = removed.stands; gone = removed.gone; above = removed.above; on = removed.on; term = removed.term }, omega (arith, up, all, same)))
 
-  pub stale_round_ends : (task : Task) (leaf : Version) (round : ReadRound) → WasRemovedLeaf tree leaf → EndsWithin memory task (read_left_of leaf round) ((2 + removed_leaves tree) * one_walk limits) × FindsEach memory task (read_left_of leaf round)
+  pub stale_round_ends : (task : Task) (leaf : Version) (round : ReadRound) → WasRemovedLeaf tree leaf
+      → EndsWithin memory task (read_left_of leaf round) ((2 + removed_leaves tree) * one_walk limits) × FindsEach memory task (read_left_of leaf round)
   unfolding standing
   stale_round_ends task leaf round removed =
       let one = round_few in
@@ -140,4 +145,5 @@ pub lookups_end_in_states : LookupsEndInStates
 lookups_end_in_states limits entries task state = lookup_ends limits (memory_of limits entries) (tree limits entries state 0) task
 
 pub rounds_end_in_states : RoundsEndInStates
-rounds_end_in_states limits entries actor r task round state shows = round_ends limits (memory_of limits entries) (tree limits entries state actor) task round (shown_in limits entries state actor round r shows)
+rounds_end_in_states limits entries actor r task round state shows =
+    round_ends limits (memory_of limits entries) (tree limits entries state actor) task round (shown_in limits entries state actor round r shows)

@@ -31,7 +31,8 @@ precedes_is_way key a b on up = upto_below a b key up on
 
 -- a key on the way, above one that the page has, is in the page's range, where that ends beyond the way
 pub within : (way : Key → Bool) → IsWay way → (chain : List Record) (low key : Key) → StaysLeft way chain → IsTrue (covers chain low) → IsUpTo low key → way key ≡ true → IsTrue (covers chain key)
-within way is_way chain low key stays cov up on = covers_to chain key (record { low = upto_trans (low_in chain) low key (covers_from chain low cov).low up; high = under (high_in chain) (λ high e. stays.off high e) })
+within way is_way chain low key stays cov up on =
+    covers_to chain key (record { low = upto_trans (low_in chain) low key (covers_from chain low cov).low up; high = under (high_in chain) (λ high e. stays.off high e) })
   where
     under : (end : Option Key) → ((high : Key) → end ≡ Some high → way high ≡ false) → IsUnder key end
     under None off = refl

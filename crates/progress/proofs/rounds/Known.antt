@@ -68,7 +68,13 @@ module _ (limits : Limits) (entries : List Entry) (state : IsState limits entrie
       refl,
       record {
         level = l;
-        stands = record { pid = range.1; stands = chain_at memory q there.row there.chain there.head there.is_chain; fits = state.fitted there.row there.linked there.chain there.is_chain; level_is = there.level };
+        stands = record {
+          pid = range.1;
+          stands = chain_at memory q there.row there.chain there.head there.is_chain;
+          fits = state.fitted there.row there.linked
+              there.chain there.is_chain;
+          level_is = there.level;
+        };
         is = inl there.flagged;
       },
     )
@@ -102,7 +108,8 @@ module _ (limits : Limits) (entries : List Entry) (state : IsState limits entrie
     child = λ key next held has. let c = covered chain fits.fitted key next held has in by_level (level_in chain) refl key next held has c.0 c.1;
   }
     where
-      by_level : (level : ℕ) → level_in chain ≡ level → (key : Key) (next : ℕ) (held : Bool) → content_in chain key ≡ Some (Child next held) → IsTrue (covers chain key) → 0 < level_in chain → Places next
+      by_level : (level : ℕ) → level_in chain ≡ level → (key : Key) (next : ℕ) (held : Bool) → content_in chain key ≡ Some (Child next held)
+          → IsTrue (covers chain key) → 0 < level_in chain → Places next
       by_level zero e key next held has cov index = absurd (omega (arith, e, index))
       by_level (suc l) e key next held has cov index = place_of next (rank_of (Child next held)) l key (names.items l key (Child next held) e (covers_from chain key cov) has)
 
@@ -130,7 +137,8 @@ module _ (limits : Limits) (entries : List Entry) (state : IsState limits entrie
       let same : r.0 ≡ version.chain = IsChainFrom-unique memory.rows version.head r.0 version.chain r.1.is_chain stands in
       subst (λ (c : List Record). WasRead version.pid version.head c) same r.1
 
-  pub read_front : (pid head row : ℕ) (part : List Record) → k.read.heads pid ≡ Some head → IsFront k.read.seen head part row → (rest : List Record) × IsChainFrom memory.rows row rest × WasRead pid head (part ++ rest)
+  pub read_front : (pid head row : ℕ) (part : List Record) → k.read.heads pid ≡ Some head → IsFront k.read.seen head part row
+      → (rest : List Record) × IsChainFrom memory.rows row rest × WasRead pid head (part ++ rest)
   read_front pid head row part e front =
       let r = was_read pid head e in
       let f = front_of k.read.seen memory.rows stand head part row r.0 front r.1.is_chain in
@@ -156,15 +164,19 @@ module _ (limits : Limits) (entries : List Entry) (state : IsState limits entrie
       ]
 
   -- what a removed page names, which was read before the one that has it as its right
-  beyond_names : (pid head removed row : ℕ) (chain gone_chain : List Record) → WasRead pid head chain → k.read.heads pid ≡ Some head → k.read.before pid removed ≡ Some row → IsChainFrom memory.rows row gone_chain
+  beyond_names : (pid head removed row : ℕ) (chain gone_chain : List Record) → WasRead pid head chain → k.read.heads pid ≡ Some head
+      → k.read.before pid removed ≡ Some row → IsChainFrom memory.rows row gone_chain
       → is_removed gone_chain ≡ true → is_removed chain ≡ false → right_in chain ≡ Some removed → IsPageChain gone_chain × ChainNames state.owners gone_chain
   beyond_names pid head removed row chain gone_chain r at_head at_row is_chain gone alive is_right =
       let order : OrderFits state.owners (shared memory) (state.logs actor) pid removed (k.read.heads pid) (k.read.before pid removed) = (state.is_tree.sound actor).orders_fit pid removed in
-      let head_order : OrderFits state.owners (shared memory) (state.logs actor) pid removed (Some head) (k.read.before pid removed) = subst (λ (o : Option ℕ). OrderFits state.owners (shared memory) (state.logs actor) pid removed o (k.read.before pid removed)) at_head order in
-      let in_order : InOrder state.owners (shared memory) (state.logs actor) pid head removed row = subst (λ (o : Option ℕ). OrderFits state.owners (shared memory) (state.logs actor) pid removed (Some head) o) at_row head_order in
+      let head_order : OrderFits state.owners (shared memory) (state.logs actor) pid removed (Some head) (k.read.before pid removed) = subst
+      (λ (o : Option ℕ). OrderFits state.owners (shared memory) (state.logs actor) pid removed o (k.read.before pid removed)) at_head order in
+      let in_order : InOrder state.owners (shared memory) (state.logs actor) pid head removed row = subst
+      (λ (o : Option ℕ). OrderFits state.owners (shared memory) (state.logs actor) pid removed (Some head) o) at_row head_order in
       (state.fitted row in_order.above gone_chain is_chain, in_order.beyond gone_chain chain is_chain r.is_chain gone alive is_right)
 
-  pub read_beyond : (pid head removed row : ℕ) (chain gone_chain : List Record) → WasRead pid head chain → k.read.heads pid ≡ Some head → k.read.before pid removed ≡ Some row → IsChainFrom memory.rows row gone_chain
+  pub read_beyond : (pid head removed row : ℕ) (chain gone_chain : List Record) → WasRead pid head chain → k.read.heads pid ≡ Some head
+      → k.read.before pid removed ≡ Some row → IsChainFrom memory.rows row gone_chain
       → is_removed gone_chain ≡ true → is_removed chain ≡ false → right_in chain ≡ Some removed → NamesPlaces tree gone_chain
   read_beyond pid head removed row chain gone_chain r at_head at_row is_chain gone alive is_right =
       let b = beyond_names pid head removed row chain gone_chain r at_head at_row is_chain gone alive is_right in

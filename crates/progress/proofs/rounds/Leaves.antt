@@ -31,13 +31,15 @@ module _ (w : Standing) where
   of_term way above leaf stands u = record { stands = stands; gone = u.gone; above = live u.over; on = u.on; term = u.term }
 
   -- of two pages one and the same key is in the range
-  joint : (one two s : Key) (a b : LivePage) → On w 1 a → On w 1 b → IsBelow one s → IsBelow two s → IsTrue (covers a.chain one) → StaysLeft (precedes s) a.chain → IsTrue (covers b.chain two) → IsTrue (covers b.chain s) → a ≡ b
+  joint : (one two s : Key) (a b : LivePage) → On w 1 a → On w 1 b → IsBelow one s → IsBelow two s → IsTrue (covers a.chain one)
+      → StaysLeft (precedes s) a.chain → IsTrue (covers b.chain two) → IsTrue (covers b.chain s) → a ≡ b
   joint one two s a b on_a on_b below_one below_two in_a stays in_b reaches_s = by_below one two
       (λ less. w.tree.one 1 a b two on_a on_b (within (precedes s) (precedes_is_way s) a.chain one two stays in_a (below_not one two less) below_two) in_b)
       (λ least. w.tree.one 1 a b one on_a on_b in_a (between_keys b.chain two one s in_b reaches_s least below_one))
     where
       between_keys : (chain : List Record) (low key end : Key) → IsTrue (covers chain low) → IsTrue (covers chain end) → IsUpTo low key → IsBelow key end → IsTrue (covers chain key)
-      between_keys chain low key end one two up less = covers_to chain key (record { low = upto_trans (low_in chain) low key (covers_from chain low one).low up; high = under_trans key end (high_in chain) less (covers_from chain end two).high })
+      between_keys chain low key end one two up less =
+          covers_to chain key (record { low = upto_trans (low_in chain) low key (covers_from chain low one).low up; high = under_trans key end (high_in chain) less (covers_from chain end two).high })
 
   -- the greatest term to the left of a removed leaf isn't a removed leaf's
   pub left_stands : (leaf page : LivePage) (above : Option Version) → IsRemovedLeaf leaf → Under w (precedes (low_of leaf)) above 0 page → precedes (low_of leaf) (low_of page) ≡ true → ⊥
@@ -81,7 +83,8 @@ module _ (w : Standing) where
       (q.0, q.1, q.3, q.4, record { on = q.2; up = below_not (low_of leaf) (low_of q.0) q.4; after = λ gone. q.4 })
 
   -- the right of the leaf to the left of it, where that is another leaf
-  pub past_right : (key : Key) (next : ℕ) (leaf page : LivePage) → IsRemovedLeaf leaf → On w 0 page → right_in page.chain ≢ Some leaf.pid → StaysLeft (precedes (low_of leaf)) page.chain → LeadsRight (reaches key) page.chain next
+  pub past_right : (key : Key) (next : ℕ) (leaf page : LivePage) → IsRemovedLeaf leaf → On w 0 page → right_in page.chain ≢ Some leaf.pid
+      → StaysLeft (precedes (low_of leaf)) page.chain → LeadsRight (reaches key) page.chain next
       → (other : LivePage) × (other.pid ≡ next) × (reaches key (low_of other) ≡ true) × IsBelow (low_of page) (low_of other) × IsBeyond (low_of leaf) other
   past_right key next leaf page r on apart stays leads =
       let q = right w (reaches key) 0 next page on leads in

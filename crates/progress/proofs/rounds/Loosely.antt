@@ -42,9 +42,11 @@ module _ (w : Standing) where
     pub fewer : left < cost
     pub few : (page : LivePage) (level : ℕ) → page.pid ≡ pid → IsPageOn w.limits w.memory level page → Few w new.leg level page left
 
-  goes : (old new : ReadRound) (leg : Leg) (goal : ReadGoal) (next left cost : ℕ) → new ≡ going_to next (on leg (toward goal old)) → IsPlace w.tree next → IsLegIn w.tree leg → IsGoalIn w.tree goal → left < cost
+  goes : (old new : ReadRound) (leg : Leg) (goal : ReadGoal) (next left cost : ℕ) → new ≡ going_to next (on leg (toward goal old)) → IsPlace w.tree next
+      → IsLegIn w.tree leg → IsGoalIn w.tree goal → left < cost
       → ((page : LivePage) (level : ℕ) → page.pid ≡ next → IsPageOn w.limits w.memory level page → Few w leg level page left) → Moves new cost
-  goes old new leg goal next left cost e place leg_is goal_is fewer few = subst (λ (r : ReadRound). Moves r cost) (sym e) (record { pid = next; place = place; is_state = refl; leg_is = leg_is; goal_is = goal_is; left = left; fewer = fewer; few = few })
+  goes old new leg goal next left cost e place leg_is goal_is fewer few =
+      subst (λ (r : ReadRound). Moves r cost) (sym e) (record { pid = next; place = place; is_state = refl; leg_is = leg_is; goal_is = goal_is; left = left; fewer = fewer; few = few })
 
   -- of a page that is known
   known : (leg : Leg) (next left level : ℕ) (page : LivePage) → page.pid ≡ next → IsPageOn w.limits w.memory level page → Few w leg level page left
@@ -54,13 +56,15 @@ module _ (w : Standing) where
       let levels : level ≡ other_level = sym stands.level_is ∙ ap (λ (p : LivePage). level_in p.chain) same ∙ also.level_is in
       subst (λ (n : ℕ). Few w leg n other left) levels (subst (λ (p : LivePage). Few w leg level p left) same few)
 
-  goes_known : (old new : ReadRound) (leg : Leg) (goal : ReadGoal) (next left cost level : ℕ) (page : LivePage) → new ≡ going_to next (on leg (toward goal old)) → page.pid ≡ next → IsPageOn w.limits w.memory level page
+  goes_known : (old new : ReadRound) (leg : Leg) (goal : ReadGoal) (next left cost level : ℕ) (page : LivePage) → new ≡ going_to next (on leg (toward goal old))
+      → page.pid ≡ next → IsPageOn w.limits w.memory level page
       → ((is_removed page.chain ≡ true) ⊎ On w level page) → IsLegIn w.tree leg → IsGoalIn w.tree goal → left < cost → Few w leg level page left → Moves new cost
   goes_known old new leg goal next left cost level page e is_pid stands is leg_is goal_is fewer few =
       goes old new leg goal next left cost e (inr (page, is_pid, record { level = level; stands = stands; is = is })) leg_is goal_is fewer (known leg next left level page is_pid stands few)
 
   -- a kept page is the right of a page
-  right_kept : (level : ℕ) (page removed : LivePage) → On w level page → KeepsItsPlace w.tree removed → right_in page.chain ≡ Some removed.pid → On w level removed × IsBelow (low_of page) (low_of removed)
+  right_kept : (level : ℕ) (page removed : LivePage) → On w level page → KeepsItsPlace w.tree removed → right_in page.chain ≡ Some removed.pid
+      → On w level removed × IsBelow (low_of page) (low_of removed)
   right_kept level page removed on kept is_right =
       let on_removed = kept level page on is_right in
       let r = w.tree.right level page removed.pid on is_right in
@@ -68,8 +72,10 @@ module _ (w : Standing) where
       (on_removed, subst (λ (p : LivePage). IsBelow (low_of page) (low_of p)) same (right_above w level page (low_of r.0) on r.3))
 
   -- down from a page of a level
-  down_from : (old new : ReadRound) (leg : Leg) (goal : ReadGoal) (way : Key → Bool) (level next cost : ℕ) (version : Version) → level_in version.chain ≡ level → 0 < level_in version.chain → On w level (live version) → LeadsDown way version.chain next
-      → under_all w level + under_all w level < cost → new ≡ going_to next (on leg (toward goal old)) → ((l : ℕ) → level ≡ suc l → IsLegIn w.tree leg) → IsGoalIn w.tree goal → ((l : ℕ) (page : LivePage) → level ≡ suc l → Few w leg l page (first w l (low_of page))) → Moves new cost
+  down_from : (old new : ReadRound) (leg : Leg) (goal : ReadGoal) (way : Key → Bool) (level next cost : ℕ) (version : Version) → level_in version.chain ≡ level
+      → 0 < level_in version.chain → On w level (live version) → LeadsDown way version.chain next
+      → under_all w level + under_all w level < cost → new ≡ going_to next (on leg (toward goal old)) → ((l : ℕ) → level ≡ suc l → IsLegIn w.tree leg)
+      → IsGoalIn w.tree goal → ((l : ℕ) (page : LivePage) → level ≡ suc l → Few w leg l page (first w l (low_of page))) → Moves new cost
   down_from old new leg goal way zero next cost version is index on_level leads some e leg_is goal_is few = absurd (omega (arith, is, index))
   down_from old new leg goal way (suc level) next cost version is index on_level leads some e leg_is goal_is few =
       let c = child_of w level next (live version) leads.low leads.held on_level leads.greatest.has in
@@ -80,7 +86,8 @@ module _ (w : Standing) where
   alive_on : (leg : Leg) (goal : ReadGoal) (page : LivePage) (cost : ℕ) → (l : Loose leg goal page cost) → is_removed page.chain ≡ false → On w l.level page
   alive_on leg goal page cost l alive = elim l.is [ inl gone ↦ absurd (let both : true ≡ false = sym gone ∙ alive in cc) | inr on_level ↦ on_level ]
 
-  left_zero : (old : ReadRound) (version removed : Version) (cost : ℕ) → Loose old.leg old.goal (live version) cost → IsLeftLeaf old version removed → On w 0 (live version) × Few w old.leg 0 (live version) cost × WasRemovedLeaf w.tree removed
+  left_zero : (old : ReadRound) (version removed : Version) (cost : ℕ) → Loose old.leg old.goal (live version) cost → IsLeftLeaf old version removed
+      → On w 0 (live version) × Few w old.leg 0 (live version) cost × WasRemovedLeaf w.tree removed
   left_zero old version removed cost l left =
       let zeroth : l.level ≡ 0 = sym l.stands.level_is ∙ left.ends.leaf in (
         subst (λ (n : ℕ). On w n (live version)) zeroth (alive_on old.leg old.goal (live version) cost l left.alive),
@@ -89,7 +96,8 @@ module _ (w : Standing) where
       )
 
   -- a round that goes round a removed page is at a page of its level
-  module _ (old : ReadRound) (version : Version) (removed : Version) (cost : ℕ) (l : Loose old.leg old.goal (live version) cost) (leg : old.leg ≡ Round removed) (alive : is_removed version.chain ≡ false) (same : level_in version.chain ≡ level_in removed.chain) where
+  module _ (old : ReadRound) (version : Version) (removed : Version) (cost : ℕ) (l : Loose old.leg old.goal (live version) cost) (leg : old.leg ≡ Round removed)
+      (alive : is_removed version.chain ≡ false) (same : level_in version.chain ≡ level_in removed.chain) where
     abbrev height : ℕ
     height = level_in removed.chain
 
@@ -102,7 +110,8 @@ module _ (w : Standing) where
     kept : KeepsItsPlace w.tree (live removed)
     kept = subst (λ (g : Leg). IsLegIn w.tree g) leg l.leg_is
 
-    onward : (new : ReadRound) (way : Key → Bool) (next : ℕ) (page other : LivePage) → On w height page → LeadsRight way page.chain next → (IsBelow (low_in version.chain) (low_of page) ⊎ (low_of page ≡ low_in version.chain)) → new ≡ going_to next (on (Past None) old) → Moves new cost
+    onward : (new : ReadRound) (way : Key → Bool) (next : ℕ) (page other : LivePage) → On w height page → LeadsRight way page.chain next
+        → (IsBelow (low_in version.chain) (low_of page) ⊎ (low_of page ≡ low_in version.chain)) → new ≡ going_to next (on (Past None) old) → Moves new cost
     onward new way next page other on_page leads after e =
         let q = right w way height next page on_page leads in
         let beyond : IsBelow (low_in version.chain) (low_of q.0) = elim after [
@@ -124,7 +133,8 @@ module _ (w : Standing) where
     more_below : under_all w height + under_all w height < cost
     more_below = let more = left_more w height (live version) here in let few = few_here in omega (arith, more, few)
 
-    through : (new : ReadRound) (next : ℕ) → right_in version.chain ≡ Some removed.pid → LeadsOn (read_way old.goal old.key) removed.chain next → new ≡ going_to next (on (Past None) old) → Moves new cost
+    through : (new : ReadRound) (next : ℕ) → right_in version.chain ≡ Some removed.pid → LeadsOn (read_way old.goal old.key) removed.chain next
+        → new ≡ going_to next (on (Past None) old) → Moves new cost
     through new next is_right leads e =
         let r = right_kept height (live version) (live removed) here kept is_right in
         elim leads [
@@ -133,7 +143,8 @@ module _ (w : Standing) where
               (λ n page is. let less = under_less w n in omega (arith, less))
         ]
 
-    merged_down : (new : ReadRound) (next : ℕ) → 0 < level_in version.chain → LeadsDown (read_way old.goal old.key) version.chain next → new ≡ going_to next (on (Past (Some version)) old) → Moves new cost
+    merged_down : (new : ReadRound) (next : ℕ) → 0 < level_in version.chain → LeadsDown (read_way old.goal old.key) version.chain next
+        → new ≡ going_to next (on (Past (Some version)) old) → Moves new cost
     merged_down new next index leads e =
         down_from old new (Past (Some version)) old.goal (read_way old.goal old.key) height next cost version same index here leads more_below e
         (λ n is. names_here w n (live version) (subst (λ (m : ℕ). On w m (live version)) is here)) l.goal_is (λ n page is. omega arith)
@@ -148,7 +159,8 @@ module _ (w : Standing) where
     | inr rest ↦ elim rest [
       | inl r ↦
           let here = alive_on old.leg old.goal (live version) cost l r.alive in
-          down_from old new (below version old.leg) old.goal way l.level r.next cost version l.stands.level_is r.index here r.leads (below_plain w old.leg l.level (live version) cost r.plain here l.few) r.goes
+          down_from old new (below version old.leg) old.goal way l.level r.next cost version l.stands.level_is r.index here r.leads
+          (below_plain w old.leg l.level (live version) cost r.plain here l.few) r.goes
           (λ n is. leg_below w old.leg version r.plain (names_here w n (live version) (subst (λ (m : ℕ). On w m (live version)) is here))) l.goal_is
           (λ n page is. few_below w old.leg version n page (first w n (low_of page)) r.plain (omega arith))
       | inr rest ↦ elim rest [
@@ -158,21 +170,25 @@ module _ (w : Standing) where
             let q = right w (reaches old.key) 0 r.next (live r.removed) k.0 r.leads in
             let beyond = below_upto (low_in version.chain) (low_in r.removed.chain) (low_of q.0) k.1 (below_not (low_in r.removed.chain) (low_of q.0) q.4) in
             let f = right_level w old.leg 0 (live version) q.0 cost r.left.plain z.0 beyond z.1 in
-            goes_known old new (level_on old.leg) Beyond r.next (second w 0 (low_of q.0)) cost 0 q.0 r.goes q.1 (w.tree.each 0 q.0 q.2) (inr q.2) (leg_level w old.leg r.left.plain) tt f.0 (f.1 (second w 0 (low_of q.0)) (omega arith))
+            goes_known old new (level_on old.leg) Beyond r.next (second w 0 (low_of q.0)) cost 0 q.0 r.goes q.1 (w.tree.each 0 q.0 q.2) (inr q.2)
+            (leg_level w old.leg r.left.plain) tt f.0 (f.1 (second w 0 (low_of q.0)) (omega arith))
         | inr rest ↦ elim rest [
           | inl r ↦
               let z = left_zero old version r.removed cost l r.left in
               let q = right w (reaches old.key) 0 r.next (live version) z.0 r.leads in
               let f = right_level w old.leg 0 (live version) q.0 cost r.left.plain z.0 q.4 z.1 in
-              goes_known old new (level_on old.leg) Beyond r.next (second w 0 (low_of q.0)) cost 0 q.0 r.goes q.1 (w.tree.each 0 q.0 q.2) (inr q.2) (leg_level w old.leg r.left.plain) tt f.0 (f.1 (second w 0 (low_of q.0)) (omega arith))
+              goes_known old new (level_on old.leg) Beyond r.next (second w 0 (low_of q.0)) cost 0 q.0 r.goes q.1 (w.tree.each 0 q.0 q.2) (inr q.2)
+              (leg_level w old.leg r.left.plain) tt f.0 (f.1 (second w 0 (low_of q.0)) (omega arith))
           | inr rest ↦ elim rest [
-            | inl r ↦ rounds (few_above w old.leg r.above l.level (live version) cost r.is_above l.few) r.next ((names_above w old.leg r.above r.is_above l.leg_is).child r.leads.low r.next r.leads.held r.leads.greatest.has) r.goes
+            | inl r ↦ rounds (few_above w old.leg r.above l.level (live version) cost r.is_above l.few) r.next
+                ((names_above w old.leg r.above r.is_above l.leg_is).child r.leads.low r.next r.leads.held r.leads.greatest.has) r.goes
             | inr rest ↦ elim rest [
               | inl r ↦ nearer old version r.removed cost l r.left.leg r.left.alive r.left.same new r.next r.leads r.goes
               | inr rest ↦ elim rest [
                 | inl r ↦ through old version r.removed cost l r.left.leg r.left.alive r.left.same new r.next r.beside r.leads r.goes
                 | inr rest ↦ elim rest [
-                  | inl r ↦ onward old version r.removed cost l r.there.left.leg r.there.left.alive r.there.left.same new way r.next (live version) (live version) (here old version r.removed cost l r.there.left.leg r.there.left.alive r.there.left.same) r.leads (inr refl) r.goes
+                  | inl r ↦ onward old version r.removed cost l r.there.left.leg r.there.left.alive r.there.left.same new way r.next (live version)
+                      (live version) (here old version r.removed cost l r.there.left.leg r.there.left.alive r.there.left.same) r.leads (inr refl) r.goes
                   | inr r ↦ merged_down old version r.removed cost l r.there.left.leg r.there.left.alive r.there.left.same new r.next r.index r.leads r.goes
                 ]
               ]
@@ -207,7 +223,8 @@ module _ (w : Standing) where
   LooseThen new (Some (Leaf leaf)) cost = ⊤
   LooseThen new (Some (Beside left removed)) cost = ⊤
 
-  pub loosely : (old : ReadRound) (version : Version) (new : ReadRound) (cost : ℕ) (result : Option ReadEnd) → Loose old.leg old.goal (live version) cost → TreatsRead old version new result → LooseThen new result cost
+  pub loosely : (old : ReadRound) (version : Version) (new : ReadRound) (cost : ℕ) (result : Option ReadEnd) → Loose old.leg old.goal (live version) cost
+      → TreatsRead old version new result → LooseThen new result cost
   loosely old version new cost None l treats = loose_on old version new cost l treats
   loosely old version new cost (Some Again) l treats = tt
   loosely old version new cost (Some (Removed removed)) l at =
@@ -230,20 +247,23 @@ module _ (w : Standing) where
   stale_on old version new s treats = elim treats [
     | inl r ↦ comes old.leg old.goal r.next r.goes ((s.names r.alive).right r.next r.leads.is_right) s.leg_is s.goal_is
     | inr rest ↦ elim rest [
-      | inl r ↦ comes (below version old.leg) old.goal r.next r.goes ((s.names r.alive).child r.leads.low r.next r.leads.held r.leads.greatest.has) (leg_below w old.leg version r.plain (s.names r.alive)) s.goal_is
+      | inl r ↦ comes (below version old.leg) old.goal r.next r.goes ((s.names r.alive).child r.leads.low r.next r.leads.held r.leads.greatest.has)
+          (leg_below w old.leg version r.plain (s.names r.alive)) s.goal_is
       | inr rest ↦ elim rest [
         | inl r ↦ comes (level_on old.leg) Beyond r.next r.goes ((s.left r.removed r.left.goal r.left.alive r.beside).right r.next r.leads.is_right) (leg_level w old.leg r.left.plain) tt
         | inr rest ↦ elim rest [
           | inl r ↦ comes (level_on old.leg) Beyond r.next r.goes ((s.names r.left.alive).right r.next r.leads.is_right) (leg_level w old.leg r.left.plain) tt
           | inr rest ↦ elim rest [
-            | inl r ↦ comes (Round version) old.goal r.next r.goes ((names_above w old.leg r.above r.is_above s.leg_is).child r.leads.low r.next r.leads.held r.leads.greatest.has) (s.kept r.gone) s.goal_is
+            | inl r ↦ comes (Round version) old.goal r.next r.goes
+                ((names_above w old.leg r.above r.is_above s.leg_is).child r.leads.low r.next r.leads.held r.leads.greatest.has) (s.kept r.gone) s.goal_is
             | inr rest ↦ elim rest [
               | inl r ↦ comes old.leg old.goal r.next r.goes ((s.names r.left.alive).right r.next r.leads.is_right) s.leg_is s.goal_is
               | inr rest ↦ elim rest [
                 | inl r ↦ comes (Past None) old.goal r.next r.goes (leading (s.round r.removed r.left.leg r.left.alive r.beside) r.next r.leads) tt s.goal_is
                 | inr rest ↦ elim rest [
                   | inl r ↦ comes (Past None) old.goal r.next r.goes ((s.names r.there.left.alive).right r.next r.leads.is_right) tt s.goal_is
-                  | inr r ↦ comes (Past (Some version)) old.goal r.next r.goes ((s.names r.there.left.alive).child r.leads.low r.next r.leads.held r.leads.greatest.has) (s.names r.there.left.alive) s.goal_is
+                  | inr r ↦ comes (Past (Some version)) old.goal r.next r.goes
+                      ((s.names r.there.left.alive).child r.leads.low r.next r.leads.held r.leads.greatest.has) (s.names r.there.left.alive) s.goal_is
                 ]
               ]
             ]
@@ -259,7 +279,8 @@ module _ (w : Standing) where
       leading : {way : Key → Bool} {chain : List Record} → NamesPlaces w.tree chain → (next : ℕ) → LeadsOn way chain next → IsPlace w.tree next
       leading names next leads = elim leads [ inl beyond ↦ names.right next beyond.is_right | inr down ↦ names.child down.2.low next down.2.held down.2.greatest.has ]
 
-  pub stalely : (old : ReadRound) (version : Version) (new : ReadRound) (result : Option ReadEnd) → Stale old.leg old.goal (live version) → TreatsRead old version new result → LooseThen new result (suc (most w))
+  pub stalely : (old : ReadRound) (version : Version) (new : ReadRound) (result : Option ReadEnd) → Stale old.leg old.goal (live version)
+      → TreatsRead old version new result → LooseThen new result (suc (most w))
   stalely old version new None s treats = stale_on old version new s treats
   stalely old version new (Some Again) s treats = tt
   stalely old version new (Some (Removed removed)) s at = subst (λ (v : Version). WasRemovedLeaf w.tree v) (sym at.is) (record { fits = s.fits; gone = at.gone; kept = s.kept at.gone })

@@ -117,7 +117,8 @@ module _ (w : Standing) where
           let up = not_true (is_below (low_of f.0) low) (and_right (f.0.pid == pid) (not (is_below (low_of f.0) low)) f.2) in
           right_true (is_under level pid) (is_ahead level (low_of page) pid)
           (any_in (λ (q : LivePage). (q.pid == pid) && not (is_below (low_of q) (low_of page))) (w.tree.pages level) f.0 f.1
-          (and_both (f.0.pid == pid) (not (is_below (low_of f.0) (low_of page))) pids (flipped (is_below (low_of f.0) (low_of page)) (below_not (low_of page) (low_of f.0) (below_upto (low_of page) low (low_of f.0) less up))))))
+          (and_both (f.0.pid == pid) (not (is_below (low_of f.0) (low_of page))) pids
+          (flipped (is_below (low_of f.0) (low_of page)) (below_not (low_of page) (low_of f.0) (below_upto (low_of page) low (low_of f.0) less up))))))
 
   -- below a page fewer are left
   pub left_more : (level : ℕ) (page : LivePage) → On w level page → under_all level < left_from level (low_of page)
@@ -162,7 +163,9 @@ module _ (w : Standing) where
   -- those below a level, and on it from a key on
   pub left_over : (level : ℕ) (low : Key) → under_all level ≤ left_from level low
   unfolding left_from under_all
-  left_over level low = let up = many_up (is_under level) (λ pid. is_under level pid || is_ahead level low pid) (numbers w.limits.pids) (λ pid among so. left_true (is_under level pid) (is_ahead level low pid) so) in omega (arith, up)
+  left_over level low =
+      let up = many_up (is_under level) (λ pid. is_under level pid || is_ahead level low pid) (numbers w.limits.pids) (λ pid among so. left_true (is_under level pid) (is_ahead level low pid) so) in
+      omega (arith, up)
 
   pub level_under : (level : ℕ) → level ≤ under_all level
   unfolding under_all
@@ -178,11 +181,16 @@ module _ (w : Standing) where
 
   pub between : (key low : Key) (page : LivePage) → is_between key low page ≡ true → (is_removed page.chain ≡ true) × IsBelow low (low_of page) × (reaches key (low_of page) ≡ true)
   between key low page e =
-      let rest = and_right (is_removed page.chain) (is_below low (low_of page) && reaches key (low_of page)) e in
-      (and_left (is_removed page.chain) (is_below low (low_of page) && reaches key (low_of page)) e, and_left (is_below low (low_of page)) (reaches key (low_of page)) rest, and_right (is_below low (low_of page)) (reaches key (low_of page)) rest)
+      let rest = and_right (is_removed page.chain) (is_below low (low_of page) && reaches key (low_of page)) e in (
+        and_left (is_removed page.chain) (is_below low (low_of page) && reaches key (low_of page)) e,
+        and_left (is_below low (low_of page))
+            (reaches key (low_of page)) rest,
+        and_right (is_below low (low_of page)) (reaches key (low_of page)) rest,
+      )
 
   pub is_one : (key low : Key) (page : LivePage) → is_removed page.chain ≡ true → IsBelow low (low_of page) → reaches key (low_of page) ≡ true → is_between key low page ≡ true
-  is_one key low page gone after pass = and_both (is_removed page.chain) (is_below low (low_of page) && reaches key (low_of page)) gone (and_both (is_below low (low_of page)) (reaches key (low_of page)) after pass)
+  is_one key low page gone after pass =
+      and_both (is_removed page.chain) (is_below low (low_of page) && reaches key (low_of page)) gone (and_both (is_below low (low_of page)) (reaches key (low_of page)) after pass)
 
   -- how many leaves are removed
   abbrev pub all_removed : ℕ
@@ -192,7 +200,8 @@ module _ (w : Standing) where
   after_few key low = many_up (is_between key low) (λ (leaf : LivePage). is_removed leaf.chain) (w.tree.pages 0) (λ leaf on so. (between key low leaf so).0)
 
   -- after a removed leaf there is one fewer than before it
-  pub fewer_after : (key low : Key) (page : LivePage) → On w 0 page → is_removed page.chain ≡ true → IsBelow low (low_of page) → reaches key (low_of page) ≡ true → removed_after key (low_of page) < removed_after key low
+  pub fewer_after : (key low : Key) (page : LivePage) → On w 0 page → is_removed page.chain ≡ true → IsBelow low (low_of page)
+      → reaches key (low_of page) ≡ true → removed_after key (low_of page) < removed_after key low
   fewer_after key low page on gone after pass = many_more (is_between key (low_of page)) (is_between key low) (w.tree.pages 0) page
       (λ q on_q e. let b = between key (low_of page) q e in is_one key low q b.0 (below_upto low (low_of page) (low_of q) after (below_not (low_of page) (low_of q) b.1)) b.2)
       on

@@ -67,7 +67,8 @@ module _ (w : Standing) where
 
   -- no page of the top level is removed
   pub top_stands : (page : LivePage) → On w.tree.top page → is_removed page.chain ≡ false
-  top_stands page on = either (is_removed page.chain) (λ gone. let b = w.tree.removed w.tree.top page on gone in let over = w.tree.below (suc w.tree.top) b.0 b.1 in absurd (omega (arith, over))) (λ alive. alive)
+  top_stands page on =
+      either (is_removed page.chain) (λ gone. let b = w.tree.removed w.tree.top page on gone in let over = w.tree.below (suc w.tree.top) b.0 b.1 in absurd (omega (arith, over))) (λ alive. alive)
 
   -- A page of the level that isn't removed, and no page to its right on the way is.
   pub record Clear (way : Key → Bool) (level : ℕ) (page : LivePage) : Type 0 where
@@ -93,7 +94,8 @@ module _ (w : Standing) where
     pub passing : way (low_of page) ≡ true
     pub is : Clear way level page ⊎ Under way above level page
 
-  pub down : (way : Key → Bool) → IsWay way → (level next : ℕ) (above : Version) → On (suc level) (live above) → StaysLeft way above.chain → LeadsDown way above.chain next → Below way (Some above) level next
+  pub down : (way : Key → Bool) → IsWay way → (level next : ℕ) (above : Version) → On (suc level) (live above) → StaysLeft way above.chain
+      → LeadsDown way above.chain next → Below way (Some above) level next
   down way is_way level next above on stays leads = record { page = page; is_pid = c.1.1; stands = child.is_page; passing = passing; is = either (is_removed page.chain) under clear }
     where
       c : IsTrue (covers above.chain leads.low) × ((child : LivePage) × (child.pid ≡ next) × IsChildAt w.limits w.memory level (w.tree.pages level) leads.low leads.held child)
@@ -127,7 +129,8 @@ module _ (w : Standing) where
           others : (other : LivePage) → On level other → IsBelow (low_of page) (low_of other) → way (low_of other) ≡ true → is_removed other.chain ≡ false
           others other on_other after pass = either (is_removed other.chain)
               (λ gone.
-              let cov : IsTrue (covers above.chain (low_of other)) = within way is_way above.chain leads.low (low_of other) stays c.0 (subst (λ (k : Key). IsUpTo k (low_of other)) child.begins (below_not (low_of page) (low_of other) after)) pass in
+              let cov : IsTrue (covers above.chain (low_of other)) = within way is_way above.chain leads.low (low_of other) stays c.0
+              (subst (λ (k : Key). IsUpTo k (low_of other)) child.begins (below_not (low_of page) (low_of other) after)) pass in
               let term = term_of level other (live above) on_other gone on cov in
               absurd (not_below (low_of page) (low_of other) after (greatest (low_of other) pass (some_of _ _ term))))
               (λ alive. alive)
@@ -143,7 +146,8 @@ module _ (w : Standing) where
       some_low : (a b : Key) → Some a ≡ Some b → a ≡ b
       some_low a b e = cc
 
-  pub right_clear : (way : Key → Bool) (level : ℕ) (page other : LivePage) → Clear way level page → On level other → way (low_of other) ≡ true → IsBelow (low_of page) (low_of other) → Clear way level other
+  pub right_clear : (way : Key → Bool) (level : ℕ) (page other : LivePage) → Clear way level page → On level other → way (low_of other) ≡ true
+      → IsBelow (low_of page) (low_of other) → Clear way level other
   right_clear way level page other c on pass after = record {
     on = on;
     alive = c.clear other on after pass;

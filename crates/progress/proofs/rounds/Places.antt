@@ -64,20 +64,34 @@ module _ (w : Standing) where
   below_plain (Past (Some above)) level page cost plain on few = let more = left_more w level page on in let up = left_within w level (low_of page) in omega (arith, few, more, up)
 
   -- to the right fewer are left
-  pub right_plain : (leg : Leg) (level : ℕ) (page other : LivePage) (cost : ℕ) → IsPlain leg → On w level page → IsBelow (low_of page) (low_of other) → Few leg level page cost → (left : ℕ) × (left < cost) × Few leg level other left
+  pub right_plain : (leg : Leg) (level : ℕ) (page other : LivePage) (cost : ℕ) → IsPlain leg → On w level page → IsBelow (low_of page) (low_of other)
+      → Few leg level page cost → (left : ℕ) × (left < cost) × Few leg level other left
   right_plain (Down None) level page other cost plain on after few = let less = left_less w level page (low_of other) on after in (second level (low_of other), omega (arith, few, less), omega arith)
-  right_plain (Down (Some above)) level page other cost plain on after few = let less = left_less w level page (low_of other) on after in (first level (low_of other), omega (arith, few, less), omega arith)
+  right_plain (Down (Some above)) level page other cost plain on after few =
+      let less = left_less w level page (low_of other) on after in
+      (first level (low_of other), omega (arith, few, less), omega arith)
   right_plain (Round removed) level page other cost plain on after few = absurd plain
   right_plain (Past None) level page other cost plain on after few = let less = left_less w level page (low_of other) on after in (second level (low_of other), omega (arith, few, less), omega arith)
-  right_plain (Past (Some above)) level page other cost plain on after few = let less = left_less w level page (low_of other) on after in (first level (low_of other), omega (arith, few, less), omega arith)
+  right_plain (Past (Some above)) level page other cost plain on after few =
+      let less = left_less w level page (low_of other) on after in
+      (first level (low_of other), omega (arith, few, less), omega arith)
 
   -- it keeps no page above from there on
-  pub right_level : (leg : Leg) (level : ℕ) (page other : LivePage) (cost : ℕ) → IsPlain leg → On w level page → IsBelow (low_of page) (low_of other) → Few leg level page cost → (second level (low_of other) < cost) × ((left : ℕ) → second level (low_of other) ≤ left → Few (level_on leg) level other left)
+  pub right_level : (leg : Leg) (level : ℕ) (page other : LivePage) (cost : ℕ) → IsPlain leg → On w level page → IsBelow (low_of page) (low_of other)
+      → Few leg level page cost → (second level (low_of other) < cost) × ((left : ℕ) → second level (low_of other) ≤ left → Few (level_on leg) level other left)
   right_level (Down None) level page other cost plain on after few = let less = left_less w level page (low_of other) on after in (omega (arith, few, less), λ left le. le)
-  right_level (Down (Some above)) level page other cost plain on after few = let less = left_less w level page (low_of other) on after in let up = left_within w level (low_of page) in let more = left_more w level page on in (omega (arith, few, less, up, more), λ left le. le)
+  right_level (Down (Some above)) level page other cost plain on after few =
+      let less = left_less w level page (low_of other) on after in
+      let up = left_within w level (low_of page) in
+      let more = left_more w level page on in
+      (omega (arith, few, less, up, more), λ left le. le)
   right_level (Round removed) level page other cost plain on after few = absurd plain
   right_level (Past None) level page other cost plain on after few = let less = left_less w level page (low_of other) on after in (omega (arith, few, less), λ left le. le)
-  right_level (Past (Some above)) level page other cost plain on after few = let less = left_less w level page (low_of other) on after in let up = left_within w level (low_of page) in let more = left_more w level page on in (omega (arith, few, less, up, more), λ left le. le)
+  right_level (Past (Some above)) level page other cost plain on after few =
+      let less = left_less w level page (low_of other) on after in
+      let up = left_within w level (low_of page) in
+      let more = left_more w level page on in
+      (omega (arith, few, less, up, more), λ left le. le)
 
   pub few_below : (leg : Leg) (version : Version) (level : ℕ) (page : LivePage) (left : ℕ) → IsPlain leg → first level (low_of page) ≤ left → Few (below version leg) level page left
   few_below (Down above) version level page left plain le = le
@@ -120,7 +134,8 @@ module _ (w : Standing) where
       subst (λ (p : LivePage). On w level p) (same_pid w r.0 page (chain_on w level r.0 r.1) stands r.2) r.1
 
   -- what a term of a page of a level names
-  pub child_of : (level next : ℕ) (above : LivePage) (key : Key) (held : Bool) → On w (suc level) above → content_in above.chain key ≡ Some (Child next held) → (page : LivePage) × (page.pid ≡ next) × IsPageOn w.limits w.memory level page × ((is_removed page.chain ≡ true) ⊎ On w level page)
+  pub child_of : (level next : ℕ) (above : LivePage) (key : Key) (held : Bool) → On w (suc level) above → content_in above.chain key ≡ Some (Child next held)
+      → (page : LivePage) × (page.pid ≡ next) × IsPageOn w.limits w.memory level page × ((is_removed page.chain ≡ true) ⊎ On w level page)
   child_of level next above key held on has =
       let c = w.tree.child level next above key held on has in
       (c.1.0, c.1.1, c.1.2.is_page, either (is_removed c.1.0.chain) (λ gone. inl gone) (λ alive. inr (c.1.2.among alive)))

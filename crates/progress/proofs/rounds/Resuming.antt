@@ -106,7 +106,8 @@ module _ (w : Standing) where
 
   -- the visit of a place begins
   at_place : (limits : Limits) (leg : Leg) (goal : ReadGoal) (part : List Record) (pid cost steps : ℕ) → IsPlace w.tree pid → IsLegIn w.tree leg → IsGoalIn w.tree goal
-      → ((p : LivePage) (level : ℕ) → p.pid ≡ pid → IsPageOn w.limits w.memory level p → Few w leg level p cost) → 14 * cost + 14 + after ≤ steps → SettledVisit leg goal (record { limits = limits; pid = pid; part = part; state = seen.Slot }) steps
+      → ((p : LivePage) (level : ℕ) → p.pid ≡ pid → IsPageOn w.limits w.memory level p → Few w leg level p cost) → 14 * cost + 14 + after ≤ steps
+      → SettledVisit leg goal (record { limits = limits; pid = pid; part = part; state = seen.Slot }) steps
   at_place limits leg goal part pid cost steps place leg_is goal_is few enough = elim place [
     | inl empty ↦ inr (record { at_slot = refl; empty = empty; few = omega (arith, enough) })
     | inr (p, is_pid, there) ↦ inl (record {
@@ -122,7 +123,8 @@ module _ (w : Standing) where
   ]
 
   moved : (new : ReadRound) (cost steps : ℕ) → (m : Moves w new cost) → 14 * m.left + 14 + after ≤ steps → SettledLeft new steps
-  moved new cost steps m enough = subst (λ (s : WayState). SettledAt new.leg new.goal s steps) (sym m.is_state) (at_place new.limits new.leg new.goal [] m.pid m.left steps m.place m.leg_is m.goal_is m.few enough)
+  moved new cost steps m enough =
+      subst (λ (s : WayState). SettledAt new.leg new.goal s steps) (sym m.is_state) (at_place new.limits new.leg new.goal [] m.pid m.left steps m.place m.leg_is m.goal_is m.few enough)
 
   -- by how a round goes on or ends
   abbrev pub Comes : ReadRound → ReadRound → Option ReadEnd → ℕ → Type 0
@@ -157,30 +159,60 @@ module _ (w : Standing) where
   chain_at : (leg : Leg) (goal : ReadGoal) (visit : Visit) (steps : ℕ) → (v : LooseVisit leg goal visit steps) → IsChainOf w.memory visit.pid v.page.chain
   chain_at leg goal visit steps v = subst (λ (n : ℕ). IsChainOf w.memory n v.page.chain) v.is_pid v.loose.stands.stands
 
-  settled_on : (leg : Leg) (goal : ReadGoal) (visit next : Visit) (steps : ℕ) (told : Answer Record) → SettledVisit leg goal visit steps → IsAnswer w.memory (seen.wanted visit) told → seen.Responds visit told next None → (m : ℕ) × (m < steps) × SettledVisit leg goal next m
+  settled_on : (leg : Leg) (goal : ReadGoal) (visit next : Visit) (steps : ℕ) (told : Answer Record) → SettledVisit leg goal visit steps
+      → IsAnswer w.memory (seen.wanted visit) told → seen.Responds visit told next None → (m : ℕ) × (m < steps) × SettledVisit leg goal next m
   settled_on leg goal visit next steps told settled answer r = elim settled [
     | inl v ↦
         let g = visits w.memory visit next v.page.chain v.left told (chain_at leg goal visit steps v) v.is_left answer r in
         let fewer = g.fewer in
-        let few = v.few in
-        (14 * v.cost + g.left + after, omega (arith, fewer, few), inl (record { page = v.page; is_pid = v.is_pid ∙ sym g.is_pid; cost = v.cost; loose = v.loose; left = g.left; is_left = g.is_left; at_head = heads w.memory visit next told answer r v.at_head; few = omega arith }))
+        let few = v.few in (
+          14 * v.cost + g.left + after,
+          omega (arith, fewer, few),
+          inl (record {
+            page = v.page;
+            is_pid = v.is_pid ∙ sym g.is_pid;
+            cost = v.cost;
+            loose = v.loose;
+            left = g.left;
+            is_left = g.is_left;
+            at_head = heads w.memory visit next told answer r v.at_head;
+            few = omega arith;
+          }),
+        )
     | inr v ↦ elim r [
-      | inl f ↦ let zeroth = numbers_same told (w.memory.slots visit.pid) f.row (slot_answer visit told v.at_slot answer) f.is in let some = f.some in let empty = v.empty in absurd (omega (arith, zeroth, some, empty))
+      | inl f ↦ let zeroth = numbers_same told (w.memory.slots visit.pid) f.row (slot_answer visit told v.at_slot answer) f.is in let some = f.some in let empty
+          = v.empty in absurd (omega (arith, zeroth, some, empty))
       | inr c ↦ not_slot visit.state c.head c.row c.asked v.at_slot
     ]
   ]
 
-  pub stale_on : (leg : Leg) (goal : ReadGoal) (visit next : Visit) (steps : ℕ) (told : Answer Record) → StaleVisit leg goal visit steps → IsAnswer w.memory (seen.wanted visit) told → seen.Responds visit told next None → (m : ℕ) × (m < steps) × StaleVisit leg goal next m
+  pub stale_on : (leg : Leg) (goal : ReadGoal) (visit next : Visit) (steps : ℕ) (told : Answer Record) → StaleVisit leg goal visit steps
+      → IsAnswer w.memory (seen.wanted visit) told → seen.Responds visit told next None → (m : ℕ) × (m < steps) × StaleVisit leg goal next m
   stale_on leg goal visit next steps told v answer r = elim r [
     | inl f ↦ not_slot visit.state v.head v.row v.at_row f.asked
     | inr c ↦
         let g = goes_on w.memory visit.limits visit.pid visit.part v.page.chain visit.state v.left told next v.is_left answer c in
         let fewer = g.fewer in
-        let few = v.few in
-        (g.left + from_place, omega (arith, fewer, few), record { page = v.page; is_pid = v.is_pid ∙ sym g.is_pid; stale = v.stale; left = g.left; is_left = g.is_left; head = c.head; row = c.under; at_row = ap (λ (n : Visit). n.state) c.goes; few = omega arith })
+        let few = v.few in (
+          g.left + from_place,
+          omega (arith, fewer, few),
+          record {
+            page = v.page;
+            is_pid = v.is_pid ∙ sym g.is_pid;
+            stale = v.stale;
+            left = g.left;
+            is_left =
+                g.is_left;
+            head = c.head;
+            row = c.under;
+            at_row = ap (λ (n : Visit). n.state) c.goes;
+            few = omega arith;
+          },
+        )
   ]
 
-  settled_ends : (old : ReadRound) (visit next : Visit) (sight : Sight) (new : ReadRound) (result : Option ReadEnd) (steps : ℕ) (told : Answer Record) → SettledVisit old.leg old.goal visit steps → IsAnswer w.memory (seen.wanted visit) told
+  settled_ends : (old : ReadRound) (visit next : Visit) (sight : Sight) (new : ReadRound) (result : Option ReadEnd) (steps : ℕ) (told : Answer Record)
+      → SettledVisit old.leg old.goal visit steps → IsAnswer w.memory (seen.wanted visit) told
       → seen.Responds visit told next (Some sight) → Sees reading old sight new result → Comes old new result steps
   settled_ends old visit next Empty new result steps told settled answer r sees = elim settled [
     | inl v ↦ absurd (not_empty w.memory visit next v.page.chain told (chain_at old.leg old.goal visit steps v) answer r)
@@ -196,7 +228,8 @@ module _ (w : Standing) where
     | inr v ↦ not_slot visit.state version.head r.row r.asked v.at_slot
   ]
 
-  pub stale_ends : (old : ReadRound) (visit next : Visit) (sight : Sight) (new : ReadRound) (result : Option ReadEnd) (steps : ℕ) (told : Answer Record) → StaleVisit old.leg old.goal visit steps → IsAnswer w.memory (seen.wanted visit) told
+  pub stale_ends : (old : ReadRound) (visit next : Visit) (sight : Sight) (new : ReadRound) (result : Option ReadEnd) (steps : ℕ) (told : Answer Record)
+      → StaleVisit old.leg old.goal visit steps → IsAnswer w.memory (seen.wanted visit) told
       → seen.Responds visit told next (Some sight) → Sees reading old sight new result → Comes old new result steps
   stale_ends old visit next Empty new result steps told v answer r sees = not_slot visit.state v.head v.row v.at_row r.asked
   stale_ends old visit next (Whole version) new result steps told v answer r sees =
@@ -206,14 +239,16 @@ module _ (w : Standing) where
       let some = f.2 in
       comes old new result (suc (most w)) steps (omega (arith, few, some)) (stalely w old version new result (subst (λ (p : LivePage). Stale w old.leg old.goal p) same v.stale) sees)
 
-  root_read : (limits : Limits) (leg : Leg) (goal : ReadGoal) (root steps : ℕ) (told : Answer Record) → AnyBegin leg goal steps → told ≡ Number root → told ≡ Number (w.memory.slots 0) → (m : ℕ) × (m < steps) × SettledVisit leg goal (to_page limits root) m
+  root_read : (limits : Limits) (leg : Leg) (goal : ReadGoal) (root steps : ℕ) (told : Answer Record) → AnyBegin leg goal steps → told ≡ Number root
+      → told ≡ Number (w.memory.slots 0) → (m : ℕ) × (m < steps) × SettledVisit leg goal (to_page limits root) m
   root_read limits leg goal root steps told b is answer =
       let same = numbers_same told root (w.memory.slots 0) is answer in
       let few = b.few in (
         from_place,
         omega (arith, few),
         at_place limits leg goal [] root (most w) from_place
-            (inr (w.tree.root.0, w.tree.root.2 ∙ sym same, record { level = w.tree.top; stands = w.tree.each w.tree.top w.tree.root.0 w.tree.root.1; is = inr w.tree.root.1 })) b.leg_is b.goal_is (λ p level e stands. few_any w leg level p stands) (omega arith),
+            (inr (w.tree.root.0, w.tree.root.2 ∙ sym same, record { level = w.tree.top; stands = w.tree.each w.tree.top w.tree.root.0 w.tree.root.1; is = inr w.tree.root.1 }))
+            b.leg_is b.goal_is (λ p level e stands. few_any w leg level p stands) (omega arith),
       )
 
   -- the same, or a page is read on as it was
@@ -237,11 +272,13 @@ module _ (w : Standing) where
   abbrev Kept : ReadRound → Answer Record → ReadRound → Option ReadEnd → Type 0
   Kept old told new result = (steps : ℕ) → AnyLeft old steps → IsAnswer w.memory (wanted old) told → ComesAny old new result steps
 
-  any_on : (leg : Leg) (goal : ReadGoal) (visit next : Visit) (steps : ℕ) (told : Answer Record) → AnyVisit leg goal visit steps → IsAnswer w.memory (seen.wanted visit) told → seen.Responds visit told next None → (m : ℕ) × (m < steps) × AnyVisit leg goal next m
+  any_on : (leg : Leg) (goal : ReadGoal) (visit next : Visit) (steps : ℕ) (told : Answer Record) → AnyVisit leg goal visit steps
+      → IsAnswer w.memory (seen.wanted visit) told → seen.Responds visit told next None → (m : ℕ) × (m < steps) × AnyVisit leg goal next m
   any_on leg goal visit next steps told (inl v) answer r = let s = settled_on leg goal visit next steps told v answer r in (s.0, s.1, inl s.2)
   any_on leg goal visit next steps told (inr v) answer r = let s = stale_on leg goal visit next steps told v answer r in (s.0, s.1, inr s.2)
 
-  any_ends : (old : ReadRound) (visit next : Visit) (sight : Sight) (new : ReadRound) (result : Option ReadEnd) (steps : ℕ) (told : Answer Record) → AnyVisit old.leg old.goal visit steps → IsAnswer w.memory (seen.wanted visit) told
+  any_ends : (old : ReadRound) (visit next : Visit) (sight : Sight) (new : ReadRound) (result : Option ReadEnd) (steps : ℕ) (told : Answer Record)
+      → AnyVisit old.leg old.goal visit steps → IsAnswer w.memory (seen.wanted visit) told
       → seen.Responds visit told next (Some sight) → Sees reading old sight new result → Comes old new result steps
   any_ends old visit next sight new result steps told (inl v) answer r sees = settled_ends old visit next sight new result steps told v answer r sees
   any_ends old visit next sight new result steps told (inr v) answer r sees = stale_ends old visit next sight new result steps told v answer r sees
@@ -256,11 +293,13 @@ module _ (w : Standing) where
   abbrev pub SomeLeft : ReadRound → ℕ → Type 0
   SomeLeft round steps = HasLeft w round steps ⊎ AnyLeft round steps
 
-  pub any_step : (task : Task) (round : ReadRound) (new : State) (steps : ℕ) → SomeLeft round steps → ReadsIn w.memory task round new → (is_leaving new ≡ true) ⊎ ((next : ReadRound) × (m : ℕ) × (new ≡ Read next) × (m < steps) × SomeLeft next m)
+  pub any_step : (task : Task) (round : ReadRound) (new : State) (steps : ℕ) → SomeLeft round steps → ReadsIn w.memory task round new
+      → (is_leaving new ≡ true) ⊎ ((next : ReadRound) × (m : ℕ) × (new ≡ Read next) × (m < steps) × SomeLeft next m)
   any_step task round new steps (inl has) r = elim (one_step w task round new steps has r).1 [ inl leaving ↦ inl leaving | inr (next, m, is, less, left) ↦ inr (next, m, is, less, inl left) ]
   any_step task round new steps (inr has) r = by_end r.steps.end (resumes round r.steps.next r.answer r.steps.end r.steps.responds steps has r.told) r.steps.goes
     where
-      by_end : (end : Option ReadEnd) → ComesAny round r.steps.next end steps → AfterReading task r.steps.next end new → (is_leaving new ≡ true) ⊎ ((next : ReadRound) × (m : ℕ) × (new ≡ Read next) × (m < steps) × SomeLeft next m)
+      by_end : (end : Option ReadEnd) → ComesAny round r.steps.next end steps → AfterReading task r.steps.next end new
+          → (is_leaving new ≡ true) ⊎ ((next : ReadRound) × (m : ℕ) × (new ≡ Read next) × (m < steps) × SomeLeft next m)
       by_end None e then = inr (r.steps.next, e.0, then, e.1, inr e.2)
       by_end (Some Again) e then = inr (first_read task, e.0, then, e.1, inl (e.2 (first_read task).key))
       by_end (Some (Removed removed)) e then = inr (read_left_of removed r.steps.next, e.0, then, e.1, inl (e.2 r.steps.next.key))
@@ -281,7 +320,8 @@ module _ (w : Standing) where
   runs task round steps [] has run = some_left round steps has
   runs task round steps (next ∷ rounds) has run = by_step_of (any_step task round (Read next) steps has run.0) (λ m left. runs task next m rounds left run.1)
     where
-      by_step_of : (is_leaving (Read next) ≡ true) ⊎ ((other : ReadRound) × (m : ℕ) × (Read next ≡ Read other) × (m < steps) × SomeLeft other m) → ((m : ℕ) → SomeLeft next m → length rounds < m) → length (next ∷ rounds) < steps
+      by_step_of : (is_leaving (Read next) ≡ true) ⊎ ((other : ReadRound) × (m : ℕ) × (Read next ≡ Read other) × (m < steps) × SomeLeft other m)
+          → ((m : ℕ) → SomeLeft next m → length rounds < m) → length (next ∷ rounds) < steps
       by_step_of (inl leaving) then = absurd (cc)
       by_step_of (inr (other, m, is, less, left)) then =
           let same : other ≡ next = cc in
@@ -293,7 +333,8 @@ module _ (w : Standing) where
   stands_at round steps r few = by_state round.state r.state
     where
       by_visit : (visit : Visit) → (state : VisitState) → IsVisitIn w.tree round.goal round.leg visit.pid visit.part state → AnyVisit round.leg round.goal (record visit { state = state }) steps
-      by_visit visit seen.Slot place = inl (at_place visit.limits round.leg round.goal visit.part visit.pid (most w) steps place r.leg r.goal (λ p level e stands. few_any w round.leg level p stands) (omega (arith, few)))
+      by_visit visit seen.Slot place =
+          inl (at_place visit.limits round.leg round.goal visit.part visit.pid (most w) steps place r.leg r.goal (λ p level e stands. few_any w round.leg level p stands) (omega (arith, few)))
       by_visit visit (seen.Row head row) read = inr (record {
         page = record { pid = visit.pid; chain = visit.part ++ read.rest };
         is_pid = refl;

@@ -32,7 +32,8 @@ module _ (w : Standing) where
     pub is_pid : page.pid ≡ next
     pub near : Near way level removed page
 
-  pub go_round : (way : Key → Bool) → IsWay way → (level next : ℕ) (above : Option Version) (version over : Version) → IsPageOn w.limits w.memory level (live version) → way (low_in version.chain) ≡ true
+  pub go_round : (way : Key → Bool) → IsWay way → (level next : ℕ) (above : Option Version) (version over : Version)
+      → IsPageOn w.limits w.memory level (live version) → way (low_in version.chain) ≡ true
       → Under w way above level (live version) → above ≡ Some over → LeadsDown (left_of version) over.chain next → IsNear way level (live version) next
   go_round way is_way level next above version over stands passing under is_above leads = record {
     page = page;
@@ -80,13 +81,16 @@ module _ (w : Standing) where
           let up : IsUpTo leads.low (low_of other) = subst (λ (k : Key). IsUpTo k (low_of other)) child.begins (below_not (low_of page) (low_of other) after) in
           let cov : IsTrue (covers over.chain (low_of other)) = within way is_way over.chain leads.low (low_of other) stays c.0 up pass in
           let here = term_of w level other (live over) on gone on_over cov in
-          let most : IsUpTo (low_of other) (low_in version.chain) = subst (λ (v : Version). (k : Key) → way k ≡ true → (s : IsSome (content_in v.chain k)) → IsUpTo k (low_in version.chain)) same under.greatest (low_of other) pass (some_of _ _ here) in
+          let most : IsUpTo (low_of other) (low_in version.chain) = subst
+          (λ (v : Version). (k : Key) → way k ≡ true → (s : IsSome (content_in v.chain k)) → IsUpTo k (low_in version.chain)) same under.greatest
+          (low_of other) pass (some_of _ _ here) in
           by_below (low_of other) (low_in version.chain)
           (λ less. absurd (not_below (low_of page) (low_of other) after (rw child.begins (leads.greatest.greatest (low_of other) less (some_of _ _ here)))))
           (λ least. (one_child (content_in over.chain (low_of other)) other.pid version.pid true true here (rw (upto_both (low_of other) (low_in version.chain) most least) term)).0)
 
   -- A page of the level at or beyond the removed one that is another page; none to its right on the way is removed.
-  pub past : (way : Key → Bool) (level : ℕ) (removed page other : LivePage) → Near way level removed page → On w level other → IsUpTo (low_of removed) (low_of other) → other.pid ≢ removed.pid → way (low_of other) ≡ true → Clear w way level other
+  pub past : (way : Key → Bool) (level : ℕ) (removed page other : LivePage) → Near way level removed page → On w level other
+      → IsUpTo (low_of removed) (low_of other) → other.pid ≢ removed.pid → way (low_of other) ≡ true → Clear w way level other
   past way level removed page other n on up apart pass = record {
     on = on;
     alive = either (is_removed other.chain) (λ gone. absurd (apart (n.clear other on (below_upto (low_of page) (low_of removed) (low_of other) n.below up) pass gone))) (λ alive. alive);
@@ -96,7 +100,9 @@ module _ (w : Standing) where
       others : (q : LivePage) → On w level q → IsBelow (low_of other) (low_of q) → way (low_of q) ≡ true → is_removed q.chain ≡ false
       others q on_q after pass_q = either (is_removed q.chain)
           (λ gone.
-          let is_pid = n.clear q on_q (below_upto (low_of page) (low_of removed) (low_of q) n.below (below_not (low_of removed) (low_of q) (upto_below (low_of removed) (low_of other) (low_of q) up after))) pass_q gone in
+          let is_pid = n.clear q on_q
+          (below_upto (low_of page) (low_of removed) (low_of q) n.below (below_not (low_of removed) (low_of q) (upto_below (low_of removed) (low_of other) (low_of q) up after)))
+          pass_q gone in
           let same : q ≡ removed = same_pid w q removed (chain_on w level q on_q) n.stands.stands is_pid in
           absurd (not_self (low_of q) (upto_below (low_of q) (low_of other) (low_of q) (subst (λ (p : LivePage). IsUpTo (low_of p) (low_of other)) (sym same) up) after)))
           (λ alive. alive)
@@ -144,7 +150,8 @@ module _ (w : Standing) where
     pub clear : Clear w way level other
 
   -- from the removed page to its right
-  pub through_right : (way : Key → Bool) (level next : ℕ) (removed page : LivePage) → Near way level removed page → right_in page.chain ≡ Some removed.pid → LeadsRight way removed.chain next → Onward way level next page
+  pub through_right : (way : Key → Bool) (level next : ℕ) (removed page : LivePage) → Near way level removed page → right_in page.chain ≡ Some removed.pid
+      → LeadsRight way removed.chain next → Onward way level next page
   through_right way level next removed page n is_right leads =
       let on = on_level way level removed page n is_right in
       let r = right w way level next removed on leads in
@@ -154,12 +161,14 @@ module _ (w : Standing) where
         passing = r.3;
         after = below_upto (low_of page) (low_of removed) (low_of r.0) n.below (below_not (low_of removed) (low_of r.0) r.4);
         clear = past way level removed page r.0 n r.2 (below_not (low_of removed) (low_of r.0) r.4)
-            (λ e. let same : r.0 ≡ removed = same_pid w r.0 removed (chain_on w level r.0 r.2) n.stands.stands e in not_self (low_of removed) (subst (λ (p : LivePage). IsBelow (low_of removed) (low_of p)) same r.4))
+            (λ e. let same : r.0 ≡ removed = same_pid w r.0 removed (chain_on w level r.0 r.2) n.stands.stands e in not_self (low_of removed)
+            (subst (λ (p : LivePage). IsBelow (low_of removed) (low_of p)) same r.4))
             r.3;
       }
 
   -- from the removed page down: none of its terms is held
-  pub through_down : (way : Key → Bool) → IsWay way → (level next : ℕ) (removed : Version) (page : LivePage) → Near way (suc level) (live removed) page → right_in page.chain ≡ Some removed.pid → StaysLeft way removed.chain → LeadsDown way removed.chain next
+  pub through_down : (way : Key → Bool) → IsWay way → (level next : ℕ) (removed : Version) (page : LivePage) → Near way (suc level) (live removed) page
+      → right_in page.chain ≡ Some removed.pid → StaysLeft way removed.chain → LeadsDown way removed.chain next
       → Below w way None level next
   through_down way is_way level next removed page n is_right stays leads =
       let on = on_level way (suc level) (live removed) page n is_right in
@@ -172,12 +181,14 @@ module _ (w : Standing) where
         is = elim b.is [
           | inl clear ↦ inl clear
           | inr under ↦ absurd (w.tree.unheld (suc level) (live removed) on n.gone (low_of b.page) b.page.pid
-              (let same : under.over ≡ removed = (let both : Some under.over ≡ Some removed = sym under.is_over in cc) in subst (λ (v : Version). content_in v.chain (low_of b.page) ≡ Some (Child b.page.pid true)) same under.term))
+              (let same : under.over ≡ removed = (let both : Some under.over ≡ Some removed = sym under.is_over in cc) in subst
+              (λ (v : Version). content_in v.chain (low_of b.page) ≡ Some (Child b.page.pid true)) same under.term))
         ];
       }
 
   -- from the page into which the removed one was merged, or one to the right of that, to its right
-  pub merged_right : (way : Key → Bool) (level next : ℕ) (removed : Version) (page : LivePage) → Near way level (live removed) page → right_in page.chain ≢ Some removed.pid → StaysLeft (left_of removed) page.chain → LeadsRight way page.chain next
+  pub merged_right : (way : Key → Bool) (level next : ℕ) (removed : Version) (page : LivePage) → Near way level (live removed) page
+      → right_in page.chain ≢ Some removed.pid → StaysLeft (left_of removed) page.chain → LeadsRight way page.chain next
       → Onward way level next page
   merged_right way level next removed page n apart stays leads =
       let r = right w way level next page n.on leads in

@@ -96,12 +96,14 @@ module _ (w : Standing) where
   root_at : (goal : ReadGoal) (key : Key) (later : ℕ) → Keeps w goal key later → At w (Down None) goal key w.tree.root.0 (w.limits.pids + w.tree.top) later
   root_at Seek key later k = (root_on (reaches key) (lowest key), k)
   root_at (Left removed) key later k = (
-    root_on (precedes (low_in removed.chain)) (elim k [ inl termed ↦ above_empty removed.chain termed.0.stands.fits.fitted termed.0.gone | inr was ↦ above_empty removed.chain was.0.fits.fitted was.0.gone ]),
+    root_on (precedes (low_in removed.chain))
+        (elim k [ inl termed ↦ above_empty removed.chain termed.0.stands.fits.fitted termed.0.gone | inr was ↦ above_empty removed.chain was.0.fits.fitted was.0.gone ]),
     k,
   )
   root_at Beyond key later k = absurd k
 
-  starts : (limits : Limits) (leg : Leg) (goal : ReadGoal) (key : Key) (root steps : ℕ) (told : Answer Record) → Begins leg goal key steps → told ≡ Number root → told ≡ Number (w.memory.slots 0) → (m : ℕ) × (m < steps) × Visits leg goal key (to_page limits root) m
+  starts : (limits : Limits) (leg : Leg) (goal : ReadGoal) (key : Key) (root steps : ℕ) (told : Answer Record) → Begins leg goal key steps → told ≡ Number root
+      → told ≡ Number (w.memory.slots 0) → (m : ℕ) × (m < steps) × Visits leg goal key (to_page limits root) m
   starts limits leg goal key root steps told b is answer =
       let same : root ≡ w.memory.slots 0 = (let both : Number root ≡ Number (w.memory.slots 0) = sym is ∙ answer in cc) in
       let stands = w.tree.each w.tree.top w.tree.root.0 w.tree.root.1 in
@@ -124,13 +126,28 @@ module _ (w : Standing) where
         },
       )
 
-  goes_on : (leg : Leg) (goal : ReadGoal) (key : Key) (visit next : Visit) (steps : ℕ) (told : Answer Record) → Visits leg goal key visit steps → IsAnswer w.memory (page.wanted visit) told → page.Responds visit told next None → (m : ℕ) × (m < steps) × Visits leg goal key next m
+  goes_on : (leg : Leg) (goal : ReadGoal) (key : Key) (visit next : Visit) (steps : ℕ) (told : Answer Record) → Visits leg goal key visit steps
+      → IsAnswer w.memory (page.wanted visit) told → page.Responds visit told next None → (m : ℕ) × (m < steps) × Visits leg goal key next m
   goes_on leg goal key visit next steps told v answer r =
       let g = visits w.memory visit next v.page.chain v.left told (subst (λ (n : ℕ). IsChainOf w.memory n v.page.chain) v.is_pid v.stands.stands) v.is_left answer r in
       by_steps steps v.few g.left g.fewer
-      (λ m few. record { page = v.page; level = v.level; stands = v.stands; is_pid = v.is_pid ∙ sym g.is_pid; left = g.left; is_left = g.is_left; at_head = heads w.memory visit next told answer r v.at_head; cost = v.cost; later = v.later; here = v.here; few = few })
+      (λ m few. record {
+        page = v.page;
+        level = v.level;
+        stands = v.stands;
+        is_pid = v.is_pid ∙ sym g.is_pid;
+        left = g.left;
+        is_left = g.is_left;
+        at_head =
+            heads w.memory visit next told answer r v.at_head;
+        cost = v.cost;
+        later = v.later;
+        here = v.here;
+        few = few;
+      })
     where
-      by_steps : (n : ℕ) → 14 * v.cost + v.left + v.later ≤ n + 14 → (left : ℕ) → suc left ≡ v.left → ((m : ℕ) → 14 * v.cost + left + v.later ≤ m + 14 → Visits leg goal key next m) → (m : ℕ) × (m < n) × Visits leg goal key next m
+      by_steps : (n : ℕ) → 14 * v.cost + v.left + v.later ≤ n + 14 → (left : ℕ) → suc left ≡ v.left
+          → ((m : ℕ) → 14 * v.cost + left + v.later ≤ m + 14 → Visits leg goal key next m) → (m : ℕ) × (m < n) × Visits leg goal key next m
       by_steps zero few left fewer f = let some = some_left leg goal key v.page v.cost v.later v.here in absurd (omega (arith, some, few, fewer))
       by_steps (suc m) few left fewer f = (m, omega arith, f m (omega (arith, few, fewer)))
 
@@ -142,18 +159,33 @@ module _ (w : Standing) where
   Ends old new (Some (Leaf leaf)) steps = ⊤
   Ends old new (Some (Beside left removed)) steps = ⊤
 
-  arrives : (limits : Limits) (leg : Leg) (goal : ReadGoal) (key : Key) (m left later : ℕ) (p : LivePage) (level : ℕ) → IsPageOn w.limits w.memory level p → At w leg goal key p left later → 14 * left + later ≤ m → Visits leg goal key (to_page limits p.pid) m
+  arrives : (limits : Limits) (leg : Leg) (goal : ReadGoal) (key : Key) (m left later : ℕ) (p : LivePage) (level : ℕ) → IsPageOn w.limits w.memory level p
+      → At w leg goal key p left later → 14 * left + later ≤ m → Visits leg goal key (to_page limits p.pid) m
   arrives limits leg goal key m left later p level stands here few =
       let short = stands.fits.short in
-      record { page = p; level = level; stands = stands; is_pid = refl; left = suc (length p.chain); is_left = refl; at_head = tt; cost = left; later = later; here = here; few = omega (arith, few, short) }
+      record {
+        page = p;
+        level = level;
+        stands = stands;
+        is_pid = refl;
+        left = suc (length p.chain);
+        is_left = refl;
+        at_head = tt;
+        cost = left;
+        later = later;
+        here = here;
+        few = omega (arith, few, short);
+      }
 
-  ends : (old new : ReadRound) (result : Option ReadEnd) (cost left later steps : ℕ) → 0 < cost → 0 < left → 14 * cost + left + later ≤ steps + 14 → Then w old new result cost later → Ends old new result steps
+  ends : (old new : ReadRound) (result : Option ReadEnd) (cost left later steps : ℕ) → 0 < cost → 0 < left → 14 * cost + left + later ≤ steps + 14
+      → Then w old new result cost later → Ends old new result steps
   ends old new None cost left later steps some more few g =
       let fewer = g.fewer in (
         14 * g.left + later,
         omega (arith, some, more, few, fewer),
         subst (λ (k : Key). StandsAt new.leg new.goal k new.state (14 * g.left + later)) (sym g.is_key)
-            (subst (λ (s : WayState). StandsAt new.leg new.goal old.key s (14 * g.left + later)) (sym g.is_state) (arrives new.limits new.leg new.goal old.key (14 * g.left + later) g.left later g.page g.level g.stands g.at (omega arith))),
+            (subst (λ (s : WayState). StandsAt new.leg new.goal old.key s (14 * g.left + later)) (sym g.is_state)
+            (arrives new.limits new.leg new.goal old.key (14 * g.left + later) g.left later g.page g.level g.stands g.at (omega arith))),
       )
   ends old new (Some Again) cost left later steps some more few t = t
   ends old new (Some (Removed removed)) cost left later steps some more few t =
@@ -162,9 +194,11 @@ module _ (w : Standing) where
   ends old new (Some (Leaf leaf)) cost left later steps some more few t = tt
   ends old new (Some (Beside left_page removed)) cost left later steps some more few t = tt
 
-  found : (old : ReadRound) (visit next : Visit) (sight : Sight) (new : ReadRound) (result : Option ReadEnd) (steps : ℕ) (told : Answer Record) → Visits old.leg old.goal old.key visit steps → IsAnswer w.memory (page.wanted visit) told
+  found : (old : ReadRound) (visit next : Visit) (sight : Sight) (new : ReadRound) (result : Option ReadEnd) (steps : ℕ) (told : Answer Record)
+      → Visits old.leg old.goal old.key visit steps → IsAnswer w.memory (page.wanted visit) told
       → page.Responds visit told next (Some sight) → Sees reading old sight new result → Ends old new result steps
-  found old visit next Empty new result steps told v answer r sees = absurd (not_empty w.memory visit next v.page.chain told (subst (λ (n : ℕ). IsChainOf w.memory n v.page.chain) v.is_pid v.stands.stands) answer r)
+  found old visit next Empty new result steps told v answer r sees =
+      absurd (not_empty w.memory visit next v.page.chain told (subst (λ (n : ℕ). IsChainOf w.memory n v.page.chain) v.is_pid v.stands.stands) answer r)
   found old visit next (Whole version) new result steps told v answer r sees =
       let f = finds w.memory visit next v.page.chain v.left told version v.is_left answer r in
       let same : v.page ≡ live version = same_page v.page (live version) (v.is_pid ∙ sym f.0) (sym f.1) in
@@ -185,10 +219,12 @@ module _ (w : Standing) where
       → (r.steps.end ≢ Some Again) × ((is_leaving new ≡ true) ⊎ ((next : ReadRound) × (m : ℕ) × (new ≡ Read next) × (m < steps) × HasLeft next m))
   one_step task round new steps has r = by_end r.steps.end (steps_in round r.steps.next r.answer r.steps.end r.steps.responds steps has r.told) r.steps.goes
     where
-      by_end : (end : Option ReadEnd) → Ends round r.steps.next end steps → AfterReading task r.steps.next end new → (end ≢ Some Again) × ((is_leaving new ≡ true) ⊎ ((next : ReadRound) × (m : ℕ) × (new ≡ Read next) × (m < steps) × HasLeft next m))
+      by_end : (end : Option ReadEnd) → Ends round r.steps.next end steps → AfterReading task r.steps.next end new
+          → (end ≢ Some Again) × ((is_leaving new ≡ true) ⊎ ((next : ReadRound) × (m : ℕ) × (new ≡ Read next) × (m < steps) × HasLeft next m))
       by_end None e after = ((λ f. cc f), inr (r.steps.next, e.0, after, e.1, e.2))
       by_end (Some Again) e after = absurd e
-      by_end (Some (Removed removed)) e after = ((λ f. cc f), inr (read_left_of removed r.steps.next, e.0, after, e.1, subst (λ (k : Key). Begins (Down None) (Left removed) k e.0) (sym r.steps.same.key) e.2))
+      by_end (Some (Removed removed)) e after =
+          ((λ f. cc f), inr (read_left_of removed r.steps.next, e.0, after, e.1, subst (λ (k : Key). Begins (Down None) (Left removed) k e.0) (sym r.steps.same.key) e.2))
       by_end (Some (Leaf leaf)) e after = ((λ f. cc f), inl after)
       by_end (Some (Beside left removed)) e after = ((λ f. cc f), inl after)
 
@@ -211,11 +247,14 @@ module _ (w : Standing) where
   pub some_steps : (round : ReadRound) (steps : ℕ) → HasLeft round steps → 0 < steps
   some_steps round steps has = steps_some round.leg round.goal round.key round.state steps has
 
-  pub runs : (task : Task) (round : ReadRound) (steps : ℕ) (rounds : List ReadRound) → HasLeft round steps → IsReaderRun w.memory task round rounds → (m : ℕ) × (length rounds + m ≤ steps) × HasLeft (last_round round rounds) m
+  pub runs : (task : Task) (round : ReadRound) (steps : ℕ) (rounds : List ReadRound) → HasLeft round steps → IsReaderRun w.memory task round rounds
+      → (m : ℕ) × (length rounds + m ≤ steps) × HasLeft (last_round round rounds) m
   runs task round steps [] has run = (steps, omega arith, has)
   runs task round steps (next ∷ rounds) has run = by_step_of (one_step task round (Read next) steps has run.0).1 (λ m left. runs task next m rounds left run.1)
     where
-      by_step_of : (is_leaving (Read next) ≡ true) ⊎ ((other : ReadRound) × (m : ℕ) × (Read next ≡ Read other) × (m < steps) × HasLeft other m) → ((m : ℕ) → HasLeft next m → (n : ℕ) × (length rounds + n ≤ m) × HasLeft (last_round next rounds) n) → (m : ℕ) × (length (next ∷ rounds) + m ≤ steps) × HasLeft (last_round next rounds) m
+      by_step_of : (is_leaving (Read next) ≡ true) ⊎ ((other : ReadRound) × (m : ℕ) × (Read next ≡ Read other) × (m < steps) × HasLeft other m)
+          → ((m : ℕ) → HasLeft next m → (n : ℕ) × (length rounds + n ≤ m) × HasLeft (last_round next rounds) n)
+          → (m : ℕ) × (length (next ∷ rounds) + m ≤ steps) × HasLeft (last_round next rounds) m
       by_step_of (inl leaving) then = absurd (cc)
       by_step_of (inr (other, m, is, less, left)) then =
           let same : other ≡ next = cc in

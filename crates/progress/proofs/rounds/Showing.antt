@@ -31,11 +31,13 @@ module _ (limits : Limits) (entries : List Entry) (state : IsState limits entrie
       record { fits = r.fits; gone = g.page.gone; kept = read_kept limits entries state actor removed.pid removed.head removed.chain r g.page.gone }
 
   -- the page above
-  above_in : (within : Limits) (goal : ReadGoal) (pid level : ℕ) (earlier : List ℕ) (above : Version) → IsAbove within k goal pid level earlier above → NamesPlaces (tree limits entries state actor) above.chain
+  above_in : (within : Limits) (goal : ReadGoal) (pid level : ℕ) (earlier : List ℕ) (above : Version) → IsAbove within k goal pid level earlier above
+      → NamesPlaces (tree limits entries state actor) above.chain
   above_in within goal pid level earlier above a = read_names limits entries state actor above.pid above.head above.chain (read_whole limits entries state actor above a.in_hand.seen) a.alive
 
   -- what a removed page names that the page has as its right, after which that one's slot was read
-  beyond_in : (within : Limits) (key : Key) (visit : Visit) (removed : Version) (head row : ℕ) (chain : List Record) → IsAside within k key visit removed → visit.state ≡ Row head row → k.read.heads visit.pid ≡ Some head → WasRead limits entries state actor visit.pid head chain
+  beyond_in : (within : Limits) (key : Key) (visit : Visit) (removed : Version) (head row : ℕ) (chain : List Record) → IsAside within k key visit removed
+      → visit.state ≡ Row head row → k.read.heads visit.pid ≡ Some head → WasRead limits entries state actor visit.pid head chain
       → is_removed chain ≡ false → right_in chain ≡ Some removed.pid → NamesPlaces (tree limits entries state actor) removed.chain
   beyond_in within key visit removed head row chain a at_row at_head r alive is_right =
       let after : IsAhead k removed visit.pid (Row head row) = subst (λ (s : VisitState). IsAhead k removed visit.pid s) at_row a.after in
@@ -53,8 +55,10 @@ module _ (limits : Limits) (entries : List Entry) (state : IsState limits entrie
   goal_begins within key Beyond begins = tt
 
   -- a visit on a way, by where it stands
-  visit_at : (within : Limits) (key : Key) (goal : ReadGoal) (leg : Leg) (r : Recalled) (visit : Visit) (level : ℕ) (low : Key) (earlier : List ℕ) → IsOnWay within k r visit level low earlier → KeepsToRead within key k visit goal
-      → ((removed : Version) → leg ≡ Round removed → IsAside within k key visit removed) → (at : VisitState) → visit.state ≡ at → IsVisitIn (tree limits entries state actor) goal leg visit.pid visit.part at
+  visit_at : (within : Limits) (key : Key) (goal : ReadGoal) (leg : Leg) (r : Recalled) (visit : Visit) (level : ℕ) (low : Key) (earlier : List ℕ)
+      → IsOnWay within k r visit level low earlier → KeepsToRead within key k visit goal
+      → ((removed : Version) → leg ≡ Round removed → IsAside within k key visit removed) → (at : VisitState) → visit.state ≡ at
+      → IsVisitIn (tree limits entries state actor) goal leg visit.pid visit.part at
   visit_at within key goal leg r visit level low earlier way keeps goes_round Slot e = expected_place limits entries state actor within visit.pid level low earlier way.expected
   visit_at within key goal leg r visit level low earlier way keeps goes_round (Row head row) e =
       let reads : seen.Reads k visit.pid head visit.part row = subst (λ (s : VisitState). seen.ShowsState k visit.pid visit.part s) e way.shows.stands in
@@ -65,7 +69,9 @@ module _ (limits : Limits) (entries : List Entry) (state : IsState limits entrie
         fits = f.2.fits;
         names = λ alive. read_names limits entries state actor visit.pid head (visit.part ++ f.0) f.2 alive;
         kept = λ gone. read_kept limits entries state actor visit.pid head (visit.part ++ f.0) f.2 gone;
-        left = λ removed is alive is_right. beyond_in within key visit removed head row (visit.part ++ f.0) (subst (λ (g : ReadGoal). KeepsToRead within key k visit g) is keeps) e reads.in_slot f.2 alive is_right;
+        left =
+            λ removed is alive is_right. beyond_in within key visit removed head row (visit.part ++ f.0)
+            (subst (λ (g : ReadGoal). KeepsToRead within key k visit g) is keeps) e reads.in_slot f.2 alive is_right;
         round = λ removed is alive is_right. beyond_in within key visit removed head row (visit.part ++ f.0) (goes_round removed is) e reads.in_slot f.2 alive is_right;
       }
 
@@ -78,11 +84,13 @@ module _ (limits : Limits) (entries : List Entry) (state : IsState limits entrie
   same_round : (removed other : Version) → Round removed ≡ Round other → removed ≡ other
   same_round removed other e = cc
 
-  leg_down : (within : Limits) (key : Key) (goal : ReadGoal) (above : Option Version) (r : Recalled) (visit : Visit) → VisitsToRead within key goal (Down above) k r visit → IsLegIn (tree limits entries state actor) (Down above)
+  leg_down : (within : Limits) (key : Key) (goal : ReadGoal) (above : Option Version) (r : Recalled) (visit : Visit)
+      → VisitsToRead within key goal (Down above) k r visit → IsLegIn (tree limits entries state actor) (Down above)
   leg_down within key goal None r visit v = tt
   leg_down within key goal (Some above) r visit v = above_in within goal visit.pid v.level v.earlier above v.leg_is.1
 
-  leg_past : (within : Limits) (key : Key) (goal : ReadGoal) (above : Option Version) (r : Recalled) (visit : Visit) → VisitsToRead within key goal (Past above) k r visit → IsLegIn (tree limits entries state actor) (Past above)
+  leg_past : (within : Limits) (key : Key) (goal : ReadGoal) (above : Option Version) (r : Recalled) (visit : Visit)
+      → VisitsToRead within key goal (Past above) k r visit → IsLegIn (tree limits entries state actor) (Past above)
   leg_past within key goal None r visit v = tt
   leg_past within key goal (Some above) r visit v = above_in within goal visit.pid v.level v.earlier above v.leg_is.1
 
@@ -101,7 +109,8 @@ module _ (limits : Limits) (entries : List Entry) (state : IsState limits entrie
   at_visit within key goal (Round removed) r visit v = (
     goal_at within key visit goal v.keeps,
     (was_removed within key removed v.nears.keeps.gone).kept,
-    visit_at within key goal (Round removed) r visit v.nears.level v.nears.low v.nears.earlier v.nears.seeks.on_way v.keeps (λ other e. subst (λ (q : Version). IsAside within k key visit q) (same_round removed other e) v.nears.keeps) visit.state refl,
+    visit_at within key goal (Round removed) r visit v.nears.level v.nears.low v.nears.earlier v.nears.seeks.on_way v.keeps
+        (λ other e. subst (λ (q : Version). IsAside within k key visit q) (same_round removed other e) v.nears.keeps) visit.state refl,
   )
 
   at_state : (within : Limits) (key : Key) (goal : ReadGoal) (leg : Leg) (r : Recalled) (way : WayState) → ShowsState within key goal leg k r way

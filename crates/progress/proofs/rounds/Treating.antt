@@ -61,7 +61,8 @@ module _ (w : Standing) where
   }
 
   -- a page of the level, with those to its right
-  at_clear : (way : Key → Bool) (above : Option Version) (level next cost : ℕ) (page other : LivePage) → Clear w way level other → other.pid ≡ next → way (low_of other) ≡ true → On w level page → IsBelow (low_of page) (low_of other)
+  at_clear : (way : Key → Bool) (above : Option Version) (level next cost : ℕ) (page other : LivePage) → Clear w way level other → other.pid ≡ next
+      → way (low_of other) ≡ true → On w level page → IsBelow (low_of page) (low_of other)
       → left_from w level (low_of page) ≤ cost → Comes next cost (OnWay way above)
   at_clear way above level next cost page other clear is_pid pass on after few = record {
     page = other;
@@ -81,7 +82,8 @@ module _ (w : Standing) where
       let some = left_more w (suc level) (live version) on in
       from_below way (Some version) level next cost (down w way is_way level next version on stays leads) (omega (arith, some, few))
 
-  pub way_right : (way : Key → Bool) (above then : Option Version) (next cost : ℕ) (version : Version) → OnWay way above (live version) cost → is_removed version.chain ≡ false → LeadsRight way version.chain next → Comes next cost (OnWay way then)
+  pub way_right : (way : Key → Bool) (above then : Option Version) (next cost : ℕ) (version : Version) → OnWay way above (live version) cost
+      → is_removed version.chain ≡ false → LeadsRight way version.chain next → Comes next cost (OnWay way then)
   way_right way above then next cost version o alive leads = elim o.is [
     | inl here ↦
         let r = right w way o.level next (live version) here.0.on leads in
@@ -89,14 +91,16 @@ module _ (w : Standing) where
     | inr here ↦ absurd (clash (is_removed version.chain) here.0.gone alive)
   ]
 
-  pub way_down : (way : Key → Bool) → IsWay way → (above : Option Version) (next cost : ℕ) (version : Version) → OnWay way above (live version) cost → is_removed version.chain ≡ false → StaysLeft way version.chain → 0 < level_in version.chain
+  pub way_down : (way : Key → Bool) → IsWay way → (above : Option Version) (next cost : ℕ) (version : Version) → OnWay way above (live version) cost
+      → is_removed version.chain ≡ false → StaysLeft way version.chain → 0 < level_in version.chain
       → LeadsDown way version.chain next → Comes next cost (OnWay way (Some version))
   way_down way is_way above next cost version o alive stays index leads = elim o.is [
     | inl here ↦ going_down way is_way o.level next cost version o.stands.level_is index here.0.on here.1 stays leads
     | inr here ↦ absurd (clash (is_removed version.chain) here.0.gone alive)
   ]
 
-  pub way_round : (way : Key → Bool) → IsWay way → (above : Option Version) (next cost : ℕ) (version over : Version) → OnWay way above (live version) cost → is_removed version.chain ≡ true → above ≡ Some over
+  pub way_round : (way : Key → Bool) → IsWay way → (above : Option Version) (next cost : ℕ) (version over : Version) → OnWay way above (live version) cost
+      → is_removed version.chain ≡ true → above ≡ Some over
       → LeadsDown (left_of version) over.chain next → Comes next cost (OnRound way version)
   way_round way is_way above next cost version over o gone is_above leads = elim o.is [
     | inl here ↦ absurd (clash (is_removed version.chain) gone here.0.alive)
@@ -129,7 +133,8 @@ module _ (w : Standing) where
     )
   ]
 
-  pub round_nearer : (way : Key → Bool) → IsWay way → (next cost : ℕ) (removed : Version) (page : LivePage) → OnRound way removed page cost → LeadsRight (left_of removed) page.chain next → Comes next cost (OnRound way removed)
+  pub round_nearer : (way : Key → Bool) → IsWay way → (next cost : ℕ) (removed : Version) (page : LivePage) → OnRound way removed page cost
+      → LeadsRight (left_of removed) page.chain next → Comes next cost (OnRound way removed)
   round_nearer way is_way next cost removed page o leads =
       let n = nearer w way is_way o.level next removed page o.near leads in
       record {
@@ -145,23 +150,28 @@ module _ (w : Standing) where
   onward_way : (way : Key → Bool) (level next cost : ℕ) (page : LivePage) → On w level page → left_from w level (low_of page) ≤ cost → Onward w way level next page → Comes next cost (OnWay way None)
   onward_way way level next cost page on few r = at_clear way None level next cost page r.other r.clear r.is_pid r.passing on r.after few
 
-  through : (way : Key → Bool) → IsWay way → (level next cost : ℕ) (removed : Version) (page : LivePage) → level_in removed.chain ≡ level → 0 < level_in removed.chain → Near w way level (live removed) page
+  through : (way : Key → Bool) → IsWay way → (level next cost : ℕ) (removed : Version) (page : LivePage) → level_in removed.chain ≡ level
+      → 0 < level_in removed.chain → Near w way level (live removed) page
       → left_from w level (low_of page) ≤ cost → right_in page.chain ≡ Some removed.pid → StaysLeft way removed.chain → LeadsDown way removed.chain next → Comes next cost (OnWay way None)
   through way is_way zero next cost removed page is index near few is_right stays leads = absurd (omega (arith, is, index))
   through way is_way (suc level) next cost removed page is index near few is_right stays leads =
       let some = left_more w (suc level) page near.on in
       from_below way None level next cost (through_down w way is_way level next removed page near is_right stays leads) (omega (arith, some, few))
 
-  pub round_through : (way : Key → Bool) → IsWay way → (next cost : ℕ) (removed : Version) (page : LivePage) → OnRound way removed page cost → right_in page.chain ≡ Some removed.pid → LeadsOn way removed.chain next → Comes next cost (OnWay way None)
+  pub round_through : (way : Key → Bool) → IsWay way → (next cost : ℕ) (removed : Version) (page : LivePage) → OnRound way removed page cost
+      → right_in page.chain ≡ Some removed.pid → LeadsOn way removed.chain next → Comes next cost (OnWay way None)
   round_through way is_way next cost removed page o is_right leads = elim leads [
     | inl on ↦ onward_way way o.level next cost page o.near.on o.few (through_right w way o.level next (live removed) page o.near is_right on)
     | inr below ↦ through way is_way o.level next cost removed page o.near.stands.level_is below.1 o.near o.few is_right below.0 below.2
   ]
 
-  pub round_merged_right : (way : Key → Bool) (next cost : ℕ) (removed : Version) (page : LivePage) → OnRound way removed page cost → right_in page.chain ≢ Some removed.pid → StaysLeft (left_of removed) page.chain → LeadsRight way page.chain next
+  pub round_merged_right : (way : Key → Bool) (next cost : ℕ) (removed : Version) (page : LivePage) → OnRound way removed page cost
+      → right_in page.chain ≢ Some removed.pid → StaysLeft (left_of removed) page.chain → LeadsRight way page.chain next
       → Comes next cost (OnWay way None)
   round_merged_right way next cost removed page o apart stays leads = onward_way way o.level next cost page o.near.on o.few (merged_right w way o.level next removed page o.near apart stays leads)
 
-  pub round_merged_down : (way : Key → Bool) → IsWay way → (next cost : ℕ) (removed version : Version) → OnRound way removed (live version) cost → StaysLeft way version.chain → 0 < level_in version.chain → LeadsDown way version.chain next
+  pub round_merged_down : (way : Key → Bool) → IsWay way → (next cost : ℕ) (removed version : Version) → OnRound way removed (live version) cost
+      → StaysLeft way version.chain → 0 < level_in version.chain → LeadsDown way version.chain next
       → Comes next cost (OnWay way (Some version))
-  round_merged_down way is_way next cost removed version o stays index leads = going_down way is_way o.level next cost version (w.tree.each o.level (live version) o.near.on).level_is index o.near.on o.few stays leads
+  round_merged_down way is_way next cost removed version o stays index leads =
+      going_down way is_way o.level next cost version (w.tree.each o.level (live version) o.near.on).level_is index o.near.on o.few stays leads

@@ -80,17 +80,20 @@ in_tree_as (Keeps a) two e h = tree_owned two (sym e) h
 itself : (a : ℕ) → (a == a) ≡ true
 itself a = elim (eqb_tells a a) [ inl same ↦ same.0 | inr apart ↦ absurd (apart.1 refl) ]
 
-placed_here : (actor placed : ℕ) (content : Record) (answer : Answer Record) (reply : Option Reply) (ks : ℕ → Knowledge) → (knows_after ks (Step actor (Place placed content) answer reply) actor).own.rows placed ≡ Written content
+placed_here : (actor placed : ℕ) (content : Record) (answer : Answer Record) (reply : Option Reply) (ks : ℕ → Knowledge)
+    → (knows_after ks (Step actor (Place placed content) answer reply) actor).own.rows placed ≡ Written content
 placed_here actor placed content answer reply ks = rw (itself actor, itself placed) refl
 
 memory_at_end : (limits : Limits) (entries : List Entry) (entry : Entry) → memory_at limits (entries ++ entry ∷ []) (length entries) ≡ memory_of limits entries
 memory_at_end limits entries entry = ap (memory_of limits) (take-push_whole entries (entry ∷ []))
 
 -- slot 0 changes where the tree gets a new root
-root_stays : (limits : Limits) (entries : List Entry) (entry : Entry) → IsNext limits entries entry → changes_tree (memory_of limits entries) entry ≡ false → (memory_of limits (entries ++ entry ∷ [])).slots 0 ≡ (memory_of limits entries).slots 0
+root_stays : (limits : Limits) (entries : List Entry) (entry : Entry) → IsNext limits entries entry → changes_tree (memory_of limits entries) entry ≡ false
+    → (memory_of limits (entries ++ entry ∷ [])).slots 0 ≡ (memory_of limits entries).slots 0
 root_stays limits entries entry next off = ap (λ (m : Memory). m.slots 0) (memory_of-push limits entries entry) ∙ by_entry entry next off
   where
-    by_entry : (e : Entry) → IsNext limits entries e → changes_tree (memory_of limits entries) e ≡ false → (memory_after_entry (memory_of limits entries) e).slots 0 ≡ (memory_of limits entries).slots 0
+    by_entry : (e : Entry) → IsNext limits entries e → changes_tree (memory_of limits entries) e ≡ false
+        → (memory_after_entry (memory_of limits entries) e).slots 0 ≡ (memory_of limits entries).slots 0
     by_entry (Begin actor command) n o = refl
     by_entry (Step actor (Exchange slot old new) answer reply) n o = elim (eqb_tells ((memory_of limits entries).slots slot) old) [
       | inr apart ↦ rw apart.0 refl
@@ -98,8 +101,10 @@ root_stays limits entries entry next off = ap (λ (m : Memory). m.slots 0) (memo
         | inr other ↦ rw (won.0, other.0) refl
         | inl same ↦
             let yes : answer ≡ Whether true = n.2 ∙ ap Whether won.0 in
-            let at : changes_tree (memory_of limits entries) (Step actor (Exchange slot old new) (Whether true) reply) ≡ false = subst (λ (a : Answer Record). changes_tree (memory_of limits entries) (Step actor (Exchange slot old new) a reply) ≡ false) yes o in
-            let zeroth : changes_tree (memory_of limits entries) (Step actor (Exchange 0 old new) (Whether true) reply) ≡ false = subst (λ (p : ℕ). changes_tree (memory_of limits entries) (Step actor (Exchange p old new) (Whether true) reply) ≡ false) (sym same.1) at in
+            let at : changes_tree (memory_of limits entries) (Step actor (Exchange slot old new) (Whether true) reply) ≡ false = subst
+            (λ (a : Answer Record). changes_tree (memory_of limits entries) (Step actor (Exchange slot old new) a reply) ≡ false) yes o in
+            let zeroth : changes_tree (memory_of limits entries) (Step actor (Exchange 0 old new) (Whether true) reply) ≡ false = subst
+            (λ (p : ℕ). changes_tree (memory_of limits entries) (Step actor (Exchange p old new) (Whether true) reply) ≡ false) (sym same.1) at in
             absurd (cc zeroth)
       ]
     ]
@@ -133,7 +138,8 @@ module _ (limits : Limits) (entries : List Entry) (entry : Entry) (off : changes
     -- a page that is in the tree after the entry was in it before
     pub in_tree_before : (pid : ℕ) → IsInTree (later.owners.page pid) → IsInTree (state.owners.page pid)
     in_tree_before pid h =
-        let now : IsInPhase limits grown (suc (length entries)) pid (phase_of (later.owners.page pid)) = subst (λ (n : ℕ). IsInPhase limits grown n pid (phase_of (later.owners.page pid))) (pushed_length entries entry) (later.in_phase pid) in
+        let now : IsInPhase limits grown (suc (length entries)) pid (phase_of (later.owners.page pid)) = subst
+        (λ (n : ℕ). IsInPhase limits grown n pid (phase_of (later.owners.page pid))) (pushed_length entries entry) (later.in_phase pid) in
         let before = phase_kept pid (phase_of (later.owners.page pid)) (λ e. tree_owned (later.owners.page pid) e h) (λ e. tree_free (later.owners.page pid) e h) now in
         in_tree_as (state.owners.page pid) (later.owners.page pid) (sym (state.only_phase pid (phase_of (later.owners.page pid)) before)) h
 
@@ -155,7 +161,10 @@ module _ (limits : Limits) (entries : List Entry) (entry : Entry) (off : changes
                 tree_owned (state.owners.page slot) (sym is) (subst (λ (n : ℕ). IsInTree (state.owners.page n)) (sym same) h)
 
             counted : (kind : Link) → link_of (memory_of limits entries) slot old new ≡ Some kind → is_change (Some kind) ≡ true → ⊥
-            counted kind at so = let on : changes_tree (memory_of limits entries) entry ≡ true = ap (changes_tree (memory_of limits entries)) is ∙ ap is_change at ∙ so in let both : true ≡ false = sym on ∙ off in cc
+            counted kind at so =
+                let on : changes_tree (memory_of limits entries) entry ≡ true = ap (changes_tree (memory_of limits entries)) is ∙ ap is_change at ∙ so in
+                let both : true ≡ false = sym on ∙ off in
+                cc
 
             by_kind : (kind : Link) → link_of (memory_of limits entries) slot old new ≡ Some kind → ((kind ≡ link.Ready) ⊎ (kind ≡ link.Undo) → IsInPhase limits grown (length entries) slot owned) → ⊥
             by_kind link.Ready at own = owned_not (own (inl refl))
@@ -180,7 +189,8 @@ module _ (limits : Limits) (entries : List Entry) (entry : Entry) (off : changes
     row_stays : (row : ℕ) → later.owners.row row ≡ Linked → (memory_of limits grown).rows row ≡ (memory_of limits entries).rows row
     row_stays row linked = ap (λ (m : Memory). m.rows row) (memory_of-push limits entries entry) ∙ by_entry entry refl
       where
-        own_row : (actor placed : ℕ) (content : Record) (answer : Answer Record) (reply : Option Reply) → entry ≡ Step actor (Place placed content) answer reply → (knows grown actor).own.rows placed ≡ Written content
+        own_row : (actor placed : ℕ) (content : Record) (answer : Answer Record) (reply : Option Reply) → entry ≡ Step actor (Place placed content) answer reply
+            → (knows grown actor).own.rows placed ≡ Written content
         own_row actor placed content answer reply is =
             let ks : knows grown actor ≡ knows_after (knows entries) entry actor = ap (λ f. f actor) (knows-push entries entry) in
             ap (λ q. q.own.rows placed) ks ∙ ap (λ (x : Entry). (knows_after (knows entries) x actor).own.rows placed) is ∙ placed_here actor placed content answer reply (knows entries)
@@ -188,7 +198,9 @@ module _ (limits : Limits) (entries : List Entry) (entry : Entry) (off : changes
         by_place : (actor placed : ℕ) (content : Record) (answer : Answer Record) (reply : Option Reply) → entry ≡ Step actor (Place placed content) answer reply → row ≡ placed → ⊥
         by_place actor placed content answer reply is same =
             let owns = later.is_tree.owns actor placed in
-            let fits : OwnFits actor (later.owners.row placed) ((shared (memory_of limits grown)).rows placed) (Written content) = subst (λ (own : OwnRow). OwnFits actor (later.owners.row placed) ((shared (memory_of limits grown)).rows placed) own) (own_row actor placed content answer reply is) owns in
+            let fits : OwnFits actor (later.owners.row placed) ((shared (memory_of limits grown)).rows placed) (Written content) = subst
+            (λ (own : OwnRow). OwnFits actor (later.owners.row placed) ((shared (memory_of limits grown)).rows placed) own)
+            (own_row actor placed content answer reply is) owns in
             let spare : later.owners.row placed ≡ Spare actor = fits.0 in
             let held : later.owners.row placed ≡ Linked = ap later.owners.row (sym same) ∙ linked in
             let both : Spare actor ≡ Linked = sym spare ∙ held in
@@ -214,7 +226,8 @@ module _ (limits : Limits) (entries : List Entry) (entry : Entry) (off : changes
         NextLinked : Option ℕ → Type 0
         NextLinked o = MatchOption o (Unit {0}) (λ n. later.owners.row n ≡ Linked)
 
-        by_next : (o : Option ℕ) → NextLinked o → MatchOption o (under ≡ []) (λ n. IsChainFrom (memory_of limits entries).rows n under) → ((n : ℕ) → later.owners.row n ≡ Linked → IsChainFrom (memory_of limits entries).rows n under → IsChainFrom (memory_of limits grown).rows n under)
+        by_next : (o : Option ℕ) → NextLinked o → MatchOption o (under ≡ []) (λ n. IsChainFrom (memory_of limits entries).rows n under)
+            → ((n : ℕ) → later.owners.row n ≡ Linked → IsChainFrom (memory_of limits entries).rows n under → IsChainFrom (memory_of limits grown).rows n under)
             → MatchOption o (under ≡ []) (λ n. IsChainFrom (memory_of limits grown).rows n under)
         by_next None linked_next is f = is
         by_next (Some n) linked_next is f = f n linked_next is
@@ -242,10 +255,15 @@ pub record IsSame (limits : Limits) (w : Standing) (entries : List Entry) (state
   pub slots : (pid : ℕ) → 0 < pid → IsInTree (state.owners.page pid) → (memory_of limits entries).slots pid ≡ w.memory.slots pid
   pub chains : (pid : ℕ) (chain : List Record) → IsInTree (state.owners.page pid) → IsChainOf w.memory pid chain → IsChainOf (memory_of limits entries) pid chain
 
-pub same_next : (limits : Limits) (w : Standing) (entries : List Entry) (entry : Entry) (state : IsState limits entries) → IsNext limits entries entry → (later : IsState limits (entries ++ entry ∷ [])) → IsDirect limits (entries ++ entry ∷ []) → changes_tree (memory_of limits entries) entry ≡ false
+pub same_next : (limits : Limits) (w : Standing) (entries : List Entry) (entry : Entry) (state : IsState limits entries) → IsNext limits entries entry
+    → (later : IsState limits (entries ++ entry ∷ [])) → IsDirect limits (entries ++ entry ∷ []) → changes_tree (memory_of limits entries) entry ≡ false
     → IsSame limits w entries state → IsSame limits w (entries ++ entry ∷ []) later
 same_next limits w entries entry state next later direct off same = record {
   root = root_stays limits entries entry next off ∙ same.root;
-  slots = λ pid some h. let before = in_tree_before limits entries entry off state next later direct pid h in slot_stays limits entries entry off state next later direct pid before some ∙ same.slots pid some before;
-  chains = λ pid chain h is. let before = in_tree_before limits entries entry off state next later direct pid h in page_stays limits entries entry off state next later direct pid chain h (same.chains pid chain before is);
+  slots =
+      λ pid some h. let before = in_tree_before limits entries entry off state next later direct pid h in slot_stays limits entries entry off state next later
+      direct pid before some ∙ same.slots pid some before;
+  chains =
+      λ pid chain h is. let before = in_tree_before limits entries entry off state next later direct pid h in page_stays limits entries entry off state next
+      later direct pid chain h (same.chains pid chain before is);
 }

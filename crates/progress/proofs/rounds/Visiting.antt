@@ -35,11 +35,13 @@ module _ (memory : Memory) where
       (record { is_pid = refl; left = length chain; fewer = sym left; is_left = (chain, refl, subst (λ (n : ℕ). IsChainFrom memory.rows n chain) row is.records, refl) })
 
   -- the record in a row of a chain is the chain's
-  first_of : (row under : ℕ) (content : Record) (rest : List Record) → IsChainFrom memory.rows row rest → memory.rows row ≡ Some content → next_row content ≡ Some under → (below : List Record) × (rest ≡ content ∷ below) × IsChainFrom memory.rows under below
+  first_of : (row under : ℕ) (content : Record) (rest : List Record) → IsChainFrom memory.rows row rest → memory.rows row ≡ Some content
+      → next_row content ≡ Some under → (below : List Record) × (rest ≡ content ∷ below) × IsChainFrom memory.rows under below
   first_of row under content [] from there more = absurd from
   first_of row under content (newest ∷ below) from there more =
       let same : newest ≡ content = (let both : Some newest ≡ Some content = sym from.0 ∙ there in cc) in
-      let next : MatchOption (Some under) (below ≡ []) (λ n. IsChainFrom memory.rows n below) = subst (λ o. MatchOption o (below ≡ []) (λ n. IsChainFrom memory.rows n below)) (ap next_row same ∙ more) from.1 in
+      let next : MatchOption (Some under) (below ≡ []) (λ n. IsChainFrom memory.rows n below) = subst
+      (λ o. MatchOption o (below ≡ []) (λ n. IsChainFrom memory.rows n below)) (ap next_row same ∙ more) from.1 in
       (below, ap (λ (c : Record). c ∷ below) same, next)
 
   last_of : (row : ℕ) (content : Record) (rest : List Record) → IsChainFrom memory.rows row rest → memory.rows row ≡ Some content → next_row content ≡ None → rest ≡ content ∷ []
@@ -62,9 +64,11 @@ module _ (memory : Memory) where
       let there = content_of row c.content told answer c.is in
       let f = first_of row c.under c.content left.0 left.2 there c.more in
       subst (λ (v : Visit). GoesOn (record { limits = limits; pid = pid; part = part; state = Row head row }) v chain steps) (sym c.goes)
-      (record { is_pid = refl; left = length f.0; fewer = sym (left.1 ∙ ap length f.1); is_left = (f.0, refl, f.2, append_assoc part (c.content ∷ []) f.0 ∙ ap (λ rest. part ++ rest) (sym f.1) ∙ left.3) })
+      (record
+      { is_pid = refl; left = length f.0; fewer = sym (left.1 ∙ ap length f.1); is_left = (f.0, refl, f.2, append_assoc part (c.content ∷ []) f.0 ∙ ap (λ rest. part ++ rest) (sym f.1) ∙ left.3) })
 
-  pub visits : (old next : Visit) (chain : List Record) (steps : ℕ) (told : Answer Record) → IsChainOf memory old.pid chain → IsLeft chain old.part old.state steps → IsAnswer memory (wanted old) told → Responds old told next None → GoesOn old next chain steps
+  pub visits : (old next : Visit) (chain : List Record) (steps : ℕ) (told : Answer Record) → IsChainOf memory old.pid chain
+      → IsLeft chain old.part old.state steps → IsAnswer memory (wanted old) told → Responds old told next None → GoesOn old next chain steps
   visits old next chain steps told is left answer r = elim r [
     | inl f ↦ head old.limits old.pid old.part chain old.state steps told next is left answer f
     | inr c ↦ goes_on old.limits old.pid old.part chain old.state steps told next left answer c
@@ -73,13 +77,15 @@ module _ (memory : Memory) where
   -- the slot isn't empty
   pub not_empty : (old next : Visit) (chain : List Record) (told : Answer Record) → IsChainOf memory old.pid chain → IsAnswer memory (wanted old) told → Responds old told next (Some Empty) → ⊥
   not_empty old next chain told is answer f =
-      let at : told ≡ Number (memory.slots old.pid) = subst (λ (s : VisitState). IsAnswer memory (wanted (record { limits = old.limits; pid = old.pid; part = old.part; state = s })) told) f.asked answer in
+      let at : told ≡ Number (memory.slots old.pid) = subst
+      (λ (s : VisitState). IsAnswer memory (wanted (record { limits = old.limits; pid = old.pid; part = old.part; state = s })) told) f.asked answer in
       let zeroth : memory.slots old.pid ≡ 0 = (let both : Number (memory.slots old.pid) ≡ Number 0 = sym at ∙ f.is in cc) in
       let linked = is.linked in
       omega (arith, zeroth, linked)
 
   whole : (limits : Limits) (pid : ℕ) (part chain : List Record) (state : VisitState) (steps : ℕ) (told : Answer Record) (version : Version) → IsLeft chain part state steps
-      → IsAnswer memory (wanted (record { limits = limits; pid = pid; part = part; state = state })) told → Completes (record { limits = limits; pid = pid; part = part; state = state }) told version → (version.chain ≡ chain) × (0 < steps)
+      → IsAnswer memory (wanted (record { limits = limits; pid = pid; part = part; state = state })) told
+      → Completes (record { limits = limits; pid = pid; part = part; state = state }) told version → (version.chain ≡ chain) × (0 < steps)
   whole limits pid part chain Slot steps told version left answer c = let e = c.asked in absurd (cc)
   whole limits pid part chain (Row head row) steps told version left answer c =
       let row_is : row ≡ c.row = (let e = c.asked in cc) in
@@ -90,7 +96,8 @@ module _ (memory : Memory) where
       (c.chain ∙ ap (λ rest. part ++ rest) (sym last) ∙ left.3, omega (arith, one, is))
 
   -- the whole page is found
-  pub finds : (old next : Visit) (chain : List Record) (steps : ℕ) (told : Answer Record) (version : Version) → IsLeft chain old.part old.state steps → IsAnswer memory (wanted old) told → Responds old told next (Some (Whole version))
+  pub finds : (old next : Visit) (chain : List Record) (steps : ℕ) (told : Answer Record) (version : Version) → IsLeft chain old.part old.state steps
+      → IsAnswer memory (wanted old) told → Responds old told next (Some (Whole version))
       → (version.pid ≡ old.pid) × (version.chain ≡ chain) × (0 < steps)
   finds old next chain steps told version left answer c = let f = whole old.limits old.pid old.part chain old.state steps told version left answer c in (c.pid, f.0, f.1)
 
@@ -102,7 +109,9 @@ module _ (memory : Memory) where
   pub heads : (old next : Visit) (told : Answer Record) → IsAnswer memory (wanted old) told → Responds old told next None → IsAtHead old.pid old.state → IsAtHead next.pid next.state
   heads old next told answer r at = elim r [
     | inl f ↦
-        let is : told ≡ Number (memory.slots old.pid) = subst (λ (s : VisitState). IsAnswer memory (wanted (record { limits = old.limits; pid = old.pid; part = old.part; state = s })) told) f.asked answer in
+        let is : told ≡ Number (memory.slots old.pid) = subst
+        (λ (s : VisitState). IsAnswer memory (wanted (record { limits = old.limits; pid = old.pid; part = old.part; state = s })) told) f.asked answer
+        in
         let row : f.row ≡ memory.slots old.pid = (let both : Number f.row ≡ Number (memory.slots old.pid) = sym f.is ∙ is in cc) in
         subst (λ (v : Visit). IsAtHead v.pid v.state) (sym f.goes) row
     | inr c ↦

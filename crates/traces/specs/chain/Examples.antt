@@ -105,7 +105,8 @@ abbrev pub one_held : List Item
 one_held = child [] 1 false ∷ child (codes "a") 2 false ∷ child (codes "b") 3 true ∷ child (codes "c") 4 false ∷ child (codes "d") 5 false ∷ []
 
 abbrev pub four_held : List Item
-four_held = child [] 1 false ∷ child (codes "a") 2 true ∷ child (codes "b") 3 false ∷ child (codes "c") 4 true ∷ child (codes "d") 5 false ∷ child (codes "e") 6 true ∷ child (codes "f") 7 false ∷ child (codes "g") 8 true ∷ child (codes "h") 9 false ∷ child (codes "i") 10 false ∷ []
+four_held =
+    child [] 1 false ∷ child (codes "a") 2 true ∷ child (codes "b") 3 false ∷ child (codes "c") 4 true ∷ child (codes "d") 5 false ∷ child (codes "e") 6 true ∷ child (codes "f") 7 false ∷ child (codes "g") 8 true ∷ child (codes "h") 9 false ∷ child (codes "i") 10 false ∷ []
 
 abbrev pub index_of : List Item → List Record
 index_of items = delta.Base (record index { items = items }) ∷ []

@@ -23,7 +23,8 @@ pub record FitsWord (limit word bits : ℕ) : Type 0 where
 -- What a chain says of a page, as its right or as a child, is so of the page's chain.
 pub record SaysOf (naming : List Record) (page : ℕ) (chain : List Record) : Type 0 where
   pub right : right_in naming ≡ Some page → (level_in chain ≡ level_in naming) × (high_in naming ≡ Some (low_in chain))
-  pub child : (level : ℕ) (key : List ℕ) (held : Bool) → level_in naming ≡ suc level → IsTrue (covers naming key) → content_in naming key ≡ Some (Child page held) → (level_in chain ≡ level) × (low_in chain ≡ key)
+  pub child : (level : ℕ) (key : List ℕ) (held : Bool) → level_in naming ≡ suc level → IsTrue (covers naming key)
+      → content_in naming key ≡ Some (Child page held) → (level_in chain ≡ level) × (low_in chain ≡ key)
 
 -- What was read whole of a page is a page's chain, which is as was said of the page, by slot 0 or by the chain of a page that
 -- is not removed, as its slot was last read, or by its right that had been read removed; unless it is removed itself, what it says
@@ -37,7 +38,8 @@ pub record IsReadWhole (limits : Limits) (k : Knowledge) (page : ℕ) (chain : L
   pub own : IsFalse (is_removed chain) → SaysOf chain page chain
   pub names : IsFalse (is_removed chain) → (other row : ℕ) (read : List Record) → k.read.heads other ≡ Some row → IsChainFrom k.read.seen row read → SaysOf chain other read
   pub right : IsFalse (is_removed chain) → (other : ℕ) → right_in chain ≡ Some other → (0 < other) × (other < limits.pids)
-  pub child : IsFalse (is_removed chain) → (level other : ℕ) (key : List ℕ) (held : Bool) → level_in chain ≡ suc level → IsTrue (covers chain key) → content_in chain key ≡ Some (Child other held) → (0 < other) × (other < limits.pids)
+  pub child : IsFalse (is_removed chain) → (level other : ℕ) (key : List ℕ) (held : Bool) → level_in chain ≡ suc level → IsTrue (covers chain key)
+      → content_in chain key ≡ Some (Child other held) → (0 < other) × (other < limits.pids)
   pub beyond : IsFalse (is_removed chain) → (next : ℕ) (b : IsBeyond k page chain next) → (0 < next) × (next < limits.pids) × SaysOf b.chain page chain
       × ((other row : ℕ) (read : List Record) → k.read.heads other ≡ Some row → IsChainFrom k.read.seen row read → SaysOf b.chain other read)
 
@@ -94,7 +96,8 @@ FitsExchange limits k (suc page) (suc old) (suc new) went = went ≡ true → (k
 -- that the actor took and has not set. The epoch never goes back.
 abbrev pub Fits : Limits → Knowledge → StepOf Record → Answer Record → Type 0
 Fits limits k (Slot zero) (Number n) = (0 < n) × (n < limits.pids) × ((head : ℕ) (chain : List Record) → k.read.heads n ≡ Some head → IsChainFrom k.read.seen head chain → low_in chain ≡ [])
-Fits limits k (Slot (suc page)) (Number n) = (n < limits.rows) × (IsTrue (k.read.roots (suc page)) → 0 < n) × ((head : ℕ) → ReadsRemoved k (suc page) head → (n ≡ head) ⊎ (n ≡ 0)) × (k.own.pages (suc page) ≡ Empty → ⊥)
+Fits limits k (Slot (suc page)) (Number n) =
+    (n < limits.rows) × (IsTrue (k.read.roots (suc page)) → 0 < n) × ((head : ℕ) → ReadsRemoved k (suc page) head → (n ≡ head) ⊎ (n ≡ 0)) × (k.own.pages (suc page) ≡ Empty → ⊥)
 Fits limits k (Row row) (Content content) = FitsRow limits k row content
 Fits limits k Epoch (Number n) = (0 < n) × (n ≤ 2 ^ 62) × IfSome k.limbo.epoch (λ before. before ≤ n)
 Fits limits k (Announce other) (Number n) = n ≤ 2 ^ 62

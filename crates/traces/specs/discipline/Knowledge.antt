@@ -233,7 +233,8 @@ abbrev pub learn : Knowledge → StepOf Record → Answer Record → Knowledge
 learn k (Slot page) (Number n) = learn_slot page n k
 learn k (Row row) (Content content) = record k { read = learn_record row content k.read }
 learn k Epoch (Number epoch) = record k { limbo = record { epoch = Some epoch; rows = λ row. stamped epoch (k.limbo.rows row); pids = λ page. stamped epoch (k.limbo.pids page) } }
-learn k (Announce actor) (Number announced) = record k { limbo = record k.limbo { rows = λ row. passed_by actor announced (k.limbo.rows row); pids = λ page. passed_by actor announced (k.limbo.pids page) } }
+learn k (Announce actor) (Number announced) = record k
+    { limbo = record k.limbo { rows = λ row. passed_by actor announced (k.limbo.rows row); pids = λ page. passed_by actor announced (k.limbo.pids page) } }
 learn k (PidBits word) (Number bits) = record k { asked = record k.asked { no_pids = learn_word word bits k.asked.no_pids } }
 learn k (RowBits word) (Number bits) = record k { asked = record k.asked { no_rows = learn_word word bits k.asked.no_rows } }
 learn k (TakePid page) (Whether true) = set_page page Empty k

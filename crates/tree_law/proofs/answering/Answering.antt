@@ -39,5 +39,6 @@ module _ {m : Shared} {log : List Update} {o : Owners} {knows : ℕ → Knowledg
       by_stand unlinked changeless (inr u) =
           let b = u.0 in
           let e : InOrder o m (logs a) b.left b.head b.other h.row = rw b.order at (rw b.basis.head at ((g.sound a).orders_fit b.left b.other)) in
-          let i = e.spelled h.chain b.basis.chain (chain_stands o m (knows a).read.seen (g.sound a).seen_fits h.chain (Some h.row) h.read) (chain_stands o m (knows a).read.seen (g.sound a).seen_fits b.basis.chain (Some b.head) b.basis.read) u.1 b.basis.alive h.leaf b.right in
+          let i = e.spelled h.chain b.basis.chain (chain_stands o m (knows a).read.seen (g.sound a).seen_fits h.chain (Some h.row) h.read)
+          (chain_stands o m (knows a).read.seen (g.sound a).seen_fits b.basis.chain (Some b.head) b.basis.read) u.1 b.basis.alive h.leaf b.right in
           replied command reply h i.0 (i.2 (command_key command) (covers_from h.chain (command_key command) h.covers)) (inr (none unlinked, changeless, i.1))

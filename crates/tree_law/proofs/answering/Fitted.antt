@@ -147,12 +147,16 @@ module _ (limits : Limits) (entries : List Entry) (state : IsState limits entrie
       below.0,
       below.1,
       λ head chain e h.
-          (reached_one 0 0 state.is_tree.tree.top (level_in chain) [] (low_in chain) (state.owners.page (m.slots 0)) (placed_reached state.is_tree.tree.top [] Indexed (state.owners.page (m.slots 0)) state.is_tree.tree.exact.is_root) (read_reached state.is_tree state.fitted a (m.slots 0) head chain e h)).1,
+          (reached_one 0 0 state.is_tree.tree.top (level_in chain) [] (low_in chain) (state.owners.page (m.slots 0))
+          (placed_reached state.is_tree.tree.top [] Indexed (state.owners.page (m.slots 0)) state.is_tree.tree.exact.is_root)
+          (read_reached state.is_tree state.fitted a (m.slots 0) head chain e h)).1,
     )
   ]
   fits_slot (suc p) may = let here = met_placed state.is_tree a (suc p) may.1 in elim (slot_of state.is_tree a (suc p) here.0 here.1 here.2) [
-    | inl none ↦ let z : m.slots (suc p) ≡ 0 = slot_none m.slots (suc p) (omega arith) none.0 in let some : 64 ≤ limits.rows = limits.allowed.some_rows in (omega arith, λ root. root_linked (suc p) root, λ head h. inr z, unowned p here.0 here.1 here.2)
-    | inr found ↦ let at : m.slots (suc p) ≡ found.0 = (slot_some m.slots (suc p) found.0 found.1).1 in let some = linked_some found.0 found.2.linked in (rw at some.1, λ root. rw at some.0, λ head h. stays p head h, unowned p here.0 here.1 here.2)
+    | inl none ↦ let z : m.slots (suc p) ≡ 0 = slot_none m.slots (suc p) (omega arith) none.0 in let some : 64 ≤ limits.rows = limits.allowed.some_rows in
+        (omega arith, λ root. root_linked (suc p) root, λ head h. inr z, unowned p here.0 here.1 here.2)
+    | inr found ↦ let at : m.slots (suc p) ≡ found.0 = (slot_some m.slots (suc p) found.0 found.1).1 in let some = linked_some found.0 found.2.linked in
+        (rw at some.1, λ root. rw at some.0, λ head h. stays p head h, unowned p here.0 here.1 here.2)
   ]
 
   fits_take : (q : ℕ) (t : Bool) → m.free_rows q ≡ t → Fits limits k (TakeRow q) (Whether t)

@@ -17,7 +17,8 @@ some_longer : (rows : ℕ → Option Record) (x : ℕ) (c : List Record) → IsC
 some_longer rows x [] h = absurd h
 some_longer rows x (w ∷ c) h = omega arith
 
-module _ {m : Shared} {log : List Update} {o : Owners} {knows : ℕ → Knowledge} {point : ℕ → Option (List Update)} {logs : ℕ → List (List Update)} (g : IsTree m log o knows point logs) (fitted : AreFitted o m.rows) (a : ℕ) where
+module _ {m : Shared} {log : List Update} {o : Owners} {knows : ℕ → Knowledge} {point : ℕ → Option (List Update)} {logs : ℕ → List (List Update)}
+    (g : IsTree m log o knows point logs) (fitted : AreFitted o m.rows) (a : ℕ) where
   -- The chain of a slot that was read.
   record HeadChain (page head : ℕ) : Type 0 where
     chain : List Record
@@ -41,7 +42,9 @@ module _ {m : Shared} {log : List Update} {o : Owners} {knows : ℕ → Knowledg
         let i = n.right page e in
         let same = reached_one 0 0 (level_in naming) (level_in c) i.0 (low_in c) (o.page page) i.2 r in
         (same.0, i.1 ∙ ap Some (sym same.1));
-    child = λ level key held on inside is. reached_one (rank_of (Child page held)) 0 level (level_in c) key (low_in c) (o.page page) (n.items level key (Child page held) on (covers_from naming key inside) is) r;
+    child =
+        λ level key held on inside is. reached_one (rank_of (Child page held)) 0 level (level_in c) key (low_in c) (o.page page)
+        (n.items level key (Child page held) on (covers_from naming key inside) is) r;
   }
 
   -- a page that was read is where its chain is
@@ -52,12 +55,15 @@ module _ {m : Shared} {log : List Update} {o : Owners} {knows : ℕ → Knowledg
       rw same at w.reached
 
   -- the chain of a slot that was read is whole, where the pages of the tree are below the limit
-  is_whole : (limits : Limits) → ((r p l : ℕ) (s : Key) → Reached r l s (o.page p) → (0 < p) × (p < limits.pids)) → (page head : ℕ) → (knows a).read.heads page ≡ Some head → (w : HeadChain page head) → IsReadWhole limits (knows a) page w.chain
+  is_whole : (limits : Limits) → ((r p l : ℕ) (s : Key) → Reached r l s (o.page p) → (0 < p) × (p < limits.pids)) → (page head : ℕ)
+      → (knows a).read.heads page ≡ Some head → (w : HeadChain page head) → IsReadWhole limits (knows a) page w.chain
   is_whole limits below page head at w = record {
     is_chain = fitted head w.linked w.chain w.stands;
     root = λ e. let i = (g.sound a).roots_fit page e in (reached_one 0 0 i.0 (level_in w.chain) [] (low_in w.chain) (o.page page) i.1 w.reached).1;
     named = λ other row h. says_of h.chain (read_names g a other row h) page w.chain w.reached;
-    beside = λ other row h b. let n = chain_stands o m (knows a).read.seen (g.sound a).seen_fits h.chain (Some row) h.read in says_of b.chain (beyond_names g a other row h.head h.chain n h.alive page b) page w.chain w.reached;
+    beside =
+        λ other row h b. let n = chain_stands o m (knows a).read.seen (g.sound a).seen_fits h.chain (Some row) h.read in says_of b.chain
+        (beyond_names g a other row h.head h.chain n h.alive page b) page w.chain w.reached;
     own = λ alive. says_of w.chain (w.names alive) page w.chain w.reached;
     names = λ alive other row read e h. says_of w.chain (w.names alive) other read (read_reached other row read e h);
     beyond = λ alive next b.

@@ -40,7 +40,10 @@ module _ {V : Type 0} (mark : V → ℕ) (small : (v : V) → mark v ≤ 1) (f :
       omega arith
 
   pub no_less : mark (f p) ≤ mark v → total old n ≤ total new n
-  no_less less = none new old n (λ i below. by_equal i p (λ same t. let here : new i ≡ mark v = ap (λ j. mark (put f p v j)) same ∙ ap mark (put_same f p v) in let was : old i ≡ mark (f p) = ap old same in omega (arith, here, was, less)) (λ ne t. elsewhere i ne))
+  no_less less =
+      none new old n (λ i below. by_equal i p
+      (λ same t. let here : new i ≡ mark v = ap (λ j. mark (put f p v j)) same ∙ ap mark (put_same f p v) in let was : old i ≡ mark (f p) = ap old same in omega (arith, here, was, less))
+      (λ ne t. elsewhere i ne))
 
   pub loses_one : total old n ≤ total new n + 1
   loses_one = elim (cases_lt p n) [
@@ -184,7 +187,9 @@ module _ (limits : Limits) where
 
     others : (s : StepOf Record) (x : Answer Record) → IsOther s → UsesFew s x
     others s x other =
-        let same : had (finished (learn k s x) r) ≡ had k = ap (λ (own : Belongings). total (λ row. row_mark (own.rows row)) limits.rows + total (λ page. page_mark (own.pages page)) limits.pids) (same_own s x other) in
+        let same : had (finished (learn k s x) r) ≡ had k = ap
+        (λ (own : Belongings). total (λ row. row_mark (own.rows row)) limits.rows + total (λ page. page_mark (own.pages page)) limits.pids)
+        (same_own s x other) in
         let none = took_none s x other in
         inl (omega (arith, same, none))
 
@@ -196,7 +201,8 @@ module _ (limits : Limits) where
         let free : (memory_of limits entries).free_rows row ≡ true = got is in
         inl (let more = gains_one row_mark row_small k.own.rows row Taken limits.rows (state.named.free_row_below row free) (unowned_row row free) refl in omega (arith, more))
     uses_few (Place row content) x may is = inl (let kept = no_less row_mark row_small k.own.rows row (Written content) limits.rows (row_small (k.own.rows row)) in omega (arith, kept))
-    uses_few (Exchange slot from to) (Whether true) may is = exchange_uses slot from to may.1 (elim (eqb_tells ((memory_of limits entries).slots slot) from) [ inl same ↦ same.1 | inr apart ↦ absurd (cc (is, apart.0)) ])
+    uses_few (Exchange slot from to) (Whether true) may is =
+        exchange_uses slot from to may.1 (elim (eqb_tells ((memory_of limits entries).slots slot) from) [ inl same ↦ same.1 | inr apart ↦ absurd (cc (is, apart.0)) ])
     uses_few (Slot slot) x may is = others (Slot slot) x tt
     uses_few (Row row) x may is = others (Row row) x tt
     uses_few Epoch x may is = others Epoch x tt
@@ -322,7 +328,9 @@ module _ (limits : Limits) (entries : List Entry) (last : Entry) (used : AreUsed
   pub used_changed : ChangesTree (memory_of limits entries) last → numbers_had limits (knows entries) + cond (takes_number last) 1 0 ≤ numbers_had limits (knows longer) + 3 → AreUsed limits longer
   used_changed changes enough = record {
     changes = used.changes ++ length entries ∷ [];
-    increasing = increasing_push used.changes (length entries) used.increasing (All-weaker (λ place. Happens limits entries place ChangesTree) (λ place. place < length entries) (λ place h. Happens-below h) used.changes used.each);
+    increasing =
+        increasing_push used.changes (length entries) used.increasing
+        (All-weaker (λ place. Happens limits entries place ChangesTree) (λ place. place < length entries) (λ place h. Happens-below h) used.changes used.each);
     each = All-push (λ place. Happens limits longer place ChangesTree) used.changes (length entries) kept (Happens-last limits entries last ChangesTree changes);
     used =
         let old = used.used in
@@ -338,16 +346,19 @@ module _ (limits : Limits) (entries : List Entry) (a : ℕ) (within : a < limits
   had_moves : (k : Knowledge) → numbers_had limits (knows entries) + had limits k ≤ numbers_had limits (put (knows entries) a k) + had limits (knows entries a)
   had_moves k =
       let h = one (all_had (put (knows entries) a k)) (all_had (knows entries)) a limits.actors within
-      (λ actor lt ne. let same : all_had (put (knows entries) a k) actor ≡ all_had (knows entries) actor = ap (λ (k : Knowledge). rows_had limits k + pids_had limits k) (put_other (knows entries) a k actor ne) in omega arith) in
+      (λ actor lt ne. let same : all_had (put (knows entries) a k) actor ≡ all_had (knows entries) actor = ap
+      (λ (k : Knowledge). rows_had limits k + pids_had limits k) (put_other (knows entries) a k actor ne) in omega arith) in
       let here : all_had (put (knows entries) a k) a ≡ had limits k = ap (λ (k : Knowledge). rows_had limits k + pids_had limits k) (put_same (knows entries) a k) in
       omega (arith, h, here)
 
-  pub used_step : (s : StepOf Record) (x : Answer Record) (r : Option Reply) (state : IsState limits entries) → AreUsed limits entries → May a (knows entries a) s → IsAnswer (memory_of limits entries) s x
+  pub used_step : (s : StepOf Record) (x : Answer Record) (r : Option Reply) (state : IsState limits entries) → AreUsed limits entries
+      → May a (knows entries a) s → IsAnswer (memory_of limits entries) s x
       → AreUsed limits (entries ++ Step a s x r ∷ [])
   used_step s x r state used may is =
       let last : Entry = Step a s x r in
       let moved = had_moves (finished (learn (knows entries a) s x) r) in
-      let then : numbers_had limits (knows (entries ++ Step a s x r ∷ [])) ≡ numbers_had limits (put (knows entries) a (finished (learn (knows entries a) s x) r)) = ap (numbers_had limits) (knows-push entries (Step a s x r)) in
+      let then : numbers_had limits (knows (entries ++ Step a s x r ∷ [])) ≡ numbers_had limits (put (knows entries) a (finished (learn (knows entries a) s x) r)) = ap
+      (numbers_had limits) (knows-push entries (Step a s x r)) in
       elim (uses_few limits entries a state r s x may is) [
         | inl paid ↦ used_still limits entries (Step a s x r) used (omega (arith, moved, then, paid))
         | inr (changes, paid) ↦ used_changed limits entries (Step a s x r) used changes (omega (arith, moved, then, paid))
@@ -356,5 +367,6 @@ module _ (limits : Limits) (entries : List Entry) (a : ℕ) (within : a < limits
   pub used_begin : (c : Command) → AreUsed limits entries → AreUsed limits (entries ++ Begin a c ∷ [])
   used_begin c used =
       let moved = had_moves (begun (knows entries a) c) in
-      let then : numbers_had limits (knows (entries ++ Begin a c ∷ [])) ≡ numbers_had limits (put (knows entries) a (begun (knows entries a) c)) = ap (numbers_had limits) (knows-push entries (Begin a c)) in
+      let then : numbers_had limits (knows (entries ++ Begin a c ∷ [])) ≡ numbers_had limits (put (knows entries) a (begun (knows entries a) c)) = ap
+      (numbers_had limits) (knows-push entries (Begin a c)) in
       used_still limits entries (Begin a c) used (omega (arith, moved, then))

@@ -59,7 +59,8 @@ paid_push limits entries last stored more small before brings m changes up all =
     after_first (suc m) later = refl
 
 -- so many numbers are taken at most
-taken_most : (limits : Limits) (entries : List Entry) (last : Entry) (state : IsState limits (entries ++ last ∷ [])) (used : AreUsed limits (entries ++ last ∷ [])) → length used.changes ≤ 8 * count_by is_begin entries
+taken_most : (limits : Limits) (entries : List Entry) (last : Entry) (state : IsState limits (entries ++ last ∷ [])) (used : AreUsed limits (entries ++ last ∷ []))
+    → length used.changes ≤ 8 * count_by is_begin entries
     → count_by takes_number (entries ++ last ∷ []) ≤ limits.rows + limits.pids + 24 * count_by is_begin (entries ++ last ∷ [])
 taken_most limits entries last state used few =
     let most = had_most limits (entries ++ last ∷ []) state in
@@ -149,7 +150,9 @@ module _ (limits : Limits) (entries : List Entry) (a : ℕ) (s : StepOf Record) 
     each = each';
     few = few_push limits entries last paid.few (λ m changes le up all. let bound = paid_longer m changes le up all in omega (arith, bound))
         (taken_most limits entries last on.after used
-        (let bound = paid_longer 0 used.changes (omega arith) used.increasing (All-weaker (λ place. Happens limits longer place ChangesTree) (λ place. (0 ≤ place) × Happens limits longer place ChangesTree) (λ place h. (omega arith, h)) used.changes used.each) in
+        (let bound = paid_longer 0 used.changes (omega arith) used.increasing
+        (All-weaker (λ place. Happens limits longer place ChangesTree) (λ place. (0 ≤ place) × Happens limits longer place ChangesTree) (λ place h. (omega arith, h)) used.changes used.each)
+        in
         omega (arith, bound)));
     taken = used;
     paid = paid_push limits entries last (store limits longer on.after worths') 0 (store_bound limits longer on.after worths' each')
@@ -199,7 +202,8 @@ module _ (limits : Limits) (entries : List Entry) (a : ℕ) (c : Command) (paid 
     each = begun_each;
     few = few_push limits entries begin paid.few (λ m changes le up all. let bound = paid_begun m changes le up all in omega (arith, bound))
         (taken_most limits entries begin begun_state used_begun
-        (let bound = paid_begun 0 used_begun.changes (omega arith) used_begun.increasing (All-weaker (λ place. Happens limits begun_trace place ChangesTree) (λ place. (0 ≤ place) × Happens limits begun_trace place ChangesTree) (λ place h. (omega arith, h)) used_begun.changes used_begun.each) in
+        (let bound = paid_begun 0 used_begun.changes (omega arith) used_begun.increasing (All-weaker (λ place. Happens limits begun_trace place ChangesTree)
+        (λ place. (0 ≤ place) × Happens limits begun_trace place ChangesTree) (λ place h. (omega arith, h)) used_begun.changes used_begun.each) in
         omega (arith, bound)));
     taken = used_begun;
     paid = paid_push limits entries begin (store limits begun_trace begun_state paid.worths) 8 (store_bound limits begun_trace begun_state paid.worths begun_each)

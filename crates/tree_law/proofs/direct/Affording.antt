@@ -35,7 +35,18 @@ not_step_of actor other s x reply ne = elim (eqb_tells other actor) [ inl same �
 
 pub opens : Opens IsDirectState
 opens limits = record {
-  direct = record { few = λ op n begun own. absurd (cc); since = λ op m n begun after le own. absurd (cc); once = λ op m n first second begun one two is_one is_two. absurd (cc); useful = λ op n slot old new chain begun took is is_chain. absurd (cc); reads = λ op n s x begun reader took. absurd (cc); emptied = λ op n pid begun took. absurd (cc); settled = λ op n pid row begun took some held. absurd (cc); links = λ op n slot old new begun took. absurd (cc) };
+  direct = record {
+    few = λ op n begun own. absurd (cc);
+    since = λ op m n begun after le own. absurd (cc);
+    once = λ op m n first second begun one two is_one
+        is_two. absurd (cc);
+    useful = λ op n slot old new chain begun took is is_chain. absurd (cc);
+    reads = λ op n s x begun reader took. absurd (cc);
+    emptied =
+        λ op n pid begun took. absurd (cc);
+    settled = λ op n pid row begun took some held. absurd (cc);
+    links = λ op n slot old new begun took. absurd (cc);
+  };
   recollects = λ op latest. absurd (cc latest.begun);
   walks = λ op latest. absurd (cc latest.begun);
   foreign = λ actor page head base e f. absurd (cc);
@@ -86,7 +97,9 @@ module _ (limits : Limits) (entries : List Entry) (a : ℕ) (c : Command) (kept 
   pub begins : (left : ℕ) → left ≤ cause_worth limits → StaysDirect limits entries (Begin a c) a left
   begins left few = record {
     state = record {
-      direct = direct limits entries last kept (λ op s x reply latest is. absurd (cc)) (λ b slot old new reply is. absurd (cc)) (λ op s x reply latest is reader. absurd (cc)) (λ op pid reply is. absurd (cc))
+      direct =
+          direct limits entries last kept (λ op s x reply latest is. absurd (cc)) (λ b slot old new reply is. absurd (cc))
+          (λ op s x reply latest is reader. absurd (cc)) (λ op pid reply is. absurd (cc))
           (λ op pid row reply is some held. absurd (cc)) (λ b slot old new reply is. absurd (cc));
       recollects = recollects_begun;
       walks = walks_begun;
@@ -109,7 +122,8 @@ there_is limits p pid (inl none) other = absurd (other none)
 there_is limits p pid (inr some) other = some.1
 
 -- a page that is reached in the tree is one of the tree
-of_tree : (limits : Limits) (entries : List Entry) (n pid : ℕ) (w : PageOwner) (r l : ℕ) (s : Key) → Reached r l s w → IsInPhase limits entries n pid (phase_of w) → (phase_of w ≡ phase.free) ⊎ ((0 < pid) × (pid < limits.pids)) → IsOfTree limits entries n pid
+of_tree : (limits : Limits) (entries : List Entry) (n pid : ℕ) (w : PageOwner) (r l : ℕ) (s : Key) → Reached r l s w
+    → IsInPhase limits entries n pid (phase_of w) → (phase_of w ≡ phase.free) ⊎ ((0 < pid) × (pid < limits.pids)) → IsOfTree limits entries n pid
 of_tree limits entries n pid Nobody r l s reached at below = absurd reached
 of_tree limits entries n pid (Keeps b) r l s reached at below = absurd reached
 of_tree limits entries n pid (Placed Fresh l' s') r l s reached at below = (phase.fresh, at, (λ e. cc e), (λ e. cc e), there_is limits phase.fresh pid below (λ e. cc e))
@@ -120,7 +134,8 @@ of_tree limits entries n pid (Placed Merged l' s') r l s reached at below = (pha
 of_tree limits entries n pid (Cleared b l' s') r l s reached at below = (phase.cleared, at, (λ e. cc e), (λ e. cc e), there_is limits phase.cleared pid below (λ e. cc e))
 
 -- who fills the slot of a page, or empties it again, keeps the page
-keeps_slot : (limits : Limits) (entries : List Entry) (state : IsState limits entries) (b slot old new : ℕ) (kind : Link) → MayExchange b (knows entries b) slot old new → (memory_of limits entries).slots slot ≡ old
+keeps_slot : (limits : Limits) (entries : List Entry) (state : IsState limits entries) (b slot old new : ℕ) (kind : Link)
+    → MayExchange b (knows entries b) slot old new → (memory_of limits entries).slots slot ≡ old
     → link_of (memory_of limits entries) slot old new ≡ Some kind → (kind ≡ link.Ready) ⊎ (kind ≡ link.Undo) → state.owners.page slot ≡ Keeps b
 keeps_slot limits entries state b zero old new kind may at linked own_kind = absurd (elim own_kind [ inl e ↦ cc (e, linked) | inr e ↦ cc (e, linked) ])
 keeps_slot limits entries state b (suc p) zero zero kind may at linked own_kind = absurd may
@@ -135,7 +150,8 @@ keeps_slot limits entries state b (suc p) (suc old) new kind may at linked own_k
     by_page (Ready base) e none = (rw e at (state.is_tree.owns_pages b (suc p))).0
     by_page page e none = absurd (none (λ base f. cc (e, f)))
 
-module _ (limits : Limits) (entries : List Entry) (a : ℕ) (s : StepOf Record) (x : Answer Record) (reply : Option Reply) (state : IsState limits entries) (may : May a (knows entries a) s) (useful : IsOfUse (knows entries a) s)
+module _ (limits : Limits) (entries : List Entry) (a : ℕ) (s : StepOf Record) (x : Answer Record) (reply : Option Reply) (state : IsState limits entries)
+    (may : May a (knows entries a) s) (useful : IsOfUse (knows entries a) s)
     (is_answer : IsAnswer (memory_of limits entries) s x) (kept : IsDirectState limits entries) where
   abbrev next : Entry
   next = Step a s x reply
@@ -152,9 +168,11 @@ module _ (limits : Limits) (entries : List Entry) (a : ℕ) (s : StepOf Record) 
   IsKnown (Begin b c) = Unit {0}
   IsKnown (Step b t y r) = May b (knows entries b) t × IsUseful (knows entries b) t × IsAnswer (memory_of limits entries) t y
 
-  changes : (b slot old new : ℕ) (r : Option Reply) → next ≡ Step b (Exchange slot old new) (Whether true) r → IsChange limits entries b slot old new × IsUseful (knows entries b) (Exchange slot old new)
+  changes : (b slot old new : ℕ) (r : Option Reply) → next ≡ Step b (Exchange slot old new) (Whether true) r
+      → IsChange limits entries b slot old new × IsUseful (knows entries b) (Exchange slot old new)
   changes b slot old new r is =
-      let h : May b (knows entries b) (Exchange slot old new) × IsUseful (knows entries b) (Exchange slot old new) × IsAnswer (memory_of limits entries) (Exchange slot old new) (Whether true) = subst IsKnown is (may, useful.useful, is_answer) in
+      let h : May b (knows entries b) (Exchange slot old new) × IsUseful (knows entries b) (Exchange slot old new) × IsAnswer (memory_of limits entries) (Exchange slot old new) (Whether true) = subst
+      IsKnown is (may, useful.useful, is_answer) in
       (change limits entries b state slot old new h.0.1 (same_number _ _ h.2), h.1)
 
   -- a reader only reads
@@ -204,7 +222,8 @@ module _ (limits : Limits) (entries : List Entry) (a : ℕ) (s : StepOf Record) 
   links_now : (b slot old new : ℕ) (r : Option Reply) → next ≡ Step b (Exchange slot old new) (Whether true) r
       → (kind : Link) × (link_of (memory_of limits entries) slot old new ≡ Some kind) × ((kind ≡ link.Ready) ⊎ (kind ≡ link.Undo) → IsInPhase limits entries (length entries) slot owned)
   links_now b slot old new r is =
-      let h : May b (knows entries b) (Exchange slot old new) × IsUseful (knows entries b) (Exchange slot old new) × IsAnswer (memory_of limits entries) (Exchange slot old new) (Whether true) = subst IsKnown is (may, useful.useful, is_answer) in
+      let h : May b (knows entries b) (Exchange slot old new) × IsUseful (knows entries b) (Exchange slot old new) × IsAnswer (memory_of limits entries) (Exchange slot old new) (Whether true) = subst
+      IsKnown is (may, useful.useful, is_answer) in
       let made = (changes b slot old new r is).0 in (
         made.kind,
         made.is,
@@ -215,7 +234,8 @@ module _ (limits : Limits) (entries : List Entry) (a : ℕ) (s : StepOf Record) 
   recollects_stepped : (op : Operation) → IsLast grown op → Recollects limits grown op (recalls grown op.actor)
   recollects_stepped op latest = elim (last_cases entries next op latest) [
     | inl before ↦ rw (recalls-push entries next) (at_place (Recollects limits grown op) a (recall (recalls entries a) s x) (recalls entries) op.actor
-        (λ same. recollects_own limits entries next op s x reply before (of_actor op same) (recalls entries a) (subst (λ b. Recollects limits entries op (recalls entries b)) same (kept.recollects op before)))
+        (λ same. recollects_own limits entries next op s x reply before (of_actor op same) (recalls entries a)
+        (subst (λ b. Recollects limits entries op (recalls entries b)) same (kept.recollects op before)))
         (λ ne. recollects_other limits entries next op (recalls entries op.actor) (λ step answer r is. ne (let e : op.actor ≡ a = cc in e)) (kept.recollects op before)))
     | inr at ↦ let e = at.1 in absurd (cc)
   ]
@@ -228,7 +248,8 @@ module _ (limits : Limits) (entries : List Entry) (a : ℕ) (s : StepOf Record) 
             rw (recalls-push entries next) (rw (knows-push entries next) (by_equal op.actor a
             (λ same t. rw t (walks_own limits entries next op s x reply before (of_actor op same) (knows entries a) (recalls entries a) (memory_of limits entries) is_answer
             (subst (λ b. (recalls entries b).walk.rooted ≡ true → Walks limits entries op (knows entries b).read.seen (recalls entries b).walk) same (kept.walks op before))))
-            (λ ne t. rw t λ rooted. walks_kept limits entries next op (knows entries op.actor).read.seen (recalls entries op.actor).walk (λ step answer r is. absurd (ne (let e : op.actor ≡ a = cc in e))) (kept.walks op before rooted))))
+            (λ ne t. rw t λ rooted. walks_kept limits entries next op (knows entries op.actor).read.seen (recalls entries op.actor).walk
+            (λ step answer r is. absurd (ne (let e : op.actor ≡ a = cc in e))) (kept.walks op before rooted))))
         | inr at ↦ let e = at.1 in absurd (cc)
       ]
 
@@ -253,7 +274,8 @@ module _ (limits : Limits) (entries : List Entry) (a : ℕ) (s : StepOf Record) 
     ])
   ]
     where
-      now : (op : Operation) (kind : Link) → LinksLast limits entries next op kind → IsUpdateLink kind → IsSome (replaced_at a (finished (learn (knows entries a) s x) reply) (knows entries) op.actor).asked.linked
+      now : (op : Operation) (kind : Link) → LinksLast limits entries next op kind → IsUpdateLink kind
+          → IsSome (replaced_at a (finished (learn (knows entries a) s x) reply) (knows entries) op.actor).asked.linked
       now op kind at is =
           let made = (changes op.actor at.slot at.old at.new at.reply at.is).0 in
           let same : made.kind ≡ kind = same_Some _ _ (sym made.is ∙ at.link) in

@@ -33,7 +33,8 @@ module _ (entries : List Entry) (last : Entry) where
   takes_before op n step answer below took = elim (takes_cases op n step answer took) [ inl before ↦ before | inr at ↦ let same : n ≡ length entries = at.0 in absurd (omega arith) ]
 
   -- the last entry is a step of its actor's last operation
-  pub takes_last : (op : Operation) (step : StepOf Record) (answer : Answer Record) (reply : Option Reply) → IsLast entries op → last ≡ Step op.actor step answer reply → TakesOwnStep longer op (length entries) step answer
+  pub takes_last : (op : Operation) (step : StepOf Record) (answer : Answer Record) (reply : Option Reply) → IsLast entries op
+      → last ≡ Step op.actor step answer reply → TakesOwnStep longer op (length entries) step answer
   takes_last op step answer reply latest is = takes_new entries last op.start op.actor op.command step answer reply latest.begun latest.unended is
 
   -- an operation that took the last entry, or any one before it, had begun before

@@ -67,7 +67,15 @@ module _ (limits : Limits) (entries : List Entry) (last : Entry) (op : Operation
         inl (slot, old, new, before, ap (λ (m : Memory). link_of m slot old new) (sym (memory_kept entries last limits n (omega arith))) ∙ is)
     | inr at ↦ inr (
       at.0,
-      record { slot = slot; old = old; new = new; reply = at.1.0; is = at.1.1; link = ap (λ (m : Memory). link_of m slot old new) (sym (memory_last entries last limits) ∙ ap (memory_at limits longer) (sym at.0)) ∙ is },
+      record {
+        slot = slot;
+        old = old;
+        new = new;
+        reply = at.1.0;
+        is = at.1.1;
+        link = ap (λ (m : Memory). link_of m slot old new)
+            (sym (memory_last entries last limits) ∙ ap (memory_at limits longer) (sym at.0)) ∙ is;
+      },
       at.2,
     )
   ]

@@ -35,15 +35,19 @@ module _ (limits : Limits) (entries : List Entry) (last : Entry) (op : Operation
 
   causes_kept : (causes : List ℕ) → All (λ cause. (cause < length entries) × IsCause limits entries op cause) causes → All (λ cause. (cause < length longer) × IsCause limits longer op cause) causes
   causes_kept causes each = All-weaker (λ cause. (cause < length entries) × IsCause limits entries op cause) (λ cause. (cause < length longer) × IsCause limits longer op cause)
-      (λ cause h. let long : length longer ≡ suc (length entries) = pushed_length entries last in let below : cause < length entries = h.0 in (omega arith, cause_kept limits entries last op cause h.1))
+      (λ cause h. let long : length longer ≡ suc (length entries) = pushed_length entries last in let below : cause < length entries = h.0 in
+      (omega arith, cause_kept limits entries last op cause h.1))
       causes each
 
   counted_from : (m : ℕ) → m ≤ length entries → count_by (is_step_of op.actor) (drop m longer) ≡ count_by (is_step_of op.actor) (drop m entries) + cond (is_step_of op.actor last) 1 0
   counted_from m within = ap (count_by (is_step_of op.actor)) (drop-append-le m entries (last ∷ []) within) ∙ count_push (is_step_of op.actor) (drop m entries) last
 
-  causes_kept_from : (m : ℕ) (causes : List ℕ) → All (λ cause. (m ≤ cause) × (cause < length entries) × IsCause limits entries op cause) causes → All (λ cause. (m ≤ cause) × (cause < length longer) × IsCause limits longer op cause) causes
-  causes_kept_from m causes each = All-weaker (λ cause. (m ≤ cause) × (cause < length entries) × IsCause limits entries op cause) (λ cause. (m ≤ cause) × (cause < length longer) × IsCause limits longer op cause)
-      (λ cause h. let long : length longer ≡ suc (length entries) = pushed_length entries last in let below : cause < length entries = h.1 in (h.0, omega arith, cause_kept limits entries last op cause h.2))
+  causes_kept_from : (m : ℕ) (causes : List ℕ) → All (λ cause. (m ≤ cause) × (cause < length entries) × IsCause limits entries op cause) causes
+      → All (λ cause. (m ≤ cause) × (cause < length longer) × IsCause limits longer op cause) causes
+  causes_kept_from m causes each =
+      All-weaker (λ cause. (m ≤ cause) × (cause < length entries) × IsCause limits entries op cause) (λ cause. (m ≤ cause) × (cause < length longer) × IsCause limits longer op cause)
+      (λ cause h. let long : length longer ≡ suc (length entries) = pushed_length entries last in let below : cause < length entries = h.1 in
+      (h.0, omega arith, cause_kept limits entries last op cause h.2))
       causes each
 
   -- from the end of the trace on nothing is taken
@@ -69,10 +73,12 @@ module _ (limits : Limits) (entries : List Entry) (last : Entry) (op : Operation
         omega arith;
   }
 
-  from_cause : (left rest m : ℕ) → m ≤ length entries → IsCause limits longer op (length entries) → rest < left + cause_worth limits → AffordsFrom limits entries op left m → AffordsFrom limits longer op rest m
+  from_cause : (left rest m : ℕ) → m ≤ length entries → IsCause limits longer op (length entries) → rest < left + cause_worth limits
+      → AffordsFrom limits entries op left m → AffordsFrom limits longer op rest m
   from_cause left rest m within cause less h = record {
     causes = h.causes ++ length entries ∷ [];
-    increasing = increasing_push h.causes (length entries) h.increasing (All-weaker (λ c. (m ≤ c) × (c < length entries) × IsCause limits entries op c) (λ c. c < length entries) (λ c g. g.1) h.causes h.each);
+    increasing =
+        increasing_push h.causes (length entries) h.increasing (All-weaker (λ c. (m ≤ c) × (c < length entries) × IsCause limits entries op c) (λ c. c < length entries) (λ c g. g.1) h.causes h.each);
     each =
         let long : length longer ≡ suc (length entries) = pushed_length entries last in
         All-push (λ c. (m ≤ c) × (c < length longer) × IsCause limits longer op c) h.causes (length entries) (causes_kept_from m h.causes h.each) (within, omega arith, cause);
@@ -88,7 +94,8 @@ module _ (limits : Limits) (entries : List Entry) (last : Entry) (op : Operation
   }
 
   -- from each entry on, where it is so from each but the end
-  from_each : (left : ℕ) → left ≤ cause_worth limits * 10 → ((m : ℕ) → op.start < m → m ≤ length entries → AffordsFrom limits longer op left m) → (m : ℕ) → op.start < m → m ≤ length longer → AffordsFrom limits longer op left m
+  from_each : (left : ℕ) → left ≤ cause_worth limits * 10 → ((m : ℕ) → op.start < m → m ≤ length entries → AffordsFrom limits longer op left m) → (m : ℕ)
+      → op.start < m → m ≤ length longer → AffordsFrom limits longer op left m
   from_each left few earlier m after within =
       let long : length longer ≡ suc (length entries) = pushed_length entries last in
       elim (cases_lt (length entries) m) [
@@ -108,7 +115,11 @@ module _ (limits : Limits) (entries : List Entry) (last : Entry) (op : Operation
           no_causes : (causes : List ℕ) → All (λ cause. (length entries ≤ cause) × (cause < length entries) × IsCause limits entries op cause) causes
               → count_by (is_step_of op.actor) (drop (length entries) entries) + left ≤ cause_worth limits * (length causes + 10) → left ≤ cause_worth limits * 10
           no_causes [] each paid = let e : cause_worth limits * (0 + 10) ≡ cause_worth limits * 10 = refl in omega arith
-          no_causes (c ∷ cs) each paid = let at = All-head (λ cause. (length entries ≤ cause) × (cause < length entries) × IsCause limits entries op cause) c cs each in let low : length entries ≤ c = at.0 in let high : c < length entries = at.1 in absurd (omega arith)
+          no_causes (c ∷ cs) each paid =
+              let at = All-head (λ cause. (length entries ≤ cause) × (cause < length entries) × IsCause limits entries op cause) c cs each in
+              let low : length entries ≤ c = at.0 in
+              let high : c < length entries = at.1 in
+              absurd (omega arith)
 
   -- an entry that is no step of its actor costs nothing
   pub affords_kept : (left : ℕ) → IsOperation entries op → is_step_of op.actor last ≡ false → Affords limits entries op left → Affords limits longer op left
@@ -117,10 +128,13 @@ module _ (limits : Limits) (entries : List Entry) (last : Entry) (op : Operation
     increasing = h.increasing;
     each = causes_kept h.causes h.each;
     paid =
-        let same : count_by (is_step_of op.actor) (drop op.start longer) ≡ count_by (is_step_of op.actor) (drop op.start entries) + 0 = counted begun ∙ ap (λ t. count_by (is_step_of op.actor) (drop op.start entries) + cond t 1 0) other in
+        let same : count_by (is_step_of op.actor) (drop op.start longer) ≡ count_by (is_step_of op.actor) (drop op.start entries) + 0 = counted begun ∙ ap
+        (λ t. count_by (is_step_of op.actor) (drop op.start entries) + cond t 1 0) other in
         let old : count_by (is_step_of op.actor) (drop op.start entries) + left ≤ cause_worth limits * (length h.causes + 1) = h.paid in
         omega arith;
-    since = from_each left (few_left left begun h) (λ m after within. from_less left left m within (let none : cond {A = ℕ} (is_step_of op.actor last) 1 0 ≡ 0 = ap (λ t. cond {A = ℕ} t 1 0) other in omega arith) (h.since m after within));
+    since =
+        from_each left (few_left left begun h)
+        (λ m after within. from_less left left m within (let none : cond {A = ℕ} (is_step_of op.actor last) 1 0 ≡ 0 = ap (λ t. cond {A = ℕ} t 1 0) other in omega arith) (h.since m after within));
   }
 
   -- what was left pays for one step more
@@ -141,7 +155,8 @@ module _ (limits : Limits) (entries : List Entry) (last : Entry) (op : Operation
   }
 
   -- a cause more is worth 2^18 steps, itself among them
-  pub affords_cause : (left rest : ℕ) → IsOperation entries op → Affords limits entries op left → IsCause limits longer op (length entries) → rest < left + cause_worth limits → rest ≤ cause_worth limits * 10 → Affords limits longer op rest
+  pub affords_cause : (left rest : ℕ) → IsOperation entries op → Affords limits entries op left → IsCause limits longer op (length entries)
+      → rest < left + cause_worth limits → rest ≤ cause_worth limits * 10 → Affords limits longer op rest
   affords_cause left rest begun h cause less few = record {
     causes = h.causes ++ length entries ∷ [];
     increasing = increasing_push h.causes (length entries) h.increasing (All-weaker (λ c. (c < length entries) × IsCause limits entries op c) (λ c. c < length entries) (λ c g. g.0) h.causes h.each);

@@ -27,7 +27,8 @@ few_last : (limits : Limits) (trace : List Entry) (op : Operation) (n rest : ℕ
 few_last limits trace op n rest whole h = (
   h.causes,
   h.increasing,
-  All-weaker (λ cause. (cause < length trace) × IsCause limits trace op cause) (λ cause. (cause ≤ n) × IsCause limits trace op cause) (λ cause g. let below : cause < length trace = g.0 in (omega arith, g.1)) h.causes h.each,
+  All-weaker (λ cause. (cause < length trace) × IsCause limits trace op cause) (λ cause. (cause ≤ n) × IsCause limits trace op cause)
+      (λ cause g. let below : cause < length trace = g.0 in (omega arith, g.1)) h.causes h.each,
   (
       let same : slice_range trace op.start (suc n) ≡ drop op.start trace = ap (λ end. take (end - op.start) (drop op.start trace)) whole ∙ take_rest trace op.start in
       let counted : count_by (is_step_of op.actor) (slice_range trace op.start (suc n)) ≡ count_by (is_step_of op.actor) (drop op.start trace) = ap (count_by (is_step_of op.actor)) same in
@@ -45,7 +46,9 @@ since_last : (limits : Limits) (trace : List Entry) (op : Operation) (m n rest :
 since_last limits trace op m n rest whole h = (
   h.causes,
   h.increasing,
-  All-weaker (λ cause. (m ≤ cause) × (cause < length trace) × IsCause limits trace op cause) (λ cause. (m ≤ cause) × (cause ≤ n) × IsCause limits trace op cause) (λ cause g. let below : cause < length trace = g.1 in (g.0, omega arith, g.2)) h.causes h.each,
+  All-weaker (λ cause. (m ≤ cause) × (cause < length trace) × IsCause limits trace op cause)
+      (λ cause. (m ≤ cause) × (cause ≤ n) × IsCause limits trace op cause) (λ cause g. let below : cause < length trace = g.1 in (g.0, omega arith, g.2))
+      h.causes h.each,
   (
       let same : slice_range trace m (suc n) ≡ drop m trace = ap (λ end. take (end - m) (drop m trace)) whole ∙ take_rest trace m in
       let counted : count_by (is_step_of op.actor) (slice_range trace m (suc n)) ≡ count_by (is_step_of op.actor) (drop m trace) = ap (count_by (is_step_of op.actor)) same in
@@ -65,7 +68,8 @@ module _ (limits : Limits) (entries : List Entry) (last : Entry) (kept : IsDirec
       let start : op.start < n = own.2.1.begun in (
         h.0,
         h.1,
-        All-weaker (λ cause. (cause ≤ n) × IsCause limits entries op cause) (λ cause. (cause ≤ n) × IsCause limits longer op cause) (λ cause g. (g.0, cause_kept limits entries last op cause g.1)) h.0 h.2,
+        All-weaker (λ cause. (cause ≤ n) × IsCause limits entries op cause) (λ cause. (cause ≤ n) × IsCause limits longer op cause)
+            (λ cause g. (g.0, cause_kept limits entries last op cause g.1)) h.0 h.2,
         rw (range_kept entries last op.start (suc n) (omega arith) (omega arith)) h.3,
       )
 
@@ -75,12 +79,14 @@ module _ (limits : Limits) (entries : List Entry) (last : Entry) (kept : IsDirec
       let below : n < length entries = takes_below entries last op n own.0 own.1 own.2 in (
         h.0,
         h.1,
-        All-weaker (λ cause. (m ≤ cause) × (cause ≤ n) × IsCause limits entries op cause) (λ cause. (m ≤ cause) × (cause ≤ n) × IsCause limits longer op cause) (λ cause g. (g.0, g.1, cause_kept limits entries last op cause g.2)) h.0 h.2,
+        All-weaker (λ cause. (m ≤ cause) × (cause ≤ n) × IsCause limits entries op cause) (λ cause. (m ≤ cause) × (cause ≤ n) × IsCause limits longer op cause)
+            (λ cause g. (g.0, g.1, cause_kept limits entries last op cause g.2)) h.0 h.2,
         rw (range_kept entries last m (suc n) (omega arith) (omega arith)) h.3,
       )
 
   module _ (afford : (op : Operation) (s : StepOf Record) (x : Answer Record) (reply : Option Reply) → IsLast entries op → last ≡ Step op.actor s x reply → (rest : ℕ) × Affords limits longer op rest)
-      (change : (b slot old new : ℕ) (reply : Option Reply) → last ≡ Step b (Exchange slot old new) (Whether true) reply → IsChange limits entries b slot old new × IsUseful (knows entries b) (Exchange slot old new))
+      (change : (b slot old new : ℕ) (reply : Option Reply) → last ≡ Step b (Exchange slot old new) (Whether true) reply → IsChange limits entries b slot old
+      new × IsUseful (knows entries b) (Exchange slot old new))
       (reads_now : (op : Operation) (s : StepOf Record) (x : Answer Record) (reply : Option Reply) → IsLast entries op → last ≡ Step op.actor s x reply → is_writer op.command ≡ false → IsReading s)
       (cleared_now : (op : Operation) (pid : ℕ) (reply : Option Reply) → last ≡ Step op.actor (Slot pid) (Number 0) reply → IsInPhase limits entries (length entries) pid cleared)
       (settled_now : (op : Operation) (pid row : ℕ) (reply : Option Reply) → last ≡ Step op.actor (Slot pid) (Number row) reply → 0 < pid → 0 < row → IsOfTree limits entries (length entries) pid)
@@ -111,13 +117,15 @@ module _ (limits : Limits) (entries : List Entry) (last : Entry) (kept : IsDirec
         ]
 
     -- an operation that has linked an update links no other
-    apart : (op : Operation) (m : ℕ) (first second : Link) → IsLast entries op → Links limits entries op m first → LinksLast limits entries last op second → IsUpdateLink first → IsUpdateLink second → ⊥
+    apart : (op : Operation) (m : ℕ) (first second : Link) → IsLast entries op → Links limits entries op m first → LinksLast limits entries last op second
+        → IsUpdateLink first → IsUpdateLink second → ⊥
     apart op m first second latest before now one two =
         let made = (change op.actor now.slot now.old now.new now.reply now.is).0 in
         let false : IsSome {T = ℕ} None = rw (made.once (rw (same_Some _ _ (sym made.is ∙ now.link)) two)) at (kept.linked op m first latest before one) in
         cc
 
-    once : (op : Operation) (m n : ℕ) (first second : Link) → IsOperation longer op → Links limits longer op m first → Links limits longer op n second → IsUpdateLink first → IsUpdateLink second → m ≡ n
+    once : (op : Operation) (m n : ℕ) (first second : Link) → IsOperation longer op → Links limits longer op m first → Links limits longer op n second
+        → IsUpdateLink first → IsUpdateLink second → m ≡ n
     once op m n first second begun one two is_one is_two =
         let before : IsOperation entries op = operation_before entries last op m _ _ begun one.3 in
         elim (links_cases limits entries last op m first one) [
@@ -131,7 +139,8 @@ module _ (limits : Limits) (entries : List Entry) (last : Entry) (kept : IsDirec
           ]
         ]
 
-    useful : (op : Operation) (n slot old new : ℕ) (chain : List Record) → IsOperation longer op → TakesOwnStep longer op n (Exchange slot old new) (Whether true) → link_of (memory_at limits longer n) slot old new ≡ Some link.Base
+    useful : (op : Operation) (n slot old new : ℕ) (chain : List Record) → IsOperation longer op
+        → TakesOwnStep longer op n (Exchange slot old new) (Whether true) → link_of (memory_at limits longer n) slot old new ≡ Some link.Base
         → IsChainOf (memory_at limits longer n) slot chain → 1 < length chain
     useful op n slot old new chain begun took is is_chain =
         let before : IsOperation entries op = operation_before entries last op n _ _ begun took in

@@ -32,7 +32,8 @@ newest_removes (Merge merge) (older ∷ under) h gone = absurd (cc (h.0.fits.ali
 newest_removes (Unterm unterm) (older ∷ under) h gone = absurd (cc (h.0.fits.alive, h.0.makes.removed))
 newest_removes w under h gone = absurd (cc h.1)
 
-removed_newest : (rows : ℕ → Option Record) (row : ℕ) (chain : List Record) → IsChainFrom rows row chain → IsFitted chain → is_removed chain ≡ true → (w : Record) × (rows row ≡ Some w) × (link_without w ≡ link.Clear)
+removed_newest : (rows : ℕ → Option Record) (row : ℕ) (chain : List Record) → IsChainFrom rows row chain → IsFitted chain → is_removed chain ≡ true
+    → (w : Record) × (rows row ≡ Some w) × (link_without w ≡ link.Clear)
 removed_newest rows row [] h fitted gone = absurd h
 removed_newest rows row (w ∷ under) h fitted gone = (w, h.0, newest_removes w under fitted gone)
 
@@ -92,7 +93,8 @@ module _ (limits : Limits) (entries : List Entry) (a : ℕ) where
         ]
 
     -- an update is linked where none was linked before, and is known then
-    update_of : (slot old new : ℕ) (kind : Link) → MayExchange a k slot old new → m.slots slot ≡ old → link_of m slot old new ≡ Some kind → IsUpdateLink kind → (k.asked.linked ≡ None) × IsSome (learn k (Exchange slot old new) (Whether true)).asked.linked
+    update_of : (slot old new : ℕ) (kind : Link) → MayExchange a k slot old new → m.slots slot ≡ old → link_of m slot old new ≡ Some kind → IsUpdateLink kind
+        → (k.asked.linked ≡ None) × IsSome (learn k (Exchange slot old new) (Whether true)).asked.linked
     unfolding IsLinked
     update_of slot old new kind may at is update = learns_update m state.is_tree a slot old new kind may at is update
 

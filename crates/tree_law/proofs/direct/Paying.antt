@@ -19,12 +19,14 @@ module _ (limits : Limits) (entries : List Entry) (last : Entry) (op : Operation
   none m Kind h = none_kept limits entries last op m (length entries) Kind (omega arith) h
 
   -- since slot 0 was last read, the first removal, or one of a lower level
-  removal : (row : ℕ) (remove : Removal) (r : Recalled) (seen : ℕ → Option Record) → last ≡ Step op.actor (Row row) (Content (Remove remove)) reply → ((before : Record) → seen row ≡ Some before → Remove remove ≡ before)
+  removal : (row : ℕ) (remove : Removal) (r : Recalled) (seen : ℕ → Option Record) → last ≡ Step op.actor (Row row) (Content (Remove remove)) reply
+      → ((before : Record) → seen row ≡ Some before → Remove remove ≡ before)
       → Walks limits entries op seen r.walk → is_lower (Remove remove) r.walk ≡ true → IsCause limits longer op (length entries)
   removal row remove r seen is same w lower =
       let first : TakesNone limits entries op w.at (length entries) (IsTheStep limits entries op (Row row)) = λ between step answer low high own kind.
       let was = w.rows between row answer low (rw kind at own) in
-      let there : (r.walk.removed ≡ true) × (r.walk.level ≤ remove.level) = subst (λ content. is_removal content ≡ true → (r.walk.removed ≡ true) × (r.walk.level ≤ removal_level content)) (sym (same was.0 was.1)) was.2 refl in
+      let there : (r.walk.removed ≡ true) × (r.walk.level ≤ remove.level) = subst
+      (λ content. is_removal content ≡ true → (r.walk.removed ≡ true) × (r.walk.level ≤ removal_level content)) (sym (same was.0 was.1)) was.2 refl in
       let less : ltb remove.level r.walk.level ≡ true = rw there.0 at lower in
       let low = ltb-true remove.level r.walk.level less in
       let high = there.1 in
@@ -62,7 +64,8 @@ module _ (limits : Limits) (entries : List Entry) (last : Entry) (op : Operation
         ),
       )))
 
-  won : (slot old new : ℕ) → last ≡ Step op.actor (Exchange slot old new) (Whether true) reply → IsChange limits entries op.actor slot old new → 0 < old → ((base : ℕ) → (knows entries op.actor).own.pages slot ≡ Ready base → ⊥) → IsCause limits longer op (length entries)
+  won : (slot old new : ℕ) → last ≡ Step op.actor (Exchange slot old new) (Whether true) reply → IsChange limits entries op.actor slot old new → 0 < old
+      → ((base : ℕ) → (knows entries op.actor).own.pages slot ≡ Ready base → ⊥) → IsCause limits longer op (length entries)
   won slot old new is change some foreign =
       let counts = change.counts some foreign in
       inl (change.kind, (slot, old, new, takes_last entries last op _ _ reply latest is, ap (λ (m : Memory). link_of m slot old new) (memory_last entries last limits) ∙ change.is), counts.0, counts.1)

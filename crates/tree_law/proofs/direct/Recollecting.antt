@@ -73,14 +73,16 @@ module _ (limits : Limits) (entries : List Entry) (last : Entry) (op : Operation
   )
 
   -- the number that the last entry gave is read
-  read_last : (Kind : StepOf Record → Type 0) (wanted : StepOf Record) (number : ℕ) (reply : Option Reply) → IsLast entries op → last ≡ Step op.actor wanted (Number number) reply → HasReadSince limits longer op Kind wanted number
+  read_last : (Kind : StepOf Record → Type 0) (wanted : StepOf Record) (number : ℕ) (reply : Option Reply) → IsLast entries op
+      → last ≡ Step op.actor wanted (Number number) reply → HasReadSince limits longer op Kind wanted number
   read_last Kind wanted number reply latest is = (
     length entries,
     takes_last entries last op wanted (Number number) reply latest is,
     λ between step answer low high own kind. let long : length longer ≡ suc (length entries) = pushed_length entries last in omega arith,
   )
 
-  pub recollects_other : (r : Recalled) → ((step : StepOf Record) (answer : Answer Record) (reply : Option Reply) → last ≡ Step op.actor step answer reply → ⊥) → Recollects limits entries op r → Recollects limits longer op r
+  pub recollects_other : (r : Recalled) → ((step : StepOf Record) (answer : Answer Record) (reply : Option Reply) → last ≡ Step op.actor step answer reply → ⊥)
+      → Recollects limits entries op r → Recollects limits longer op r
   recollects_other r never h = record {
     heads = λ slot row e. read_kept _ _ row (h.heads slot row e) (λ step answer reply is kind. never step answer reply is);
     pids = λ word bits e. read_kept _ _ bits (h.pids word bits e) (λ step answer reply is kind. never step answer reply is);
@@ -88,10 +90,13 @@ module _ (limits : Limits) (entries : List Entry) (last : Entry) (op : Operation
   }
 
   module _ (s : StepOf Record) (x : Answer Record) (reply : Option Reply) (latest : IsLast entries op) (is : last ≡ Step op.actor s x reply) where
-    read_cases : (recalled : ℕ → Option ℕ) (at n : ℕ) (wanted : ℕ → StepOf Record) (Kind : StepOf Record → Type 0) → Cases s x recalled at n wanted Kind → (recalled at ≡ Some n → HasReadSince limits entries op Kind (wanted at) n)
+    read_cases : (recalled : ℕ → Option ℕ) (at n : ℕ) (wanted : ℕ → StepOf Record) (Kind : StepOf Record → Type 0) → Cases s x recalled at n wanted Kind
+        → (recalled at ≡ Some n → HasReadSince limits entries op Kind (wanted at) n)
         → HasReadSince limits longer op Kind (wanted at) n
     read_cases recalled at n wanted Kind (inl now) before = read_last Kind (wanted at) n reply latest (is ∙ λ i. Step op.actor (now.0 i) (now.1 i) reply)
-    read_cases recalled at n wanted Kind (inr old) before = read_kept Kind (wanted at) n (before old.0) (λ step answer other own kind. old.1 (rw (let same : Step op.actor step answer other ≡ Step op.actor s x reply = sym own ∙ is in let e : step ≡ s = cc in e) at kind))
+    read_cases recalled at n wanted Kind (inr old) before =
+        read_kept Kind (wanted at) n (before old.0)
+        (λ step answer other own kind. old.1 (rw (let same : Step op.actor step answer other ≡ Step op.actor s x reply = sym own ∙ is in let e : step ≡ s = cc in e) at kind))
 
     pub recollects_own : (r : Recalled) → Recollects limits entries op r → Recollects limits longer op (recall r s x)
     recollects_own r h = record {

@@ -80,7 +80,9 @@ module _ (limits : Limits) (entries : List Entry) (last : Entry) (op : Operation
   longer = entries ++ last ∷ []
 
   -- none was taken before, and the last entry is none
-  none_longer : (at : ℕ) (Kind : StepOf Record → Type 0) → ((step : StepOf Record) (answer : Answer Record) (reply : Option Reply) → last ≡ Step op.actor step answer reply → Kind step → ⊥) → TakesNone limits entries op at (length entries) Kind
+  none_longer : (at : ℕ) (Kind : StepOf Record → Type 0)
+      → ((step : StepOf Record) (answer : Answer Record) (reply : Option Reply) → last ≡ Step op.actor step answer reply → Kind step → ⊥)
+      → TakesNone limits entries op at (length entries) Kind
       → TakesNone limits longer op at (length longer) Kind
   none_longer at Kind never none between step answer low high own kind = elim (takes_cases entries last op between step answer own) [
     | inl before ↦ none between step answer low (takes_below entries last op between step answer before) before kind
@@ -88,7 +90,8 @@ module _ (limits : Limits) (entries : List Entry) (last : Entry) (op : Operation
   ]
 
   -- The walk goes on with an entry that reads nothing.
-  pub walks_kept : (seen : ℕ → Option Record) (walk : Walk) → ((step : StepOf Record) (answer : Answer Record) (reply : Option Reply) → last ≡ Step op.actor step answer reply → ((page : ℕ) → step ≢ Slot page) × ((row : ℕ) → step ≢ Row row))
+  pub walks_kept : (seen : ℕ → Option Record) (walk : Walk)
+      → ((step : StepOf Record) (answer : Answer Record) (reply : Option Reply) → last ≡ Step op.actor step answer reply → ((page : ℕ) → step ≢ Slot page) × ((row : ℕ) → step ≢ Row row))
       → Walks limits entries op seen walk → Walks limits longer op seen walk
   walks_kept seen walk reads h = record {
     at = h.at;
@@ -129,7 +132,10 @@ module _ (limits : Limits) (entries : List Entry) (last : Entry) (op : Operation
       root = h.root;
       begins = takes_kept entries last op h.at _ _ h.begins;
       last = none_longer h.at (IsTheStep limits entries op (Slot 0)) (λ step answer other own kind. let e : Slot 0 ≡ Slot (suc p) = sym kind ∙ (is_step step answer other own).0 ∙ i in cc) h.last;
-      slots = λ page fresh new. none_longer h.at (IsTheStep limits entries op (Slot page)) (λ step answer other own kind. new.0 (let e : Slot page ≡ Slot (suc p) = sym kind ∙ (is_step step answer other own).0 ∙ i in cc)) (h.slots page fresh (rw fresh at new.1));
+      slots =
+          λ page fresh new. none_longer h.at (IsTheStep limits entries op (Slot page))
+          (λ step answer other own kind. new.0 (let e : Slot page ≡ Slot (suc p) = sym kind ∙ (is_step step answer other own).0 ∙ i in cc))
+          (h.slots page fresh (rw fresh at new.1));
       rows = λ m row answer low own. elim (takes_cases entries last op m (Row row) answer own) [
         | inl before ↦ h.rows m row answer low before
         | inr now ↦ absurd (cc (is_step (Row row) answer now.1.0 now.1.1).0)
@@ -138,7 +144,8 @@ module _ (limits : Limits) (entries : List Entry) (last : Entry) (op : Operation
     }
 
     -- a record is read
-    noted : (q : ℕ) (w : Record) (seen : ℕ → Option Record) (walk : Walk) → s ≡ Row q → x ≡ Content w → Walks limits entries op seen walk → Walks limits longer op (replaced_at q (Some w) seen) (note w walk)
+    noted : (q : ℕ) (w : Record) (seen : ℕ → Option Record) (walk : Walk) → s ≡ Row q → x ≡ Content w → Walks limits entries op seen walk
+        → Walks limits longer op (replaced_at q (Some w) seen) (note w walk)
     noted q w seen walk i j h =
         let took : TakesOwnStep longer op (length entries) (Row q) (Content w) = takes_last entries last op (Row q) (Content w) reply latest (is ∙ λ d. Step op.actor (i d) (j d) reply) in
         let low : h.at < length entries = takes_below entries last op h.at _ _ h.begins in
@@ -147,11 +154,15 @@ module _ (limits : Limits) (entries : List Entry) (last : Entry) (op : Operation
           root = h.root;
           begins = takes_kept entries last op h.at _ _ h.begins;
           last = none_longer h.at (IsTheStep limits entries op (Slot 0)) (λ step answer other own kind. let e : Slot 0 ≡ Row q = sym kind ∙ (is_step step answer other own).0 ∙ i in cc) h.last;
-          slots = λ page fresh new. none_longer h.at (IsTheStep limits entries op (Slot page)) (λ step answer other own kind. let e : Slot page ≡ Row q = sym kind ∙ (is_step step answer other own).0 ∙ i in cc) (h.slots page (or_none (is_removal w) walk.removed fresh) new);
+          slots =
+              λ page fresh new. none_longer h.at (IsTheStep limits entries op (Slot page))
+              (λ step answer other own kind. let e : Slot page ≡ Row q = sym kind ∙ (is_step step answer other own).0 ∙ i in cc)
+              (h.slots page (or_none (is_removal w) walk.removed fresh) new);
           rows = λ m row answer after own. by_equal row q
               (λ same t. rw t (w, refl, λ e. (or_left (is_removal w) walk.removed e, lowest_here w walk e)))
               (λ ne t. rw t (elim (takes_cases entries last op m (Row row) answer own) [
-                | inl before ↦ let f = h.rows m row answer after before in (f.0, f.1, λ e. let was = f.2 e in (or_right (is_removal w) walk.removed was.0, lowest_before w walk (removal_level f.0) was.0 was.1))
+                | inl before ↦ let f = h.rows m row answer after before in
+                    (f.0, f.1, λ e. let was = f.2 e in (or_right (is_removal w) walk.removed was.0, lowest_before w walk (removal_level f.0) was.0 was.1))
                 | inr now ↦ absurd (ne (let e : Row row ≡ Row q = (is_step (Row row) answer now.1.0 now.1.1).0 ∙ i in cc))
               ]));
           named = λ page names. elim names [
@@ -161,7 +172,8 @@ module _ (limits : Limits) (entries : List Entry) (last : Entry) (op : Operation
         }
 
     -- neither is read
-    still : (k : Knowledge) (r : Recalled) → IsStill s → (r.walk.rooted ≡ true → Walks limits entries op k.read.seen r.walk) → (recall r s x).walk.rooted ≡ true → Walks limits longer op (learn k s x).read.seen (recall r s x).walk
+    still : (k : Knowledge) (r : Recalled) → IsStill s → (r.walk.rooted ≡ true → Walks limits entries op k.read.seen r.walk) → (recall r s x).walk.rooted ≡ true
+        → Walks limits longer op (learn k s x).read.seen (recall r s x).walk
     still k r rests h rooted =
         let same : (recall r s x).walk ≡ r.walk = walk_kept r s x rests in
         let kept : Walks limits longer op k.read.seen r.walk = walks_kept k.read.seen r.walk
@@ -169,7 +181,8 @@ module _ (limits : Limits) (entries : List Entry) (last : Entry) (op : Operation
         (h (ap (λ (walk : Walk). walk.rooted) (sym same) ∙ rooted)) in
         rw (seen_kept k s x (still_seen s rests)) (rw same kept)
 
-  pub walks_own : (s : StepOf Record) (x : Answer Record) (reply : Option Reply) (latest : IsLast entries op) (is : last ≡ Step op.actor s x reply) (k : Knowledge) (r : Recalled) (memory : Memory) → IsAnswer memory s x
+  pub walks_own : (s : StepOf Record) (x : Answer Record) (reply : Option Reply) (latest : IsLast entries op) (is : last ≡ Step op.actor s x reply) (k : Knowledge) (r : Recalled) (memory : Memory)
+      → IsAnswer memory s x
       → (r.walk.rooted ≡ true → Walks limits entries op k.read.seen r.walk) → (recall r s x).walk.rooted ≡ true → Walks limits longer op (learn k s x).read.seen (recall r s x).walk
   walks_own (Slot zero) x reply latest is k r memory says h rooted = rw says (begun (Slot zero) x reply latest is (memory.slots 0) k.read.seen r.walk refl says)
   walks_own (Slot (suc p)) x reply latest is k r memory says h rooted =

@@ -12,7 +12,8 @@ use Rattle.tree_law.proofs.epochs.Timely.{linked}
 use Rattle.tree_law.proofs.epochs.Exchanging.{tested_linked, tested_cleared, out_now, later_out, out_cases, spare_of, slot_linked, on_walk}
 use Rattle.std.proofs.lemmas.Bool.{and_parts}
 
-module _ {limits : Limits} {m : Memory} {log : List Update} {o : Owners} {knows : ℕ → Knowledge} {point : ℕ → Option (List Update)} {logs : ℕ → List (List Update)} {now : ℕ} {t : Times} (g : IsTree (shared m) log o knows point logs) (T : Timed limits m o knows now t) (a : ℕ) where
+module _ {limits : Limits} {m : Memory} {log : List Update} {o : Owners} {knows : ℕ → Knowledge} {point : ℕ → Option (List Update)}
+    {logs : ℕ → List (List Update)} {now : ℕ} {t : Times} (g : IsTree (shared m) log o knows point logs) (T : Timed limits m o knows now t) (a : ℕ) where
   module _ (p x : ℕ) where
     abbrev pub m2 : Memory
     m2 = record m { slots = replaced_at (suc p) 0 m.slots }
@@ -82,7 +83,8 @@ module _ {limits : Limits} {m : Memory} {log : List Update} {o : Owners} {knows 
       }
 
     -- the exchange leaves the actor this knowledge
-    pub emptied_timed : (o' : Owners) (f : Emptying o') (k' : Knowledge) → k'.inside ≡ (knows a).inside → k'.read ≡ (knows a).read → k'.asked.linked ≡ (knows a).asked.linked → k'.limbo.epoch ≡ (knows a).limbo.epoch → k'.own.rows ≡ (knows a).own.rows
+    pub emptied_timed : (o' : Owners) (f : Emptying o') (k' : Knowledge) → k'.inside ≡ (knows a).inside → k'.read ≡ (knows a).read
+        → k'.asked.linked ≡ (knows a).asked.linked → k'.limbo.epoch ≡ (knows a).limbo.epoch → k'.own.rows ≡ (knows a).own.rows
         → ((q : ℕ) → k'.own.pages q ≡ Gone → t2.page_out q ≡ None)
         → ((n : Turn T (linked g T a) a m2 o' k' t2) (r : ℕ) → LimboFits a (λ c. (put knows a k' c).inside) t.entered (t2.row_out r) (k'.limbo.rows r))
         → ((n : Turn T (linked g T a) a m2 o' k' t2) (q : ℕ) → LimboFits a (λ c. (put knows a k' c).inside) t.entered (t2.page_out q) (k'.limbo.pids q))
@@ -104,7 +106,8 @@ module _ {limits : Limits} {m : Memory} {log : List Update} {o : Owners} {knows 
         })
 
     -- an own page that was ready is empty again
-    pub undone_timed : (o' : Owners) (f : Emptying o') → (l : o.page (suc p) ≡ Keeps a) (r : Option Reply) → Timed limits m2 o' (put knows a (finished (set_page (suc p) Empty (knows a)) r)) (suc now) t2
+    pub undone_timed : (o' : Owners) (f : Emptying o') → (l : o.page (suc p) ≡ Keeps a) (r : Option Reply)
+        → Timed limits m2 o' (put knows a (finished (set_page (suc p) Empty (knows a)) r)) (suc now) t2
     undone_timed o' f own r =
         let k' : Knowledge = finished (set_page (suc p) Empty (knows a)) r in
         emptied_timed o' f k' refl refl refl refl refl
@@ -134,7 +137,8 @@ module _ {limits : Limits} {m : Memory} {log : List Update} {o : Owners} {knows 
         old : (o.row x ≡ Linked) × (t.home x ≡ suc p) × (t.row_out x ≡ None)
         old = let b = T.slots (suc p) x was.0 was.1 reached f.held in (slot_linked g T a (suc p) x was.0 was.1 reached f.held, b.0, b.1)
 
-        rows : (n : Turn T (linked g T a) a m2 o' k' t2) (j : ℕ) (z : Bool) → is_on_walk 13 (knows a).read.seen (Some x) j ≡ z → LimboFits a (λ c. (put knows a k' c).inside) t.entered (t2.row_out j) (cond z Unstamped ((knows a).limbo.rows j))
+        rows : (n : Turn T (linked g T a) a m2 o' k' t2) (j : ℕ) (z : Bool) → is_on_walk 13 (knows a).read.seen (Some x) j ≡ z
+            → LimboFits a (λ c. (put knows a k' c).inside) t.entered (t2.row_out j) (cond z Unstamped ((knows a).limbo.rows j))
         rows n j true e = let w = on_walk g T a (suc p) 13 (Some x) j old e in (out_now g T a, rw (w.2, w.0, w.1, eqb_same (suc p)) refl, refl)
         rows n j false e = limbo_row n a j
 
@@ -212,7 +216,9 @@ module _ {limits : Limits} {m : Memory} {log : List Update} {o : Owners} {knows 
         gone_pages = λ q i. T.gone_pages a q (put_was (knows a).own.pages y Other q (λ e. cc) i);
         limbo_rows = limbo_row turn3 a;
         limbo_pids = limbo_pid turn3 a;
-        ready = λ q j. by_equal q y (λ e t. rw t λ i. absurd (cc)) (λ ne t. rw t λ e. rw (put_other (knows a).own.rows f.base Foreign j (λ i. ne (T.apart a q y j e (f.ready ∙ ap Ready (sym i))))) (T.ready a q j e));
+        ready =
+            λ q j. by_equal q y (λ e t. rw t λ i. absurd (cc))
+            (λ ne t. rw t λ e. rw (put_other (knows a).own.rows f.base Foreign j (λ i. ne (T.apart a q y j e (f.ready ∙ ap Ready (sym i))))) (T.ready a q j e));
         apart = λ q s j e i. T.apart a q s j (was q j e) (was s j i);
       })
         where

@@ -24,7 +24,8 @@ over_no_base : (w : Record) (n : ℕ) → next_row w ≡ Some n → is_base (Som
 over_no_base (Base page) n e = absurd (cc)
 over_no_base w n e = refl
 
-module _ {limits : Limits} {m : Memory} {log : List Update} {o : Owners} {knows : ℕ → Knowledge} {point : ℕ → Option (List Update)} {logs : ℕ → List (List Update)} {now : ℕ} {t : Times} (g : IsTree (shared m) log o knows point logs) (T : Timed limits m o knows now t) (a : ℕ) where
+module _ {limits : Limits} {m : Memory} {log : List Update} {o : Owners} {knows : ℕ → Knowledge} {point : ℕ → Option (List Update)}
+    {logs : ℕ → List (List Update)} {now : ℕ} {t : Times} (g : IsTree (shared m) log o knows point logs) (T : Timed limits m o knows now t) (a : ℕ) where
   abbrev pub out_now : Outing
   out_now = record { at = now; epoch = m.epoch; who = a }
 
@@ -49,7 +50,8 @@ module _ {limits : Limits} {m : Memory} {log : List Update} {o : Owners} {knows 
   ]
 
   -- the rows of a chain as far as it was read are linked, and where its first one is
-  pub on_walk : (h n : ℕ) (start : Option ℕ) (r : ℕ) → IfSome start (λ s. (o.row s ≡ Linked) × (t.home s ≡ h) × (t.row_out s ≡ None)) → is_on_walk n (knows a).read.seen start r ≡ true → (o.row r ≡ Linked) × (t.home r ≡ h) × (t.row_out r ≡ None)
+  pub on_walk : (h n : ℕ) (start : Option ℕ) (r : ℕ) → IfSome start (λ s. (o.row s ≡ Linked) × (t.home s ≡ h) × (t.row_out s ≡ None))
+      → is_on_walk n (knows a).read.seen start r ≡ true → (o.row r ≡ Linked) × (t.home r ≡ h) × (t.row_out r ≡ None)
   on_walk h (suc n) (Some s) r f e = by_equal r s
       (λ i is. rw i f)
       (λ ne is. let v = rw is at e in on_walk h n (next_seen ((knows a).read.seen s)) r (under ((knows a).read.seen s) ((g.sound a).seen_fits s)) v)
@@ -76,7 +78,8 @@ module _ {limits : Limits} {m : Memory} {log : List Update} {o : Owners} {knows 
       pub own : IsOwn ((knows a).own.rows (suc y))
       pub page_in : t.page_out (suc p) ≡ None
       pub under : (n : ℕ) (w : Record) → m.rows (suc y) ≡ Some w → next_row w ≡ Some n → (t.home n ≡ suc p) × (t.row_out n ≡ None) × (o.row n ≡ Linked)
-      pub reached : (q l : ℕ) (s : Key) → Reached 0 l s (o'.page q) → Reached 0 l s (o.page q) ⊎ ((z : ℕ) → slot_in m.slots q ≡ Some z → IsOwn ((knows a).own.rows z) × (z ≢ suc y) × (q ≡ split_page (m.rows (suc y))))
+      pub reached : (q l : ℕ) (s : Key) → Reached 0 l s (o'.page q)
+          → Reached 0 l s (o.page q) ⊎ ((z : ℕ) → slot_in m.slots q ≡ Some z → IsOwn ((knows a).own.rows z) × (z ≢ suc y) × (q ≡ split_page (m.rows (suc y))))
       pub homed : (r : ℕ) → o'.row r ≡ Linked → (o.row r ≡ Linked) ⊎ IsHomed (shared m) (Exchange (suc p) x (suc y)) (answer.Whether true) r
       pub stay : (r : ℕ) → o.row r ≡ Linked → o'.row r ≡ Linked
       pub spare : (r b : ℕ) → o.row r ≡ Spare b → (o'.row r ≡ Spare b) ⊎ (o'.row r ≡ Linked)
@@ -136,15 +139,22 @@ module _ {limits : Limits} {m : Memory} {log : List Update} {o : Owners} {knows 
         together = together_after;
         rows = λ r w e. elim (out_cases (t.row_out r) (is_base (m.rows (suc y)) && (is_linked (o.row r) && eqb (t.home r) (suc p))) w e) [
           | inl u ↦ elim (T.rows r w u).0 [ inl v ↦ inl (f.stay r v) | inr v ↦ elim (f.spare r w.who v) [ inl z ↦ inr z | inr z ↦ inl z ] ]
-          | inr u ↦ inl (f.stay r (tested_linked (o.row r) (and_parts (is_linked (o.row r)) (eqb (t.home r) (suc p)) (and_parts (is_base (m.rows (suc y))) (is_linked (o.row r) && eqb (t.home r) (suc p)) u.1).1).0))
+          | inr u ↦ inl (f.stay r
+              (tested_linked (o.row r) (and_parts (is_linked (o.row r)) (eqb (t.home r) (suc p)) (and_parts (is_base (m.rows (suc y))) (is_linked (o.row r) && eqb (t.home r) (suc p)) u.1).1).0))
         ];
-        pages = λ q w e. let v = T.pages q w e in ((v.0.0, v.0.1, f.cleared q w.who v.0.0 v.0.1 v.0.2), ap (λ v. v q) (slot_put m.slots p (suc y)) ∙ put_other (slot_in m.slots) (suc p) (Some (suc y)) q (λ i. absurd (cc f.page_in)) ∙ v.1);
+        pages =
+            λ q w e. let v = T.pages q w e in (
+              (v.0.0, v.0.1, f.cleared q w.who v.0.0 v.0.1 v.0.2),
+              ap (λ v. v q) (slot_put m.slots p (suc y)) ∙ put_other
+                  (slot_in m.slots) (suc p) (Some (suc y)) q (λ i. absurd (cc f.page_in)) ∙ v.1,
+            );
         own_rows = λ b r ne i. in_own b r i;
         gone_pages = λ b q ne. T.gone_pages b q;
       }
 
       -- the rows of the chain that a base is linked in the place of are in the actor's limbo
-      pub base_limbo : is_base (m.rows (suc y)) ≡ true → (h : (o.row x ≡ Linked) × (t.home x ≡ suc p) × (t.row_out x ≡ None)) → (r : ℕ) → LimboFits a (λ c. (put knows a k' c).inside) t1.entered (t1.row_out r) (taken_out (knows a).read.seen x (knows a).limbo.rows r)
+      pub base_limbo : is_base (m.rows (suc y)) ≡ true → (h : (o.row x ≡ Linked) × (t.home x ≡ suc p) × (t.row_out x ≡ None)) → (r : ℕ)
+          → LimboFits a (λ c. (put knows a k' c).inside) t1.entered (t1.row_out r) (taken_out (knows a).read.seen x (knows a).limbo.rows r)
       base_limbo is h r = elim (decided (is_on_walk 13 (knows a).read.seen (Some x) r)) [
         | inl e ↦ let w = on_walk (suc p) 13 (Some x) r h e in rw e (out_now, rw (w.2, is, w.0, w.1, eqb_same (suc p)) refl, refl)
         | inr e ↦ rw e (limbo_row filling_turn a r)

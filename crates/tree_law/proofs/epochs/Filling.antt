@@ -7,7 +7,9 @@ use Rattle.tree_law.proofs.epochs.Timing.{Turn, limbo_row, limbo_pid, held_later
 use Rattle.tree_law.proofs.epochs.Timely.{linked}
 use Rattle.tree_law.proofs.epochs.Exchanging.{m1, t1, Filling, in_own, filling_turn, base_limbo}
 
-module _ {limits : Limits} {m : Memory} {log : List Update} {o : Owners} {knows : ℕ → Knowledge} {point : ℕ → Option (List Update)} {logs : ℕ → List (List Update)} {now : ℕ} {t : Times} (g : IsTree (shared m) log o knows point logs) (T : Timed limits m o knows now t) (a : ℕ) (p x y : ℕ) (o' : Owners) (f : Filling g T a p x y o') where
+module _ {limits : Limits} {m : Memory} {log : List Update} {o : Owners} {knows : ℕ → Knowledge} {point : ℕ → Option (List Update)}
+    {logs : ℕ → List (List Update)} {now : ℕ} {t : Times} (g : IsTree (shared m) log o knows point logs) (T : Timed limits m o knows now t) (a : ℕ) (p x y : ℕ)
+    (o' : Owners) (f : Filling g T a p x y o') where
   -- the exchange leaves the actor this knowledge
   pub filled_timed : (k' : Knowledge) → k'.inside ≡ (knows a).inside → k'.read ≡ (knows a).read → k'.limbo.epoch ≡ (knows a).limbo.epoch → k'.limbo.pids ≡ (knows a).limbo.pids
       → ((q : ℕ) → k'.asked.linked ≡ Some (Some q) → (knows a).read.learnt q ≡ true)
@@ -34,7 +36,8 @@ module _ {limits : Limits} {m : Memory} {log : List Update} {o : Owners} {knows 
   own_less : (f : ℕ → OwnRow) (q r : ℕ) → IsOwn (put f q Foreign r) → IsOwn (f r)
   own_less f q r = by_equal r q (λ e t. rw t λ i. absurd i) (λ ne t. rw t λ i. i)
 
-  same_limbo : (k' : Knowledge) → k'.limbo.rows ≡ (knows a).limbo.rows → (n : Turn T (linked g T a) a (m1 g T a p x y) o' k' (t1 g T a p x y)) (r : ℕ) → LimboFits a (λ c. (put knows a k' c).inside) t.entered ((t1 g T a p x y).row_out r) (k'.limbo.rows r)
+  same_limbo : (k' : Knowledge) → k'.limbo.rows ≡ (knows a).limbo.rows → (n : Turn T (linked g T a) a (m1 g T a p x y) o' k' (t1 g T a p x y)) (r : ℕ)
+      → LimboFits a (λ c. (put knows a k' c).inside) t.entered ((t1 g T a p x y).row_out r) (k'.limbo.rows r)
   same_limbo k' e n r = subst (λ (l : ℕ → LimboMark). LimboFits a (λ c. (put knows a k' c).inside) t.entered ((t1 g T a p x y).row_out r) (l r)) (sym e) (limbo_row n a r)
 
   -- a row is linked over another
@@ -43,9 +46,15 @@ module _ {limits : Limits} {m : Memory} {log : List Update} {o : Owners} {knows 
     still_ready q j e = rw (put_other (knows a).own.rows (suc y) Foreign j (λ i. unset q (e ∙ ap Ready i))) (T.ready a q j e)
 
     -- the row is handed over, and nothing else
-    handed : (l : Option (Option ℕ)) → ((q : ℕ) → l ≡ Some (Some q) → (knows a).read.learnt q ≡ true) → Timed limits (m1 g T a p x y) o' (put knows a (finished (record (knows a) { own = record (knows a).own { rows = put (knows a).own.rows (suc y) Foreign }; asked = record (knows a).asked { linked = l } }) r)) (suc now) (t1 g T a p x y)
-    handed l learnt = filled_timed (finished (record (knows a) { own = record (knows a).own { rows = put (knows a).own.rows (suc y) Foreign }; asked = record (knows a).asked { linked = l } }) r) refl refl refl refl
-        learnt (own_less (knows a).own.rows (suc y)) (T.gone_pages a) (same_limbo (finished (record (knows a) { own = record (knows a).own { rows = put (knows a).own.rows (suc y) Foreign }; asked = record (knows a).asked { linked = l } }) r) refl) still_ready (T.apart a)
+    handed : (l : Option (Option ℕ)) → ((q : ℕ) → l ≡ Some (Some q) → (knows a).read.learnt q ≡ true)
+        → Timed limits (m1 g T a p x y) o'
+        (put knows a (finished (record (knows a) { own = record (knows a).own { rows = put (knows a).own.rows (suc y) Foreign }; asked = record (knows a).asked { linked = l } }) r))
+        (suc now) (t1 g T a p x y)
+    handed l learnt =
+        filled_timed (finished (record (knows a) { own = record (knows a).own { rows = put (knows a).own.rows (suc y) Foreign }; asked = record (knows a).asked { linked = l } }) r) refl refl refl refl
+        learnt (own_less (knows a).own.rows (suc y)) (T.gone_pages a)
+        (same_limbo (finished (record (knows a) { own = record (knows a).own { rows = put (knows a).own.rows (suc y) Foreign }; asked = record (knows a).asked { linked = l } }) r) refl)
+        still_ready (T.apart a)
 
     linked_before : (q : ℕ) → (knows a).asked.linked ≡ Some (Some q) → (knows a).read.learnt q ≡ true
     linked_before = (T.holds a).linked_learnt
@@ -53,7 +62,8 @@ module _ {limits : Limits} {m : Memory} {log : List Update} {o : Owners} {knows 
     linked_old : (q : ℕ) → Some (Some x) ≡ Some (Some q) → (knows a).read.learnt q ≡ true
     linked_old q e = rw (same_Some x q (same_Some (Some x) (Some q) e)) at learnt_old
 
-    pub linked_timed : (w : Record) → m.rows (suc y) ≡ Some w → ((unterm : UntermOf) → w ≡ Unterm unterm → t.page_out unterm.child ≡ None) → ((split : SplitOf) → w ≡ Split split → (base : ℕ) × ((knows a).own.pages split.page ≡ Ready base))
+    pub linked_timed : (w : Record) → m.rows (suc y) ≡ Some w → ((unterm : UntermOf) → w ≡ Unterm unterm → t.page_out unterm.child ≡ None)
+        → ((split : SplitOf) → w ≡ Split split → (base : ℕ) × ((knows a).own.pages split.page ≡ Ready base))
         → Timed limits (m1 g T a p x y) o' (put knows a (finished (linked_over (Written w) x (suc y) (knows a)) r)) (suc now) (t1 g T a p x y)
     linked_timed (Put w) is child ready = handed (Some (Some x)) linked_old
     linked_timed (Delete w) is child ready = handed (Some (Some x)) linked_old
@@ -81,7 +91,8 @@ module _ {limits : Limits} {m : Memory} {log : List Update} {o : Owners} {knows 
         (λ q i. T.gone_pages a q (put_was (knows a).own.pages w.page Other q (λ e. cc) i))
         (same_limbo k' refl)
         (λ q j. by_equal q w.page (λ e t. rw t λ i. absurd (cc))
-        (λ ne t. rw t λ e. rw (put_other (put (knows a).own.rows b.0 Foreign) (suc y) Foreign j (λ i. unset q (e ∙ ap Ready i)) ∙ put_other (knows a).own.rows b.0 Foreign j (λ i. ne (T.apart a q w.page j e (b.1 ∙ ap Ready (sym i))))) (T.ready a q j e)))
+        (λ ne t. rw t λ e. rw (put_other (put (knows a).own.rows b.0 Foreign) (suc y) Foreign j (λ i. unset q (e ∙ ap Ready i)) ∙ put_other (knows a).own.rows
+        b.0 Foreign j (λ i. ne (T.apart a q w.page j e (b.1 ∙ ap Ready (sym i))))) (T.ready a q j e)))
         (λ q s j e i. T.apart a q s j (was q j e) (was s j i)))
     linked_timed w is child ready = handed (knows a).asked.linked linked_before
 

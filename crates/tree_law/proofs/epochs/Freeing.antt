@@ -51,7 +51,8 @@ row_free_after first false v out e = rw e
 -- a row that is linked afterwards was, and is not older
 pub row_linked : (first : ℕ) (z : Bool) (v : Owner) (out : Option Outing) → row_after first z v out ≡ Linked → (z ≡ false) × (v ≡ Linked) × ((w : Outing) → out ≡ Some w → first ≤ w.at)
 row_linked first false Linked None e = (refl, refl, λ w i. absurd (cc))
-row_linked first false Linked (Some w) e = (refl, refl, λ v i. subst (λ j. first ≤ j.at) (same_Some w v i) (elim (decided (ltb w.at first)) [ inl t ↦ absurd (let f = rw t at e in cc) | inr f ↦ ltb-false w.at first f ]))
+row_linked first false Linked (Some w) e =
+    (refl, refl, λ v i. subst (λ j. first ≤ j.at) (same_Some w v i) (elim (decided (ltb w.at first)) [ inl t ↦ absurd (let f = rw t at e in cc) | inr f ↦ ltb-false w.at first f ]))
 row_linked first z v out e = absurd (cc)
 
 row_of : (first : ℕ) (v : Owner) (w : Outing) → (v ≡ Linked) ⊎ (v ≡ Spare w.who) → (row_after first false v (Some w) ≡ Linked) ⊎ (row_after first false v (Some w) ≡ Spare w.who)
@@ -70,7 +71,9 @@ freed_none : (z : Bool) (out : Option Outing) → out ≡ None → cond {A = Opt
 freed_none true out e = refl
 freed_none false out e = e
 
-module _ {limits : Limits} {m : Memory} {log : List Update} {o : Owners} {knows : ℕ → Knowledge} {point : ℕ → Option (List Update)} {logs : ℕ → List (List Update)} {now : ℕ} {t : Times} (g : IsTree (shared m) log o knows point logs) (T : Timed limits m o knows now t) (a : ℕ) (outside : (knows a).inside ≡ false) where
+module _ {limits : Limits} {m : Memory} {log : List Update} {o : Owners} {knows : ℕ → Knowledge} {point : ℕ → Option (List Update)}
+    {logs : ℕ → List (List Update)} {now : ℕ} {t : Times} (g : IsTree (shared m) log o knows point logs) (T : Timed limits m o knows now t) (a : ℕ)
+    (outside : (knows a).inside ≡ false) where
   other_inside : (b : ℕ) → (knows b).inside ≡ true → b ≢ a
   other_inside b i e = absurd (cc (ap (λ n. (knows n).inside) e))
 
@@ -111,10 +114,12 @@ module _ {limits : Limits} {m : Memory} {log : List Update} {o : Owners} {knows 
         left n = cond (is_among word bits n) None (outs n)
 
         limbo_still : (b n : ℕ) (l : LimboMark) → Fitted b n l → FitsNow b (outs n) l
-        limbo_still b n l h = limbo_later b now (λ c. (knows c).inside) (λ c. (put knows a k c).inside) t.entered t.entered (outs n) (outs n) l (λ w i. (i, past n w i)) (λ c u lt f i. f (same_inside c i)) h
+        limbo_still b n l h =
+            limbo_later b now (λ c. (knows c).inside) (λ c. (put knows a k c).inside) t.entered t.entered (outs n) (outs n) l (λ w i. (i, past n w i)) (λ c u lt f i. f (same_inside c i)) h
 
         limbo_kept : (b n : ℕ) (l : LimboMark) → is_among word bits n ≡ false → Fitted b n l → FitsNow b (left n) l
-        limbo_kept b n l e h = limbo_later b now (λ c. (knows c).inside) (λ c. (put knows a k c).inside) t.entered t.entered (outs n) (left n) l (λ w i. (rw e i, past n w i)) (λ c u lt f i. f (same_inside c i)) h
+        limbo_kept b n l e h =
+            limbo_later b now (λ c. (knows c).inside) (λ c. (put knows a k c).inside) t.entered t.entered (outs n) (left n) l (λ w i. (rw e i, past n w i)) (λ c u lt f i. f (same_inside c i)) h
 
         own_limbo : (n : ℕ) (l : LimboMark) (z : Bool) → is_among word bits n ≡ z → Fitted a n l → FitsNow a (left n) (cond z Absent l)
         own_limbo n l true e h = tt
@@ -223,18 +228,26 @@ module _ {limits : Limits} {m : Memory} {log : List Update} {o : Owners} {knows 
           record {
             within = λ b i. T.within b (same_inside k1 refl b i);
             holds = λ b. by_equal b a (λ e is. rw (is, e) (holds a)) (λ ne is. rw is (holds b));
-            announced = λ b i. let h = T.announced b (same_inside k1 refl b i) in record { some = h.some; old = h.old; past = (let p = h.past in omega arith); rows = λ r w e. h.rows r w (freed_out (is_among word bits r) (t.row_out r) w e).1; pages = h.pages };
+            announced =
+                λ b i. let h = T.announced b (same_inside k1 refl b i) in record
+                { some = h.some; old = h.old; past = (let p = h.past in omega arith); rows = λ r w e. h.rows r w (freed_out (is_among word bits r) (t.row_out r) w e).1; pages = h.pages };
             epochs = λ b e. by_equal b a (λ i t. rw t (T.epochs a e)) (λ ne t. rw t (T.epochs b e));
             slots = λ p q l s h e. let v = T.slots p q l s h e in (v.0, freed_none (is_among word bits q) (t.row_out q) v.1);
             together = λ r n w l e i.
                 let h = row_linked first.at (is_among word bits r) (o.row r) (t.row_out r) l in
                 let c = T.together r n w h.1 e i in
                 (c.0, rw (h.0, not_among n (under r n w l e i)) c.1);
-            rows = λ r w e. let v = freed_out (is_among word bits r) (t.row_out r) w e in let u = T.rows r w v.1 in (rw (v.0, v.1) (row_of first.at (o.row r) w u.0), (let z = u.1 in omega arith), u.2);
+            rows =
+                λ r w e. let v = freed_out (is_among word bits r) (t.row_out r) w e in let u = T.rows r w v.1 in (rw (v.0, v.1) (row_of first.at (o.row r) w u.0), (let z = u.1 in omega arith), u.2);
             pages = λ p w e. let v = T.pages p w e in (v.0, v.1, (let z = v.2 in omega arith), v.3);
-            own_rows = λ b r. by_equal b a (λ i is. rw is λ h. freed_none (is_among word bits r) (t.row_out r) (T.own_rows a r h)) (λ ne is. rw is λ h. freed_none (is_among word bits r) (t.row_out r) (T.own_rows b r h));
+            own_rows =
+                λ b r. by_equal b a (λ i is. rw is λ h. freed_none (is_among word bits r) (t.row_out r) (T.own_rows a r h))
+                (λ ne is. rw is λ h. freed_none (is_among word bits r) (t.row_out r) (T.own_rows b r h));
             gone_pages = λ b p. by_equal b a (λ i t. rw t (T.gone_pages a p)) (λ ne t. rw t (T.gone_pages b p));
-            limbo_rows = λ b r. by_equal b a (λ i is. rw (is, i) (own_limbo k1 refl t.row_out rows_past r ((knows a).limbo.rows r) (is_among word bits r) refl (T.limbo_rows a r))) (λ ne is. rw is (others_limbo k1 refl t.row_out rows_past freed b r ne ((knows b).limbo.rows r) (T.limbo_rows b r)));
+            limbo_rows =
+                λ b r. by_equal b a
+                (λ i is. rw (is, i) (own_limbo k1 refl t.row_out rows_past r ((knows a).limbo.rows r) (is_among word bits r) refl (T.limbo_rows a r)))
+                (λ ne is. rw is (others_limbo k1 refl t.row_out rows_past freed b r ne ((knows b).limbo.rows r) (T.limbo_rows b r)));
             limbo_pids = λ b p. by_equal b a (λ i is. rw (is, i) (pids_still a p)) (λ ne is. rw is (pids_still b p));
             ready = λ b p r. by_equal b a (λ i t. rw t (T.ready a p r)) (λ ne t. rw t (T.ready b p r));
             apart = λ b p q r. by_equal b a (λ i t. rw t (T.apart a p q r)) (λ ne t. rw t (T.apart b p q r));
@@ -277,7 +290,8 @@ module _ {limits : Limits} {m : Memory} {log : List Update} {o : Owners} {knows 
           let same : h.chain ≡ c = chain_unique m.rows h.chain c (Some x) h.is_chain is in
           page_held b (child_of i) (head_inside b p x h) ((rw same at (h.names (ap is_removed same ∙ alive))).items l s i at v d)
 
-      head_right : (b p x : ℕ) (h : HeldHead m.rows t.page_out (t.entered b) (knows b).read.learnt p x) (q : ℕ) (c : List Record) → IsChain m.rows c (Some x) → is_removed c ≡ false → right_in c ≡ Some q → page2 q ≡ o.page q
+      head_right : (b p x : ℕ) (h : HeldHead m.rows t.page_out (t.entered b) (knows b).read.learnt p x) (q : ℕ) (c : List Record) → IsChain m.rows c (Some x)
+          → is_removed c ≡ false → right_in c ≡ Some q → page2 q ≡ o.page q
       head_right b p x h q c is alive e =
           let same : h.chain ≡ c = chain_unique m.rows h.chain c (Some x) h.is_chain is in
           page_held b q (head_inside b p x h) ((rw same at (h.names (ap is_removed same ∙ alive))).right q e)
@@ -345,16 +359,25 @@ module _ {limits : Limits} {m : Memory} {log : List Update} {o : Owners} {knows 
           record {
             within = λ b i. T.within b (same_inside k2 refl b i);
             holds = λ b. by_equal b a (λ e is. rw (is, e) (holds a)) (λ ne is. rw is (holds b));
-            announced = λ b i. let h = T.announced b (same_inside k2 refl b i) in record { some = h.some; old = h.old; past = (let p = h.past in omega arith); rows = h.rows; pages = λ p w e. h.pages p w (freed_out (is_among word bits p) (t.page_out p) w e).1 };
+            announced =
+                λ b i. let h = T.announced b (same_inside k2 refl b i) in record
+                { some = h.some; old = h.old; past = (let p = h.past in omega arith); rows = h.rows; pages = λ p w e. h.pages p w (freed_out (is_among word bits p) (t.page_out p) w e).1 };
             epochs = λ b e. by_equal b a (λ i t. rw t (T.epochs a e)) (λ ne t. rw t (T.epochs b e));
             slots = λ p q l s h e. T.slots p q l s (reached p l s (is_among word bits p) h) e;
             together = T.together;
             rows = λ r w e. let v = T.rows r w e in (v.0, (let z = v.1 in omega arith), v.2);
-            pages = λ p w e. let v = freed_out (is_among word bits p) (t.page_out p) w e in let u = T.pages p w v.1 in ((u.0.0, u.0.1, same_page p (λ i. absurd (cc v.0)) ∙ u.0.2), u.1, (let z = u.2 in omega arith), u.3);
+            pages =
+                λ p w e. let v = freed_out (is_among word bits p) (t.page_out p) w e in let u = T.pages p w v.1 in
+                ((u.0.0, u.0.1, same_page p (λ i. absurd (cc v.0)) ∙ u.0.2), u.1, (let z = u.2 in omega arith), u.3);
             own_rows = λ b r. by_equal b a (λ i t. rw t (T.own_rows a r)) (λ ne t. rw t (T.own_rows b r));
-            gone_pages = λ b p. by_equal b a (λ i is. rw is λ h. freed_none (is_among word bits p) (t.page_out p) (T.gone_pages a p h)) (λ ne is. rw is λ h. freed_none (is_among word bits p) (t.page_out p) (T.gone_pages b p h));
+            gone_pages =
+                λ b p. by_equal b a (λ i is. rw is λ h. freed_none (is_among word bits p) (t.page_out p) (T.gone_pages a p h))
+                (λ ne is. rw is λ h. freed_none (is_among word bits p) (t.page_out p) (T.gone_pages b p h));
             limbo_rows = λ b r. by_equal b a (λ i is. rw (is, i) (rows_still a r)) (λ ne is. rw is (rows_still b r));
-            limbo_pids = λ b p. by_equal b a (λ i is. rw (is, i) (own_limbo k2 refl t.page_out pages_past p ((knows a).limbo.pids p) (is_among word bits p) refl (T.limbo_pids a p))) (λ ne is. rw is (others_limbo k2 refl t.page_out pages_past freed_page b p ne ((knows b).limbo.pids p) (T.limbo_pids b p)));
+            limbo_pids =
+                λ b p. by_equal b a
+                (λ i is. rw (is, i) (own_limbo k2 refl t.page_out pages_past p ((knows a).limbo.pids p) (is_among word bits p) refl (T.limbo_pids a p)))
+                (λ ne is. rw is (others_limbo k2 refl t.page_out pages_past freed_page b p ne ((knows b).limbo.pids p) (T.limbo_pids b p)));
             ready = λ b p r. by_equal b a (λ i t. rw t (T.ready a p r)) (λ ne t. rw t (T.ready b p r));
             apart = λ b p q r. by_equal b a (λ i t. rw t (T.apart a p q r)) (λ ne t. rw t (T.apart b p q r));
           }

@@ -25,14 +25,16 @@ unpassed c value Absent h = refl
 unpassed c value l h = absurd (cc)
 
 -- a row that is out is on no chain
-module _ {limits : Limits} {m : Memory} {log : List Update} {o : Owners} {knows : ℕ → Knowledge} {point : ℕ → Option (List Update)} {logs : ℕ → List (List Update)} {now : ℕ} {t : Times} (g : IsTree (shared m) log o knows point logs) (T : Timed limits m o knows now t)
+module _ {limits : Limits} {m : Memory} {log : List Update} {o : Owners} {knows : ℕ → Knowledge} {point : ℕ → Option (List Update)}
+    {logs : ℕ → List (List Update)} {now : ℕ} {t : Times} (g : IsTree (shared m) log o knows point logs) (T : Timed limits m o knows now t)
     (held : (p q : ℕ) → slot_in m.slots p ≡ Some q → IsInTree (o.page p) ⊎ IsReadyPage o m knows p q) where
   in_chain : (x : ℕ) (c : List Record) → o.row x ≡ Linked → t.row_out x ≡ None → IsChainFrom m.rows x c → (row : ℕ) → Contains (chain_rows x c) row → t.row_out row ≡ None
   in_chain x [] l e h row among = absurd h
   in_chain x (w ∷ c) l e h row (zero, lt, i) = ap t.row_out (sym i) ∙ e
   in_chain x (w ∷ c) l e h row (suc k, lt, i) = under (next_row w) refl (next_linked o (shared m) g.closed x w l h.0) h.1 (omega arith) i (λ n. in_chain n c)
     where
-      under : (v : Option ℕ) → next_row w ≡ v → IfSome v (λ n. o.row n ≡ Linked) → MatchOption v (c ≡ []) (λ n. IsChainFrom m.rows n c) → k < length (chain_rows (unwrap_or v 0) c) → slice_index_or (chain_rows (unwrap_or v 0) c) k row ≡ row
+      under : (v : Option ℕ) → next_row w ≡ v → IfSome v (λ n. o.row n ≡ Linked) → MatchOption v (c ≡ []) (λ n. IsChainFrom m.rows n c)
+          → k < length (chain_rows (unwrap_or v 0) c) → slice_index_or (chain_rows (unwrap_or v 0) c) k row ≡ row
           → ((n : ℕ) → o.row n ≡ Linked → t.row_out n ≡ None → IsChainFrom m.rows n c → (row : ℕ) → Contains (chain_rows n c) row → t.row_out row ≡ None) → t.row_out row ≡ None
       under None j i0 empty within at deeper = absurd (let none_there : length (chain_rows 0 c) ≡ 0 = ap (λ r. length (chain_rows 0 r)) empty in omega arith)
       under (Some n) j i0 below within at deeper = deeper n i0 ((T.together x n w l h.0 j).1 ∙ e) below row (k, within, at)
@@ -55,7 +57,8 @@ module _ {limits : Limits} {m : Memory} {log : List Update} {o : Owners} {knows 
             (let f = sym own ∙ ap t.row_out here ∙ out in cc)
       ]
 
-module _ (limits : Limits) (entries : List Entry) (a : ℕ) (step : StepOf Record) (answer : Answer Record) (r : Option Reply) (state : IsState limits entries) (allowed : IsAllowed limits a (knows entries a) step r) (is : IsAnswer (memory_of limits entries) step answer) where
+module _ (limits : Limits) (entries : List Entry) (a : ℕ) (step : StepOf Record) (answer : Answer Record) (r : Option Reply) (state : IsState limits entries)
+    (allowed : IsAllowed limits a (knows entries a) step r) (is : IsAnswer (memory_of limits entries) step answer) where
   abbrev last : Entry
   last = Step a step answer r
 
@@ -74,7 +77,8 @@ module _ (limits : Limits) (entries : List Entry) (a : ℕ) (step : StepOf Recor
   limbo_out b out Unstamped h f = h
   limbo_out b out (Stamped e p) h f = (h.0, h.1, h.2)
 
-  freed_who : (b : ℕ) (out : Option Outing) (w : Outing) → out ≡ Some w → w.who ≡ b → (l : LimboMark) → LimboFits a (λ c. (knows entries c).inside) state.times.entered out l → IsPassed limits a l → b ≡ a
+  freed_who : (b : ℕ) (out : Option Outing) (w : Outing) → out ≡ Some w → w.who ≡ b → (l : LimboMark)
+      → LimboFits a (λ c. (knows entries c).inside) state.times.entered out l → IsPassed limits a l → b ≡ a
   freed_who b out w e who l h p =
       let f = rw p.stamped at h in
       sym who ∙ ap (λ v. v.who) (same_Some w f.0 (sym e ∙ f.1)) ∙ f.2
@@ -86,7 +90,8 @@ module _ (limits : Limits) (entries : List Entry) (a : ℕ) (step : StepOf Recor
       out : (w : Outing) × (state.times.row_out q ≡ Some w) × (w.who ≡ b)
       out = limbo_out b (state.times.row_out q) ((knows entries b).limbo.rows q) (state.timed.limbo_rows b q) some
 
-      go : (s : StepOf Record) (y : Answer Record) → step ≡ s → IsAnswer m s y → MayFree limits a k s → HandsRow q s y → (b ≡ a) × ((word bits : ℕ) × (step ≡ ReuseRows word bits) × (is_among word bits q ≡ true))
+      go : (s : StepOf Record) (y : Answer Record) → step ≡ s → IsAnswer m s y → MayFree limits a k s → HandsRow q s y
+          → (b ≡ a) × ((word bits : ℕ) × (step ≡ ReuseRows word bits) × (is_among word bits q ≡ true))
       go (TakeRow taken) y i j f hands =
           let free : state.owners.row q ≡ Free = rw hands.1 at (state.is_tree.frees.row taken (whether_same (m.free_rows taken) true y j hands.0)) in
           absurd (elim (state.timed.rows q out.0 out.1).0 [ inl l ↦ (let z = free in cc) | inr l ↦ (let z = free in cc) ])
@@ -99,7 +104,8 @@ module _ (limits : Limits) (entries : List Entry) (a : ℕ) (step : StepOf Recor
       out : (w : Outing) × (state.times.page_out q ≡ Some w) × (w.who ≡ b)
       out = limbo_out b (state.times.page_out q) ((knows entries b).limbo.pids q) (state.timed.limbo_pids b q) some
 
-      go : (s : StepOf Record) (y : Answer Record) → step ≡ s → IsAnswer m s y → MayFree limits a k s → HandsPid q s y → (b ≡ a) × ((word bits : ℕ) × (step ≡ ReusePids word bits) × (is_among word bits q ≡ true))
+      go : (s : StepOf Record) (y : Answer Record) → step ≡ s → IsAnswer m s y → MayFree limits a k s → HandsPid q s y
+          → (b ≡ a) × ((word bits : ℕ) × (step ≡ ReusePids word bits) × (is_among word bits q ≡ true))
       go (TakePid taken) y i j f hands =
           let free : state.owners.page q ≡ Nobody = rw hands.1 at (state.is_tree.frees.page taken (whether_same (m.free_pids taken) true y j hands.0)).0 in
           absurd (let v = (state.timed.pages q out.0 out.1).0.2 in let z = sym free ∙ v in cc)
@@ -149,13 +155,21 @@ module _ (limits : Limits) (entries : List Entry) (a : ℕ) (step : StepOf Recor
     in_limbo (as_it_was is) = rw is (limbo_push entries last U U' H lasting a old (calm (λ gone. sym is ∙ gone)) was)
     in_limbo (is_stamped e i j is) = rw is (stamped_now entries last U U' H lasting a e r (λ d. Step a (i d) (j d) r) old (calm (λ gone. unstamped e old (sym is ∙ gone))) was)
     in_limbo (is_passed c v i j is) = rw is (passed_now entries last U U' H lasting a c v r (λ d. Step a (i d) (j d) r) old (calm (λ gone. unpassed c v old (sym is ∙ gone))) was)
-    in_limbo (is_out is h) = rw is (record { at = length entries; below = (let e = pushed_length entries last in omega arith); unlinked = unlinks is h; kept = λ between other s x lt took hands. none_after between other s x lt took })
+    in_limbo (is_out is h) =
+        rw is (record {
+          at = length entries;
+          below = (let e = pushed_length entries last in omega arith);
+          unlinked = unlinks is h;
+          kept = λ between other s x lt
+              took hands. none_after between other s x lt took;
+        })
     in_limbo (is_freed is f) = rw is tt
 
   module _ {log' : List Update} {o' : Owners} {point' : ℕ → Option (List Update)} {logs' : ℕ → List (List Update)} {t' : Times}
       (g' : IsTree (shared (memory_after a step m)) log' o' (put (knows entries) a (finished (learn k step answer) r)) point' logs')
       (T' : Timed limits (memory_after a step m) o' (put (knows entries) a (finished (learn k step answer) r)) (suc (length entries)) t')
-      (held' : (p q : ℕ) → slot_in (memory_after a step m).slots p ≡ Some q → IsInTree (o'.page p) ⊎ IsReadyPage o' (memory_after a step m) (put (knows entries) a (finished (learn k step answer) r)) p q) where
+      (held' : (p q : ℕ) → slot_in (memory_after a step m).slots p ≡ Some q → IsInTree (o'.page p) ⊎ IsReadyPage o' (memory_after a step m)
+      (put (knows entries) a (finished (learn k step answer) r)) p q) where
     -- an exchange that took a row out
     unlinks_row : (q : ℕ) → (learn k step answer).limbo.rows q ≡ Unstamped → RowOut k step answer q → UnlinksRow limits longer a q (length entries)
     unlinks_row q new h =
@@ -220,10 +234,13 @@ module _ (limits : Limits) (entries : List Entry) (a : ℕ) (step : StepOf Recor
     pub rows_in_limbo : (b q : ℕ) → IsInLimbo longer b (UnlinksRow limits longer b q) (HandsRow q) ((put (knows entries) a (finished (learn k step answer) r) b).limbo.rows q)
     rows_in_limbo b q = by_equal b a
         (λ i t. rw (t, i) own)
-        (λ ne t. rw t (limbo_push entries last (UnlinksRow limits entries b q) (UnlinksRow limits longer b q) (HandsRow q) (row_longer entries last limits b q) b ((knows entries b).limbo.rows q) (calm_row b q (λ i. absurd (ne i))) (state.limbo_rows b q)))
+        (λ ne t. rw t (limbo_push entries last (UnlinksRow limits entries b q) (UnlinksRow limits longer b q) (HandsRow q) (row_longer entries last limits b q)
+        b ((knows entries b).limbo.rows q) (calm_row b q (λ i. absurd (ne i))) (state.limbo_rows b q)))
       where
         own : IsInLimbo longer a (UnlinksRow limits longer a q) (HandsRow q) ((learn k step answer).limbo.rows q)
-        own = in_limbo (UnlinksRow limits entries a q) (UnlinksRow limits longer a q) (HandsRow q) (row_longer entries last limits a q) (k.limbo.rows q) ((learn k step answer).limbo.rows q) (RowOut k step answer q) (FreesRows step)
+        own =
+            in_limbo (UnlinksRow limits entries a q) (UnlinksRow limits longer a q) (HandsRow q) (row_longer entries last limits a q) (k.limbo.rows q)
+            ((learn k step answer).limbo.rows q) (RowOut k step answer q) (FreesRows step)
             (λ back. calm_row a q (λ i word bits s among. back (freed_row word bits q s among))) (unlinks_row q) (state.limbo_rows a q) (limbo_case k false step answer q)
 
     -- an exchange that took a page out
@@ -239,10 +256,13 @@ module _ (limits : Limits) (entries : List Entry) (a : ℕ) (step : StepOf Recor
     pub pids_in_limbo : (b q : ℕ) → IsInLimbo longer b (UnlinksPid limits longer b q) (HandsPid q) ((put (knows entries) a (finished (learn k step answer) r) b).limbo.pids q)
     pids_in_limbo b q = by_equal b a
         (λ i t. rw (t, i) own)
-        (λ ne t. rw t (limbo_push entries last (UnlinksPid limits entries b q) (UnlinksPid limits longer b q) (HandsPid q) (pid_longer entries last limits b q) b ((knows entries b).limbo.pids q) (calm_pid b q (λ i. absurd (ne i))) (state.limbo_pids b q)))
+        (λ ne t. rw t (limbo_push entries last (UnlinksPid limits entries b q) (UnlinksPid limits longer b q) (HandsPid q) (pid_longer entries last limits b q)
+        b ((knows entries b).limbo.pids q) (calm_pid b q (λ i. absurd (ne i))) (state.limbo_pids b q)))
       where
         own : IsInLimbo longer a (UnlinksPid limits longer a q) (HandsPid q) ((learn k step answer).limbo.pids q)
-        own = in_limbo (UnlinksPid limits entries a q) (UnlinksPid limits longer a q) (HandsPid q) (pid_longer entries last limits a q) (k.limbo.pids q) ((learn k step answer).limbo.pids q) (PageOut k step answer q) (FreesPids step)
+        own =
+            in_limbo (UnlinksPid limits entries a q) (UnlinksPid limits longer a q) (HandsPid q) (pid_longer entries last limits a q) (k.limbo.pids q)
+            ((learn k step answer).limbo.pids q) (PageOut k step answer q) (FreesPids step)
             (λ back. calm_pid a q (λ i word bits s among. back (freed_pid word bits q s among))) (λ new. unlinks_pid q) (state.limbo_pids a q) (limbo_case k true step answer q)
 
   is_own : (other : ℕ) (s : StepOf Record) (x : Answer Record) → IsStep last other s x → a ≡ other
@@ -252,15 +272,21 @@ module _ (limits : Limits) (entries : List Entry) (a : ℕ) (step : StepOf Recor
   pub freed_after : IsFreedByRule limits longer
   freed_after = record {
     pids = λ n actor word bits pid y takes among. elim (TakesStep-push_cases entries last n actor (ReusePids word bits) y takes) [
-      | inl before ↦ freed_push entries last (UnlinksPid limits entries actor pid) (UnlinksPid limits longer actor pid) (HandsPid pid) (pid_longer entries last limits actor pid) limits actor n (slice_get_below entries n _ before.1) (state.freed.pids n actor word bits pid y before among)
+      | inl before ↦ freed_push entries last (UnlinksPid limits entries actor pid) (UnlinksPid limits longer actor pid) (HandsPid pid)
+          (pid_longer entries last limits actor pid) limits actor n (slice_get_below entries n _ before.1)
+          (state.freed.pids n actor word bits pid y before among)
       | inr at ↦
           let e = is_last actor (ReusePids word bits) y at.1 in
-          rw (at.0, sym (is_own actor (ReusePids word bits) y at.1)) (freed_now entries last (UnlinksPid limits entries a pid) (UnlinksPid limits longer a pid) (HandsPid pid) (pid_longer entries last limits a pid) limits a (k.limbo.pids pid) ((rw e.0 at allowed.frees) pid among) (state.limbo_pids a pid))
+          rw (at.0, sym (is_own actor (ReusePids word bits) y at.1)) (freed_now entries last (UnlinksPid limits entries a pid) (UnlinksPid limits longer a pid)
+          (HandsPid pid) (pid_longer entries last limits a pid) limits a (k.limbo.pids pid) ((rw e.0 at allowed.frees) pid among) (state.limbo_pids a pid))
     ];
     rows = λ n actor word bits row y takes among. elim (TakesStep-push_cases entries last n actor (ReuseRows word bits) y takes) [
-      | inl before ↦ freed_push entries last (UnlinksRow limits entries actor row) (UnlinksRow limits longer actor row) (HandsRow row) (row_longer entries last limits actor row) limits actor n (slice_get_below entries n _ before.1) (state.freed.rows n actor word bits row y before among)
+      | inl before ↦ freed_push entries last (UnlinksRow limits entries actor row) (UnlinksRow limits longer actor row) (HandsRow row)
+          (row_longer entries last limits actor row) limits actor n (slice_get_below entries n _ before.1)
+          (state.freed.rows n actor word bits row y before among)
       | inr at ↦
           let e = is_last actor (ReuseRows word bits) y at.1 in
-          rw (at.0, sym (is_own actor (ReuseRows word bits) y at.1)) (freed_now entries last (UnlinksRow limits entries a row) (UnlinksRow limits longer a row) (HandsRow row) (row_longer entries last limits a row) limits a (k.limbo.rows row) ((rw e.0 at allowed.frees) row among) (state.limbo_rows a row))
+          rw (at.0, sym (is_own actor (ReuseRows word bits) y at.1)) (freed_now entries last (UnlinksRow limits entries a row) (UnlinksRow limits longer a row)
+          (HandsRow row) (row_longer entries last limits a row) limits a (k.limbo.rows row) ((rw e.0 at allowed.frees) row among) (state.limbo_rows a row))
     ];
   }

@@ -50,30 +50,35 @@ abbrev pub Frees : Bool → StepOf Record → Type 0
 Frees true s = FreesPids s
 Frees false s = FreesRows s
 
-walked : (k : Knowledge) (s : StepOf Record) (x : Answer Record) (row old : ℕ) → (is_on_walk 13 k.read.seen (Some old) row ≡ true → RowOut k s x row) → LimboCase s x (k.limbo.rows row) (taken_out k.read.seen old k.limbo.rows row) (RowOut k s x row) (FreesRows (s))
+walked : (k : Knowledge) (s : StepOf Record) (x : Answer Record) (row old : ℕ) → (is_on_walk 13 k.read.seen (Some old) row ≡ true → RowOut k s x row)
+    → LimboCase s x (k.limbo.rows row) (taken_out k.read.seen old k.limbo.rows row) (RowOut k s x row) (FreesRows (s))
 walked k s x row old f = elim (decided (is_on_walk 13 k.read.seen (Some old) row)) [ inl e ↦ is_out (rw e) (f e) | inr e ↦ as_it_was (rw e) ]
 
 module _ (k : Knowledge) where
-  won_rows : (p x y row : ℕ) → LimboCase (Exchange p x y) (Whether true) (k.limbo.rows row) ((exchanged p x y k).limbo.rows row) (RowOut k (Exchange p x y) (Whether true) row) (FreesRows (Exchange p x y))
-  won_rows p x y row = elim (exchanging p x y k) as (λ p x y k' v. LimboCase (Exchange p x y) (Whether true) (k.limbo.rows row) (k'.limbo.rows row) (RowOut k (Exchange p x y) (Whether true) row) (FreesRows (Exchange p x y))) [
-    | clears p x e ↦ walked k (Exchange (suc p) x 0) (Whether true) row x (λ i. record { page = p; old = x; new = 0; step = refl; won = refl; walk = i; whose = inl (e, refl) })
-    | rebuilds p x y w o e ↦ walked k (Exchange (suc p) x (suc y)) (Whether true) row x (λ i. record { page = p; old = x; new = suc y; step = refl; won = refl; walk = i; whose = inr (o, (y, refl)) })
-    | v ↦ as_it_was refl
-  ]
+  won_rows : (p x y row : ℕ)
+      → LimboCase (Exchange p x y) (Whether true) (k.limbo.rows row) ((exchanged p x y k).limbo.rows row) (RowOut k (Exchange p x y) (Whether true) row) (FreesRows (Exchange p x y))
+  won_rows p x y row = elim (exchanging p x y k) as
+      (λ p x y k' v. LimboCase (Exchange p x y) (Whether true) (k.limbo.rows row) (k'.limbo.rows row) (RowOut k (Exchange p x y) (Whether true) row) (FreesRows (Exchange p x y))) [
+        | clears p x e ↦ walked k (Exchange (suc p) x 0) (Whether true) row x (λ i. record { page = p; old = x; new = 0; step = refl; won = refl; walk = i; whose = inl (e, refl) })
+        | rebuilds p x y w o e ↦ walked k (Exchange (suc p) x (suc y)) (Whether true) row x (λ i. record { page = p; old = x; new = suc y; step = refl; won = refl; walk = i; whose = inr (o, (y, refl)) })
+        | v ↦ as_it_was refl
+      ]
 
   won_pids : (p x y q : ℕ) → LimboCase (Exchange p x y) (Whether true) (k.limbo.pids q) ((exchanged p x y k).limbo.pids q) (PageOut k (Exchange p x y) (Whether true) q) (FreesPids (Exchange p x y))
-  won_pids p x y q = elim (exchanging p x y k) as (λ p x y k' v. LimboCase (Exchange p x y) (Whether true) (k.limbo.pids q) (k'.limbo.pids q) (PageOut k (Exchange p x y) (Whether true) q) (FreesPids (Exchange p x y))) [
-    | clears p x e ↦ by_equal q (suc p)
-        (λ i t. rw t (is_out refl (record { at = p; old = x; is = i; step = refl; won = refl; gone = e }))) (λ ne t. rw t (as_it_was refl))
-    | v ↦ as_it_was refl
-  ]
+  won_pids p x y q = elim (exchanging p x y k) as
+      (λ p x y k' v. LimboCase (Exchange p x y) (Whether true) (k.limbo.pids q) (k'.limbo.pids q) (PageOut k (Exchange p x y) (Whether true) q) (FreesPids (Exchange p x y))) [
+        | clears p x e ↦ by_equal q (suc p)
+            (λ i t. rw t (is_out refl (record { at = p; old = x; is = i; step = refl; won = refl; gone = e }))) (λ ne t. rw t (as_it_was refl))
+        | v ↦ as_it_was refl
+      ]
 
   word_case : (s : StepOf Record) (x : Answer Record) (z : Bool) (l : LimboMark) (Out Freed : Type 0) → Freed → LimboCase s x l (cond z Absent l) Out Freed
   word_case s x true l Out Freed f = is_freed refl f
   word_case s x false l Out Freed f = as_it_was refl
 
   -- what a step makes of the items in the limbo
-  pub limbo_case : (pages : Bool) (s : StepOf Record) (x : Answer Record) (item : ℕ) → LimboCase s x (items pages k.limbo item) (items pages (learn k s x).limbo item) (ItemOut pages k s x item) (Frees pages s)
+  pub limbo_case : (pages : Bool) (s : StepOf Record) (x : Answer Record) (item : ℕ)
+      → LimboCase s x (items pages k.limbo item) (items pages (learn k s x).limbo item) (ItemOut pages k s x item) (Frees pages s)
   limbo_case true Epoch (Number n) item = is_stamped n refl refl refl
   limbo_case false Epoch (Number n) item = is_stamped n refl refl refl
   limbo_case true (Announce c) (Number n) item = is_passed c n refl refl refl
@@ -93,8 +98,10 @@ module _ (k : Knowledge) where
   limbo_case pages s x item = as_it_was refl
 
 -- a row on the walk from a chain's first row is on the chain
-under_contained : (seen rows : ℕ → Option Record) → ((r : ℕ) (w : Record) → seen r ≡ Some w → rows r ≡ Some w) → (x : ℕ) (w : Record) (c : List Record) → rows x ≡ Some w → MatchOption (next_row w) (c ≡ []) (λ y. IsChainFrom rows y c)
-    → (n row : ℕ) → ((y : ℕ) → IsChainFrom rows y c → is_on_walk n seen (Some y) row ≡ true → Contains (chain_rows y c) row) → is_on_walk n seen None row ≡ false → is_on_walk n seen (next_seen (seen x)) row ≡ true → Contains (chain_rows (unwrap_or (next_row w) 0) c) row
+under_contained : (seen rows : ℕ → Option Record) → ((r : ℕ) (w : Record) → seen r ≡ Some w → rows r ≡ Some w) → (x : ℕ) (w : Record) (c : List Record)
+    → rows x ≡ Some w → MatchOption (next_row w) (c ≡ []) (λ y. IsChainFrom rows y c)
+    → (n row : ℕ) → ((y : ℕ) → IsChainFrom rows y c → is_on_walk n seen (Some y) row ≡ true → Contains (chain_rows y c) row)
+    → is_on_walk n seen None row ≡ false → is_on_walk n seen (next_seen (seen x)) row ≡ true → Contains (chain_rows (unwrap_or (next_row w) 0) c) row
 under_contained seen rows stand x w c at under n row deeper none e = go (seen x) refl e
   where
     go : (v : Option Record) → seen x ≡ v → is_on_walk n seen (next_seen v) row ≡ true → Contains (chain_rows (unwrap_or (next_row w) 0) c) row
@@ -110,9 +117,11 @@ no_walk : (n : ℕ) (seen : ℕ → Option Record) (row : ℕ) → is_on_walk n 
 no_walk zero seen row = refl
 no_walk (suc n) seen row = refl
 
-pub walk_contained : (n : ℕ) (seen rows : ℕ → Option Record) → ((r : ℕ) (w : Record) → seen r ≡ Some w → rows r ≡ Some w) → (x : ℕ) (c : List Record) (row : ℕ) → IsChainFrom rows x c → is_on_walk n seen (Some x) row ≡ true → Contains (chain_rows x c) row
+pub walk_contained : (n : ℕ) (seen rows : ℕ → Option Record) → ((r : ℕ) (w : Record) → seen r ≡ Some w → rows r ≡ Some w) → (x : ℕ) (c : List Record) (row : ℕ)
+    → IsChainFrom rows x c → is_on_walk n seen (Some x) row ≡ true → Contains (chain_rows x c) row
 walk_contained zero seen rows stand x c row h e = absurd (cc)
 walk_contained (suc n) seen rows stand x [] row h e = absurd h
 walk_contained (suc n) seen rows stand x (w ∷ c) row h e = by_equal row x
     (λ i t. (zero, (omega arith), sym i))
-    (λ ne t. let v = rw t at e in let d = under_contained seen rows stand x w c h.0 h.1 n row (λ y hy ey. walk_contained n seen rows stand y c row hy ey) (no_walk n seen row) v in (suc d.0, (let lt = d.1 in omega arith), d.2))
+    (λ ne t. let v = rw t at e in let d = under_contained seen rows stand x w c h.0 h.1 n row (λ y hy ey. walk_contained n seen rows stand y c row hy ey)
+    (no_walk n seen row) v in (suc d.0, (let lt = d.1 in omega arith), d.2))

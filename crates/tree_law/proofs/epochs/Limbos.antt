@@ -30,11 +30,21 @@ module _ (entries : List Entry) (last : Entry) where
     passed_push : (a stamp epoch c : ℕ) → IsPassedAt entries a stamp epoch c → IsPassedAt longer a stamp epoch c
     passed_push a stamp epoch c h = record { at = h.at; after = h.after; value = h.value; took = TakesStep-kept entries last h.at a (Announce c) (Number h.value) h.took; gone = h.gone }
 
-    pub stamped_push : (a epoch : ℕ) (passed : ℕ → Bool) → ((other : ℕ) (s : StepOf Record) (x : Answer Record) → IsStep last other s x → H s x → ⊥) → IsStamped entries a U H epoch passed → IsStamped longer a U' H epoch passed
+    pub stamped_push : (a epoch : ℕ) (passed : ℕ → Bool) → ((other : ℕ) (s : StepOf Record) (x : Answer Record) → IsStep last other s x → H s x → ⊥)
+        → IsStamped entries a U H epoch passed → IsStamped longer a U' H epoch passed
     unfolding out_push
-    stamped_push a epoch passed calm h = record { out = out_push calm h.out; at = h.at; after = h.after; below = in_longer h.at h.below; took = TakesStep-kept entries last h.at a Epoch (Number epoch) h.took; by = λ c e. passed_push a h.at epoch c (h.by c e) }
+    stamped_push a epoch passed calm h = record {
+      out = out_push calm h.out;
+      at = h.at;
+      after = h.after;
+      below = in_longer h.at h.below;
+      took = TakesStep-kept
+          entries last h.at a Epoch (Number epoch) h.took;
+      by = λ c e. passed_push a h.at epoch c (h.by c e);
+    }
 
-    pub limbo_push : (a : ℕ) (l : LimboMark) → ((l ≡ Absent → ⊥) → (other : ℕ) (s : StepOf Record) (x : Answer Record) → IsStep last other s x → H s x → ⊥) → IsInLimbo entries a U H l → IsInLimbo longer a U' H l
+    pub limbo_push : (a : ℕ) (l : LimboMark) → ((l ≡ Absent → ⊥) → (other : ℕ) (s : StepOf Record) (x : Answer Record) → IsStep last other s x → H s x → ⊥)
+        → IsInLimbo entries a U H l → IsInLimbo longer a U' H l
     limbo_push a Absent calm h = tt
     limbo_push a Unstamped calm h = out_push (calm (λ e. cc)) h
     limbo_push a (Stamped epoch passed) calm h = stamped_push a epoch passed (calm (λ e. cc)) h
@@ -94,7 +104,9 @@ module _ (entries : List Entry) (last : Entry) where
       stamped = TakesStep-kept entries last h.stamped_at a Epoch (Number h.stamp) h.stamped;
       stamp_before = h.stamp_before;
       passed = λ other below ne. let p = h.passed other below ne in (p.0, p.1, p.2, p.3, TakesStep-kept entries last p.0 a (Announce other) (Number p.1) p.4, p.5);
-      kept = λ between other s x low high t. elim (TakesStep-push_cases entries last between other s x t) [ inl before ↦ h.kept between other s x low high before | inr at ↦ absurd (let i = at.0 in omega arith) ];
+      kept =
+          λ between other s x low high t. elim (TakesStep-push_cases entries last between other s x t)
+          [ inl before ↦ h.kept between other s x low high before | inr at ↦ absurd (let i = at.0 in omega arith) ];
     }
 
     -- what is freed now
@@ -109,8 +121,12 @@ module _ (entries : List Entry) (last : Entry) where
           stamp_after = s.after;
           stamped = TakesStep-kept entries last s.at a Epoch (Number p.epoch) s.took;
           stamp_before = s.below;
-          passed = λ other below ne. let q = s.by other (p.all other below ne) in (q.at, q.value, q.after, slice_get_below entries q.at _ q.took.1, TakesStep-kept entries last q.at a (Announce other) (Number q.value) q.took, q.gone);
-          kept = λ between other t x low high took. elim (TakesStep-push_cases entries last between other t x took) [ inl before ↦ s.out.kept between other t x low before | inr at ↦ absurd (let i = at.0 in omega arith) ];
+          passed =
+              λ other below ne. let q = s.by other (p.all other below ne) in
+              (q.at, q.value, q.after, slice_get_below entries q.at _ q.took.1, TakesStep-kept entries last q.at a (Announce other) (Number q.value) q.took, q.gone);
+          kept =
+              λ between other t x low high took. elim (TakesStep-push_cases entries last between other t x took)
+              [ inl before ↦ s.out.kept between other t x low before | inr at ↦ absurd (let i = at.0 in omega arith) ];
         }
 
   -- what an exchange took out it took out in the pushed trace

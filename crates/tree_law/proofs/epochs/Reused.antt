@@ -8,8 +8,10 @@ use Rattle.tree_law.proofs.trace.Names.{Numbers}
 use Rattle.tree_law.proofs.shape.Puts.{by_equal, decided}
 use Rattle.std.proofs.lemmas.Bool.{or_cases}
 
-module _ {limits : Limits} {entries : List Entry} {o : Owners} {m : Memory} {knows : ℕ → Knowledge} {log : List Update} {point : ℕ → Option (List Update)} {logs : ℕ → List (List Update)} {now : ℕ} {t : Times}
-    (g : IsTree (shared m) log o knows point logs) (T : Timed limits m o knows now t) (old : IsNamed limits entries o m knows) (a : ℕ) (outside : (knows a).inside ≡ false) (word bits : ℕ) (x : Answer Record) (r : Option Reply) where
+module _ {limits : Limits} {entries : List Entry} {o : Owners} {m : Memory} {knows : ℕ → Knowledge} {log : List Update} {point : ℕ → Option (List Update)}
+    {logs : ℕ → List (List Update)} {now : ℕ} {t : Times}
+    (g : IsTree (shared m) log o knows point logs) (T : Timed limits m o knows now t) (old : IsNamed limits entries o m knows) (a : ℕ)
+    (outside : (knows a).inside ≡ false) (word bits : ℕ) (x : Answer Record) (r : Option Reply) where
   module _ (may : (q : ℕ) → is_among word bits q ≡ true → IsPassed limits a ((knows a).limbo.rows q)) (is : IsAnswer m (ReuseRows word bits) x) where
     abbrev pub rows_owners : Owners
     rows_owners = o1 g T a outside word bits may r x
@@ -42,7 +44,8 @@ module _ {limits : Limits} {entries : List Entry} {o : Owners} {m : Memory} {kno
     own_of b q (Written w) h i = (tt, h.0)
 
     -- slots hold what they held
-    pub rows_held : (p q : ℕ) → slot_in m.slots p ≡ Some q → IsInTree (o.page p) ⊎ IsReadyPage rows_owners (memory_after a (ReuseRows word bits) m) (put knows a (finished (learn (knows a) (ReuseRows word bits) x) r)) p q
+    pub rows_held : (p q : ℕ) → slot_in m.slots p ≡ Some q
+        → IsInTree (o.page p) ⊎ IsReadyPage rows_owners (memory_after a (ReuseRows word bits) m) (put knows a (finished (learn (knows a) (ReuseRows word bits) x) r)) p q
     rows_held p q e = elim (old.in_slots p q e) [
       | inl h ↦ inl h
       | inr h ↦ inr (
@@ -74,7 +77,9 @@ module _ {limits : Limits} {entries : List Entry} {o : Owners} {m : Memory} {kno
       ];
     }
 
-    pub pages_held : (p q : ℕ) → slot_in m.slots p ≡ Some q → IsInTree (page2 g T a outside word bits may r x p) ⊎ IsReadyPage pages_owners (memory_after a (ReusePids word bits) m) (put knows a (finished (learn (knows a) (ReusePids word bits) x) r)) p q
+    pub pages_held : (p q : ℕ) → slot_in m.slots p ≡ Some q
+        → IsInTree (page2 g T a outside word bits may r x p) ⊎ IsReadyPage pages_owners (memory_after a (ReusePids word bits) m)
+        (put knows a (finished (learn (knows a) (ReusePids word bits) x) r)) p q
     pages_held p q e = elim (old.in_slots p q e) [
       | inl h ↦ inl (rw (same_page g T a outside word bits may r x p (λ i. let f = freed_page g T a outside word bits may r x p i in absurd (cc (T.pages p f.outing f.is).1))) h)
       | inr h ↦ inr (record {

@@ -52,7 +52,18 @@ module _ {m : Shared} {log : List Update} {o : Owners} {knows : ℕ → Knowledg
 
     off_loose : (q l : ℕ) (s : Key) → IsOff (o.page q) l s → IsOut (o.page q) (m.slots q) ⊎ Off o m q l s → IsOut (o.page q) (m.slots q) ⊎ Off o1 m1 q l s
     off_loose q l s i (inl e) = inl e
-    off_loose q l s i (inr w) = inr (record { row = w.row; chain = w.chain; head = w.head; linked = h.slots q w.row l s (off_reached (o.page q) i) w.head ∙ w.linked; is_chain = w.is_chain; flagged = w.flagged; level = w.level; low = w.low })
+    off_loose q l s i (inr w) =
+        inr (record {
+          row = w.row;
+          chain = w.chain;
+          head = w.head;
+          linked = h.slots q w.row l s (off_reached (o.page q) i) w.head ∙ w.linked;
+          is_chain =
+              w.is_chain;
+          flagged = w.flagged;
+          level = w.level;
+          low = w.low;
+        })
       where
         off_reached : (w : PageOwner) → IsOff w l s → Reached 0 l s w
         off_reached w (inl e) = placed_reached l s Merged w e
@@ -107,13 +118,17 @@ module _ {m : Shared} {log : List Update} {o : Owners} {knows : ℕ → Knowledg
     pub lets_rows : IsTree m1 log o1 knows point logs
     lets_rows = record {
       frees = record { row = λ r e. h.freed r e; page = g.frees.page };
-      closed = λ r l. let k = g.closed r (h.linked r l) in record { linked = l; content = k.content; stands = k.stands; next = nexts r k.content l k.stands (next_row k.content) refl k.next; rest = k.rest; is_rest = k.is_rest };
+      closed =
+          λ r l. let k = g.closed r (h.linked r l) in record
+          { linked = l; content = k.content; stands = k.stands; next = nexts r k.content l k.stands (next_row k.content) refl k.next; rest = k.rest; is_rest = k.is_rest };
       tree = record {
         top = g.tree.top;
         first = g.tree.first;
         leaf = g.tree.leaf;
         root = g.tree.root;
-        levels = λ l le. let v = g.tree.levels l le in record { side = v.side; whole = part_map o o1 m m1 l (spec log o.index l) (place_loose l (spec log o.index l)) v.side (Some (g.tree.first l)) (Some []) None None v.whole; listed = v.listed };
+        levels =
+            λ l le. let v = g.tree.levels l le in record
+            { side = v.side; whole = part_map o o1 m m1 l (spec log o.index l) (place_loose l (spec log o.index l)) v.side (Some (g.tree.first l)) (Some []) None None v.whole; listed = v.listed };
         exact = g.tree.exact;
         off = λ q l s i. off_loose q l s i (g.tree.off q l s i);
       };
@@ -134,9 +149,12 @@ module _ {m : Shared} {log : List Update} {o : Owners} {knows : ℕ → Knowledg
       (heads : (b p x : ℕ) → (knows b).read.heads p ≡ Some x → page p ≡ o.page p)
       (before : (b p f x : ℕ) → (knows b).read.before p f ≡ Some x → page f ≡ o.page f)
       (heads_right : (b p x q : ℕ) (c : List Record) → (knows b).read.heads p ≡ Some x → IsChain m.rows c (Some x) → is_removed c ≡ false → right_in c ≡ Some q → page q ≡ o.page q)
-      (heads_items : (b p x l : ℕ) (s : Key) (i : ContentOf) (c : List Record) → (knows b).read.heads p ≡ Some x → IsChain m.rows c (Some x) → is_removed c ≡ false → level_in c ≡ suc l → Covers c s → content_in c s ≡ Some i → page (child_of i) ≡ o.page (child_of i))
-      (before_items : (b p f x l : ℕ) (s : Key) (i : ContentOf) (c : List Record) → (knows b).read.before p f ≡ Some x → IsChain m.rows c (Some x) → is_removed c ≡ false → level_in c ≡ suc l → Covers c s → content_in c s ≡ Some i → page (child_of i) ≡ o.page (child_of i))
-      (beyond : (b p f y x : ℕ) (c d : List Record) → (knows b).read.heads p ≡ Some y → (knows b).read.before p f ≡ Some x → IsChain m.rows c (Some x) → IsChain m.rows d (Some y) → is_removed c ≡ true → is_removed d ≡ false → right_in d ≡ Some f → AreSame page o.page c)
+      (heads_items : (b p x l : ℕ) (s : Key) (i : ContentOf) (c : List Record) → (knows b).read.heads p ≡ Some x → IsChain m.rows c (Some x) → is_removed c ≡
+      false → level_in c ≡ suc l → Covers c s → content_in c s ≡ Some i → page (child_of i) ≡ o.page (child_of i))
+      (before_items : (b p f x l : ℕ) (s : Key) (i : ContentOf) (c : List Record) → (knows b).read.before p f ≡ Some x → IsChain m.rows c (Some x) → is_removed
+      c ≡ false → level_in c ≡ suc l → Covers c s → content_in c s ≡ Some i → page (child_of i) ≡ o.page (child_of i))
+      (beyond : (b p f y x : ℕ) (c d : List Record) → (knows b).read.heads p ≡ Some y → (knows b).read.before p f ≡ Some x → IsChain m.rows c (Some x) → IsChain
+      m.rows d (Some y) → is_removed c ≡ true → is_removed d ≡ false → right_in d ≡ Some f → AreSame page o.page c)
       (gone_own : (b p : ℕ) → (knows b).own.pages p ≡ Gone → page p ≡ o.page p)
       (frees : (q : ℕ) → free q ≡ true → (page q ≡ Nobody) × (m.slots q ≡ None)) where
     abbrev pub o2 : Owners
@@ -252,7 +270,13 @@ module _ {m : Shared} {log : List Update} {o : Owners} {knows : ℕ → Knowledg
         first = g.tree.first;
         leaf = g.tree.leaf;
         root = g.tree.root;
-        levels = λ l le. let v = g.tree.levels l le in record { side = v.side; whole = part_map o o2 m m2 l (spec log o.index l) (place_free l (spec log o.index l)) v.side (Some (g.tree.first l)) (Some []) None None v.whole; listed = λ p s st e. v.listed p s st (was p l s st e) };
+        levels =
+            λ l le. let v = g.tree.levels l le in record {
+              side = v.side;
+              whole = part_map o o2 m m2 l (spec log o.index l) (place_free l (spec log o.index l))
+                  v.side (Some (g.tree.first l)) (Some []) None None v.whole;
+              listed = λ p s st e. v.listed p s st (was p l s st e);
+            };
         exact = exact_free;
         off = λ q l s i. off_free q l s i (g.tree.off q l s (off_was q l s i));
       };

@@ -9,7 +9,8 @@ use Rattle.tree_law.proofs.epochs.Timing.{Turn, limbo_row, limbo_pid, put_timed,
 use Rattle.tree_law.proofs.epochs.Timely.{linked, Calm, calm_turn, idle_timed}
 
 -- what has no stamp gets the epoch that is read
-stamped_fits : (a epoch : ℕ) (inside : ℕ → Bool) (entered : ℕ → ℕ) (out : Option Outing) (l : LimboMark) → ((w : Outing) → out ≡ Some w → w.epoch ≤ epoch) → LimboFits a inside entered out l → LimboFits a inside entered out (stamped epoch l)
+stamped_fits : (a epoch : ℕ) (inside : ℕ → Bool) (entered : ℕ → ℕ) (out : Option Outing) (l : LimboMark) → ((w : Outing) → out ≡ Some w → w.epoch ≤ epoch)
+    → LimboFits a inside entered out l → LimboFits a inside entered out (stamped epoch l)
 stamped_fits a epoch inside entered out Absent old h = tt
 stamped_fits a epoch inside entered out Unstamped old h = (h.0, h.1, h.2, old h.0 h.1, λ b e. absurd (cc))
 stamped_fits a epoch inside entered out (Stamped e p) old h = h
@@ -38,7 +39,8 @@ passed_fits a b announced inside entered out (Stamped e p) f h = (h.0, h.1, h.2,
     pass false true i j = on (inr (ltb-true e announced j))
     pass false false i j = h.4
 
-module _ {limits : Limits} {m : Memory} {log : List Update} {o : Owners} {knows : ℕ → Knowledge} {point : ℕ → Option (List Update)} {logs : ℕ → List (List Update)} {now : ℕ} {t : Times} (g : IsTree (shared m) log o knows point logs) (T : Timed limits m o knows now t) (a : ℕ) where
+module _ {limits : Limits} {m : Memory} {log : List Update} {o : Owners} {knows : ℕ → Knowledge} {point : ℕ → Option (List Update)}
+    {logs : ℕ → List (List Update)} {now : ℕ} {t : Times} (g : IsTree (shared m) log o knows point logs) (T : Timed limits m o knows now t) (a : ℕ) where
   -- an actor that is outside has learnt nothing
   module _ (outside : (knows a).inside ≡ false) where
     blind : (knows a).inside ≡ true → ⊥
@@ -59,7 +61,8 @@ module _ {limits : Limits} {m : Memory} {log : List Update} {o : Owners} {knows 
           linked_learnt = λ x i. absurd (blind (h.learnt_inside x (h.linked_learnt x i)));
         }
 
-  pub enter_timed : (e : ℕ) (x : Answer Record) (r : Option Reply) (o' : Owners) → Calm g T a (memory_after a (Enter e) m) o' → (knows a).inside ≡ false → 0 < e → (knows a).limbo.epoch ≡ Some e → a < limits.actors
+  pub enter_timed : (e : ℕ) (x : Answer Record) (r : Option Reply) (o' : Owners) → Calm g T a (memory_after a (Enter e) m) o' → (knows a).inside ≡ false → 0 < e
+      → (knows a).limbo.epoch ≡ Some e → a < limits.actors
       → Timed limits (memory_after a (Enter e) m) o' (put knows a (finished (learn (knows a) (Enter e) x) r)) (suc now) (record t { entered = put t.entered a now })
   enter_timed e x r o' c outside some read actor =
       let k' : Knowledge = finished (learn (knows a) (Enter e) x) r in
@@ -102,13 +105,26 @@ module _ {limits : Limits} {m : Memory} {log : List Update} {o : Owners} {knows 
   forgotten_none None x e = cc
   forgotten_none (Some v) x e = cc
 
-  pub leave_timed : (r : Option Reply) (o' : Owners) → Calm g T a (memory_after a Leave m) o' → Timed limits (memory_after a Leave m) o' (put knows a (finished (learn (knows a) Leave answer.Done) r)) (suc now) t
+  pub leave_timed : (r : Option Reply) (o' : Owners) → Calm g T a (memory_after a Leave m) o'
+      → Timed limits (memory_after a Leave m) o' (put knows a (finished (learn (knows a) Leave answer.Done) r)) (suc now) t
   leave_timed r o' c =
       let k' : Knowledge = finished (learn (knows a) Leave answer.Done) r in
       let turn : Turn T (linked g T a) a (memory_after a Leave m) o' k' t = calm_turn k' c (λ i. absurd (cc)) in
       put_timed turn (record {
         within = λ i. absurd (cc);
-        holds = record { learnt_inside = λ q i. absurd (cc); learnt_since = λ q i. absurd (cc); seen_learnt = λ q w i. absurd (cc); roots_inside = λ p i. absurd (cc); roots_since = λ p i. absurd (cc); heads_since = λ p x i. absurd (cc); before_since = λ p f x i. absurd (cc); beside_since = λ p f y x i. absurd (cc); linked_learnt = λ x i. absurd (forgotten_none (knows a).asked.linked x i) };
+        holds = record {
+          learnt_inside = λ q i. absurd (cc);
+          learnt_since = λ q i. absurd (cc);
+          seen_learnt = λ q w i. absurd (cc);
+          roots_inside = λ p i. absurd
+              (cc);
+          roots_since = λ p i. absurd (cc);
+          heads_since = λ p x i. absurd (cc);
+          before_since = λ p f x i. absurd (cc);
+          beside_since = λ p f y x i.
+              absurd (cc);
+          linked_learnt = λ x i. absurd (forgotten_none (knows a).asked.linked x i);
+        };
         announced = λ i. absurd (cc);
         epochs = T.epochs a;
         own_rows = T.own_rows a;
@@ -131,7 +147,8 @@ module _ {limits : Limits} {m : Memory} {log : List Update} {o : Owners} {knows 
       (T.ready a) (T.apart a)
 
   -- an announced epoch is read
-  pub announce_timed : (b : ℕ) (r : Option Reply) (o' : Owners) → Calm g T a m o' → Timed limits m o' (put knows a (finished (learn (knows a) (Announce b) (answer.Number (m.announced b))) r)) (suc now) t
+  pub announce_timed : (b : ℕ) (r : Option Reply) (o' : Owners) → Calm g T a m o'
+      → Timed limits m o' (put knows a (finished (learn (knows a) (Announce b) (answer.Number (m.announced b))) r)) (suc now) t
   announce_timed b r o' c =
       let k' : Knowledge = finished (learn (knows a) (Announce b) (answer.Number (m.announced b))) r in
       let was_inside : (put knows a k' b).inside ≡ true → (knows b).inside ≡ true =
@@ -139,8 +156,10 @@ module _ {limits : Limits} {m : Memory} {log : List Update} {o : Owners} {knows 
       idle_timed k' c refl refl (λ n. held_later n a)
       (T.epochs a)
       (T.own_rows a) (T.gone_pages a)
-      (λ n q. passed_fits a b (m.announced b) (λ c. (put knows a k' c).inside) t.entered (t.row_out q) ((knows a).limbo.rows q) (λ w e i. let h = T.announced b (was_inside i) in (h.some, h.rows q w e)) (limbo_row n a q))
-      (λ n p. passed_fits a b (m.announced b) (λ c. (put knows a k' c).inside) t.entered (t.page_out p) ((knows a).limbo.pids p) (λ w e i. let h = T.announced b (was_inside i) in (h.some, h.pages p w e)) (limbo_pid n a p))
+      (λ n q. passed_fits a b (m.announced b) (λ c. (put knows a k' c).inside) t.entered (t.row_out q) ((knows a).limbo.rows q)
+      (λ w e i. let h = T.announced b (was_inside i) in (h.some, h.rows q w e)) (limbo_row n a q))
+      (λ n p. passed_fits a b (m.announced b) (λ c. (put knows a k' c).inside) t.entered (t.page_out p) ((knows a).limbo.pids p)
+      (λ w e i. let h = T.announced b (was_inside i) in (h.some, h.pages p w e)) (limbo_pid n a p))
       (T.ready a) (T.apart a)
 
   -- a record is placed in an own row that stands in no slot
@@ -167,15 +186,20 @@ module _ {limits : Limits} {m : Memory} {log : List Update} {o : Owners} {knows 
       let k' : Knowledge = finished (learn (knows a) (TakeRow q) (answer.Whether true)) r in
       idle_timed k' c refl refl (λ n. held_later n a)
       (T.epochs a)
-      (λ j. by_equal j q (λ e is. rw is λ i. ap t.row_out e ∙ none_if (t.row_out q) (λ w d. elim (T.rows q w d).0 [ inl u ↦ let v = was in cc | inr u ↦ let v = was in cc ])) (λ ne is. rw is (T.own_rows a j)))
+      (λ j. by_equal j q
+      (λ e is. rw is λ i. ap t.row_out e ∙ none_if (t.row_out q) (λ w d. elim (T.rows q w d).0 [ inl u ↦ let v = was in cc | inr u ↦ let v = was in cc ]))
+      (λ ne is. rw is (T.own_rows a j)))
       (T.gone_pages a)
       (λ n. limbo_row n a)
       (λ n. limbo_pid n a)
-      (λ p j i. rw (put_other (knows a).own.rows q Taken j (λ e. absurd (cc (own_spare (m.rows j) ((knows a).own.rows j) (g.owns a j) (own_base ((knows a).own.rows j) (T.ready a p j i)))))) (T.ready a p j i))
+      (λ p j i. rw
+      (put_other (knows a).own.rows q Taken j (λ e. absurd (cc (own_spare (m.rows j) ((knows a).own.rows j) (g.owns a j) (own_base ((knows a).own.rows j) (T.ready a p j i))))))
+      (T.ready a p j i))
       (T.apart a)
 
   -- a PID that was free is taken
-  pub take_pid_timed : (q : ℕ) (r : Option Reply) (o' : Owners) → Calm g T a (memory_after a (TakePid q) m) o' → Timed limits (memory_after a (TakePid q) m) o' (put knows a (finished (learn (knows a) (TakePid q) (answer.Whether true)) r)) (suc now) t
+  pub take_pid_timed : (q : ℕ) (r : Option Reply) (o' : Owners) → Calm g T a (memory_after a (TakePid q) m) o'
+      → Timed limits (memory_after a (TakePid q) m) o' (put knows a (finished (learn (knows a) (TakePid q) (answer.Whether true)) r)) (suc now) t
   take_pid_timed q r o' c =
       let was : (p j : ℕ) → put (knows a).own.pages q Empty p ≡ Ready j → (knows a).own.pages p ≡ Ready j =
       λ p j. put_was (knows a).own.pages q Empty p (λ e. cc) in

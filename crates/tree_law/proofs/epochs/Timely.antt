@@ -7,7 +7,8 @@ use Rattle.tree_law.proofs.links.Keeping.{alive_place, beyond_place}
 use Rattle.tree_law.proofs.shape.{by_equal, put_same, put_true, rows_kept, right_page, none_if}
 use Rattle.tree_law.proofs.epochs.Timing.{none_since, head_more, Turn, limbo_row, limbo_pid, held_later, announced_still, put_timed}
 
-module _ {limits : Limits} {m : Memory} {log : List Update} {o : Owners} {knows : ℕ → Knowledge} {point : ℕ → Option (List Update)} {logs : ℕ → List (List Update)} {now : ℕ} {t : Times} (g : IsTree (shared m) log o knows point logs) (T : Timed limits m o knows now t) (a : ℕ) where
+module _ {limits : Limits} {m : Memory} {log : List Update} {o : Owners} {knows : ℕ → Knowledge} {point : ℕ → Option (List Update)}
+    {logs : ℕ → List (List Update)} {now : ℕ} {t : Times} (g : IsTree (shared m) log o knows point logs) (T : Timed limits m o knows now t) (a : ℕ) where
   abbrev pub linked : (b r : ℕ) → (knows b).read.learnt r ≡ true → o.row r ≡ Linked
   linked b = (g.sound b).learnt_fits
 
@@ -23,7 +24,9 @@ module _ {limits : Limits} {m : Memory} {log : List Update} {o : Owners} {knows 
     pub epoch : m.epoch ≤ m'.epoch
     pub announced : (b : ℕ) → b ≢ a → m'.announced b ≡ m.announced b
 
-module _ {limits : Limits} {m : Memory} {log : List Update} {o : Owners} {knows : ℕ → Knowledge} {point : ℕ → Option (List Update)} {logs : ℕ → List (List Update)} {now : ℕ} {t : Times} {g : IsTree (shared m) log o knows point logs} {T : Timed limits m o knows now t} {a : ℕ} {m' : Memory} {o' : Owners} (k' : Knowledge) (c : Calm g T a m' o') where
+module _ {limits : Limits} {m : Memory} {log : List Update} {o : Owners} {knows : ℕ → Knowledge} {point : ℕ → Option (List Update)}
+    {logs : ℕ → List (List Update)} {now : ℕ} {t : Times} {g : IsTree (shared m) log o knows point logs} {T : Timed limits m o knows now t} {a : ℕ}
+    {m' : Memory} {o' : Owners} (k' : Knowledge) (c : Calm g T a m' o') where
   -- a step at which nobody enters
   pub calm_turn : (k'.inside ≡ true → (knows a).inside ≡ true) → Turn T (linked g T a) a m' o' k' t
   calm_turn inside = record {
@@ -77,13 +80,16 @@ module _ {limits : Limits} {m : Memory} {log : List Update} {o : Owners} {knows 
       (rw own (T.apart a))
 
   -- a step after which it also holds what it held
-  pub still_timed : m'.announced a ≡ m.announced a → k'.inside ≡ (knows a).inside → k'.read ≡ (knows a).read → k'.asked.linked ≡ (knows a).asked.linked → k'.own ≡ (knows a).own → k'.limbo ≡ (knows a).limbo → Timed limits m' o' (put knows a k') (suc now) t
+  pub still_timed : m'.announced a ≡ m.announced a → k'.inside ≡ (knows a).inside → k'.read ≡ (knows a).read → k'.asked.linked ≡ (knows a).asked.linked
+      → k'.own ≡ (knows a).own → k'.limbo ≡ (knows a).limbo → Timed limits m' o' (put knows a k') (suc now) t
   still_timed an inside read over = read_timed an inside (rw (inside, read, over) (held_later (calm_turn (λ i. sym inside ∙ i)) a))
 
-module _ {limits : Limits} {m : Memory} {log : List Update} {o : Owners} {knows : ℕ → Knowledge} {point : ℕ → Option (List Update)} {logs : ℕ → List (List Update)} {now : ℕ} {t : Times} (g : IsTree (shared m) log o knows point logs) (T : Timed limits m o knows now t) (a : ℕ) where
+module _ {limits : Limits} {m : Memory} {log : List Update} {o : Owners} {knows : ℕ → Knowledge} {point : ℕ → Option (List Update)}
+    {logs : ℕ → List (List Update)} {now : ℕ} {t : Times} (g : IsTree (shared m) log o knows point logs) (T : Timed limits m o knows now t) (a : ℕ) where
   -- nothing is changed
   pub calm_same : Calm g T a m o
-  calm_same = record { slots = λ p. refl; kept = λ r l. refl; stay = λ r l. l; back = λ r l. l; spare = λ r b e. e; reached = λ p l s r. r; cleared = λ p b l s e. e; epoch = omega arith; announced = λ b ne. refl }
+  calm_same = record
+      { slots = λ p. refl; kept = λ r l. refl; stay = λ r l. l; back = λ r l. l; spare = λ r b e. e; reached = λ p l s r. r; cleared = λ p b l s e. e; epoch = omega arith; announced = λ b ne. refl }
 
   -- a page in the tree with a row in its slot, and one on a side chain, are not out
   pub not_out : (p x : ℕ) → slot_in m.slots p ≡ Some x → t.page_out p ≡ None
@@ -103,7 +109,9 @@ module _ {limits : Limits} {m : Memory} {log : List Update} {o : Owners} {knows 
   }
 
   -- the actor reads the root
-  pub root_holds : (knows a).inside ≡ true → Holds m.rows t.row_out t.page_out (t.entered a) (knows a).inside (knows a).read.seen (knows a).read.learnt (put (knows a).read.roots (m.slots 0) true) (knows a).read.heads (knows a).read.before (knows a).asked.linked
+  pub root_holds : (knows a).inside ≡ true
+      → Holds m.rows t.row_out t.page_out (t.entered a) (knows a).inside (knows a).read.seen (knows a).read.learnt (put (knows a).read.roots (m.slots 0) true)
+      (knows a).read.heads (knows a).read.before (knows a).asked.linked
   root_holds inside =
       let h : HoldsBy m.rows t.row_out t.page_out (t.entered a) (knows a) = T.holds a in
       record {
@@ -111,7 +119,10 @@ module _ {limits : Limits} {m : Memory} {log : List Update} {o : Owners} {knows 
         learnt_since = h.learnt_since;
         seen_learnt = h.seen_learnt;
         roots_inside = λ p i. inside;
-        roots_since = λ p. by_equal p (m.slots 0) (λ e is. rw is λ i. none_since (t.entered a) (t.page_out p) (placed_in p g.tree.top [] Indexed (ap o.page e ∙ g.tree.exact.is_root))) (λ ne is. rw is (h.roots_since p));
+        roots_since =
+            λ p. by_equal p (m.slots 0)
+            (λ e is. rw is λ i. none_since (t.entered a) (t.page_out p) (placed_in p g.tree.top [] Indexed (ap o.page e ∙ g.tree.exact.is_root)))
+            (λ ne is. rw is (h.roots_since p));
         heads_since = h.heads_since;
         before_since = h.before_since;
         beside_since = h.beside_since;
@@ -121,7 +132,8 @@ module _ {limits : Limits} {m : Memory} {log : List Update} {o : Owners} {knows 
   -- the actor reads the slot of a page
   pub head_holds : (knows a).inside ≡ true → (p x : ℕ) → slot_in m.slots p ≡ Some x → (l : ℕ) (s : Key) → Reached 0 l s (o.page p) → (spells : SpellsLog o (shared m) x log)
       → Reached 0 (level_in spells.chain) (low_in spells.chain) (o.page p)
-      → Holds m.rows t.row_out t.page_out (t.entered a) (knows a).inside (knows a).read.seen (put (knows a).read.learnt x true) (knows a).read.roots (put (knows a).read.heads p (Some x)) (put (knows a).read.before p (knows a).read.heads) (knows a).asked.linked
+      → Holds m.rows t.row_out t.page_out (t.entered a) (knows a).inside (knows a).read.seen (put (knows a).read.learnt x true) (knows a).read.roots
+      (put (knows a).read.heads p (Some x)) (put (knows a).read.before p (knows a).read.heads) (knows a).asked.linked
   head_holds inside p x sx l s reached spells there =
       let here : HeldHead m.rows t.page_out (t.entered a) (put (knows a).read.learnt x true) p x = record {
         learnt_row = put_same (knows a).read.learnt x true;
@@ -159,12 +171,15 @@ module _ {limits : Limits} {m : Memory} {log : List Update} {o : Owners} {knows 
             is_chain = d.is_chain;
             left = spells.chain;
             is_left = spells.is_chain;
-            since = λ gone alive right. place_since (t.entered a) (record { page = f; row = z; chain = d.chain }) (beyond_place g a p x sx spells.chain spells.is_chain there alive f z right j d.chain d.is_chain gone);
+            since =
+                λ gone alive right. place_since (t.entered a) (record { page = f; row = z; chain = d.chain })
+                (beyond_place g a p x sx spells.chain spells.is_chain there alive f z right j d.chain d.is_chain gone);
           }
 
   -- the actor reads a row
   pub row_holds : (q : ℕ) (w : Record) → (knows a).read.learnt q ≡ true → m.rows q ≡ Some w
-      → Holds m.rows t.row_out t.page_out (t.entered a) (knows a).inside (put (knows a).read.seen q (Some w)) (learnt_next (next_row w) (knows a).read.learnt) (knows a).read.roots (knows a).read.heads (knows a).read.before (knows a).asked.linked
+      → Holds m.rows t.row_out t.page_out (t.entered a) (knows a).inside (put (knows a).read.seen q (Some w)) (learnt_next (next_row w) (knows a).read.learnt)
+      (knows a).read.roots (knows a).read.heads (knows a).read.before (knows a).asked.linked
   row_holds q w l e = record {
     learnt_inside = λ r i. h.learnt_inside q l;
     learnt_since = since (next_row w) refl;

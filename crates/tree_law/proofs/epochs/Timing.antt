@@ -21,14 +21,18 @@ names_later {po} {po'} {e} f c n = record { right = λ q i. f q (n.right q i); i
 
 pub head_later : {rows rows' : ℕ → Option Record} {po po' : ℕ → Option Outing} {e : ℕ} {learnt : ℕ → Bool} {p x : ℕ} → ((q : ℕ) → IsSince e (po q) → IsSince e (po' q))
     → ((c : List Record) → IsChainFrom rows x c → IsChainFrom rows' x c) → HeldHead rows po e learnt p x → HeldHead rows' po' e learnt p x
-head_later {rows} {rows'} {po} {po'} {e} {learnt} {p} {x} f k h = record { learnt_row = h.learnt_row; page = f p h.page; chain = h.chain; is_chain = k h.chain h.is_chain; names = λ i. names_later f h.chain (h.names i) }
+head_later {rows} {rows'} {po} {po'} {e} {learnt} {p} {x} f k h = record
+    { learnt_row = h.learnt_row; page = f p h.page; chain = h.chain; is_chain = k h.chain h.is_chain; names = λ i. names_later f h.chain (h.names i) }
 
 -- one more name
-pub head_more : {rows : ℕ → Option Record} {po : ℕ → Option Outing} {e : ℕ} {learnt learnt' : ℕ → Bool} {p x : ℕ} → ((r : ℕ) → learnt r ≡ true → learnt' r ≡ true) → HeldHead rows po e learnt p x → HeldHead rows po e learnt' p x
+pub head_more : {rows : ℕ → Option Record} {po : ℕ → Option Outing} {e : ℕ} {learnt learnt' : ℕ → Bool} {p x : ℕ}
+    → ((r : ℕ) → learnt r ≡ true → learnt' r ≡ true) → HeldHead rows po e learnt p x → HeldHead rows po e learnt' p x
 head_more {rows} {po} {e} {learnt} {learnt'} {p} {x} f h = record { learnt_row = f x h.learnt_row; page = h.page; chain = h.chain; is_chain = h.is_chain; names = h.names }
 
-pub holds_later : {rows rows' : ℕ → Option Record} {ro ro' po po' : ℕ → Option Outing} {e : ℕ} {inside : Bool} {seen : ℕ → Option Record} {learnt roots : ℕ → Bool} {heads : ℕ → Option ℕ} {before : ℕ → ℕ → Option ℕ} {linked : Option (Option ℕ)}
-    → (inside ≡ true → (r : ℕ) → IsSince e (ro r) → IsSince e (ro' r)) → (inside ≡ true → (q : ℕ) → IsSince e (po q) → IsSince e (po' q)) → ((x : ℕ) (c : List Record) → learnt x ≡ true → IsChainFrom rows x c → IsChainFrom rows' x c)
+pub holds_later : {rows rows' : ℕ → Option Record} {ro ro' po po' : ℕ → Option Outing} {e : ℕ} {inside : Bool} {seen : ℕ → Option Record}
+    {learnt roots : ℕ → Bool} {heads : ℕ → Option ℕ} {before : ℕ → ℕ → Option ℕ} {linked : Option (Option ℕ)}
+    → (inside ≡ true → (r : ℕ) → IsSince e (ro r) → IsSince e (ro' r)) → (inside ≡ true → (q : ℕ) → IsSince e (po q) → IsSince e (po' q))
+    → ((x : ℕ) (c : List Record) → learnt x ≡ true → IsChainFrom rows x c → IsChainFrom rows' x c)
     → Holds rows ro po e inside seen learnt roots heads before linked → Holds rows' ro' po' e inside seen learnt roots heads before linked
 holds_later {rows} {rows'} {ro} {ro'} {po} {po'} {e} {inside} {seen} {learnt} {roots} {heads} {before} {linked} f g k h = record {
   learnt_inside = h.learnt_inside;
@@ -60,9 +64,12 @@ out_stays now epoch who out out' w (inl same) e = same ∙ e
 out_stays now epoch who out out' w (inr f) e = absurd (cc f.0)
 
 -- what is out is out since an earlier step, or since this one
-pub out_was : (now epoch who : ℕ) (out out' : Option Outing) (w : Outing) → IsLater now epoch who out out' → out' ≡ Some w → (out ≡ Some w) ⊎ ((out ≡ None) × (w.at ≡ now) × (w.epoch ≡ epoch) × (w.who ≡ who))
+pub out_was : (now epoch who : ℕ) (out out' : Option Outing) (w : Outing) → IsLater now epoch who out out' → out' ≡ Some w
+    → (out ≡ Some w) ⊎ ((out ≡ None) × (w.at ≡ now) × (w.epoch ≡ epoch) × (w.who ≡ who))
 out_was now epoch who out out' w (inl same) e = inl (sym same ∙ e)
-out_was now epoch who out out' w (inr f) e = let i : record { at = now; epoch = epoch; who = who } ≡ w = same_Some (record { at = now; epoch = epoch; who = who }) w (sym f.1 ∙ e) in inr (f.0, sym (ap (λ v. v.at) i), sym (ap (λ v. v.epoch) i), sym (ap (λ v. v.who) i))
+out_was now epoch who out out' w (inr f) e =
+    let i : record { at = now; epoch = epoch; who = who } ≡ w = same_Some (record { at = now; epoch = epoch; who = who }) w (sym f.1 ∙ e) in
+    inr (f.0, sym (ap (λ v. v.at) i), sym (ap (λ v. v.epoch) i), sym (ap (λ v. v.who) i))
 
 pub announced_later : (t t' : Times) (epoch epoch' an an' now a e : ℕ) → epoch ≤ epoch' → an' ≡ an → ((r : ℕ) → IsLater now epoch a (t.row_out r) (t'.row_out r))
     → ((p : ℕ) → IsLater now epoch a (t.page_out p) (t'.page_out p)) → IsAnnounced t epoch an now e → IsAnnounced t' epoch' an' (suc now) e
@@ -74,7 +81,8 @@ announced_later t t' epoch epoch' an an' now a e le same rows pages h = record {
   pages = λ r w i j. rw same (elim (out_was now epoch a (t.page_out r) (t'.page_out r) w (pages r) i) [ inl u ↦ h.pages r w u j | inr u ↦ let o = h.old in let q = u.2 in omega arith ]);
 }
 
-module _ {limits : Limits} {m : Memory} {o : Owners} {knows : ℕ → Knowledge} {now : ℕ} {t : Times} (T : Timed limits m o knows now t) (linked : (b r : ℕ) → (knows b).read.learnt r ≡ true → o.row r ≡ Linked) (a : ℕ) where
+module _ {limits : Limits} {m : Memory} {o : Owners} {knows : ℕ → Knowledge} {now : ℕ} {t : Times} (T : Timed limits m o knows now t)
+    (linked : (b r : ℕ) → (knows b).read.learnt r ≡ true → o.row r ≡ Linked) (a : ℕ) where
   -- what a step of the actor makes of the memory, the owners and the times
   pub record Turn (m' : Memory) (o' : Owners) (k' : Knowledge) (t' : Times) : Type 0 where
     pub rows_later : (r : ℕ) → IsLater now m.epoch a (t.row_out r) (t'.row_out r)
@@ -104,7 +112,9 @@ module _ {limits : Limits} {m : Memory} {o : Owners} {knows : ℕ → Knowledge}
     pub ready : (p r : ℕ) → k'.own.pages p ≡ Ready r → IsOwnBase (k'.own.rows r)
     pub apart : (p q r : ℕ) → k'.own.pages p ≡ Ready r → k'.own.pages q ≡ Ready r → p ≡ q
 
-module _ {limits : Limits} {m : Memory} {o : Owners} {knows : ℕ → Knowledge} {now : ℕ} {t : Times} {T : Timed limits m o knows now t} {linked : (b r : ℕ) → (knows b).read.learnt r ≡ true → o.row r ≡ Linked} {a : ℕ} {m' : Memory} {o' : Owners} {k' : Knowledge} {t' : Times} (n : Turn T linked a m' o' k' t') where
+module _ {limits : Limits} {m : Memory} {o : Owners} {knows : ℕ → Knowledge} {now : ℕ} {t : Times} {T : Timed limits m o knows now t}
+    {linked : (b r : ℕ) → (knows b).read.learnt r ≡ true → o.row r ≡ Linked} {a : ℕ} {m' : Memory} {o' : Owners} {k' : Knowledge} {t' : Times}
+    (n : Turn T linked a m' o' k' t') where
   pub pass : (c u : ℕ) → u < now → ((knows c).inside ≡ true → u < t.entered c) → (put knows a k' c).inside ≡ true → u < t'.entered c
   pass c u lt f = by_equal c a
       (λ e is. rw is λ i. rw e (n.passes u lt (λ h. rw e at (f (rw e h))) i))
@@ -118,10 +128,12 @@ module _ {limits : Limits} {m : Memory} {o : Owners} {knows : ℕ → Knowledge}
 
   -- what is in the limbo of an actor stays there
   pub limbo_row : (b r : ℕ) → LimboFits b (λ c. (put knows a k' c).inside) t'.entered (t'.row_out r) ((knows b).limbo.rows r)
-  limbo_row b r = limbo_later b now (λ c. (knows c).inside) (λ c. (put knows a k' c).inside) t.entered t'.entered (t.row_out r) (t'.row_out r) ((knows b).limbo.rows r) (row_stays r) pass (T.limbo_rows b r)
+  limbo_row b r =
+      limbo_later b now (λ c. (knows c).inside) (λ c. (put knows a k' c).inside) t.entered t'.entered (t.row_out r) (t'.row_out r) ((knows b).limbo.rows r) (row_stays r) pass (T.limbo_rows b r)
 
   pub limbo_pid : (b p : ℕ) → LimboFits b (λ c. (put knows a k' c).inside) t'.entered (t'.page_out p) ((knows b).limbo.pids p)
-  limbo_pid b p = limbo_later b now (λ c. (knows c).inside) (λ c. (put knows a k' c).inside) t.entered t'.entered (t.page_out p) (t'.page_out p) ((knows b).limbo.pids p) (page_stays p) pass (T.limbo_pids b p)
+  limbo_pid b p =
+      limbo_later b now (λ c. (knows c).inside) (λ c. (put knows a k' c).inside) t.entered t'.entered (t.page_out p) (t'.page_out p) ((knows b).limbo.pids p) (page_stays p) pass (T.limbo_pids b p)
 
   -- what an actor held it still holds
   pub held_later : (b : ℕ) → HoldsBy m'.rows t'.row_out t'.page_out (t.entered b) (knows b)
@@ -146,8 +158,12 @@ module _ {limits : Limits} {m : Memory} {o : Owners} {knows : ℕ → Knowledge}
     epochs = λ b v. by_equal b a (λ e t. rw t (k.epochs v)) (λ ne t. rw t λ i. let j = T.epochs b v i in let l = n.epoch in omega arith);
     slots = n.slots;
     together = n.together;
-    rows = λ r w i. let v = since_then w (t.row_out r) (λ e. (T.rows r w e).1) (λ e. (T.rows r w e).2) (out_was now m.epoch a (t.row_out r) (t'.row_out r) w (n.rows_later r) i) in (n.rows r w i, v.0, v.1);
-    pages = λ p w i. let v = n.pages p w i in let u = since_then w (t.page_out p) (λ e. (T.pages p w e).2) (λ e. (T.pages p w e).3) (out_was now m.epoch a (t.page_out p) (t'.page_out p) w (n.pages_later p) i) in (v.0, v.1, u.0, u.1);
+    rows =
+        λ r w i. let v = since_then w (t.row_out r) (λ e. (T.rows r w e).1) (λ e. (T.rows r w e).2)
+        (out_was now m.epoch a (t.row_out r) (t'.row_out r) w (n.rows_later r) i) in (n.rows r w i, v.0, v.1);
+    pages =
+        λ p w i. let v = n.pages p w i in let u = since_then w (t.page_out p) (λ e. (T.pages p w e).2) (λ e. (T.pages p w e).3)
+        (out_was now m.epoch a (t.page_out p) (t'.page_out p) w (n.pages_later p) i) in (v.0, v.1, u.0, u.1);
     own_rows = λ b r. by_equal b a (λ e t. rw t (k.own_rows r)) (λ ne t. rw t (n.own_rows b r ne));
     gone_pages = λ b p. by_equal b a (λ e t. rw t (k.gone_pages p)) (λ ne t. rw t (n.gone_pages b p ne));
     limbo_rows = λ b r. by_equal b a (λ e t. rw (t, e) (k.limbo_rows r)) (λ ne t. rw t (limbo_row b r));
@@ -156,6 +172,7 @@ module _ {limits : Limits} {m : Memory} {o : Owners} {knows : ℕ → Knowledge}
     apart = λ b p q r. by_equal b a (λ e t. rw t (k.apart p q r)) (λ ne t. rw t (T.apart b p q r));
   }
     where
-      since_then : (w : Outing) (out : Option Outing) → (out ≡ Some w → w.at < now) → (out ≡ Some w → w.epoch ≤ m.epoch) → (out ≡ Some w) ⊎ ((out ≡ None) × (w.at ≡ now) × (w.epoch ≡ m.epoch) × (w.who ≡ a)) → (w.at < suc now) × (w.epoch ≤ m'.epoch)
+      since_then : (w : Outing) (out : Option Outing) → (out ≡ Some w → w.at < now) → (out ≡ Some w → w.epoch ≤ m.epoch)
+          → (out ≡ Some w) ⊎ ((out ≡ None) × (w.at ≡ now) × (w.epoch ≡ m.epoch) × (w.who ≡ a)) → (w.at < suc now) × (w.epoch ≤ m'.epoch)
       since_then w out f g (inl u) = let x = f u in let y = g u in let l = n.epoch in ((let z : w.at < suc now = omega arith in z), (let z : w.epoch ≤ m'.epoch = omega arith in z))
       since_then w out f g (inr u) = let x = u.1 in let y = u.2 in let l = n.epoch in ((let z : w.at < suc now = omega arith in z), (let z : w.epoch ≤ m'.epoch = omega arith in z))

@@ -23,7 +23,10 @@ module _ {m : Shared} {log : List Update} {o : Owners} {knows : ℕ → Knowledg
       → next_row w ≡ Some x → level_in (w ∷ c) ≡ level_in c → low_in (w ∷ c) ≡ low_in c → right_in (w ∷ c) ≡ right_in c → high_in (w ∷ c) ≡ high_in c → is_removed (w ∷ c) ≡ is_removed c
       → ((k : Key) → content_in (w ∷ c) k ≡ cond (is_eq (key_cmp k sep)) v (content_in c k))
       → (k : Knowledge) → linked_over (Written w) x y (knows a) ≡ k → k.own.rows ≡ put (knows a).own.rows y Foreign
-      → (OwnsPages a (record { row = put o.row y Linked; page = put o.page q n; index = put o.index lv (put_key (o.index lv) sep v) }) (record m { slots = put m.slots p (Some y) }) (knows a).own.pages → OwnsPages a (record { row = put o.row y Linked; page = put o.page q n; index = put o.index lv (put_key (o.index lv) sep v) }) (record m { slots = put m.slots p (Some y) }) k.own.pages)
+      → (OwnsPages a (record { row = put o.row y Linked; page = put o.page q n; index = put o.index lv (put_key (o.index lv) sep v) })
+      (record m { slots = put m.slots p (Some y) }) (knows a).own.pages → OwnsPages a
+      (record { row = put o.row y Linked; page = put o.page q n; index = put o.index lv (put_key (o.index lv) sep v) })
+      (record m { slots = put m.slots p (Some y) }) k.own.pages)
       → k.read ≡ (knows a).read → k.asked.linked ≡ (knows a).asked.linked → (r : Option Reply)
       → LinkedTree g a p x y r log (record { row = put o.row y Linked; page = put o.page q n; index = put o.index lv (put_key (o.index lv) sep v) }) (point a)
   index_one p x y c f place alive s w placed lv sep q level covers st e had n v move fits full clears reach next wl wlow wright whigh wrem finds k learned rows pages read linked r =
@@ -59,7 +62,8 @@ module _ {m : Shared} {log : List Update} {o : Owners} {knows : ℕ → Knowledg
       → (v : ContentOf) → mark to q ≡ Some v → rank from ≤ rank to → rank to ≤ 3 → stage_removed from ≡ stage_removed to → rank_of v ≤ rank to
       → next_row w ≡ Some x → level_in (w ∷ basis.chain) ≡ level_in basis.chain → low_in (w ∷ basis.chain) ≡ low_in basis.chain → right_in (w ∷ basis.chain) ≡ right_in basis.chain
       → high_in (w ∷ basis.chain) ≡ high_in basis.chain → is_removed (w ∷ basis.chain) ≡ is_removed basis.chain
-      → ((k : Key) → content_in (w ∷ basis.chain) k ≡ cond (is_eq (key_cmp k sep)) (Some v) (content_in basis.chain k)) → linked_over (Written w) x y (knows a) ≡ handed_over y (knows a) → (r : Option Reply)
+      → ((k : Key) → content_in (w ∷ basis.chain) k ≡ cond (is_eq (key_cmp k sep)) (Some v) (content_in basis.chain k))
+      → linked_over (Written w) x y (knows a) ≡ handed_over y (knows a) → (r : Option Reply)
       → LinkedTree g a p x y r log (record { row = put o.row y Linked; page = put o.page q (Placed to lv sep); index = put o.index lv (put_key (o.index lv) sep (Some v)) }) (point a)
   term_goes p x y basis s w placed lv sep q level covers from to was has v marks le on flag high next wl wlow wright whigh wrem finds learned r =
       let f = found g a p x basis in
@@ -74,8 +78,16 @@ module _ {m : Shared} {log : List Update} {o : Owners} {knows : ℕ → Knowledg
       (handed_over y (knows a)) learned refl (λ n. n) refl refl r
 
   -- the exchange that links a term
-  pub posts : (p x y : ℕ) → m.slots p ≡ Some x → (basis : HasRead (knows a) p x) (content : Record) → (knows a).own.rows y ≡ Written content → (h : MayPost (knows a) p x basis.chain content) → (r : Option Reply)
-      → LinkedTree g a p x y r log (record { row = put o.row y Linked; page = put o.page h.child (Placed Indexed (level_in h.below.chain) (low_in h.below.chain)); index = put o.index (level_in h.below.chain) (put_key (o.index (level_in h.below.chain)) (low_in h.below.chain) (Some (Child h.child false))) }) (point a) × (o.page h.child ≡ Placed Fresh (level_in h.below.chain) (low_in h.below.chain))
+  pub posts : (p x y : ℕ) → m.slots p ≡ Some x → (basis : HasRead (knows a) p x) (content : Record) → (knows a).own.rows y ≡ Written content
+      → (h : MayPost (knows a) p x basis.chain content) → (r : Option Reply)
+      → LinkedTree g a p x y r log (record {
+        row = put o.row y Linked;
+        page = put o.page h.child
+            (Placed Indexed (level_in h.below.chain) (low_in h.below.chain));
+        index = put o.index (level_in h.below.chain)
+            (put_key (o.index (level_in h.below.chain)) (low_in h.below.chain) (Some (Child h.child false)));
+      }) (point a) × (o.page h.child ≡ Placed Fresh
+      (level_in h.below.chain) (low_in h.below.chain))
   posts p x y s basis content written h r = (
     term_goes p x y basis s (Term (record { level = level_in c; next = x; separator = sep; child = q })) (written ∙ ap Written h.is) lv sep q h.level covers Fresh Indexed was h.absent
         (Child q false) refl (omega arith) (omega arith) refl (omega arith) refl refl refl refl refl refl (λ k. refl) refl r,
@@ -124,13 +136,16 @@ module _ {m : Shared} {log : List Update} {o : Owners} {knows : ℕ → Knowledg
 
   -- the exchange that holds a term
   pub holds : (p x y : ℕ) → m.slots p ≡ Some x → (basis : HasRead (knows a) p x) (content : Record) → (knows a).own.rows y ≡ Written content → (h : MayHold x basis.chain content) → (r : Option Reply)
-      → LinkedTree g a p x y r log (record { row = put o.row y Linked; page = put o.page h.child (Placed Held h.level h.key); index = put o.index h.level (put_key (o.index h.level) h.key (Some (Child h.child true))) }) (point a) × (o.page h.child ≡ Placed Indexed h.level h.key)
+      → LinkedTree g a p x y r log
+      (record { row = put o.row y Linked; page = put o.page h.child (Placed Held h.level h.key); index = put o.index h.level (put_key (o.index h.level) h.key (Some (Child h.child true))) })
+      (point a) × (o.page h.child ≡ Placed Indexed h.level h.key)
   holds p x y s basis content written h r =
       let covers = covers_from basis.chain h.key h.covers in
       let place = place_of g a p x basis.chain (found g a p x basis) basis.alive s in
       let n = (g.tree.exact.named h.level h.key (Child h.child false) (term_at p x basis.chain place h.level h.key h.is_level covers ∙ h.present)).1 in
       let was : o.page h.child ≡ Placed Indexed h.level h.key = n.1 ∙ ap (λ st. Placed st h.level h.key) (is_indexed n.0 h.child n.2) in (
-        term_goes p x y basis s (Hold (record { level = level_in basis.chain; next = x; separator = h.key; child = h.child })) (written ∙ ap Written h.is) h.level h.key h.child h.is_level covers Indexed Held was h.present
+        term_goes p x y basis s (Hold (record { level = level_in basis.chain; next = x; separator = h.key; child = h.child })) (written ∙ ap Written h.is)
+            h.level h.key h.child h.is_level covers Indexed Held was h.present
             (Child h.child true) refl (omega arith) (omega arith) refl (omega arith) refl refl refl refl refl refl (λ k. refl) refl r,
         was,
       )
@@ -141,10 +156,18 @@ module _ {m : Shared} {log : List Update} {o : Owners} {knows : ℕ → Knowledg
       is_indexed st q e = absurd (cc (same_Some (Child q true) (Child q false) e))
 
   -- the exchange that takes a held term away
-  pub unterms : (p x y : ℕ) → m.slots p ≡ Some x → (basis : HasRead (knows a) p x) (content : Record) → (knows a).own.rows y ≡ Written content → (h : MayUnterm (knows a) p x basis.chain content) → (r : Option Reply)
-      → LinkedTree g a p x y r log (record { row = put o.row y Linked; page = put o.page h.child (Cleared a (level_in h.below.chain) h.key); index = put o.index (level_in h.below.chain) (put_key (o.index (level_in h.below.chain)) h.key None) }) (point a) × (o.page h.child ≡ Placed Merged (level_in h.below.chain) h.key)
+  pub unterms : (p x y : ℕ) → m.slots p ≡ Some x → (basis : HasRead (knows a) p x) (content : Record) → (knows a).own.rows y ≡ Written content
+      → (h : MayUnterm (knows a) p x basis.chain content) → (r : Option Reply)
+      → LinkedTree g a p x y r log (record {
+        row = put o.row y Linked;
+        page = put o.page h.child (Cleared a (level_in h.below.chain) h.key);
+        index = put o.index
+            (level_in h.below.chain) (put_key (o.index (level_in h.below.chain)) h.key None);
+      }) (point a) × (o.page h.child ≡ Placed Merged (level_in
+      h.below.chain) h.key)
   unterms p x y s basis content written h r = (
-    index_one p x y c f place basis.alive s (Unterm (record { level = level_in c; next = x; separator = sep; child = q })) (written ∙ ap Written h.is) lv sep q h.level (covers_from c sep h.covers) Merged was present (Cleared a lv sep) None
+    index_one p x y c f place basis.alive s (Unterm (record { level = level_in c; next = x; separator = sep; child = q })) (written ∙ ap Written h.is) lv sep q
+        h.level (covers_from c sep h.covers) Merged was present (Cleared a lv sep) None
         (clear lv sep was refl guard)
         (λ l' s' st' e. absurd (cc))
         (λ i e. absurd (cc))
@@ -201,5 +224,6 @@ module _ {m : Shared} {log : List Update} {o : Owners} {knows : ℕ → Knowledg
       guard f' x' c' l' ch' r' n' e' v' s' now =
           let i : level_in c' ≡ level_in c = e' ∙ sym h.level in
           let there = rw i at (alive_place g a f' (level_in c') (low_in c') r' x' s' c' ch' n') in
-          let same : p ≡ f' = same_page (g.tree.levels (level_in c) (g.tree.exact.below p (level_in c) (low_in c) place.stage place.placed)) (record { page = p; row = x; chain = c }) (record { page = f'; row = x'; chain = c' }) place there sep (covers_from c sep h.covers) v' in
+          let same : p ≡ f' = same_page (g.tree.levels (level_in c) (g.tree.exact.below p (level_in c) (low_in c) place.stage place.placed))
+          (record { page = p; row = x; chain = c }) (record { page = f'; row = x'; chain = c' }) place there sep (covers_from c sep h.covers) v' in
           absurd (let u = sym (owned_row g a y _ written).0 ∙ ap o.row (same_Some y x' (sym (put_same m.slots p (Some y)) ∙ ap (put m.slots p (Some y)) same ∙ now)) ∙ l' in cc)

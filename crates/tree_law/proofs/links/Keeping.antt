@@ -62,21 +62,36 @@ module _ {m : Shared} {log : List Update} {o : Owners} {knows : ℕ → Knowledg
   mine_at o' m' kept = knows_kept g.closed kept mine
 
   pub begins : (c : Command) → IsTree m log o (put knows a (begun (knows a) c)) (put point a None) (put logs a [])
-  begins c = quiet (begun (knows a) c) None [] (g.owns a) (g.owns_pages a) (record { seen_fits = mine.seen_fits; learnt_fits = mine.learnt_fits; roots_fit = mine.roots_fit; heads_fit = λ p. tt; orders_fit = λ p f. tt; linked_fits = refl })
+  begins c =
+      quiet (begun (knows a) c) None [] (g.owns a) (g.owns_pages a)
+      (record { seen_fits = mine.seen_fits; learnt_fits = mine.learnt_fits; roots_fit = mine.roots_fit; heads_fit = λ p. tt; orders_fit = λ p f. tt; linked_fits = refl })
 
   -- a step after which the actor knows what it knew
-  pub idles : (k : Knowledge) → k.own ≡ (knows a).own → k.read ≡ (knows a).read → k.asked.linked ≡ (knows a).asked.linked → IsTree m log o (put knows a k) (put point a (point a)) (put logs a (log ∷ logs a))
+  pub idles : (k : Knowledge) → k.own ≡ (knows a).own → k.read ≡ (knows a).read → k.asked.linked ≡ (knows a).asked.linked
+      → IsTree m log o (put knows a k) (put point a (point a)) (put logs a (log ∷ logs a))
   idles k own read linked = quiet k (point a) (log ∷ logs a) (rw own (g.owns a)) (rw own (g.owns_pages a)) (rw (read, linked) mine)
 
   pub enters : (e : ℕ) (x : Answer Record) (r : Option Reply) → IsTree m log o (put knows a (finished (learn (knows a) (Enter e) x) r)) (put point a (point a)) (put logs a (log ∷ logs a))
-  enters e x r = quiet (finished (learn (knows a) (Enter e) x) r) (point a) (log ∷ logs a) (g.owns a) (g.owns_pages a) (record { seen_fits = mine.seen_fits; learnt_fits = λ q e. absurd (cc); roots_fit = mine.roots_fit; heads_fit = mine.heads_fit; orders_fit = mine.orders_fit; linked_fits = mine.linked_fits })
+  enters e x r =
+      quiet (finished (learn (knows a) (Enter e) x) r) (point a) (log ∷ logs a) (g.owns a) (g.owns_pages a) (record
+      { seen_fits = mine.seen_fits; learnt_fits = λ q e. absurd (cc); roots_fit = mine.roots_fit; heads_fit = mine.heads_fit; orders_fit = mine.orders_fit; linked_fits = mine.linked_fits })
 
   forgets : (linked : Option (Option ℕ)) → LinkFits o m (point a) linked → LinkFits o m (point a) (forgotten linked)
   forgets (Some (Some x)) h = (h.0, h.1)
   forgets linked h = h
 
   pub leaves : (r : Option Reply) → IsTree m log o (put knows a (finished (learn (knows a) Leave Done) r)) (put point a (point a)) (put logs a (log ∷ logs a))
-  leaves r = quiet (finished (learn (knows a) Leave Done) r) (point a) (log ∷ logs a) (g.owns a) (g.owns_pages a) (record { seen_fits = λ q. tt; learnt_fits = λ q e. absurd (cc); roots_fit = λ p e. absurd (cc); heads_fit = λ p. tt; orders_fit = λ p f. tt; linked_fits = forgets (knows a).asked.linked mine.linked_fits })
+  leaves r =
+      quiet (finished (learn (knows a) Leave Done) r) (point a) (log ∷ logs a) (g.owns a) (g.owns_pages a) (record {
+        seen_fits = λ q. tt;
+        learnt_fits = λ q e.
+            absurd (cc);
+        roots_fit = λ p e. absurd (cc);
+        heads_fit = λ p. tt;
+        orders_fit = λ p f. tt;
+        linked_fits = forgets (knows a).asked.linked
+            mine.linked_fits;
+      })
 
   -- the page is on its side chain, with this row and chain
   abbrev pub OnSide : (p x : ℕ) (c : List Record) → Type 0
@@ -102,13 +117,20 @@ module _ {m : Shared} {log : List Update} {o : Owners} {knows : ℕ → Knowledg
       ]
 
   -- the slot of a page of the tree: it is empty only where the page was cleared
-  pub slot_of : (p l : ℕ) (s : Key) → Reached 0 l s (o.page p) → IsOut (o.page p) (m.slots p) ⊎ ((x : ℕ) × (m.slots p ≡ Some x) × (h : SpellsLog o m x log) × Reached 0 (level_in h.chain) (low_in h.chain) (o.page p))
+  pub slot_of : (p l : ℕ) (s : Key) → Reached 0 l s (o.page p)
+      → IsOut (o.page p) (m.slots p) ⊎ ((x : ℕ) × (m.slots p ≡ Some x) × (h : SpellsLog o m x log) × Reached 0 (level_in h.chain) (low_in h.chain) (o.page p))
   slot_of p lv s r =
       elim (reached_placed 0 lv s (o.page p) r) [
         | inl u ↦ elim (on_or_merged u.0) [
           | inl on ↦ let t = g.tree.levels lv (g.tree.exact.below p lv s u.0 u.1) in
               let l = locate o m lv (spec log o.index lv) t.side (Some (g.tree.first lv)) (Some []) None None p t.whole (t.listed p s u.0 u.1 on) in
-              let at : SpellsLog o m l.page.row log = record { linked = l.here.linked; chain = l.page.chain; is_chain = l.here.is_page.is_chain; same = λ z y k v. l.here.is_page.same k v ∙ spec_leaf log o.index lv (sym l.here.is_page.on_level ∙ z) k } in
+              let at : SpellsLog o m l.page.row log = record {
+                linked = l.here.linked;
+                chain = l.page.chain;
+                is_chain = l.here.is_page.is_chain;
+                same = λ z y k
+                    v. l.here.is_page.same k v ∙ spec_leaf log o.index lv (sym l.here.is_page.on_level ∙ z) k;
+              } in
               inr (
                 l.page.row,
                 ap m.slots (sym l.is) ∙ l.here.is_page.head,
@@ -192,10 +214,24 @@ module _ {m : Shared} {log : List Update} {o : Owners} {knows : ℕ → Knowledg
           let n = beyond_names h.other h.row h.basis.head h.basis.chain (chain_stands o m (knows a).read.seen mine.seen_fits h.basis.chain (Some h.row) h.basis.read) h.basis.alive p b in
           elim b.named [ inl u ↦ by_right b.chain n u | inr u ↦ by_child b.chain n u ]
 
-  pub off_still : (o' : Owners) (m' : Shared) → Kept o o' m m' → (q l : ℕ) (k : Key) → m'.slots q ≡ m.slots q → IsOut (o.page q) (m.slots q) ⊎ Off o m q l k → IsOut (o'.page q) (m'.slots q) ⊎ Off o' m' q l k
+  pub off_still : (o' : Owners) (m' : Shared) → Kept o o' m m' → (q l : ℕ) (k : Key) → m'.slots q ≡ m.slots q → IsOut (o.page q) (m.slots q) ⊎ Off o m q l k
+      → IsOut (o'.page q) (m'.slots q) ⊎ Off o' m' q l k
   off_still o' m' kept q l k s (inl e) = inl (s ∙ e.0, cleared_forward (o.page q) (o'.page q) (kept.page q) e.1)
-  off_still o' m' kept q l k s (inr w) = inr (record { row = w.row; chain = w.chain; head = s ∙ w.head; linked = (kept.row w.row w.linked).0; is_chain = chain_kept g.closed kept w.chain (Some w.row) w.linked w.is_chain; flagged = w.flagged; level = w.level; low = w.low })
+  off_still o' m' kept q l k s (inr w) =
+      inr (record {
+        row = w.row;
+        chain = w.chain;
+        head = s ∙ w.head;
+        linked = (kept.row w.row w.linked).0;
+        is_chain = chain_kept g.closed kept w.chain
+            (Some w.row) w.linked w.is_chain;
+        flagged = w.flagged;
+        level = w.level;
+        low = w.low;
+      })
 
   -- at a step that touches no slot and no page
   pub tree_at : (row : ℕ → Owner) (m' : Shared) → Kept o (record o { row = row }) m m' → m'.slots ≡ m.slots → m'.root ≡ m.root → HasLevels (record o { row = row }) m' log
-  tree_at row m' kept s e = tree_kept log g.closed kept (λ q l k st i on. (ap (λ f. f q) s, (st, i, on, refl))) e refl (λ p l k st i on. (st, i, on)) g.tree (rw e g.tree.exact) (λ q l k i. off_still (record o { row = row }) m' kept q l k (ap (λ f. f q) s) (g.tree.off q l k i))
+  tree_at row m' kept s e =
+      tree_kept log g.closed kept (λ q l k st i on. (ap (λ f. f q) s, (st, i, on, refl))) e refl (λ p l k st i on. (st, i, on)) g.tree (rw e g.tree.exact)
+      (λ q l k i. off_still (record o { row = row }) m' kept q l k (ap (λ f. f q) s) (g.tree.off q l k i))

@@ -44,7 +44,9 @@ module _ {m : Shared} {log : List Update} {o : Owners} {knows : ℕ → Knowledg
   -- the exchange that merges a page's right into it
   pub merges : (p x y : ℕ) → m.slots p ≡ Some x → (basis : HasRead (knows a) p x) (content : Record) → (knows a).own.rows y ≡ Written content → (h : MayMerge (knows a) x basis.chain content)
       → (r : Option Reply)
-      → LinkedTree g a p x y r log (record { row = put o.row y Linked; page = put o.page h.other (Placed Merged (level_in basis.chain) (low_in h.merged)); index = o.index }) (point a) × (o.page h.other ≡ Placed Removed (level_in basis.chain) (low_in h.merged))
+      → LinkedTree g a p x y r log
+      (record { row = put o.row y Linked; page = put o.page h.other (Placed Merged (level_in basis.chain) (low_in h.merged)); index = o.index }) (point a) ×
+      (o.page h.other ≡ Placed Removed (level_in basis.chain) (low_in h.merged))
   merges p x y s basis content written h r =
       let learned : filled ((knows a).own.pages p) p x y (knows a) ≡ handed_over y (knows a) =
       rw (not_own g a p lv (low_in c) place.stage place.placed ((knows a).own.pages p) (g.owns_pages a p), (written ∙ ap Written h.is)) refl in
@@ -53,7 +55,8 @@ module _ {m : Shared} {log : List Update} {o : Owners} {knows : ℕ → Knowledg
         page = λ j. by_equal j q
             (λ i is. rw is (page_stage Removed Merged lv sq (ap o.page i ∙ was) refl (omega arith) (put_other m.slots p (Some y) j (λ u. apart (sym i ∙ u)))))
             (λ i is. rw is (by_equal j p
-            (λ i t. rw t (page_link place.stage place.stage lv (low_in c) (ap o.page i ∙ place.placed) (ap o.page i ∙ place.placed) (omega arith) x y c (ap m.slots i ∙ s) f.stands basis.alive refl fits.0))
+            (λ i t. rw t
+            (page_link place.stage place.stage lv (low_in c) (ap o.page i ∙ place.placed) (ap o.page i ∙ place.placed) (omega arith) x y c (ap m.slots i ∙ s) f.stands basis.alive refl fits.0))
             (λ i t. rw t (page_same refl refl))));
       } in
       let kept : Kept o o' m m' = kept_change change in (
@@ -61,7 +64,9 @@ module _ {m : Shared} {log : List Update} {o : Owners} {knows : ℕ → Knowledg
             change
             (record {
               row = λ j f. put_other o.row y Linked j (λ i. absurd (cc (g.frees.row j f, fits.0))) ∙ g.frees.row j f;
-              page = λ j n. let v = g.frees.page j n in (put_other o.page q gone j (λ i. absurd (let z = sym v.0 ∙ ap o.page i ∙ was in cc)) ∙ v.0, put_other m.slots p (Some y) j (λ i. absurd (cc (v.0, place.placed))) ∙ v.1);
+              page =
+                  λ j n. let v = g.frees.page j n in
+                  (put_other o.page q gone j (λ i. absurd (let z = sym v.0 ∙ ap o.page i ∙ was in cc)) ∙ v.0, put_other m.slots p (Some y) j (λ i. absurd (cc (v.0, place.placed))) ∙ v.1);
             })
             (closed_kept kept g.closed (λ j. by_equal j y
             (λ i t. rw t λ l. inr (rw i (record { linked = put_same o.row y Linked; content = w; stands = fits.1; next = (kept.row x f.linked).0; rest = c; is_rest = f.stands })))
@@ -78,8 +83,21 @@ module _ {m : Shared} {log : List Update} {o : Owners} {knows : ℕ → Knowledg
             (λ i t. rw t λ e on. absurd (let z : Merged ≡ st = cc in let u = ap rank z in omega arith)) (λ i t. rw t λ e on. ((λ z. i z), (st, e, on))))
             (exact_going q lv sq Removed Merged was (below_top g a q lv sq Removed was (omega arith)) refl g.tree.exact)
             (λ j l k. by_equal j q
-            (λ i t. rw t λ e. let z = at_off l k e in inr (record { row = h.row; chain = d; head = put_other m.slots p (Some y) j (λ u. apart (sym i ∙ u)) ∙ ap m.slots i ∙ slot; linked = (kept.row h.row fd.linked).0; is_chain = chain_kept g.closed kept d (Some h.row) fd.linked fd.stands; flagged = h.gone; level = level ∙ z.0; low = z.1 }))
-            (λ i t e. let was = rw t at e in off_still g a o' m' kept j l k (put_other m.slots p (Some y) j (λ u. not_off place.stage lv (low_in c) l k place.on (rw (ap o.page u ∙ place.placed) at was))) (g.tree.off j l k was))))
+            (λ i t. rw t λ e. let z = at_off l k e in inr (record {
+              row = h.row;
+              chain = d;
+              head = put_other m.slots p (Some y) j (λ u. apart (sym i ∙ u)) ∙ ap
+                  m.slots i ∙ slot;
+              linked = (kept.row h.row fd.linked).0;
+              is_chain = chain_kept g.closed kept d (Some h.row) fd.linked fd.stands;
+              flagged =
+                  h.gone;
+              level = level ∙ z.0;
+              low = z.1;
+            }))
+            (λ i t e. let was = rw t at e in off_still g a o' m' kept j l k
+            (put_other m.slots p (Some y) j (λ u. not_off place.stage lv (low_in c) l k place.on (rw (ap o.page u ∙ place.placed) at was)))
+            (g.tree.off j l k was))))
             (put_all (λ j v. OwnFits a (o'.row j) (m.rows j) v) (knows a).own.rows y Foreign tt (λ j ne. rw (put_other o.row y Linked j ne) (g.owns a j)))
             (λ j. by_equal j q
             (λ i is. rw is (rw (not_own g a j lv sq Removed (ap o.page i ∙ was) ((knows a).own.pages j) (g.owns_pages a j)) tt))
@@ -124,7 +142,9 @@ module _ {m : Shared} {log : List Update} {o : Owners} {knows : ℕ → Knowledg
       slot = elim (frozen_as q h.row h.head d h.read h.gone) [ inl u ↦ u | inr u ↦ absurd (cc (next.3.placed, next.1, u.1.3)) ]
 
       removed_place : InPlace o m lv (spec log o.index lv) (record { page = q; row = h.row; chain = d })
-      removed_place = (in_level_as (g.tree.levels lv (g.tree.exact.below p lv (low_in c) place.stage place.placed)) q (low_in next.0.chain) next.3.stage (ap o.page (sym next.1) ∙ next.3.placed) next.3.on h.row slot d fd.stands).place
+      removed_place =
+          (in_level_as (g.tree.levels lv (g.tree.exact.below p lv (low_in c) place.stage place.placed)) q (low_in next.0.chain) next.3.stage
+          (ap o.page (sym next.1) ∙ next.3.placed) next.3.on h.row slot d fd.stands).place
 
       is_frozen : (st : Stage) → rank st ≤ 3 → stage_removed st ≡ true → st ≡ Removed
       is_frozen Removed i e = refl

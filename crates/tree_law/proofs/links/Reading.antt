@@ -7,13 +7,16 @@ use Rattle.tree_law.proofs.shape.{by_equal, put_all, chain_unique, reached_place
 use Rattle.tree_law.proofs.links.Keeping.{spec_leaf, on_or_merged, quiet, mine, alive_place, beyond_place, place_names}
 
 module _ {m : Shared} {log : List Update} {o : Owners} {knows : ℕ → Knowledge} {point : ℕ → Option (List Update)} {logs : ℕ → List (List Update)} (g : IsTree m log o knows point logs) (a : ℕ) where
-  pub reads_root : (r : Option Reply) → IsTree m log o (put knows a (finished (record (knows a) { read = record (knows a).read { roots = put (knows a).read.roots m.root true } }) r)) (put point a (point a)) (put logs a (log ∷ logs a))
+  pub reads_root : (r : Option Reply)
+      → IsTree m log o (put knows a (finished (record (knows a) { read = record (knows a).read { roots = put (knows a).read.roots m.root true } }) r))
+      (put point a (point a)) (put logs a (log ∷ logs a))
   reads_root r =
       quiet g a (finished (record (knows a) { read = record (knows a).read { roots = put (knows a).read.roots m.root true } }) r) (point a) (log ∷ logs a) (g.owns a) (g.owns_pages a)
       (record {
         seen_fits = (mine g a).seen_fits;
         learnt_fits = (mine g a).learnt_fits;
-        roots_fit = λ p. by_equal p m.root (λ i t. rw t λ e. (g.tree.top, placed_reached g.tree.top [] Indexed (o.page p) (ap o.page i ∙ g.tree.exact.is_root))) (λ i t. rw t λ e. (mine g a).roots_fit p e);
+        roots_fit =
+            λ p. by_equal p m.root (λ i t. rw t λ e. (g.tree.top, placed_reached g.tree.top [] Indexed (o.page p) (ap o.page i ∙ g.tree.exact.is_root))) (λ i t. rw t λ e. (mine g a).roots_fit p e);
         heads_fit = (mine g a).heads_fit;
         orders_fit = (mine g a).orders_fit;
         linked_fits = (mine g a).linked_fits;
@@ -27,7 +30,16 @@ module _ {m : Shared} {log : List Update} {o : Owners} {knows : ℕ → Knowledg
         seen_fits = (mine g a).seen_fits;
         learnt_fits = name_more o (knows a).read.learnt x s.linked (mine g a).learnt_fits;
         roots_fit = (mine g a).roots_fit;
-        heads_fit = put_all (λ q v. HeadFits o m (log ∷ logs a) q v) (knows a).read.heads p (Some x) (log, inl refl, s, e, (λ h. inl sx), (λ nr. place_names g a (record { page = p; row = x; chain = s.chain }) (alive_place g a p (level_in s.chain) (low_in s.chain) e x sx s.chain s.is_chain nr))) (λ q ne. (mine g a).heads_fit q);
+        heads_fit =
+            put_all (λ q v. HeadFits o m (log ∷ logs a) q v) (knows a).read.heads p (Some x) (
+              log,
+              inl refl,
+              s,
+              e,
+              (λ h. inl sx),
+              (λ nr. place_names g a (record { page = p; row = x; chain = s.chain }) (alive_place g a p (level_in s.chain) (low_in s.chain) e x sx s.chain s.is_chain nr)),
+            )
+            (λ q ne. (mine g a).heads_fit q);
         orders_fit = λ q f. by_equal q p
             (λ i t. rw (t, i) (order f ((knows a).read.heads f) refl ((mine g a).heads_fit f)))
             (λ i t. rw t ((mine g a).orders_fit q f));
@@ -48,7 +60,8 @@ module _ {m : Shared} {log : List Update} {o : Owners} {knows : ℕ → Knowledg
             let n = right_page (g.tree.levels (level_in d) (g.tree.exact.below p (level_in d) (low_in d) w.stage w.placed)) (record { page = p; row = x; chain = d }) w f i in
             let same : h.2.chain ≡ c = chain_unique m.rows h.2.chain c (Some z') h.2.is_chain ic in
             let slot : m.slots f ≡ Some z' = elim (h.4 (ap is_removed same ∙ rc)) [ inl u ↦ u | inr u ↦ absurd (cc (n.3.placed, n.1, u.1.3)) ] in
-            let r = (in_level_as (g.tree.levels (level_in d) (g.tree.exact.below p (level_in d) (low_in d) w.stage w.placed)) f (low_in n.0.chain) n.3.stage (ap o.page (sym n.1) ∙ n.3.placed) n.3.on z' slot c ic).place in
+            let r = (in_level_as (g.tree.levels (level_in d) (g.tree.exact.below p (level_in d) (low_in d) w.stage w.placed)) f (low_in n.0.chain) n.3.stage
+            (ap o.page (sym n.1) ∙ n.3.placed) n.3.on z' slot c ic).place in
             (log, inl refl, λ k v. r.is_page.same k v ∙ spec_leaf log o.index (level_in d) (sym r.is_page.on_level ∙ z) k);
         beyond = λ c d ic id rc nd i.
             let same : s.chain ≡ d = chain_unique m.rows s.chain d (Some x) s.is_chain id in
@@ -67,7 +80,8 @@ module _ {m : Shared} {log : List Update} {o : Owners} {knows : ℕ → Knowledg
             ];
       }
 
-  pub reads_row : (q : ℕ) (w : Record) → (knows a).read.learnt q ≡ true → m.rows q ≡ Some w → (r : Option Reply) → IsTree m log o (put knows a (finished (learn (knows a) (Row q) (answer.Content w)) r)) (put point a (point a)) (put logs a (log ∷ logs a))
+  pub reads_row : (q : ℕ) (w : Record) → (knows a).read.learnt q ≡ true → m.rows q ≡ Some w → (r : Option Reply)
+      → IsTree m log o (put knows a (finished (learn (knows a) (Row q) (answer.Content w)) r)) (put point a (point a)) (put logs a (log ∷ logs a))
   reads_row q w l e r =
       let at : IsLinked o m q = g.closed q ((mine g a).learnt_fits q l) in
       quiet g a (finished (learn (knows a) (Row q) (answer.Content w)) r) (point a) (log ∷ logs a) (g.owns a) (g.owns_pages a)

@@ -25,7 +25,8 @@ pub data Moves (a : ℕ) (o : Owners) (m : Shared) (p y : ℕ) (w n : PageOwner)
   stay : n ≡ w → Moves a o m p y w n
   go : (st st' : Stage) (l : ℕ) (s : Key) → w ≡ Placed st l s → n ≡ Placed st' l s → rank st ≤ rank st' → rank st' ≤ 3 → stage_removed st ≡ stage_removed st' → Moves a o m p y w n
   clear : (l : ℕ) (s : Key) → w ≡ Placed Merged l s → n ≡ Cleared a l s
-      → ((f x : ℕ) (c : List Record) → o.row x ≡ Linked → IsChain m.rows c (Some x) → Reached 0 (level_in c) (low_in c) (o.page f) → is_removed c ≡ false → level_in c ≡ suc l → Covers c s → m.slots f ≡ Some x → put m.slots p (Some y) f ≡ Some x → ⊥)
+      → ((f x : ℕ) (c : List Record) → o.row x ≡ Linked → IsChain m.rows c (Some x) → Reached 0 (level_in c) (low_in c) (o.page f) → is_removed c ≡ false →
+      level_in c ≡ suc l → Covers c s → m.slots f ≡ Some x → put m.slots p (Some y) f ≡ Some x → ⊥)
       → Moves a o m p y w n
 
 module _ {m : Shared} {log : List Update} {o : Owners} {knows : ℕ → Knowledge} {point : ℕ → Option (List Update)} {logs : ℕ → List (List Update)} (g : IsTree m log o knows point logs) (a : ℕ) where
@@ -59,9 +60,14 @@ module _ {m : Shared} {log : List Update} {o : Owners} {knows : ℕ → Knowledg
   moved_placed p y w n (go st0 st1 l0 s0 i j le on' r) st l s e on = let f = placed_level st1 st l0 l s0 s (sym j ∙ e) in (st0, rw (sym f.0, sym f.1) i, omega arith)
   moved_placed p y w n (clear l0 s0 i j f) st l s e on = absurd (cc)
 
-  pub moved_rest : (p y : ℕ) (w n : PageOwner) → Moves a o m p y w n → (st : Stage) (l : ℕ) (s : Key) → w ≡ Placed st l s → rank st ≤ 3 → (st' : Stage) × (n ≡ Placed st' l s) × (rank st' ≤ 3) × (stage_removed st ≡ stage_removed st')
+  pub moved_rest : (p y : ℕ) (w n : PageOwner) → Moves a o m p y w n → (st : Stage) (l : ℕ) (s : Key) → w ≡ Placed st l s → rank st ≤ 3
+      → (st' : Stage) × (n ≡ Placed st' l s) × (rank st' ≤ 3) × (stage_removed st ≡ stage_removed st')
   moved_rest p y w n (stay u) st l s e on = (st, u ∙ e, on, refl)
-  moved_rest p y w n (go st0 st1 l0 s0 i j le on' r) st l s e on = let f = placed_level st0 st l0 l s0 s (sym i ∙ e) in let h : Placed st0 l0 s0 ≡ Placed st l s = sym i ∙ e in let k : st ≡ st0 = cc in (st1, rw (sym f.0, sym f.1) j, on', ap stage_removed k ∙ r)
+  moved_rest p y w n (go st0 st1 l0 s0 i j le on' r) st l s e on =
+      let f = placed_level st0 st l0 l s0 s (sym i ∙ e) in
+      let h : Placed st0 l0 s0 ≡ Placed st l s = sym i ∙ e in
+      let k : st ≡ st0 = cc in
+      (st1, rw (sym f.0, sym f.1) j, on', ap stage_removed k ∙ r)
   moved_rest p y w n (clear l0 s0 i j f) st l s e on = absurd (not_off st l s l0 s0 on (inl (sym e ∙ i)))
 
   pub moved_free : (p y : ℕ) (w n : PageOwner) → Moves a o m p y w n → w ≡ Nobody → n ≡ Nobody
@@ -89,7 +95,8 @@ module _ {m : Shared} {log : List Update} {o : Owners} {knows : ℕ → Knowledg
 
   -- the tree after the actor's exchange of the page's slot from one row to another
   abbrev pub LinkedTree : (p x y : ℕ) (r : Option Reply) (log' : List Update) (o' : Owners) (ps : Option (List Update)) → Type 0
-  LinkedTree p x y r log' o' ps = IsTree (record m { slots = put m.slots p (Some y) }) log' o' (put knows a (finished (filled ((knows a).own.pages p) p x y (knows a)) r)) (put point a ps) (put logs a (log ∷ logs a))
+  LinkedTree p x y r log' o' ps =
+      IsTree (record m { slots = put m.slots p (Some y) }) log' o' (put knows a (finished (filled ((knows a).own.pages p) p x y (knows a)) r)) (put point a ps) (put logs a (log ∷ logs a))
 
   -- what was placed in a row of its own
   pub owned_row : (y : ℕ) (w : Record) → (knows a).own.rows y ≡ Written w → (o.row y ≡ Spare a) × (m.rows y ≡ Some w)
@@ -98,12 +105,15 @@ module _ {m : Shared} {log : List Update} {o : Owners} {knows : ℕ → Knowledg
   -- one row is linked in the place of the chain of a page, and pages go on
   pub relink_one : (p x y : ℕ) (c : List Record) → Found o m p x c → (place : OnSide g a p x c) → is_removed c ≡ false → m.slots p ≡ Some x → (w : Record) → (knows a).own.rows y ≡ Written w
       → (stage' : Stage) → rank place.stage ≤ rank stage' → rank stage' ≤ 3
-      → (page' : ℕ → PageOwner) (index' : ℕ → Key → Option ContentOf) → page' p ≡ Placed stage' (level_in c) (low_in c) → ((q : ℕ) → q ≢ p → Moves a o m p y (o.page q) (page' q)) → Exact page' index' g.tree.top m.root
+      → (page' : ℕ → PageOwner) (index' : ℕ → Key → Option ContentOf) → page' p ≡ Placed stage' (level_in c) (low_in c)
+      → ((q : ℕ) → q ≢ p → Moves a o m p y (o.page q) (page' q)) → Exact page' index' g.tree.top m.root
       → IfSome (next_row w) (λ n. o.row n ≡ Linked) → (rest : List Record) → IsChain m.rows rest (next_row w)
       → level_in (w ∷ rest) ≡ level_in c → low_in (w ∷ rest) ≡ low_in c → right_in (w ∷ rest) ≡ right_in c → high_in (w ∷ rest) ≡ high_in c → is_removed (w ∷ rest) ≡ stage_removed stage'
-      → (log' : List Update) → ((k : Key) → Covers c k → content_in (w ∷ rest) k ≡ spec log' index' (level_in c) k) → ((l : ℕ) (k : Key) → (l ≡ level_in c → Covers c k → ⊥) → spec log' index' l k ≡ spec log o.index l k)
+      → (log' : List Update) → ((k : Key) → Covers c k → content_in (w ∷ rest) k ≡ spec log' index' (level_in c) k)
+      → ((l : ℕ) (k : Key) → (l ≡ level_in c → Covers c k → ⊥) → spec log' index' l k ≡ spec log o.index l k)
       → (k : Knowledge) → linked_over (Written w) x y (knows a) ≡ k → k.own.rows ≡ put (knows a).own.rows y Foreign
-      → (OwnsPages a (record { row = put o.row y Linked; page = page'; index = index' }) (record m { slots = put m.slots p (Some y) }) (knows a).own.pages → OwnsPages a (record { row = put o.row y Linked; page = page'; index = index' }) (record m { slots = put m.slots p (Some y) }) k.own.pages)
+      → (OwnsPages a (record { row = put o.row y Linked; page = page'; index = index' }) (record m { slots = put m.slots p (Some y) }) (knows a).own.pages →
+      OwnsPages a (record { row = put o.row y Linked; page = page'; index = index' }) (record m { slots = put m.slots p (Some y) }) k.own.pages)
       → k.read ≡ (knows a).read → (ps : Option (List Update)) → LinkFits o m ps k.asked.linked → (r : Option Reply)
       → LinkedTree p x y r log' (record { row = put o.row y Linked; page = page'; index = index' }) ps
   relink_one p x y c f place alive s w placed stage' le on page' index' here moves exact next rest is_rest level low right high flagged log' same apart k learned rows pages read ps link r =
@@ -115,7 +125,9 @@ module _ {m : Shared} {log : List Update} {o : Owners} {knows : ℕ → Knowledg
       change
       (record {
         row = λ j f. put_other o.row y Linked j (λ i. absurd (cc (g.frees.row j f, own.0))) ∙ g.frees.row j f;
-        page = λ j h. let n = g.frees.page j h in let ne : j ≢ p = (λ i. absurd (cc (n.0, place.placed))) in (moved_free p y (o.page j) (page' j) (moves j ne) n.0, put_other m.slots p (Some y) j ne ∙ n.1);
+        page =
+            λ j h. let n = g.frees.page j h in let ne : j ≢ p = (λ i. absurd (cc (n.0, place.placed))) in
+            (moved_free p y (o.page j) (page' j) (moves j ne) n.0, put_other m.slots p (Some y) j ne ∙ n.1);
       })
       (closed_kept kept g.closed (λ j. by_equal j y
       (λ i t. rw t λ l. inr (rw i (record { linked = put_same o.row y Linked; content = w; stands = own.1; next = nexts (next_row w) next; rest = rest; is_rest = is_rest })))
@@ -148,10 +160,19 @@ module _ {m : Shared} {log : List Update} {o : Owners} {knows : ℕ → Knowledg
       exact
       (λ q l n i. by_equal q p
       (λ j t. rw t (absurd (not_off stage' (level_in c) (low_in c) l n on (rw (ap page' j ∙ here) at i))))
-      (λ ne t. rw t (rw (put_other m.slots p (Some y) q ne) at (off_still g a o' m' kept q l n (put_other m.slots p (Some y) q ne) (g.tree.off q l n (moved_off p y (o.page q) (page' q) (moves q ne) l n i)))))))
+      (λ ne t. rw t
+      (rw (put_other m.slots p (Some y) q ne) at (off_still g a o' m' kept q l n (put_other m.slots p (Some y) q ne) (g.tree.off q l n (moved_off p y (o.page q) (page' q) (moves q ne) l n i)))))))
       (rw rows (put_all (λ j v. OwnFits a (o'.row j) (m.rows j) v) (knows a).own.rows y Foreign tt (λ j ne. rw (put_other o.row y Linked j ne) (g.owns a j))))
       (pages owned)
-      (rw read (record { seen_fits = mine'.seen_fits; learnt_fits = mine'.learnt_fits; roots_fit = mine'.roots_fit; heads_fit = mine'.heads_fit; orders_fit = mine'.orders_fit; linked_fits = link_kept g.closed kept ps k.asked.linked link })))
+      (rw read (record {
+        seen_fits = mine'.seen_fits;
+        learnt_fits = mine'.learnt_fits;
+        roots_fit = mine'.roots_fit;
+        heads_fit = mine'.heads_fit;
+        orders_fit =
+            mine'.orders_fit;
+        linked_fits = link_kept g.closed kept ps k.asked.linked link;
+      })))
     where
       own : (o.row y ≡ Spare a) × (m.rows y ≡ Some w)
       own = owned_row y w placed

@@ -11,7 +11,15 @@ use Rattle.tree_law.proofs.shape.Kept.{Kept}
 
 module _ {m : Shared} {log : List Update} {o : Owners} {knows : ℕ → Knowledge} {point : ℕ → Option (List Update)} {logs : ℕ → List (List Update)} (g : IsTree m log o knows point logs) (a : ℕ) where
   pub roots : (x y : ℕ) → m.root ≡ x → (h : MayRoot (knows a) x y) → (r : Option Reply)
-      → IsTree (record m { root = y }) log (record { row = put o.row h.base_row Linked; page = put (put o.page h.right (Placed Indexed g.tree.top h.separator)) y (Placed Indexed (suc g.tree.top) []); index = put o.index g.tree.top (put_key (put_key (λ k. None) h.separator (Some (Child h.right false))) [] (Some (Child m.root false))) }) (put knows a (finished (rooted ((knows a).own.pages y) y (knows a)) r)) (put point a (point a)) (put logs a (log ∷ logs a)) × ((o.page x ≡ Placed Indexed g.tree.top []) × (o.page h.right ≡ Placed Fresh g.tree.top h.separator) × (o.page y ≡ Keeps a))
+      → IsTree (record m { root = y }) log (record {
+        row = put o.row h.base_row Linked;
+        page = put (put o.page h.right (Placed Indexed g.tree.top h.separator))
+            y (Placed Indexed (suc g.tree.top) []);
+        index = put o.index g.tree.top
+            (put_key (put_key (λ k. None) h.separator (Some (Child h.right false))) [] (Some (Child m.root false)));
+      }) (put knows a (finished
+      (rooted ((knows a).own.pages y) y (knows a)) r)) (put point a (point a)) (put logs a (log ∷ logs a)) × ((o.page x ≡ Placed Indexed g.tree.top []) ×
+      (o.page h.right ≡ Placed Fresh g.tree.top h.separator) × (o.page y ≡ Keeps a))
   roots x y s h r =
       let fits : (o.row h.base_row ≡ Spare a) × (m.rows h.base_row ≡ Some base) = rw h.base at (g.owns a h.base_row) in
       let m' : Shared = record m { root = y } in
@@ -37,7 +45,9 @@ module _ {m : Shared} {log : List Update} {o : Owners} {knows : ℕ → Knowledg
               is_chain = (fits.1, refl);
               on_level = ap suc level;
               some = refl;
-              same = λ k v. ap (λ (n : ℕ). put_key (put_key (λ j. None) h.separator (Some (Child b false))) [] (Some (Child n false)) k) (sym s) ∙ sym (ap (λ (f : Key → Option ContentOf). f k) (put_same o.index top terms'));
+              same =
+                  λ k v. ap (λ (n : ℕ). put_key (put_key (λ j. None) h.separator (Some (Child b false))) [] (Some (Child n false)) k) (sym s) ∙ sym
+                  (ap (λ (f : Key → Option ContentOf). f k) (put_same o.index top terms'));
             };
           },
           (refl, refl),
@@ -51,7 +61,9 @@ module _ {m : Shared} {log : List Update} {o : Owners} {knows : ℕ → Knowledg
             change
             (record {
               row = λ j n. put_other o.row h.base_row Linked j (λ i. absurd (cc (g.frees.row j n, fits.0))) ∙ g.frees.row j n;
-              page = λ j n. let v = g.frees.page j n in (put_other (put o.page b old) y new j (λ i. absurd (cc (ready.0, v.0))) ∙ put_other o.page b old j (λ i. absurd (let w = sym v.0 ∙ ap o.page i ∙ was in cc)) ∙ v.0, v.1);
+              page =
+                  λ j n. let v = g.frees.page j n in
+                  (put_other (put o.page b old) y new j (λ i. absurd (cc (ready.0, v.0))) ∙ put_other o.page b old j (λ i. absurd (let w = sym v.0 ∙ ap o.page i ∙ was in cc)) ∙ v.0, v.1);
             })
             (closed_kept kept g.closed (λ j. by_equal j h.base_row
             (λ i t. rw t λ l. inr (rw i (record { linked = put_same o.row h.base_row Linked; content = base; stands = fits.1; next = tt; rest = []; is_rest = refl })))
@@ -63,14 +75,18 @@ module _ {m : Shared} {log : List Update} {o : Owners} {knows : ℕ → Knowledg
               root = sym (put_same g.tree.first (suc top) y);
               levels = λ l le. by_equal l (suc top)
                   (λ i t. rw (t, i) top_level)
-                  (λ ne t. rw t (level_kept l (spec log o.index l) (spec log o'.index l) (g.tree.first l) g.closed kept (λ q k st e on. (refl, forth q l k st e on)) (others l ne) (λ q k st e on. old_page q l k st ne e on) (g.tree.levels l (omega arith))));
+                  (λ ne t. rw t (level_kept l (spec log o.index l) (spec log o'.index l) (g.tree.first l) g.closed kept
+                  (λ q k st e on. (refl, forth q l k st e on)) (others l ne) (λ q k st e on. old_page q l k st ne e on) (g.tree.levels l (omega arith))));
               exact = exact_root b h.separator y was h.some (keeps_not g a y ready.0) g.tree.exact;
               off = λ q l k. by_equal q y (λ i is. rw is λ e. absurd (not_off Indexed (suc top) [] l k (omega arith) e))
-                  (λ i is e. let rest = rw is at e in by_equal q b (λ i t. absurd (not_off Indexed top h.separator l k (omega arith) (rw t at rest))) (λ i t. off_still g a o' m' kept q l k refl (g.tree.off q l k (rw t at rest))));
+                  (λ i is e. let rest = rw is at e in by_equal q b (λ i t. absurd (not_off Indexed top h.separator l k (omega arith) (rw t at rest)))
+                  (λ i t. off_still g a o' m' kept q l k refl (g.tree.off q l k (rw t at rest))));
             })
             (put_all (λ j v. OwnFits a (o'.row j) (m.rows j) v) (knows a).own.rows h.base_row Foreign tt (λ j ne. rw (put_other o.row h.base_row Linked j ne) (g.owns a j)))
             (λ j. by_equal j y (λ i is. rw is tt)
-            (λ i is. rw is (moved_own g a x y (o.page j) (put o.page b old j) (by_equal j b (λ i t. rw t (go Fresh Indexed top h.separator (ap o.page i ∙ was) refl (omega arith) (omega arith) refl)) (λ i t. rw t (stay refl))) (m.slots j) ((knows a).own.pages j) (g.owns_pages a j))))
+            (λ i is. rw is (moved_own g a x y (o.page j) (put o.page b old j)
+            (by_equal j b (λ i t. rw t (go Fresh Indexed top h.separator (ap o.page i ∙ was) refl (omega arith) (omega arith) refl)) (λ i t. rw t (stay refl)))
+            (m.slots j) ((knows a).own.pages j) (g.owns_pages a j))))
             (mine_at g a o' m' kept)),
         (ap o.page (sym s) ∙ g.tree.exact.is_root, was, ready.0),
       )
@@ -96,7 +112,10 @@ module _ {m : Shared} {log : List Update} {o : Owners} {knows : ℕ → Knowledg
           ]
 
       was : o.page b ≡ Placed Fresh top h.separator
-      was = right.1 ∙ ap (λ st. Placed st top h.separator) (g.tree.exact.others b h.separator right.0 right.1 (λ e. absurd (let i = (placed_level right.0 Indexed top top h.separator [] (sym right.1 ∙ ap o.page e ∙ g.tree.exact.is_root)).1 in not_self [] (rw i at h.some))))
+      was =
+          right.1
+          ∙ ap (λ st. Placed st top h.separator) (g.tree.exact.others b h.separator right.0 right.1
+          (λ e. absurd (let i = (placed_level right.0 Indexed top top h.separator [] (sym right.1 ∙ ap o.page e ∙ g.tree.exact.is_root)).1 in not_self [] (rw i at h.some))))
 
       base : Record
       base = root_over (suc (level_in h.basis.chain)) x h.separator b
@@ -127,7 +146,8 @@ module _ {m : Shared} {log : List Update} {o : Owners} {knows : ℕ → Knowledg
       forth q l k st e on =
           let other : eqb q y ≡ false = eqb_apart q y (λ i. keeps_not g a y ready.0 l k st (sym (ap o.page i) ∙ e)) in
           by_equal q b
-          (λ i t. let w : Placed Fresh top h.separator ≡ Placed st l k = sym was ∙ sym (ap o.page i) ∙ e in let v = placed_level Fresh st top l h.separator k w in let same : Fresh ≡ st = cc in (Indexed, rw (other, t, v.0, v.1), omega arith, ap stage_removed (sym same)))
+          (λ i t. let w : Placed Fresh top h.separator ≡ Placed st l k = sym was ∙ sym (ap o.page i) ∙ e in let v = placed_level Fresh st top l h.separator k w
+          in let same : Fresh ≡ st = cc in (Indexed, rw (other, t, v.0, v.1), omega arith, ap stage_removed (sym same)))
           (λ i t. (st, rw (other, t) e, on, refl))
 
       others : (l : ℕ) → l ≢ suc top → (k : Key) → spec log o'.index l k ≡ spec log o.index l k

@@ -19,7 +19,9 @@ module _ {m : Shared} {log : List Update} {o : Owners} {knows : ℕ → Knowledg
   -- the exchange that links a split
   pub splits : (p x y : ℕ) → m.slots p ≡ Some x → (basis : HasRead (knows a) p x) (content : Record) → (knows a).own.rows y ≡ Written content → (h : MaySplit (knows a) x basis.chain content)
       → (r : Option Reply)
-      → LinkedTree g a p x y r log (record { row = put (put o.row h.row Linked) y Linked; page = put o.page h.right (Placed Fresh (level_in basis.chain) h.separator); index = o.index }) (point a) × ((st : Stage) × (o.page p ≡ Placed st (level_in basis.chain) (low_in basis.chain)) × (o.page h.right ≡ Keeps a))
+      → LinkedTree g a p x y r log
+      (record { row = put (put o.row h.row Linked) y Linked; page = put o.page h.right (Placed Fresh (level_in basis.chain) h.separator); index = o.index })
+      (point a) × ((st : Stage) × (o.page p ≡ Placed st (level_in basis.chain) (low_in basis.chain)) × (o.page h.right ≡ Keeps a))
   splits p x y s basis content written h r =
       let learned : filled ((knows a).own.pages p) p x y (knows a) ≡ handed_page h.right Other y (handed_over h.row (knows a)) =
       rw (not_own g a p (level_in c) (low_in c) place.stage place.placed ((knows a).own.pages p) (g.owns_pages a p), (written ∙ ap Written h.is), h.ready) refl in
@@ -36,7 +38,9 @@ module _ {m : Shared} {log : List Update} {o : Owners} {knows : ℕ → Knowledg
         row = λ j. by_equal j y (λ i is. rw is (row_own (ap o.row i ∙ upper.0)))
             (λ i is. rw is (by_equal j h.row (λ i t. rw t (row_own (ap o.row i ∙ lower.0))) (λ i t. rw t (row_same refl refl))));
         page = λ j. by_equal j h.right (λ i is. rw is (page_own (ap o.page i ∙ ready.0)))
-            (λ i is. rw is (by_equal j p (λ i t. rw t (page_link place.stage place.stage (level_in c) (low_in c) (ap o.page i ∙ place.placed) (ap o.page i ∙ place.placed) (omega arith) x y c (ap m.slots i ∙ s) f.stands basis.alive refl upper.0)) (λ i t. rw t (page_same refl refl))));
+            (λ i is. rw is (by_equal j p (λ i t. rw t
+            (page_link place.stage place.stage (level_in c) (low_in c) (ap o.page i ∙ place.placed) (ap o.page i ∙ place.placed) (omega arith) x y c (ap m.slots i ∙ s) f.stands basis.alive refl upper.0))
+            (λ i t. rw t (page_same refl refl))));
       } in
       let linked_lower : o'.row h.row ≡ Linked = by_equal h.row y (λ i t. rw t) (λ i t. rw t (put_same o.row h.row Linked)) in
       let kept : Kept o o' m m' = kept_change change in (
@@ -49,11 +53,16 @@ module _ {m : Shared} {log : List Update} {o : Owners} {knows : ℕ → Knowledg
                   (λ i t. rw t ((g.frees.page j n).0, put_other m.slots p (Some y) j (λ i. absurd (let v = sym (g.frees.page j n).0 ∙ ap o.page i ∙ place.placed in cc)) ∙ (g.frees.page j n).1));
             })
             (closed_kept kept g.closed (λ j. by_equal j y
-            (λ i is. rw is λ l. inr (rw i (record { linked = put_same (put o.row h.row Linked) y Linked; content = Split split; stands = upper.1; next = (kept.row x f.linked).0; rest = c; is_rest = f.stands })))
+            (λ i is. rw is λ l. inr
+            (rw i (record { linked = put_same (put o.row h.row Linked) y Linked; content = Split split; stands = upper.1; next = (kept.row x f.linked).0; rest = c; is_rest = f.stands })))
             (λ i is. rw is (by_equal j h.row
             (λ i t. rw t λ l. inr (rw i (record { linked = linked_lower; content = base; stands = lower.1; next = tt; rest = []; is_rest = refl })))
             (λ i t. rw t λ l. inl l)))))
-            (tree_relinked log log g.closed kept g.tree p (level_in c) (low_in c) place.stage place.placed place.on x s c f.stands (λ q l n st ne e on. (put_other m.slots p (Some y) q ne, (st, put_other o.page h.right (Placed Fresh (level_in c) h.separator) q (λ j. keeps_not h.right ready.0 l n st (sym (ap o.page j) ∙ e)) ∙ e, on, refl))) refl (λ l k n. refl)
+            (tree_relinked log log g.closed kept g.tree p (level_in c) (low_in c) place.stage place.placed place.on x s c f.stands (λ q l n st ne e on. (
+              put_other m.slots p (Some y) q ne,
+              (st, put_other o.page h.right (Placed Fresh (level_in c) h.separator) q (λ j. keeps_not h.right ready.0 l n st (sym (ap o.page j) ∙ e)) ∙ e, on, refl),
+            ))
+            refl (λ l k n. refl)
             (record { page = p; row = y; chain = Split split ∷ c } ∷ record { page = h.right; row = h.row; chain = base ∷ [] } ∷ []) (
               refl,
               refl,
@@ -97,7 +106,9 @@ module _ {m : Shared} {log : List Update} {o : Owners} {knows : ℕ → Knowledg
             (exact_fresh h.right (level_in c) h.separator (keeps_not h.right ready.0) (g.tree.exact.below p (level_in c) (low_in c) place.stage place.placed) g.tree.exact)
             (λ q l k. by_equal q h.right
             (λ i t. rw t λ e. absurd (not_off Fresh (level_in c) h.separator l k (omega arith) e))
-            (λ i t e. let was = rw t at e in off_still g a o' m' kept q l k (put_other m.slots p (Some y) q (λ j. not_off place.stage (level_in c) (low_in c) l k place.on (rw (ap o.page j ∙ place.placed) at was))) (g.tree.off q l k was))))
+            (λ i t e. let was = rw t at e in off_still g a o' m' kept q l k
+            (put_other m.slots p (Some y) q (λ j. not_off place.stage (level_in c) (low_in c) l k place.on (rw (ap o.page j ∙ place.placed) at was)))
+            (g.tree.off q l k was))))
             (λ j. by_equal j y (λ i is. rw is tt)
             (λ i is. rw is (by_equal j h.row (λ i t. rw t tt) (λ i t. rw t (g.owns a j)))))
             (λ j. by_equal j h.right (λ i is. rw is tt)

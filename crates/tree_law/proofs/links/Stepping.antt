@@ -47,7 +47,8 @@ links_same : (m : Shared) (a : ℕ) (u : Update) (x p : ℕ) (f : ℕ → PageOw
 links_same m a (set b k v) x p f = refl
 links_same m a (unset b k) x p f = refl
 
-module _ (memory : Memory) {log : List Update} {o : Owners} {knows : ℕ → Knowledge} {point : ℕ → Option (List Update)} {logs : ℕ → List (List Update)} (g : IsTree (shared memory) log o knows point logs) (a : ℕ) where
+module _ (memory : Memory) {log : List Update} {o : Owners} {knows : ℕ → Knowledge} {point : ℕ → Option (List Update)} {logs : ℕ → List (List Update)}
+    (g : IsTree (shared memory) log o knows point logs) (a : ℕ) where
   -- what a step with its answer leaves
   abbrev pub After : Memory → StepOf Record → Answer Record → Option Reply → Type 0
   After memory' s x r = Next a (shared memory) (shared memory') log o knows point logs s x r
@@ -64,7 +65,8 @@ module _ (memory : Memory) {log : List Update} {o : Owners} {knows : ℕ → Kno
   -- a step after which each row and page is whose it was
   rests : {m' : Shared} {s : StepOf Record} {x : Answer Record} {r : Option Reply} → Phased a (shared memory) s x o.page o.page → ((row : ℕ) → o.row row ≡ Linked → m'.rows row ≡ memory.rows row)
       → IsTree m' log o (put knows a (finished (learn (knows a) s x) r)) (put point a (point a)) (put logs a (log ∷ logs a)) → Next a (shared memory) m' log o knows point logs s x r
-  rests phased rows is_tree = record { update = None; due = tt; last = λ i. refl; owners = o; phased = phased; moved = same_moved; added = same_added; homed = λ row l. inl l; kept = λ row l. (l, rows row l); is_tree = is_tree }
+  rests phased rows is_tree = record
+      { update = None; due = tt; last = λ i. refl; owners = o; phased = phased; moved = same_moved; added = same_added; homed = λ row l. inl l; kept = λ row l. (l, rows row l); is_tree = is_tree }
 
   -- one after which the actor holds what it held, and has read no more
   idle : {s : StepOf Record} {x : Answer Record} {r : Option Reply} → Phased a (shared memory) s x o.page o.page → (learn (knows a) s x).own ≡ (knows a).own
@@ -81,7 +83,8 @@ module _ (memory : Memory) {log : List Update} {o : Owners} {knows : ℕ → Kno
   linked_moved y spare row = by_equal row y (λ e t. rw t (inr (inr (ap o.row e ∙ spare, refl)))) (λ ne t. rw t (inl refl))
 
   -- a delta is linked over the chain that was read
-  adds : (p x y : ℕ) (w : Record) → (knows a).own.rows y ≡ Written w → next_row w ≡ Some x → (basis : HasRead (knows a) p x) → FitsOn basis.chain w → ((remove : RemoveOf) → w ≡ Remove remove → IsUnheld basis.chain) → IsAdded o memory.rows y
+  adds : (p x y : ℕ) (w : Record) → (knows a).own.rows y ≡ Written w → next_row w ≡ Some x → (basis : HasRead (knows a) p x) → FitsOn basis.chain w
+      → ((remove : RemoveOf) → w ≡ Remove remove → IsUnheld basis.chain) → IsAdded o memory.rows y
   adds p x y w placed next basis fits unheld = record {
     content = w;
     stands = placed_row g a y w placed;
@@ -100,7 +103,8 @@ module _ (memory : Memory) {log : List Update} {o : Owners} {knows : ℕ → Kno
   linked_added y h row l = by_equal row y (λ e t. inr (rw e h)) (λ ne t. let i = rw t at l in inl i)
 
   -- the new row of a slot is linked
-  linked_homed : (p x y : ℕ) (w : Record) → (knows a).own.rows (suc y) ≡ Written w → IfSome (next_row w) (λ n. n ≡ x) → (row : ℕ) → put o.row (suc y) Linked row ≡ Linked → (o.row row ≡ Linked) ⊎ IsHomed (shared memory) (Exchange (suc p) x (suc y)) (Whether true) row
+  linked_homed : (p x y : ℕ) (w : Record) → (knows a).own.rows (suc y) ≡ Written w → IfSome (next_row w) (λ n. n ≡ x) → (row : ℕ)
+      → put o.row (suc y) Linked row ≡ Linked → (o.row row ≡ Linked) ⊎ IsHomed (shared memory) (Exchange (suc p) x (suc y)) (Whether true) row
   linked_homed p x y w placed next row l = by_equal row (suc y) (λ e t. inr (inl (w, e, ap memory.rows e ∙ placed_row g a (suc y) w placed, next))) (λ ne t. let i = rw t at l in inl i)
 
   -- a row that was the actor's own is linked
@@ -133,21 +137,38 @@ module _ (memory : Memory) {log : List Update} {o : Owners} {knows : ℕ → Kno
   takes q r false e = rests refl (λ row l. refl) (rw (cleared_again memory.free_rows q e) (idles g a (finished (knows a) r) refl refl refl))
 
   takes_pid : (q : ℕ) (r : Option Reply) (t : Bool) → memory.free_pids q ≡ t → After (memory_after a (TakePid q) memory) (TakePid q) (Whether t) r
-  takes_pid q r true e = record { update = None; due = tt; last = λ i. refl; owners = record o { page = put o.page q (Keeps a) }; phased = refl; moved = same_moved; added = same_added; homed = λ row l. inl l; kept = same_rows; is_tree = takes_page g a q e r }
+  takes_pid q r true e = record {
+    update = None;
+    due = tt;
+    last = λ i. refl;
+    owners = record o { page = put o.page q (Keeps a) };
+    phased = refl;
+    moved =
+        same_moved;
+    added = same_added;
+    homed = λ row l. inl l;
+    kept = same_rows;
+    is_tree = takes_page g a q e r;
+  }
   takes_pid q r false e = rests refl (λ row l. refl) (rw (cleared_again memory.free_pids q e) (idles g a (finished (knows a) r) refl refl refl))
 
   -- an exchange that lost teaches nothing
   loses : (p x y : ℕ) (r : Option Reply) → After memory (Exchange p x y) (Whether false) r
   loses p x y r = idle refl refl refl refl
 
-  module _ (p x y : ℕ) (r : Option Reply) (s : slot_in memory.slots (suc p) ≡ Some (suc x)) (basis : HasRead (knows a) (suc p) (suc x)) (content : Record) (written : (knows a).own.rows (suc y) ≡ Written content) (fits : FitsOn basis.chain content) where
+  module _ (p x y : ℕ) (r : Option Reply) (s : slot_in memory.slots (suc p) ≡ Some (suc x)) (basis : HasRead (knows a) (suc p) (suc x)) (content : Record)
+      (written : (knows a).own.rows (suc y) ≡ Written content) (fits : FitsOn basis.chain content) where
     -- the memory in which the row is linked on the page
     abbrev pub Linking : Type 0
     Linking = Next a (shared memory) (record (shared memory) { slots = put (slot_in memory.slots) (suc p) (Some (suc y)) }) log o knows point logs (Exchange (suc p) (suc x) (suc y)) (Whether true) r
 
     -- the row is linked, some pages go on, and no update is made
-    one : (w : Record) → (knows a).own.rows (suc y) ≡ Written w → IfSome (next_row w) (λ n. n ≡ suc x) → IsAdded o memory.rows (suc y) → (page : ℕ → PageOwner) (index : ℕ → Key → Option ContentOf) → LinkMoves (shared memory) a w (suc p) o.page page
-        → IsTree (record (shared memory) { slots = put (slot_in memory.slots) (suc p) (Some (suc y)) }) log (record { row = put o.row (suc y) Linked; page = page; index = index }) (put knows a (finished (filled ((knows a).own.pages (suc p)) (suc p) (suc x) (suc y) (knows a)) r)) (put point a (point a)) (put logs a (log ∷ logs a))
+    one : (w : Record) → (knows a).own.rows (suc y) ≡ Written w → IfSome (next_row w) (λ n. n ≡ suc x) → IsAdded o memory.rows (suc y)
+        → (page : ℕ → PageOwner) (index : ℕ → Key → Option ContentOf) → LinkMoves (shared memory) a w (suc p) o.page page
+        → IsTree (record (shared memory) { slots = put (slot_in memory.slots) (suc p) (Some (suc y)) }) log
+        (record { row = put o.row (suc y) Linked; page = page; index = index })
+        (put knows a (finished (filled ((knows a).own.pages (suc p)) (suc p) (suc x) (suc y) (knows a)) r)) (put point a (point a))
+        (put logs a (log ∷ logs a))
         → Linking
     one w placed next added page index moves is_tree = record {
       update = None;
@@ -163,8 +184,12 @@ module _ (memory : Memory) {log : List Update} {o : Owners} {knows : ℕ → Kno
     }
 
     -- the same of a delta over the old row
-    delta : (w : Record) → content ≡ w → next_row w ≡ Some (suc x) → ((remove : RemoveOf) → w ≡ Remove remove → IsUnheld basis.chain) → (page : ℕ → PageOwner) (index : ℕ → Key → Option ContentOf) → LinkMoves (shared memory) a w (suc p) o.page page
-        → IsTree (record (shared memory) { slots = put (slot_in memory.slots) (suc p) (Some (suc y)) }) log (record { row = put o.row (suc y) Linked; page = page; index = index }) (put knows a (finished (filled ((knows a).own.pages (suc p)) (suc p) (suc x) (suc y) (knows a)) r)) (put point a (point a)) (put logs a (log ∷ logs a))
+    delta : (w : Record) → content ≡ w → next_row w ≡ Some (suc x) → ((remove : RemoveOf) → w ≡ Remove remove → IsUnheld basis.chain)
+        → (page : ℕ → PageOwner) (index : ℕ → Key → Option ContentOf) → LinkMoves (shared memory) a w (suc p) o.page page
+        → IsTree (record (shared memory) { slots = put (slot_in memory.slots) (suc p) (Some (suc y)) }) log
+        (record { row = put o.row (suc y) Linked; page = page; index = index })
+        (put knows a (finished (filled ((knows a).own.pages (suc p)) (suc p) (suc x) (suc y) (knows a)) r)) (put point a (point a))
+        (put logs a (log ∷ logs a))
         → Linking
     delta w is next unheld = one w (written ∙ ap Written is) (rw next) (adds (suc p) (suc x) (suc y) w (written ∙ ap Written is) next basis (rw is at fits) unheld)
 
@@ -176,14 +201,18 @@ module _ (memory : Memory) {log : List Update} {o : Owners} {knows : ℕ → Kno
       owners = record o { row = put o.row (suc y) Linked };
       phased = (update_record h.update (suc x), placed_row g a (suc y) (update_record h.update (suc x)) (written ∙ ap Written h.is), links_same (shared memory) a h.update (suc x) (suc p) o.page);
       moved = linked_moved (suc y) (spare_of (suc y) (written ∙ ap Written h.is));
-      added = linked_added (suc y) (adds (suc p) (suc x) (suc y) (update_record h.update (suc x)) (written ∙ ap Written h.is) (record_next h.update (suc x)) basis (rw h.is at fits) (not_removed h.update (suc x) basis.chain));
+      added =
+          linked_added (suc y) (adds (suc p) (suc x) (suc y) (update_record h.update (suc x)) (written ∙ ap Written h.is) (record_next h.update (suc x)) basis
+          (rw h.is at fits) (not_removed h.update (suc x) basis.chain));
       homed = linked_homed p (suc x) y (update_record h.update (suc x)) (written ∙ ap Written h.is) (rw (record_next h.update (suc x)) refl);
       kept = linked_rows (suc y);
       is_tree = n.0;
     }
 
     by_base : MayConsolidate basis.chain content → Linking
-    by_base h = one (base_from basis.chain (low_in basis.chain) h.items) (written ∙ ap Written h.is) tt (based (suc y) (written ∙ ap Written h.is) (rw h.is at fits)) o.page o.index refl (consolidates g a (suc p) (suc x) (suc y) s basis content written h r)
+    by_base h =
+        one (base_from basis.chain (low_in basis.chain) h.items) (written ∙ ap Written h.is) tt (based (suc y) (written ∙ ap Written h.is) (rw h.is at fits))
+        o.page o.index refl (consolidates g a (suc p) (suc x) (suc y) s basis content written h r)
 
     by_split : MaySplit (knows a) (suc x) basis.chain content → Linking
     by_split h = let n = splits g a (suc p) (suc x) (suc y) s basis content written h r in record {
@@ -198,12 +227,29 @@ module _ (memory : Memory) {log : List Update} {o : Owners} {knows : ℕ → Kno
       );
       moved = λ row. by_equal row (suc y) (λ e t. rw t (inr (inr (ap o.row e ∙ spare_of (suc y) (written ∙ ap Written h.is), refl)))) (λ ne t. rw t (linked_moved h.row (spare_of h.row h.base) row));
       homed = λ row. by_equal row (suc y)
-          (λ e is. rw is λ i. inr (inl (Split (record { level = level_in basis.chain; next = suc x; separator = h.separator; page = h.right }), e, ap memory.rows e ∙ placed_row g a (suc y) (Split (record { level = level_in basis.chain; next = suc x; separator = h.separator; page = h.right })) (written ∙ ap Written h.is), refl)))
+          (λ e is. rw is λ i. inr (inl (
+            Split (record { level = level_in basis.chain; next = suc x; separator = h.separator; page = h.right }),
+            e,
+            ap
+                memory.rows e ∙ placed_row g a (suc y) (Split (record { level = level_in basis.chain; next = suc x; separator = h.separator; page = h.right }))
+                (written ∙ ap Written h.is),
+            refl,
+          )))
           (λ ne is. rw is (by_equal row h.row
-          (λ e t. rw t λ i. inr (inr (record { level = level_in basis.chain; next = suc x; separator = h.separator; page = h.right }, _, placed_row g a (suc y) (Split (record { level = level_in basis.chain; next = suc x; separator = h.separator; page = h.right })) (written ∙ ap Written h.is), ready_slot h.right h.row h.ready ∙ ap Some (sym e), ap memory.rows e ∙ placed_row g a h.row (base_from basis.chain h.separator h.items) h.base)))
+          (λ e t. rw t λ i. inr (inr (
+            record { level = level_in basis.chain; next = suc x; separator = h.separator; page = h.right },
+            _,
+            placed_row g a (suc y)
+                (Split (record { level = level_in basis.chain; next = suc x; separator = h.separator; page = h.right })) (written ∙ ap Written h.is),
+            ready_slot
+                h.right h.row h.ready ∙ ap Some (sym e),
+            ap memory.rows e ∙ placed_row g a h.row (base_from basis.chain h.separator h.items) h.base,
+          )))
           (λ ne t. rw t λ i. inl i)));
       added = λ row. by_equal row (suc y)
-          (λ e t. rw t λ i. inr (rw e (adds (suc p) (suc x) (suc y) (Split (record { level = level_in basis.chain; next = suc x; separator = h.separator; page = h.right })) (written ∙ ap Written h.is) refl basis (rw h.is at fits) (λ remove is. absurd (cc)))))
+          (λ e t. rw t λ i. inr (rw e (adds (suc p) (suc x) (suc y)
+          (Split (record { level = level_in basis.chain; next = suc x; separator = h.separator; page = h.right })) (written ∙ ap Written h.is) refl basis
+          (rw h.is at fits) (λ remove is. absurd (cc)))))
           (λ ne t. rw t (linked_added h.row (based h.row h.base h.ruled) row));
       kept = λ row l. (by_equal row (suc y) (λ e t. rw t) (λ ne t. rw t (linked_rows h.row row l).0), refl);
       is_tree = n.0;
@@ -216,18 +262,30 @@ module _ (memory : Memory) {log : List Update} {o : Owners} {knows : ℕ → Kno
     by_hold h = let n = holds g a (suc p) (suc x) (suc y) s basis content written h r in delta _ h.is refl (λ remove is. absurd (cc)) _ _ (h.level, n.1, refl) n.0
 
     by_remove : MayRemove (knows a) (suc p) (suc x) basis.chain content → Linking
-    by_remove h = let n = removes g a (suc p) (suc x) (suc y) s basis content written h r in delta _ h.is refl (λ remove is. h.unheld) _ _ (level_in basis.chain, low_in basis.chain, n.1, refl, (suc x, basis.chain, s, chain_stands o (shared memory) (knows a).read.seen (g.sound a).seen_fits basis.chain (Some (suc x)) basis.read, h.unheld)) n.0
+    by_remove h =
+        let n = removes g a (suc p) (suc x) (suc y) s basis content written h r in
+        delta _ h.is refl (λ remove is. h.unheld) _ _ (
+          level_in basis.chain,
+          low_in basis.chain,
+          n.1,
+          refl,
+          (suc x, basis.chain, s, chain_stands o (shared memory) (knows a).read.seen (g.sound a).seen_fits basis.chain (Some (suc x)) basis.read, h.unheld),
+        )
+        n.0
 
     by_merge : MayMerge (knows a) (suc x) basis.chain content → Linking
     by_merge h =
         let n = merges g a (suc p) (suc x) (suc y) s basis content written h r in
-        delta _ h.is refl (λ remove is. absurd (cc)) _ _ (h.other, level_in basis.chain, n.1, refl, (suc x, basis.chain, s, chain_stands o (shared memory) (knows a).read.seen (g.sound a).seen_fits basis.chain (Some (suc x)) basis.read, h.right)) n.0
+        delta _ h.is refl (λ remove is. absurd (cc)) _ _
+        (h.other, level_in basis.chain, n.1, refl, (suc x, basis.chain, s, chain_stands o (shared memory) (knows a).read.seen (g.sound a).seen_fits basis.chain (Some (suc x)) basis.read, h.right))
+        n.0
 
     by_unterm : MayUnterm (knows a) (suc p) (suc x) basis.chain content → Linking
     by_unterm h = let n = unterms g a (suc p) (suc x) (suc y) s basis content written h r in delta _ h.is refl (λ remove is. absurd (cc)) _ _ (level_in h.below.chain, n.1, refl) n.0
 
   -- what is placed is linked, by its kind
-  links : (p x y : ℕ) (r : Option Reply) (s : slot_in memory.slots (suc p) ≡ Some (suc x)) (basis : HasRead (knows a) (suc p) (suc x)) (content : Record) (written : (knows a).own.rows (suc y) ≡ Written content) (fits : FitsOn basis.chain content)
+  links : (p x y : ℕ) (r : Option Reply) (s : slot_in memory.slots (suc p) ≡ Some (suc x)) (basis : HasRead (knows a) (suc p) (suc x)) (content : Record)
+      (written : (knows a).own.rows (suc y) ≡ Written content) (fits : FitsOn basis.chain content)
       → MayLink a (knows a) (suc p) (suc x) basis.chain content → Linking p x y r s basis content written fits
   links p x y r s basis (Base base) = by_base p x y r s basis (Base base)
   links p x y r s basis (Split split) = by_split p x y r s basis (Split split)
@@ -245,13 +303,18 @@ module _ (memory : Memory) {log : List Update} {o : Owners} {knows : ℕ → Kno
   exchanges : (p x y : ℕ) (r : Option Reply) → slot_in memory.slots (suc p) ≡ row_in x → MayExchange a (knows a) (suc p) x y
       → Next a (shared memory) (record (shared memory) { slots = put (slot_in memory.slots) (suc p) (row_in y) }) log o knows point logs (Exchange (suc p) x y) (Whether true) r
   exchanges p zero zero r s h = absurd h
-  exchanges p zero (suc y) r s h = rests ((refl, (own_kept (suc p) Empty h.0).0)) (λ row l. refl) (rw h.0 (own_slot g a (suc p) (Some (suc y)) (Ready (suc y)) (own_kept (suc p) Empty h.0).0 ((own_kept (suc p) Empty h.0).0, refl) (finished (filled Empty (suc p) zero (suc y) (knows a)) r) refl refl refl refl))
-  exchanges p (suc x) zero r s (inl h) = rests ((refl, inl (own_kept (suc p) (Ready (suc x)) h).0)) (λ row l. refl) (rw h (own_slot g a (suc p) None Empty (own_kept (suc p) (Ready (suc x)) h).0 ((own_kept (suc p) (Ready (suc x)) h).0, refl) (finished (emptied (Ready (suc x)) (suc p) (suc x) (knows a)) r) refl refl refl refl))
+  exchanges p zero (suc y) r s h =
+      rests ((refl, (own_kept (suc p) Empty h.0).0)) (λ row l. refl) (rw h.0 (own_slot g a (suc p) (Some (suc y)) (Ready (suc y)) (own_kept (suc p) Empty h.0).0
+      ((own_kept (suc p) Empty h.0).0, refl) (finished (filled Empty (suc p) zero (suc y) (knows a)) r) refl refl refl refl))
+  exchanges p (suc x) zero r s (inl h) =
+      rests ((refl, inl (own_kept (suc p) (Ready (suc x)) h).0)) (λ row l. refl) (rw h (own_slot g a (suc p) None Empty (own_kept (suc p) (Ready (suc x)) h).0
+      ((own_kept (suc p) (Ready (suc x)) h).0, refl) (finished (emptied (Ready (suc x)) (suc p) (suc x) (knows a)) r) refl refl refl refl))
   exchanges p (suc x) zero r s (inr h) = rests ((refl, inr (let w = own_kept (suc p) Gone h in (w.0, w.1, w.2)))) (λ row l. refl) (clears g a (suc p) (suc x) s h r)
   exchanges p (suc x) (suc y) r s h = links p x y r s h.basis h.content h.placed h.fits h.due
 
   -- an exchange of slot 0 that won
-  exchanges_root : (x y : ℕ) (r : Option Reply) → memory.slots 0 ≡ x → MayRoot (knows a) x y → Next a (shared memory) (record (shared memory) { root = y }) log o knows point logs (Exchange 0 x y) (Whether true) r
+  exchanges_root : (x y : ℕ) (r : Option Reply) → memory.slots 0 ≡ x → MayRoot (knows a) x y
+      → Next a (shared memory) (record (shared memory) { root = y }) log o knows point logs (Exchange 0 x y) (Whether true) r
   exchanges_root x y r s h = let n = roots g a x y s h r in record {
     update = None;
     due = tt;
@@ -261,11 +324,22 @@ module _ (memory : Memory) {log : List Update} {o : Owners} {knows : ℕ → Kno
       page = put (put o.page h.right (Placed Indexed g.tree.top h.separator)) y (Placed Indexed (suc g.tree.top) []);
       index = put o.index g.tree.top (put_key (put_key (λ k. None) h.separator (Some (Child h.right false))) [] (Some (Child (memory.slots 0) false)));
     };
-    phased = (h.right, g.tree.top, h.separator, n.1.0, n.1.1, n.1.2, refl, (h.base_row, suc (level_in h.basis.chain), ready_slot y h.base_row h.ready, placed_row g a h.base_row (root_over (suc (level_in h.basis.chain)) x h.separator h.right) h.base), h.some);
+    phased = (
+      h.right,
+      g.tree.top,
+      h.separator,
+      n.1.0,
+      n.1.1,
+      n.1.2,
+      refl,
+      (h.base_row, suc (level_in h.basis.chain), ready_slot y h.base_row h.ready, placed_row g a h.base_row (root_over (suc (level_in h.basis.chain)) x h.separator h.right) h.base),
+      h.some,
+    );
     moved = linked_moved h.base_row (spare_of h.base_row h.base);
     added = linked_added h.base_row (based h.base_row h.base h.ruled);
     homed = λ row. by_equal row h.base_row
-        (λ e t. rw t λ i. inr (_, ready_slot y h.base_row h.ready ∙ ap Some (sym e), ap memory.rows e ∙ placed_row g a h.base_row (root_over (suc (level_in h.basis.chain)) x h.separator h.right) h.base))
+        (λ e t. rw t λ i. inr
+        (_, ready_slot y h.base_row h.ready ∙ ap Some (sym e), ap memory.rows e ∙ placed_row g a h.base_row (root_over (suc (level_in h.basis.chain)) x h.separator h.right) h.base))
         (λ ne t. rw t λ i. inl i);
     kept = linked_rows h.base_row;
     is_tree = n.0;
@@ -285,7 +359,8 @@ module _ (memory : Memory) {log : List Update} {o : Owners} {knows : ℕ → Kno
   step (Row q) calm r h x e = rw e.2 (rests refl (λ row l. refl) (reads_row g a q e.0 h.1 e.1 r))
   step Epoch calm r h x e = rw e (idle refl refl refl refl)
   step (Announce b) calm r h x e = rw e (idle refl refl refl refl)
-  step (Place q w) calm r h x e = rw e (rests refl (λ row l. put_other memory.rows q (Some w) row (λ i. absurd (cc (own_spare (memory.rows q) ((knows a).own.rows q) (g.owns a q) h.1)))) (places g a q w h.1 r))
+  step (Place q w) calm r h x e =
+      rw e (rests refl (λ row l. put_other memory.rows q (Some w) row (λ i. absurd (cc (own_spare (memory.rows q) ((knows a).own.rows q) (g.owns a q) h.1)))) (places g a q w h.1 r))
   step (Exchange p old y) calm r h x e = rw e (exchange p old y r h.1)
   step (TakePid q) calm r h x e = rw e (takes_pid q r (memory.free_pids q) refl)
   step (TakeRow q) calm r h x e = rw e (takes q r (memory.free_rows q) refl)

@@ -8,7 +8,8 @@ use Rattle.tree_law.proofs.shape.Kept.{Kept}
 
 module _ {m : Shared} {log : List Update} {o : Owners} {knows : ℕ → Knowledge} {point : ℕ → Option (List Update)} {logs : ℕ → List (List Update)} (g : IsTree m log o knows point logs) (a : ℕ) where
   pub takes_row : (q : ℕ) → m.free q ≡ true → (r : Option Reply)
-      → IsTree (record m { free = put m.free q false }) log (record o { row = put o.row q (Spare a) }) (put knows a (finished (learn (knows a) (TakeRow q) (Whether true)) r)) (put point a (point a)) (put logs a (log ∷ logs a))
+      → IsTree (record m { free = put m.free q false }) log (record o { row = put o.row q (Spare a) })
+      (put knows a (finished (learn (knows a) (TakeRow q) (Whether true)) r)) (put point a (point a)) (put logs a (log ∷ logs a))
   takes_row q f r =
       let m' : Shared = record m { free = put m.free q false } in
       let o' : Owners = record o { row = put o.row q (Spare a) } in
@@ -28,7 +29,8 @@ module _ {m : Shared} {log : List Update} {o : Owners} {knows : ℕ → Knowledg
       (mine_at g a o' m' kept)
 
   pub takes_page : (q : ℕ) → m.free_pages q ≡ true → (r : Option Reply)
-      → IsTree (record m { free_pages = put m.free_pages q false }) log (record o { page = put o.page q (Keeps a) }) (put knows a (finished (learn (knows a) (TakePid q) (Whether true)) r)) (put point a (point a)) (put logs a (log ∷ logs a))
+      → IsTree (record m { free_pages = put m.free_pages q false }) log (record o { page = put o.page q (Keeps a) })
+      (put knows a (finished (learn (knows a) (TakePid q) (Whether true)) r)) (put point a (point a)) (put logs a (log ∷ logs a))
   takes_page q f r =
       let was : (o.page q ≡ Nobody) × (m.slots q ≡ None) = g.frees.page q f in
       let m' : Shared = record m { free_pages = put m.free_pages q false } in
@@ -50,12 +52,14 @@ module _ {m : Shared} {log : List Update} {o : Owners} {knows : ℕ → Knowledg
       })
       (closed_kept kept g.closed (λ j l. inl l))
       (tree_kept log g.closed kept (λ p l s st e on. (refl, (st, new p l s st e, on, refl))) refl refl (λ p l s st e on. (st, old p l s st e, on)) g.tree
-      (exact_same old new cleared g.tree.exact) (λ p l s i. off_still g a o' m' kept p l s refl (g.tree.off p l s (elim i [ inl u ↦ inl (old p l s Merged u) | inr u ↦ inr (u.0, cleared p u.0 l s u.1) ]))))
+      (exact_same old new cleared g.tree.exact)
+      (λ p l s i. off_still g a o' m' kept p l s refl (g.tree.off p l s (elim i [ inl u ↦ inl (old p l s Merged u) | inr u ↦ inr (u.0, cleared p u.0 l s u.1) ]))))
       (g.owns a)
       (put_all (λ j v. PageFits a (o'.page j) (m.slots j) v) (knows a).own.pages q Empty (put_same o.page q (Keeps a), was.1) (λ j ne. rw (put_other o.page q (Keeps a) j ne) (g.owns_pages a j)))
       (mine_at g a o' m' kept)
 
-  pub places : (q : ℕ) (w : Record) → IsOwn ((knows a).own.rows q) → (r : Option Reply) → IsTree (record m { rows = put m.rows q (Some w) }) log o (put knows a (finished (learn (knows a) (Place q w) Done) r)) (put point a (point a)) (put logs a (log ∷ logs a))
+  pub places : (q : ℕ) (w : Record) → IsOwn ((knows a).own.rows q) → (r : Option Reply)
+      → IsTree (record m { rows = put m.rows q (Some w) }) log o (put knows a (finished (learn (knows a) (Place q w) Done) r)) (put point a (point a)) (put logs a (log ∷ logs a))
   places q w i r =
       let was : o.row q ≡ Spare a = own_spare (m.rows q) ((knows a).own.rows q) (g.owns a q) i in
       let m' : Shared = record m { rows = put m.rows q (Some w) } in
@@ -71,7 +75,8 @@ module _ {m : Shared} {log : List Update} {o : Owners} {knows : ℕ → Knowledg
       (mine_at g a o m' (kept_change change))
 
   -- the slot of a page of its own is changed
-  pub own_slot : (p : ℕ) (x : Option ℕ) (v : OwnPage) → o.page p ≡ Keeps a → PageFits a (o.page p) x v → (k : Knowledge) → k.own.rows ≡ (knows a).own.rows → k.own.pages ≡ put (knows a).own.pages p v → k.read ≡ (knows a).read → k.asked.linked ≡ (knows a).asked.linked
+  pub own_slot : (p : ℕ) (x : Option ℕ) (v : OwnPage) → o.page p ≡ Keeps a → PageFits a (o.page p) x v → (k : Knowledge) → k.own.rows ≡ (knows a).own.rows
+      → k.own.pages ≡ put (knows a).own.pages p v → k.read ≡ (knows a).read → k.asked.linked ≡ (knows a).asked.linked
       → IsTree (record m { slots = put m.slots p x }) log o (put knows a k) (put point a (point a)) (put logs a (log ∷ logs a))
   own_slot p x v was fits k rows pages read linked =
       let m' : Shared = record m { slots = put m.slots p x } in

@@ -74,7 +74,8 @@ pub record LinksNow (m : Memory) (s : StepOf Record) (x : Answer Record) : Type 
   pub link : link_of m slot old new ≡ Some kind
   pub update : IsUpdateLink kind
 
-module _ (m : Memory) {log : List Update} {o : Owners} {knows : ℕ → Knowledge} {point : ℕ → Option (List Update)} {logs : ℕ → List (List Update)} (g : IsTree (shared m) log o knows point logs) (a : ℕ) where
+module _ (m : Memory) {log : List Update} {o : Owners} {knows : ℕ → Knowledge} {point : ℕ → Option (List Update)} {logs : ℕ → List (List Update)}
+    (g : IsTree (shared m) log o knows point logs) (a : ℕ) where
   -- an own row has what was placed there
   stands : (row : ℕ) (content : Record) → (knows a).own.rows row ≡ Written content → m.rows row ≡ Some content
   stands row content e = (rw e at (g.owns a row)).1
@@ -87,14 +88,16 @@ module _ (m : Memory) {log : List Update} {o : Owners} {knows : ℕ → Knowledg
   learns_update (suc page) (suc old) zero kind may at e u = absurd (no_front_update (m.rows (suc old)) kind (sym (link_empty m page old) ∙ e) u)
   learns_update (suc page) (suc old) (suc new) kind may at e u =
       let place = place_of g a (suc page) (suc old) may.basis.chain (found g a (suc page) (suc old) may.basis) may.basis.alive (ap row_in at) in
-      let other : (knows a).own.pages (suc page) ≡ Other = not_own g a (suc page) (level_in may.basis.chain) (low_in may.basis.chain) place.stage place.placed ((knows a).own.pages (suc page)) (g.owns_pages a (suc page)) in
+      let other : (knows a).own.pages (suc page) ≡ Other = not_own g a (suc page) (level_in may.basis.chain) (low_in may.basis.chain) place.stage place.placed
+      ((knows a).own.pages (suc page)) (g.owns_pages a (suc page)) in
       let kind_is : Some (record_link may.content) ≡ Some kind = ap (option_map record_link) (sym (stands (suc new) may.content may.placed)) ∙ sym (link_front m page old new) ∙ e in
       let update : IsUpdateLink (record_link may.content) = rw (same_Some (record_link may.content) kind kind_is) u in (
         update_due a (knows a) (suc page) (suc old) may.basis.chain may.content may.due update,
         rw other (rw may.placed (row_linked may.content (suc old) (suc new) (knows a) update)),
       )
 
-  module _ (s : StepOf Record) (x : Answer Record) (r : Option Reply) (may : May a (knows a) s) (is : IsAnswer m s x) (n : After a (shared m) (shared (memory_after a s m)) log o knows point logs s x r) where
+  module _ (s : StepOf Record) (x : Answer Record) (r : Option Reply) (may : May a (knows a) s) (is : IsAnswer m s x)
+      (n : After a (shared m) (shared (memory_after a s m)) log o knows point logs s x r) where
     after : LinkFits n.owners (shared (memory_after a s m)) (pointed log n.update (point a)) (learn (knows a) s x).asked.linked
     after = subst (λ (z : Option (List Update) × Option (Option ℕ)). LinkFits n.owners (shared (memory_after a s m)) z.0 z.1)
         (λ i. (put_same point a (pointed log n.update (point a)) i, ap (λ (k : Knowledge). k.asked.linked) (put_same knows a (finished (learn (knows a) s x) r)) i)) (n.is_tree.sound a).linked_fits
@@ -104,7 +107,8 @@ module _ (m : Memory) {log : List Update} {o : Owners} {knows : ℕ → Knowledg
     unfolding IsLinked
     is_linked some = go n.update n.due some (learn (knows a) s x).asked.linked after
       where
-        go : (u : Option Update) → IfSome u (IsDue a (knows a) log) → IsSome u → (l : Option (Option ℕ)) → LinkFits n.owners (shared (memory_after a s m)) (pointed log u (point a)) l → ((knows a).asked.linked ≡ None) × IsSome l
+        go : (u : Option Update) → IfSome u (IsDue a (knows a) log) → IsSome u → (l : Option (Option ℕ))
+            → LinkFits n.owners (shared (memory_after a s m)) (pointed log u (point a)) l → ((knows a).asked.linked ≡ None) × IsSome l
         go (Some u) due e (Some y) h = (due.2, refl)
         go u due e l h = cc
 

@@ -64,7 +64,8 @@ linked_update (unset b j) x y k = refl
 
 module _ {m : Shared} {log : List Update} {o : Owners} {knows : ℕ → Knowledge} {point : ℕ → Option (List Update)} {logs : ℕ → List (List Update)} (g : IsTree m log o knows point logs) (a : ℕ) where
   -- the exchange that links an update
-  pub updates : (p x y : ℕ) → m.slots p ≡ Some x → (basis : HasRead (knows a) p x) (content : Record) → (knows a).own.rows y ≡ Written content → (h : MayUpdate a (knows a) x basis.chain content) → (r : Option Reply)
+  pub updates : (p x y : ℕ) → m.slots p ≡ Some x → (basis : HasRead (knows a) p x) (content : Record) → (knows a).own.rows y ≡ Written content
+      → (h : MayUpdate a (knows a) x basis.chain content) → (r : Option Reply)
       → LinkedTree g a p x y r (log ++ h.update ∷ []) (record o { row = put o.row y Linked }) (Some log)
       × (update_of a h.command (logged_value log (command_key h.command)) ≡ Some h.update)
   updates p x y s basis content written h r =
@@ -75,7 +76,8 @@ module _ {m : Shared} {log : List Update} {o : Owners} {knows : ℕ → Knowledg
       let is : (k : Key) → Covers c k → content_in c k ≡ leaf_map log k = λ k v. place.is_page.same k v ∙ spec_leaf log o.index (level_in c) h.leaf k in
       let over = is_over u x c in
       let inside : Covers c (command_key h.command) = covers_from c (command_key h.command) h.covers in
-      let due : update_of a h.command (logged_value log (command_key h.command)) ≡ Some u = rw (ap value_of (is (command_key h.command) inside) ∙ value_of_map (logged_value log (command_key h.command))) at h.due in
+      let due : update_of a h.command (logged_value log (command_key h.command)) ≡ Some u = rw
+      (ap value_of (is (command_key h.command) inside) ∙ value_of_map (logged_value log (command_key h.command))) at h.due in
       let none : point a ≡ None = rw h.unlinked at (mine g a).linked_fits in (
         relink_one g a p x y c f place basis.alive s (update_record u x) (written ∙ ap Written h.is) place.stage (omega arith) place.on o.page o.index place.placed (λ q ne. stay refl) g.tree.exact
             (rw over.next f.linked) c (rw over.next f.stands)
@@ -114,7 +116,9 @@ module _ {m : Shared} {log : List Update} {o : Owners} {knows : ℕ → Knowledg
   -- the exchange that removes a page
   pub removes : (p x y : ℕ) → m.slots p ≡ Some x → (basis : HasRead (knows a) p x) (content : Record) → (knows a).own.rows y ≡ Written content
       → (h : MayRemove (knows a) p x basis.chain content) → (r : Option Reply)
-      → LinkedTree g a p x y r log (record { row = put o.row y Linked; page = put o.page p (Placed Removed (level_in basis.chain) (low_in basis.chain)); index = o.index }) (point a) × (o.page p ≡ Placed Held (level_in basis.chain) (low_in basis.chain))
+      → LinkedTree g a p x y r log
+      (record { row = put o.row y Linked; page = put o.page p (Placed Removed (level_in basis.chain) (low_in basis.chain)); index = o.index }) (point a) ×
+      (o.page p ≡ Placed Held (level_in basis.chain) (low_in basis.chain))
   removes p x y s basis content written h r =
       let ranked : (r l : ℕ) (s : Key) (l' : ℕ) (s' : Key) (st : Stage) (w : PageOwner) → w ≡ Placed st l' s' → Reached r l s w → r ≤ rank st =
       λ r l s l' s' st w e h. (rw e at h).2 in
@@ -122,11 +126,14 @@ module _ {m : Shared} {log : List Update} {o : Owners} {knows : ℕ → Knowledg
       let f = found g a p x basis in
       let place = place_of g a p x c f basis.alive s in
       let above = read_names g a h.parent h.row h.above in
-      let least : 2 ≤ rank place.stage = ranked 2 (level_in c) (low_in c) (level_in c) (low_in c) place.stage (o.page p) place.placed (above.items (level_in c) (low_in c) (Child p true) h.level (covers_from h.above.chain (low_in c) h.covers) h.held) in
+      let least : 2 ≤ rank place.stage = ranked 2 (level_in c) (low_in c) (level_in c) (low_in c) place.stage (o.page p) place.placed
+      (above.items (level_in c) (low_in c) (Child p true) h.level (covers_from h.above.chain (low_in c) h.covers) h.held) in
       let held : place.stage ≡ Held = is_held place.stage least (sym (alive_stage g a p x c place basis.alive)) in
       let was : o.page p ≡ Placed Held (level_in c) (low_in c) = place.placed ∙ ap (λ st. Placed st (level_in c) (low_in c)) held in
       let lt : level_in c < g.tree.top = below_top p (level_in c) (low_in c) place.stage place.placed least in (
-        relink_one g a p x y c f place basis.alive s (Remove (record { level = level_in c; next = x })) (written ∙ ap Written h.is) Removed (let i = ap rank held in omega arith) (omega arith) (put o.page p (Placed Removed (level_in c) (low_in c))) o.index (put_same o.page p (Placed Removed (level_in c) (low_in c))) (λ q ne. stay (put_other o.page p (Placed Removed (level_in c) (low_in c)) q ne))
+        relink_one g a p x y c f place basis.alive s (Remove (record { level = level_in c; next = x })) (written ∙ ap Written h.is) Removed
+            (let i = ap rank held in omega arith) (omega arith) (put o.page p (Placed Removed (level_in c) (low_in c))) o.index
+            (put_same o.page p (Placed Removed (level_in c) (low_in c))) (λ q ne. stay (put_other o.page p (Placed Removed (level_in c) (low_in c)) q ne))
             (exact_going p (level_in c) (low_in c) Held Removed was lt refl g.tree.exact) f.linked c f.stands
             refl refl refl refl refl
             log (λ k v. place.is_page.same k v) (λ l k n. refl)

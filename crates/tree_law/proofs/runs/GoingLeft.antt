@@ -29,7 +29,13 @@ module _ (ks : ℕ → Knowledge) where
 
   -- or as the right of the removed leaf, which was read before its left
   pub right_beyond : IsMet beyond 4
-  right_beyond = record { other = 1; row = 4; basis = left_read; named = inr (inr (record { removed = 2; row = 8; chain = removed; right = refl; order = refl; read = (refl, (refl, (refl, refl))); gone = refl; named = inl refl })) }
+  right_beyond = record {
+    other = 1;
+    row = 4;
+    basis = left_read;
+    named = inr
+        (inr (record { removed = 2; row = 8; chain = removed; right = refl; order = refl; read = (refl, (refl, (refl, refl))); gone = refl; named = inl refl }));
+  }
 
   pub beside : IsBeside beyond 8
   beside = record { left = 1; head = 4; basis = left_read; other = 2; right = refl; order = refl }

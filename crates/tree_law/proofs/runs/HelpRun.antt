@@ -35,14 +35,20 @@ updates : MayUpdate 1 (before 50 1) 6 (upper_c ∷ []) other_put
 updates = record { leaf = refl; command = insert_other; going = refl; unlinked = refl; covers = refl; update = set 1 b (codes "2"); due = refl; is = refl }
 
 inserted : MayReply small 1 (before 51 1) reply.Inserted
-inserted = record { command = insert_other; going = refl; justified = inl (record { row = 6; chain = upper_c ∷ []; read = (refl, refl); leaf = refl; covers = refl; is = refl; basis = inl (refl, refl) }) }
+inserted = record
+    { command = insert_other; going = refl; justified = inl (record { row = 6; chain = upper_c ∷ []; read = (refl, refl); leaf = refl; covers = refl; is = refl; basis = inl (refl, refl) }) }
 
 -- the first actor's own try
 late : MayPost (before 57 0) 3 5 (root_a ∷ []) helped_term
 late = record { child = 4; row = 9; below = whole (other_put ∷ upper_c ∷ []) (refl, (refl, refl)) refl refl; level = refl; covers = refl; absent = refl; order = refl; is = refl }
 
 exists : MayReply small 0 (before 58 0) (reply.Exists (codes "2"))
-exists = record { command = insert_b; going = refl; justified = inl (record { row = 9; chain = other_put ∷ upper_c ∷ []; read = (refl, (refl, refl)); leaf = refl; covers = refl; is = refl; basis = inr (refl, inl ((4, refl), refl), refl) }) }
+exists = record {
+  command = insert_b;
+  going = refl;
+  justified = inl
+      (record { row = 9; chain = other_put ∷ upper_c ∷ []; read = (refl, (refl, refl)); leaf = refl; covers = refl; is = refl; basis = inr (refl, inl ((4, refl), refl), refl) });
+}
 
 -- After two splits the second begins and enters, and the first writes the term of the new leaf. The second goes from the root to
 -- that leaf, posts the term and puts its key; the first's exchange loses, and it finds the key.

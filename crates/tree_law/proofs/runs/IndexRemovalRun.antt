@@ -43,7 +43,8 @@ upper_page = IsPage-from upper refl (record { few = omega arith; ascending = (tt
 
 higher_page : (held : Bool) → IsPage (higher held)
 unfolding IsStrictlySortedBy
-higher_page held = IsPage-from (higher held) refl (record { few = omega arith; ascending = ((refl, tt), (tt, tt)) }) (record { within = refl; kind = omega arith }, (record { within = refl; kind = omega arith }, tt))
+higher_page held =
+    IsPage-from (higher held) refl (record { few = omega arith; ascending = ((refl, tt), (tt, tt)) }) (record { within = refl; kind = omega arith }, (record { within = refl; kind = omega arith }, tt))
 
 lower_ruled : IsRuled lower
 lower_ruled = record { is_page = lower_page; ends = refl; top = omega arith; terms = λ lt. record { first = (refl, refl); few = omega arith; apart = tt } }
@@ -67,10 +68,21 @@ higher_ruled held = record { is_page = higher_page held; ends = refl; top = omeg
     few false = omega arith
 
 upper_fitted : IsFitted (upper_index ∷ [])
-upper_fitted = (upper, refl, record { ruled = upper_ruled; alive = refl; right = tt; children = All-from_recursion (λ (item : Item). HasPid item.content) upper.items ((omega arith, omega arith), tt) })
+upper_fitted =
+    (upper, refl, record { ruled = upper_ruled; alive = refl; right = tt; children = All-from_recursion (λ (item : Item). HasPid item.content) upper.items ((omega arith, omega arith), tt) })
 
 higher_fitted : IsFitted (higher_root ∷ [])
-higher_fitted = (higher false, refl, record { ruled = higher_ruled false; alive = refl; right = tt; children = All-from_recursion (λ (item : Item). HasPid item.content) (higher false).items ((omega arith, omega arith), ((omega arith, omega arith), tt)) })
+higher_fitted = (
+  higher false,
+  refl,
+  record {
+    ruled = higher_ruled false;
+    alive = refl;
+    right = tt;
+    children = All-from_recursion (λ (item : Item). HasPid item.content)
+        (higher false).items ((omega arith, omega arith), ((omega arith, omega arith), tt));
+  },
+)
 
 -- below the separator the root decides as its lower half, and above as its upper one
 below_alike : (key : Key) → IsBelow key a → content_at lower.items key ≡ content_at (both 2 false).items key
@@ -85,32 +97,67 @@ above_alike [] above = absurd cc
 above_alike (byte ∷ bytes) above = refl
 
 split_applies : Applies (both 2 false) index_split lower
-split_applies = record { ascending = lower_page.ordered.ascending; contents = λ key. by_below key a (λ below. rw below (below_alike key below)) (λ above. rw above (above_none key above)); level = refl; low = refl; high = refl; right = refl; removed = refl }
+split_applies = record {
+  ascending = lower_page.ordered.ascending;
+  contents = λ key. by_below key a (λ below. rw below (below_alike key below))
+      (λ above. rw above (above_none key above));
+  level = refl;
+  low = refl;
+  high = refl;
+  right = refl;
+  removed = refl;
+}
 
 hold_applies : Applies (higher false) index_hold (higher true)
-hold_applies = record { ascending = (higher_page true).ordered.ascending; contents = λ key. by_key key a (λ same t. rw t (rw same)) (λ ne t. rw t); level = refl; low = refl; high = refl; right = refl; removed = refl }
+hold_applies = record
+    { ascending = (higher_page true).ordered.ascending; contents = λ key. by_key key a (λ same t. rw t (rw same)) (λ ne t. rw t); level = refl; low = refl; high = refl; right = refl; removed = refl }
 
 remove_applies : Applies upper index_remove (record upper { removed = true })
 remove_applies = record { ascending = upper_page.ordered.ascending; contents = λ key. refl; level = refl; low = refl; high = refl; right = refl; removed = refl }
 
 -- each delta fits the page under it
 split_fits : FitsOn (root_a ∷ []) index_split
-split_fits = (fits_over root_makes (record { alive = refl; level = refl; covered = refl; inner = refl }) split_applies lower_ruled refl (linked 1 5 a 5 (omega arith) (omega arith, omega arith) (λ e. cc) (omega arith, omega arith)), omega arith)
+split_fits = (
+  fits_over root_makes (record { alive = refl; level = refl; covered = refl; inner = refl }) split_applies lower_ruled refl
+      (linked 1 5 a 5 (omega arith) (omega arith, omega arith) (λ e. cc) (omega arith, omega arith)),
+  omega arith,
+)
 
 hold_fits : FitsOn (higher_root ∷ []) index_hold
-hold_fits = (fits_over (base_makes (higher false) (higher_page false) refl) (record { alive = refl; level = refl; there = refl }) hold_applies (higher_ruled true) refl (omega arith, (linked 2 9 a 5 (omega arith) (omega arith, omega arith) (λ e. cc) (omega arith, omega arith))), omega arith)
+hold_fits = (
+  fits_over (base_makes (higher false) (higher_page false) refl) (record { alive = refl; level = refl; there = refl }) hold_applies (higher_ruled true) refl
+      (omega arith, (linked 2 9 a 5 (omega arith) (omega arith, omega arith) (λ e. cc) (omega arith, omega arith))),
+  omega arith,
+)
 
 remove_fits : FitsOn (upper_index ∷ []) index_remove
-remove_fits = (fits_over (base_makes upper upper_page refl) (record { alive = refl; level = refl; few = omega arith; inner = refl }) remove_applies removed_ruled refl (omega arith, (omega arith, omega arith)), omega arith)
+remove_fits = (
+  fits_over (base_makes upper upper_page refl) (record { alive = refl; level = refl; few = omega arith; inner = refl }) remove_applies removed_ruled refl
+      (omega arith, (omega arith, omega arith)),
+  omega arith,
+)
 
 -- the split, the root, the hold and the removal
 splits : MayAdd 0 (before 44 0) 3 5 8
 splits = adds (whole (root_a ∷ []) (refl, refl) refl refl) index_split refl split_fits
-    (record { separator = a; above = refl; below = refl; right = 5; row = 7; ready = refl; items = upper_term ∷ []; alike = λ key c n. above_alike key n; base = refl; ruled = upper_fitted; is = refl })
+    (record
+    { separator = a; above = refl; below = refl; right = 5; row = 7; ready = refl; items = upper_term ∷ []; alike = λ key c n. above_alike key n; base = refl; ruled = upper_fitted; is = refl })
     (is_unset (drop 4 became_of) refl)
 
 roots : MayRoot (before 49 0) 3 6
-roots = record { row = 8; basis = whole (index_split ∷ root_a ∷ []) (refl, (refl, refl)) refl refl; right = 5; is_right = refl; separator = a; is_high = refl; some = refl; base_row = 9; ready = refl; base = refl; ruled = higher_fitted }
+roots = record {
+  row = 8;
+  basis = whole (index_split ∷ root_a ∷ []) (refl, (refl, refl)) refl refl;
+  right = 5;
+  is_right = refl;
+  separator = a;
+  is_high = refl;
+  some = refl;
+  base_row = 9;
+  ready = refl;
+  base = refl;
+  ruled = higher_fitted;
+}
 
 holds : MayAdd 0 (before 53 0) 6 9 10
 holds = adds (whole (higher_root ∷ []) (refl, refl) refl refl) index_hold refl hold_fits
@@ -122,7 +169,16 @@ right_of_lower = record { other = 3; row = 8; basis = whole (index_split ∷ roo
 
 removes : MayAdd 0 (before 58 0) 5 7 11
 removes = adds (whole (upper_index ∷ []) (refl, refl) refl refl) index_remove refl remove_fits
-    (record { parent = 6; row = 10; above = whole (index_hold ∷ higher_root ∷ []) (refl, (refl, refl)) refl refl; level = refl; covers = refl; held = refl; unheld = unheld_at (upper_term ∷ []) refl; is = refl })
+    (record {
+      parent = 6;
+      row = 10;
+      above = whole (index_hold ∷ higher_root ∷ []) (refl, (refl, refl)) refl refl;
+      level = refl;
+      covers = refl;
+      held = refl;
+      unheld = unheld_at (upper_term ∷ []) refl;
+      is = refl;
+    })
     (is_unset became_of refl)
 
 -- the second actor's way: to the removed page, to the one on its left, and to a child of the removed one
@@ -137,11 +193,18 @@ child_beyond = record {
   other = 3;
   row = 8;
   basis = whole (index_split ∷ root_a ∷ []) (refl, (refl, refl)) refl refl;
-  named = inr (inr (record { removed = 5; row = 11; chain = index_remove ∷ upper_index ∷ []; right = refl; order = refl; read = (refl, (refl, refl)); gone = refl; named = inr (0, a, false, refl, refl, refl) }));
+  named =
+      inr (inr (record
+      { removed = 5; row = 11; chain = index_remove ∷ upper_index ∷ []; right = refl; order = refl; read = (refl, (refl, refl)); gone = refl; named = inr (0, a, false, refl, refl, refl) }));
 }
 
 none_there : MayReply small 1 (before 75 1) reply.None
-none_there = record { command = get_a; going = refl; justified = inl (record { row = 3; chain = second_split ∷ upper_b ∷ []; read = (refl, (refl, refl)); leaf = refl; covers = refl; is = refl; basis = inr (refl, inl ((2, refl), refl), refl) }) }
+none_there = record {
+  command = get_a;
+  going = refl;
+  justified = inl
+      (record { row = 3; chain = second_split ∷ upper_b ∷ []; read = (refl, (refl, refl)); leaf = refl; covers = refl; is = refl; basis = inr (refl, inl ((2, refl), refl), refl) });
+}
 
 -- The first actor splits the root, puts one over both halves, holds the upper one's term and removes that page; the second one goes round it,
 -- and through it.

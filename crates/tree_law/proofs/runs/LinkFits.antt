@@ -52,7 +52,9 @@ alone_page = IsPage-from alone refl (record { few = omega arith; ascending = (tt
 
 both_page : (child : ℕ) (held : Bool) → IsPage (both child held)
 unfolding IsStrictlySortedBy
-both_page child held = IsPage-from (both child held) refl (record { few = omega arith; ascending = ((refl, tt), (tt, tt)) }) (record { within = refl; kind = omega arith }, (record { within = refl; kind = omega arith }, tt))
+both_page child held =
+    IsPage-from (both child held) refl (record { few = omega arith; ascending = ((refl, tt), (tt, tt)) })
+    (record { within = refl; kind = omega arith }, (record { within = refl; kind = omega arith }, tt))
 
 full_ruled : IsRuled full
 full_ruled = record { is_page = full_page; ends = refl; top = omega arith; terms = λ lt. absurd (omega arith) }
@@ -64,7 +66,13 @@ upper_ruled : IsRuled upper
 upper_ruled = record { is_page = upper_page; ends = refl; top = omega arith; terms = λ lt. absurd (omega arith) }
 
 removed_ruled : IsRuled (record upper { removed = true })
-removed_ruled = record { is_page = record { spans = upper_page.spans; ordered = upper_page.ordered; within = upper_page.within; kinds = upper_page.kinds }; ends = refl; top = omega arith; terms = λ lt. absurd (omega arith) }
+removed_ruled = record {
+  is_page = record { spans = upper_page.spans; ordered = upper_page.ordered; within = upper_page.within; kinds = upper_page.kinds };
+  ends
+      = refl;
+  top = omega arith;
+  terms = λ lt. absurd (omega arith);
+}
 
 alone_ruled : IsRuled alone
 alone_ruled = record { is_page = alone_page; ends = refl; top = omega arith; terms = λ lt. record { first = (refl, refl); few = omega arith; apart = tt } }
@@ -98,15 +106,18 @@ put_applies = record { ascending = (tt, tt); contents = λ key. refl; level = re
 
 split_applies : Applies full split_a (lower 2)
 unfolding IsStrictlySortedBy
-split_applies = record { ascending = tt; contents = λ key. by_below key a (λ below. rw below (sym (below_none key below))) (λ above. rw above); level = refl; low = refl; high = refl; right = refl; removed = refl }
+split_applies = record
+    { ascending = tt; contents = λ key. by_below key a (λ below. rw below (sym (below_none key below))) (λ above. rw above); level = refl; low = refl; high = refl; right = refl; removed = refl }
 
 second_applies : Applies full split_b (lower 4)
 unfolding IsStrictlySortedBy
-second_applies = record { ascending = tt; contents = λ key. by_below key a (λ below. rw below (sym (below_none key below))) (λ above. rw above); level = refl; low = refl; high = refl; right = refl; removed = refl }
+second_applies = record
+    { ascending = tt; contents = λ key. by_below key a (λ below. rw below (sym (below_none key below))) (λ above. rw above); level = refl; low = refl; high = refl; right = refl; removed = refl }
 
 merge_applies : Applies (lower 2) merge_a full
 unfolding IsStrictlySortedBy
-merge_applies = record { ascending = (tt, tt); contents = λ key. by_range a key None refl (λ above t. rw t) (λ below t. rw t (below_none key below)); level = refl; low = refl; high = refl; right = refl; removed = refl }
+merge_applies = record
+    { ascending = (tt, tt); contents = λ key. by_range a key None refl (λ above t. rw t) (λ below t. rw t (below_none key below)); level = refl; low = refl; high = refl; right = refl; removed = refl }
 
 remove_applies : Applies upper remove_a (record upper { removed = true })
 unfolding IsStrictlySortedBy
@@ -117,7 +128,8 @@ unfolding IsStrictlySortedBy
 deletion_applies = record { ascending = tt; contents = λ key. by_key key a (λ same t. rw t) (λ ne t. rw t); level = refl; low = refl; high = refl; right = refl; removed = refl }
 
 -- the term at the key is changed, taken out, and put in
-changed : (old new : ContentOf) (key : Key) → content_at (first ∷ record { key = a; content = new } ∷ []) key ≡ (if is_eq (key_cmp key a) then Some new else content_at (first ∷ record { key = a; content = old } ∷ []) key)
+changed : (old new : ContentOf) (key : Key)
+    → content_at (first ∷ record { key = a; content = new } ∷ []) key ≡ (if is_eq (key_cmp key a) then Some new else content_at (first ∷ record { key = a; content = old } ∷ []) key)
 changed old new key = by_key key a
     (λ same t. rw t (rw same)) (λ ne t. rw t)
 
@@ -163,32 +175,74 @@ pub put_fits : FitsOn (opening_leaf ∷ []) put_a
 put_fits = (fits_over leaf_makes (record { alive = refl; leaf = refl; covered = refl; room = λ e. omega arith }) put_applies full_ruled refl (omega arith, omega arith), omega arith)
 
 pub split_fits : FitsOn (put_a ∷ opening_leaf ∷ []) split_a
-split_fits = (fits_over put_makes (record { alive = refl; level = refl; covered = refl; inner = refl }) split_applies (lower_ruled 2) refl (linked 0 2 a 2 (omega arith) (omega arith, omega arith) (λ e. cc) (omega arith, omega arith)), omega arith)
+split_fits = (
+  fits_over put_makes (record { alive = refl; level = refl; covered = refl; inner = refl }) split_applies (lower_ruled 2) refl
+      (linked 0 2 a 2 (omega arith) (omega arith, omega arith) (λ e. cc) (omega arith, omega arith)),
+  omega arith,
+)
 
 pub hold_fits : FitsOn (root_a ∷ []) hold_a
-hold_fits = (fits_over root_makes (record { alive = refl; level = refl; there = refl }) hold_applies (both_ruled 2 true) refl (omega arith, (linked 1 5 a 2 (omega arith) (omega arith, omega arith) (λ e. cc) (omega arith, omega arith))), omega arith)
+hold_fits = (
+  fits_over root_makes (record { alive = refl; level = refl; there = refl }) hold_applies (both_ruled 2 true) refl
+      (omega arith, (linked 1 5 a 2 (omega arith) (omega arith, omega arith) (λ e. cc) (omega arith, omega arith))),
+  omega arith,
+)
 
 pub remove_fits : FitsOn (upper_a ∷ []) remove_a
-remove_fits = (fits_over (base_makes upper upper_page refl) (record { alive = refl; level = refl; few = omega arith; inner = refl }) remove_applies removed_ruled refl (omega arith, (omega arith, omega arith)), omega arith)
+remove_fits = (
+  fits_over (base_makes upper upper_page refl) (record { alive = refl; level = refl; few = omega arith; inner = refl }) remove_applies removed_ruled refl
+      (omega arith, (omega arith, omega arith)),
+  omega arith,
+)
 
 pub merge_fits : FitsOn (split_a ∷ put_a ∷ opening_leaf ∷ []) merge_a
-merge_fits = (fits_over split_makes (record { alive = refl; level = refl; meets = refl; merged = upper_stands.ruled.is_page; room = omega arith }) merge_applies full_ruled refl ((omega arith, omega arith), (λ e. cc), omega arith, upper_stands), omega arith)
+merge_fits = (
+  fits_over split_makes (record { alive = refl; level = refl; meets = refl; merged = upper_stands.ruled.is_page; room = omega arith }) merge_applies
+      full_ruled refl ((omega arith, omega arith), (λ e. cc), omega arith, upper_stands),
+  omega arith,
+)
 
 pub unterm_fits : FitsOn (hold_a ∷ root_a ∷ []) unterm_a
-unterm_fits = (fits_over hold_makes (record { alive = refl; level = refl; there = refl }) unterm_applies alone_ruled refl (omega arith, (linked 1 6 a 2 (omega arith) (omega arith, omega arith) (λ e. cc) (omega arith, omega arith))), omega arith)
+unterm_fits = (
+  fits_over hold_makes (record { alive = refl; level = refl; there = refl }) unterm_applies alone_ruled refl
+      (omega arith, (linked 1 6 a 2 (omega arith) (omega arith, omega arith) (λ e. cc) (omega arith, omega arith))),
+  omega arith,
+)
 
 pub second_fits : FitsOn (merge_a ∷ split_a ∷ put_a ∷ opening_leaf ∷ []) split_b
-second_fits = (fits_over merge_makes (record { alive = refl; level = refl; covered = refl; inner = refl }) second_applies (lower_ruled 4) refl (linked 0 8 a 4 (omega arith) (omega arith, omega arith) (λ e. cc) (omega arith, omega arith)), omega arith)
+second_fits = (
+  fits_over merge_makes (record { alive = refl; level = refl; covered = refl; inner = refl }) second_applies (lower_ruled 4) refl
+      (linked 0 8 a 4 (omega arith) (omega arith, omega arith) (λ e. cc) (omega arith, omega arith)),
+  omega arith,
+)
 
 pub term_fits : FitsOn (unterm_a ∷ hold_a ∷ root_a ∷ []) term_b
-term_fits = (fits_over unterm_makes (record { alive = refl; level = refl; index = omega arith; covered = refl; absent = refl; room = omega arith }) term_applies (both_ruled 4 false) refl (omega arith, (linked 1 9 a 4 (omega arith) (omega arith, omega arith) (λ e. cc) (omega arith, omega arith))), omega arith)
+term_fits = (
+  fits_over unterm_makes (record { alive = refl; level = refl; index = omega arith; covered = refl; absent = refl; room = omega arith }) term_applies
+      (both_ruled 4 false) refl (omega arith, (linked 1 9 a 4 (omega arith) (omega arith, omega arith) (λ e. cc) (omega arith, omega arith))),
+  omega arith,
+)
 
 pub deletion_fits : FitsOn (base_b ∷ []) deletion_a
-deletion_fits = (fits_over (base_makes upper upper_page refl) (record { alive = refl; leaf = refl; covered = refl }) deletion_applies (leaf_ruled a None None refl refl) refl (omega arith, omega arith), omega arith)
+deletion_fits = (
+  fits_over (base_makes upper upper_page refl) (record { alive = refl; leaf = refl; covered = refl }) deletion_applies (leaf_ruled a None None refl refl)
+      refl (omega arith, omega arith),
+  omega arith,
+)
 
 -- the bases of the upper pages, and of the root
 pub upper_fitted : IsFitted (upper_a ∷ [])
 upper_fitted = (upper, refl, upper_stands)
 
 pub root_fitted : IsFitted (root_a ∷ [])
-root_fitted = (both 2 false, refl, record { ruled = both_ruled 2 false; alive = refl; right = tt; children = All-from_recursion (λ (item : Item). HasPid item.content) (both 2 false).items ((omega arith, omega arith), ((omega arith, omega arith), tt)) })
+root_fitted = (
+  both 2 false,
+  refl,
+  record {
+    ruled = both_ruled 2 false;
+    alive = refl;
+    right = tt;
+    children = All-from_recursion (λ (item : Item). HasPid item.content)
+        (both 2 false).items ((omega arith, omega arith), ((omega arith, omega arith), tt));
+  },
+)

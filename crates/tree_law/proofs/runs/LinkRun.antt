@@ -16,7 +16,8 @@ before n actor = knows (take n all_links) actor
 
 -- what became of the pages that it took, newest first
 abbrev pub became : List (ℕ × OwnPage)
-became = (5, Empty) ∷ (5, Ready 14) ∷ (5, Empty) ∷ (4, Other) ∷ (4, Ready 10) ∷ (4, Empty) ∷ (2, Other) ∷ (2, Gone) ∷ (3, Other) ∷ (3, Ready 5) ∷ (3, Empty) ∷ (2, Other) ∷ (2, Ready 3) ∷ (2, Empty) ∷ []
+became =
+    (5, Empty) ∷ (5, Ready 14) ∷ (5, Empty) ∷ (4, Other) ∷ (4, Ready 10) ∷ (4, Empty) ∷ (2, Other) ∷ (2, Gone) ∷ (3, Other) ∷ (3, Ready 5) ∷ (3, Empty) ∷ (2, Other) ∷ (2, Ready 3) ∷ (2, Empty) ∷ []
 
 -- each page was named, as a right or as a child
 right_of_first : IsMet (before 49 0) 2
@@ -29,7 +30,8 @@ right_of_second : IsMet (before 67 0) 4
 right_of_second = record { other = 1; row = 11; basis = whole (split_b ∷ merge_a ∷ split_a ∷ put_a ∷ opening_leaf ∷ []) (refl, (refl, (refl, (refl, (refl, refl))))) refl refl; named = inl refl }
 
 child_of_root : IsMet (before 83 0) 4
-child_of_root = record { other = 3; row = 12; basis = whole (term_b ∷ unterm_a ∷ hold_a ∷ root_a ∷ []) (refl, (refl, (refl, (refl, refl)))) refl refl; named = inr (inl (0, a, false, refl, refl, refl)) }
+child_of_root = record
+    { other = 3; row = 12; basis = whole (term_b ∷ unterm_a ∷ hold_a ∷ root_a ∷ []) (refl, (refl, (refl, (refl, refl)))) refl refl; named = inr (inl (0, a, false, refl, refl, refl)) }
 
 -- the put
 puts : MayAdd 0 (before 32 0) 1 1 2
@@ -62,13 +64,41 @@ removes = adds (whole (upper_a ∷ []) (refl, refl) refl refl) remove_a refl rem
 -- the merge of its page's right
 merges : MayAdd 0 (before 54 0) 1 4 8
 merges = adds (whole (split_a ∷ put_a ∷ opening_leaf ∷ []) (refl, (refl, (refl, refl))) refl refl) merge_a refl merge_fits
-    (record { other = 2; row = 7; head = refl; merged = remove_a ∷ upper_a ∷ []; read = (refl, (refl, refl)); gone = refl; right = refl; high = refl; items = item_a ∷ []; alike = λ key c. refl; is = refl })
+    (record {
+      other = 2;
+      row = 7;
+      head = refl;
+      merged = remove_a ∷ upper_a ∷ [];
+      read = (refl, (refl, refl));
+      gone = refl;
+      right = refl;
+      high = refl;
+      items =
+          item_a ∷ [];
+      alike = λ key c. refl;
+      is = refl;
+    })
     (is_unset (drop 8 became) refl)
 
 -- the term is taken out, by the page that the leaf was merged into
 unterms : MayAdd 0 (before 58 0) 3 6 9
 unterms = adds (whole (hold_a ∷ root_a ∷ []) (refl, (refl, refl)) refl refl) unterm_a refl unterm_fits
-    (record { key = a; covers = refl; child = 2; present = refl; left = 1; row = 8; below = whole (merge_a ∷ split_a ∷ put_a ∷ opening_leaf ∷ []) (refl, (refl, (refl, (refl, refl)))) refl refl; level = refl; above = refl; within = tt; apart = λ e. absurd (cc); order = refl; is = refl })
+    (record {
+      key = a;
+      covers = refl;
+      child = 2;
+      present = refl;
+      left = 1;
+      row = 8;
+      below = whole (merge_a ∷ split_a ∷ put_a ∷ opening_leaf ∷ [])
+          (refl, (refl, (refl, (refl, refl)))) refl refl;
+      level = refl;
+      above = refl;
+      within = tt;
+      apart = λ e. absurd (cc);
+      order = refl;
+      is = refl;
+    })
     (is_unset (drop 8 became) refl)
 
 -- the second split
@@ -97,7 +127,8 @@ deletes = adds (whole (base_b ∷ []) (refl, refl) refl refl) deletion_a refl de
 
 -- each reply is by the chain over which the update was linked
 inserted : MayReply small 0 (before 74 0) reply.Inserted
-inserted = record { command = insert_a; going = refl; justified = inl (record { row = 1; chain = opening_leaf ∷ []; read = (refl, refl); leaf = refl; covers = refl; is = refl; basis = inl (refl, refl) }) }
+inserted = record
+    { command = insert_a; going = refl; justified = inl (record { row = 1; chain = opening_leaf ∷ []; read = (refl, refl); leaf = refl; covers = refl; is = refl; basis = inl (refl, refl) }) }
 
 deleted : MayReply small 0 (before 88 0) (reply.Deleted (codes "1"))
 deleted = record { command = delete_a; going = refl; justified = inl (record { row = 13; chain = base_b ∷ []; read = (refl, refl); leaf = refl; covers = refl; is = refl; basis = inl (refl, refl) }) }

@@ -8,11 +8,13 @@ abbrev pub whole : {k : Knowledge} {page row : ℕ} (chain : List Record) → Is
 whole chain read head alive = record { head = head; chain = chain; read = read; alive = alive }
 
 -- a record is linked over it
-pub adds : {actor : ℕ} {k : Knowledge} {page old new : ℕ} (basis : HasRead k page old) (content : Record) → k.own.rows new ≡ Written content → FitsOn basis.chain content → MayLink actor k page old basis.chain content → IsUnset k new → MayAdd actor k page old new
+pub adds : {actor : ℕ} {k : Knowledge} {page old new : ℕ} (basis : HasRead k page old) (content : Record) → k.own.rows new ≡ Written content
+    → FitsOn basis.chain content → MayLink actor k page old basis.chain content → IsUnset k new → MayAdd actor k page old new
 adds basis content placed fits due unset = record { basis = basis; content = content; placed = placed; fits = fits; due = due; unset = unset }
 
 -- the root of the runs is put over the first leaf, once it was split
-pub puts_root : {k : Knowledge} (basis : HasRead k 1 4) → level_in basis.chain ≡ 0 → right_in basis.chain ≡ Some 2 → high_in basis.chain ≡ Some a → k.own.pages 3 ≡ Ready 5 → k.own.rows 5 ≡ Written root_a → MayRoot k 1 3
+pub puts_root : {k : Knowledge} (basis : HasRead k 1 4) → level_in basis.chain ≡ 0 → right_in basis.chain ≡ Some 2 → high_in basis.chain ≡ Some a
+    → k.own.pages 3 ≡ Ready 5 → k.own.rows 5 ≡ Written root_a → MayRoot k 1 3
 puts_root {k} basis level right high ready base = record {
   row = 4;
   basis = basis;

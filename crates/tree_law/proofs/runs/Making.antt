@@ -20,5 +20,7 @@ over_makes {w} {under} {old} {made} makes applies = record {
 }
 
 -- so a delta that fits that page, and makes one that keeps the rules, fits the chain
-pub fits_over : {w : Record} {under : List Record} {old made : Page} → Makes under old → FitsOnPage old w → Applies old w made → IsRuled made → is_some (next_row w) ≡ true → IsSpellable w → FitsOver under w
-fits_over {w} {under} {old} {made} makes fits applies ruled delta spellable = record { delta = delta; spellable = spellable; page = old; makes = makes; fits = fits; made = made; makes_now = over_makes makes applies; ruled = ruled }
+pub fits_over : {w : Record} {under : List Record} {old made : Page} → Makes under old → FitsOnPage old w → Applies old w made → IsRuled made
+    → is_some (next_row w) ≡ true → IsSpellable w → FitsOver under w
+fits_over {w} {under} {old} {made} makes fits applies ruled delta spellable = record
+    { delta = delta; spellable = spellable; page = old; makes = makes; fits = fits; made = made; makes_now = over_makes makes applies; ruled = ruled }

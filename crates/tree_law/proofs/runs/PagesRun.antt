@@ -113,7 +113,8 @@ shows_last : MayReply small 1 (before_last 9) (reply.Page ((b, codes "2") ∷ []
 shows_last = record {
   command = page_b;
   going = refl;
-  justified = inr (inl (record { from = b; asks = refl; row = 9; chain = last; read = (refl, (refl, refl)); leaf = refl; covers = refl; pairs = (b, codes "2") ∷ []; exact = one_pair; is = refl; unlinked = refl; basis = inl ((4, refl), refl) }));
+  justified =
+      inr (inl (record { from = b; asks = refl; row = 9; chain = last; read = (refl, (refl, refl)); leaf = refl; covers = refl; pairs = (b, codes "2") ∷ []; exact = one_pair; is = refl; unlinked = refl; basis = inl ((4, refl), refl) }));
 }
 
 -- It comes to the leaf on the removed one's left, shows the removed leaf, and begins again. It comes there again, goes on to the

@@ -28,13 +28,19 @@ unfolding IsStrictlySortedBy
 removal_applies = record { ascending = tt; contents = λ key. refl; level = refl; low = refl; high = refl; right = refl; removed = refl }
 
 removal_fits : FitsOn (second_split ∷ upper_b ∷ []) remove_a
-removal_fits = (fits_over (over_makes (base_makes (leaf a None None) (leaf_page a None None refl) refl) (leaf_splits a None None 2 4 b)) (record { alive = refl; level = refl; few = omega arith; inner = refl }) removal_applies ruled refl (omega arith, (omega arith, omega arith)), omega arith)
+removal_fits = (
+  fits_over (over_makes (base_makes (leaf a None None) (leaf_page a None None refl) refl) (leaf_splits a None None 2 4 b))
+      (record { alive = refl; level = refl; few = omega arith; inner = refl }) removal_applies ruled refl (omega arith, (omega arith, omega arith)),
+  omega
+      arith,
+)
   where
     is_page : IsPage upper
     is_page = leaf_page a (Some b) (Some 4) refl
 
     ruled : IsRuled (record upper { removed = true })
-    ruled = record { is_page = record { spans = is_page.spans; ordered = is_page.ordered; within = is_page.within; kinds = is_page.kinds }; ends = refl; top = omega arith; terms = λ lt. absurd (omega arith) }
+    ruled = record
+        { is_page = record { spans = is_page.spans; ordered = is_page.ordered; within = is_page.within; kinds = is_page.kinds }; ends = refl; top = omega arith; terms = λ lt. absurd (omega arith) }
 
 -- the upper leaf was named as a right
 right_of_first : IsMet (before 39 0) 2
@@ -53,7 +59,17 @@ none_said child false e = absurd cc
 -- the removal
 removes : MayAdd 0 (before 41 0) 2 3 8
 removes = adds (whole (second_split ∷ upper_b ∷ []) (refl, (refl, refl)) refl refl) remove_a refl removal_fits
-    (record { parent = 3; row = 7; above = whole (hold_a ∷ root_a ∷ []) (refl, (refl, refl)) refl refl; level = refl; covers = refl; held = refl; unheld = λ key child. none_said child (names second_split key); is = refl })
+    (record {
+      parent = 3;
+      row = 7;
+      above = whole (hold_a ∷ root_a ∷ []) (refl, (refl, refl)) refl refl;
+      level = refl;
+      covers = refl;
+      held = refl;
+      unheld = λ key
+          child. none_said child (names second_split key);
+      is = refl;
+    })
     (is_unset became refl)
 
 -- the removed leaf replies, as its left was read after it
@@ -74,7 +90,12 @@ none_there = record {
 
 -- and so does the leaf on its right
 none_beyond : MayReply small 1 (before 72 1) reply.None
-none_beyond = record { command = get_b; going = refl; justified = inl (record { row = 6; chain = upper_c ∷ []; read = (refl, refl); leaf = refl; covers = refl; is = refl; basis = inr (refl, inl ((4, refl), refl), refl) }) }
+none_beyond = record {
+  command = get_b;
+  going = refl;
+  justified = inl
+      (record { row = 6; chain = upper_c ∷ []; read = (refl, refl); leaf = refl; covers = refl; is = refl; basis = inr (refl, inl ((4, refl), refl), refl) });
+}
 
 -- After two splits the first holds the upper leaf's term, and removes the leaf. The second comes to the leaf on the removed one's
 -- left, replies from the removed leaf, begins again, and goes on at the removed leaf's right.

@@ -131,7 +131,8 @@ StandsBy commands ks memory entries = (in_turn commands entries ≡ true) × (an
 abbrev StandsAfter : List Entry → List Entry → Type 0
 StandsAfter before entries = StandsBy (command_of before) (knows before) (memory_of small before) entries
 
-ahead : (before entries : List Entry) (entry : Entry) → StandsBy (commands_after (command_of before) entry) (knows_after (knows before) entry) (memory_after_entry (memory_of small before) entry) entries
+ahead : (before entries : List Entry) (entry : Entry)
+    → StandsBy (commands_after (command_of before) entry) (knows_after (knows before) entry) (memory_after_entry (memory_of small before) entry) entries
     → StandsAfter (before ++ entry ∷ []) entries
 ahead before entries entry h =
     let ks = sym (fold-append knows_after _ before (entry ∷ [])) in
@@ -156,15 +157,18 @@ stand (Step actor step answer (Some reply) ∷ entries) before h =
     let same = h.1 in
     let here = replying actor (knows before actor) (memory_of small before) step answer reply h.2.0 (cc) in (
       (and_left (is_some (command_of before actor)) _ h.0, here.0, here.1),
-      stand entries (before ++ Step actor step answer (Some reply) ∷ []) (ahead before entries (Step actor step answer (Some reply)) (and_right (is_some (command_of before actor)) _ h.0, (cc), h.2.1)),
+      stand entries (before ++ Step actor step answer (Some reply) ∷ [])
+          (ahead before entries (Step actor step answer (Some reply)) (and_right (is_some (command_of before actor)) _ h.0, (cc), h.2.1)),
     )
 
-pub disciplined : (before entries : List Entry) → in_turn (command_of before) entries ≡ true → answers (memory_of small before) entries ≡ given entries → Owed (knows before) (memory_of small before) entries
+pub disciplined : (before entries : List Entry) → in_turn (command_of before) entries ≡ true → answers (memory_of small before) entries ≡ given entries
+    → Owed (knows before) (memory_of small before) entries
     → IsDisciplinedFrom small before entries
 disciplined before entries turn same owed = stand entries before (turn, same, owed)
 
 -- the parts of a trace
-pub joined : (limits : Limits) (before first second : List Entry) → IsDisciplinedFrom limits before first → IsDisciplinedFrom limits (before ++ first) second → IsDisciplinedFrom limits before (first ++ second)
+pub joined : (limits : Limits) (before first second : List Entry) → IsDisciplinedFrom limits before first → IsDisciplinedFrom limits (before ++ first) second
+    → IsDisciplinedFrom limits before (first ++ second)
 joined limits before [] second h i = rw (append-nil before) at i
 joined limits before (entry ∷ first) second h i = (h.0, joined limits (before ++ entry ∷ []) first second h.1 (rw (append_assoc before (entry ∷ []) first) i))
 

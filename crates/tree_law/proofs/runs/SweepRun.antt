@@ -26,7 +26,8 @@ among bits i j k n each e =
     let high : n / 64 ≡ 0 = eqb-true (n / 64) 0 (and_left (n / 64 == 0) (bit_at bits (n % 64) == 1) e) in
     let within : n % 64 < 64 = omega arith in
     let same : n % 64 ≡ n = omega arith in
-    rw same at (one_of (n % 64) i j k (implied (bit_at bits (n % 64) == 1) ((n % 64 == i) || ((n % 64 == j) || (n % 64 == k))) (each (n % 64) within) (and_right (n / 64 == 0) (bit_at bits (n % 64) == 1) e)))
+    rw same at
+    (one_of (n % 64) i j k (implied (bit_at bits (n % 64) == 1) ((n % 64 == i) || ((n % 64 == j) || (n % 64 == k))) (each (n % 64) within) (and_right (n / 64 == 0) (bit_at bits (n % 64) == 1) e)))
 
 -- what is stamped, and passed by the only other actor, may be freed
 passed_at : (limbo : ℕ → LimboMark) (n k : ℕ) (passed : ℕ → Bool) → n ≡ k → limbo k ≡ Stamped 1 passed → passed 1 ≡ true → IsPassed small 0 (limbo n)

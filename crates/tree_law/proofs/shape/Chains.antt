@@ -10,14 +10,16 @@ chain_unique rows (v ∷ c) (w ∷ d) (Some x) h g =
     cc
 
 -- what was read of a chain is its front
-pub front_of : (seen rows : ℕ → Option Record) → ((r : ℕ) (w : Record) → seen r ≡ Some w → rows r ≡ Some w) → (x : ℕ) (front : List Record) (n : ℕ) (c : List Record) → IsFront seen x front n → IsChainFrom rows x c
+pub front_of : (seen rows : ℕ → Option Record) → ((r : ℕ) (w : Record) → seen r ≡ Some w → rows r ≡ Some w)
+    → (x : ℕ) (front : List Record) (n : ℕ) (c : List Record) → IsFront seen x front n → IsChainFrom rows x c
     → (rest : List Record) × IsChainFrom rows n rest × (c ≡ front ++ rest)
 front_of seen rows stand x [] n c at h = (c, rw at at h, refl)
 front_of seen rows stand x (w ∷ front) n [] at h = absurd h
 front_of seen rows stand x (w ∷ front) n (v ∷ c) at h =
     let same : w ≡ v = same_Some w v (sym (stand x w at.0) ∙ h.0) in
     let under : MatchOption (next_row w) (c ≡ []) (λ y. IsChainFrom rows y c) = rw same h.1 in
-    let deeper = elim (next_row w) as (λ o. MatchOption o ⊥ (λ y. IsFront seen y front n) → MatchOption o (c ≡ []) (λ y. IsChainFrom rows y c) → (rest : List Record) × IsChainFrom rows n rest × (c ≡ front ++ rest)) [
+    let deeper = elim (next_row w) as
+    (λ o. MatchOption o ⊥ (λ y. IsFront seen y front n) → MatchOption o (c ≡ []) (λ y. IsChainFrom rows y c) → (rest : List Record) × IsChainFrom rows n rest × (c ≡ front ++ rest)) [
       | None ↦ λ f g. absurd f
       | Some y ↦ λ f g. front_of seen rows stand y front n c f g
     ] at.1 under in

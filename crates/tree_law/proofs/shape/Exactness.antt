@@ -11,11 +11,13 @@ use Rattle.tree_law.proofs.shape.Sides.{locate, same_page}
 placed_low : (st st' : Stage) (l l' : ℕ) (s s' : Key) → Placed st l s ≡ Placed st' l' s' → s ≡ s'
 placed_low st st' l l' s s' e = cc
 
-pub first_page : (o : Owners) (m : Shared) (lv : ℕ) (mp : Key → Option ContentOf) (gs : List SidePage) (p : ℕ) (low : Key) → IsPart o m lv mp gs (Some p) (Some low) None None → (g : SidePage) × (g.page ≡ p) × (low_in g.chain ≡ low) × InPlace o m lv mp g
+pub first_page : (o : Owners) (m : Shared) (lv : ℕ) (mp : Key → Option ContentOf) (gs : List SidePage) (p : ℕ) (low : Key)
+    → IsPart o m lv mp gs (Some p) (Some low) None None → (g : SidePage) × (g.page ≡ p) × (low_in g.chain ≡ low) × InPlace o m lv mp g
 first_page o m lv mp [] p low h = absurd (cc h.0)
 first_page o m lv mp (g ∷ gs) p low h = (g, sym (same_Some p g.page h.0), sym (same_Some low (low_in g.chain) h.1), h.2)
 
-module _ (memory : Memory) {log : List Update} {o : Owners} {knows : ℕ → Knowledge} {point : ℕ → Option (List Update)} {logs : ℕ → List (List Update)} (g : IsTree (shared memory) log o knows point logs) where
+module _ (memory : Memory) {log : List Update} {o : Owners} {knows : ℕ → Knowledge} {point : ℕ → Option (List Update)} {logs : ℕ → List (List Update)}
+    (g : IsTree (shared memory) log o knows point logs) where
   -- the page of a PID in the tree
   page_at : (q l : ℕ) (s : Key) (st : Stage) → o.page q ≡ Placed st l s → IsPageIn memory l s q
   page_at q l s st e = elim (on_or_merged st) [

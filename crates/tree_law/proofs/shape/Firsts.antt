@@ -19,7 +19,8 @@ module _ (f f' : ℕ → PageOwner) where
   unchanged q l s st at on e = inl (st, rw e at, on)
 
   -- one page goes to a next stage that is still on the side chain
-  staged : (q l : ℕ) (s : Key) (st : Stage) (p lp : ℕ) (sp : Key) (from to : Stage) → f q ≡ Placed st l s → rank st ≤ 3 → f p ≡ Placed from lp sp → rank to ≤ 3 → f' ≡ put f p (Placed to lp sp) → Stays f f' q l s
+  staged : (q l : ℕ) (s : Key) (st : Stage) (p lp : ℕ) (sp : Key) (from to : Stage) → f q ≡ Placed st l s → rank st ≤ 3 → f p ≡ Placed from lp sp → rank to ≤ 3
+      → f' ≡ put f p (Placed to lp sp) → Stays f f' q l s
   staged q l s st p lp sp from to at on was next e = by_equal q p
       (λ i t. inl (to, rw (e, t) (grind (arith, nat_tests)), next))
       (λ ne t. inl (st, rw (e, t) at, on))
@@ -77,7 +78,8 @@ module _ (f f' : ℕ → PageOwner) where
         (λ other u. (q, st, l, s, rw (h.6, t, u) at at, omega arith)))
 
 -- what each step does, by its phases
-module _ (m : Memory) {log : List Update} {o : Owners} {knows : ℕ → Knowledge} {point : ℕ → Option (List Update)} {logs : ℕ → List (List Update)} (g : IsTree (shared m) log o knows point logs) (a : ℕ) (s : StepOf Record) (x : Answer Record) (is : IsAnswer m s x) (f' : ℕ → PageOwner) where
+module _ (m : Memory) {log : List Update} {o : Owners} {knows : ℕ → Knowledge} {point : ℕ → Option (List Update)} {logs : ℕ → List (List Update)}
+    (g : IsTree (shared m) log o knows point logs) (a : ℕ) (s : StepOf Record) (x : Answer Record) (is : IsAnswer m s x) (f' : ℕ → PageOwner) where
   taken_nobody : (q : ℕ) → m.free_pids q ≡ true → o.page q ≡ Nobody
   taken_nobody q free = (g.frees.page q free).0
 
@@ -113,13 +115,15 @@ module _ (m : Memory) {log : List Update} {o : Owners} {knows : ℕ → Knowledg
       go (Exchange (suc p) (suc old) (suc new)) (Whether true) e ph' = links_back o.page f' (shared m) a ph'.0 (suc p) ph'.2 q l low st at
       go (Exchange p old new) (Whether false) e ph' = same ph'
       go (TakePid p) (Whether false) e ph' = same ph'
-      go (ReusePids word bits) y e ph' = elim (decided (is_among word bits q)) [ inl k ↦ absurd (let v = (ph' q).0 k in let f = sym at ∙ v.4 in cc) | inr k ↦ (q, st, l, low, sym ((ph' q).1 k) ∙ at, omega arith) ]
+      go (ReusePids word bits) y e ph' = elim (decided (is_among word bits q))
+          [ inl k ↦ absurd (let v = (ph' q).0 k in let f = sym at ∙ v.4 in cc) | inr k ↦ (q, st, l, low, sym ((ph' q).1 k) ∙ at, omega arith) ]
       go (Exchange p old new) y e ph' = absurd (cc)
       go (TakePid p) y e ph' = absurd (cc)
       go t y e ph' = same ph'
 
 -- from one memory that meets the invariant to the next
-module _ (m m' : Memory) {log log' : List Update} {o o' : Owners} {knows knows' : ℕ → Knowledge} {point point' : ℕ → Option (List Update)} {logs logs' : ℕ → List (List Update)} (g : IsTree (shared m) log o knows point logs) (g' : IsTree (shared m') log' o' knows' point' logs')
+module _ (m m' : Memory) {log log' : List Update} {o o' : Owners} {knows knows' : ℕ → Knowledge} {point point' : ℕ → Option (List Update)}
+    {logs logs' : ℕ → List (List Update)} (g : IsTree (shared m) log o knows point logs) (g' : IsTree (shared m') log' o' knows' point' logs')
     (a : ℕ) (s : StepOf Record) (x : Answer Record) (is : IsAnswer m s x) (ph : Phased a (shared m) s x o.page o'.page) where
   -- The first page of a level stays the first. It is not merged: another page would then be the first, and it would have been so before.
   pub first_stays : (l q : ℕ) → IsFirst o l q → IsFirst o' l q
@@ -131,7 +135,8 @@ module _ (m m' : Memory) {log log' : List Update} {o o' : Owners} {knows knows' 
         let merged : o'.page q ≡ Placed Merged l [] = ap (λ (k : ℕ → PageOwner). k q) gone ∙ put_same o.page q (Placed Merged l []) in
         let first = now.firsts l (below_top m' g' q l [] Merged merged) in
         let other : now.first l ≢ q = λ i. not_merged o.page o'.page first.0 l l [] [] first.2 (sym merged ∙ ap o'.page (sym i) ∙ first.1) in
-        let before : o.page (now.first l) ≡ Placed first.0 l [] = sym (put_other o.page q (Placed Merged l []) (now.first l) other) ∙ ap (λ (k : ℕ → PageOwner). k (now.first l)) (sym gone) ∙ first.1 in
+        let before : o.page (now.first l) ≡ Placed first.0 l [] = sym (put_other o.page q (Placed Merged l []) (now.first l) other) ∙ ap
+        (λ (k : ℕ → PageOwner). k (now.first l)) (sym gone) ∙ first.1 in
         let le' : l ≤ was.top = below_top m g q l [] st at in
         absurd (other (was.only (now.first l) l first.0 le' before first.2 ∙ sym (was.only q l st le' at on)))
   ]

@@ -16,12 +16,14 @@ grown w (v ∷ c) fits short p = record { fitted = (fits, p.fitted); short = ome
 
 -- what fits over nothing, or over a page's chain, makes one
 page_chain : (w : Record) (under : List Record) → FitsOn under w → MatchOption (next_row w) (under ≡ []) (λ n. IsPageChain under) → IsPageChain (w ∷ under)
-page_chain w under fits below = elim (next_row w) as (λ n. MatchOption n (IsFitted (w ∷ [])) (λ next. FitsOver under w × (length under ≤ 12)) → MatchOption n (under ≡ []) (λ n. IsPageChain under) → IsPageChain (w ∷ under)) [
-  | None ↦ λ f e. rw e (record { fitted = f; short = omega arith })
-  | Some n ↦ λ f p. grown w under f.0 f.1 p
-] fits below
+page_chain w under fits below = elim (next_row w) as
+    (λ n. MatchOption n (IsFitted (w ∷ [])) (λ next. FitsOver under w × (length under ≤ 12)) → MatchOption n (under ≡ []) (λ n. IsPageChain under) → IsPageChain (w ∷ under)) [
+      | None ↦ λ f e. rw e (record { fitted = f; short = omega arith })
+      | Some n ↦ λ f p. grown w under f.0 f.1 p
+    ] fits below
 
-module _ (o : Owners) (m : Shared) (closed : IsClosed o m) (fitted : AreFitted o m.rows) (o' : Owners) (rows' : ℕ → Option Record) (kept : (row : ℕ) → o.row row ≡ Linked → rows' row ≡ m.rows row) where
+module _ (o : Owners) (m : Shared) (closed : IsClosed o m) (fitted : AreFitted o m.rows) (o' : Owners) (rows' : ℕ → Option Record)
+    (kept : (row : ℕ) → o.row row ≡ Linked → rows' row ≡ m.rows row) where
   under_fits : (under : List Record) (n : Option ℕ) → IsChain rows' under n → IfSome n (λ x. o.row x ≡ Linked) → MatchOption n (under ≡ []) (λ x. IsPageChain under)
   under_fits under None e l = e
   under_fits under (Some x) h l = fitted x l under (chain_was o m rows' closed kept x under l h)
@@ -30,11 +32,13 @@ module _ (o : Owners) (m : Shared) (closed : IsClosed o m) (fitted : AreFitted o
   pub fitted_after : ((row : ℕ) → o'.row row ≡ Linked → (o.row row ≡ Linked) ⊎ IsAdded o rows' row) → AreFitted o' rows'
   fitted_after added row l c h = elim (added row l) [
     | inl was ↦ fitted row was c (chain_was o m rows' closed kept row c was h)
-    | inr new ↦ rw (IsChainFrom-unique rows' row (new.content ∷ new.under) c (new.stands, new.is_under) h) at (page_chain new.content new.under new.fits (under_fits new.under (next_row new.content) new.is_under new.next))
+    | inr new ↦ rw (IsChainFrom-unique rows' row (new.content ∷ new.under) c (new.stands, new.is_under) h) at
+        (page_chain new.content new.under new.fits (under_fits new.under (next_row new.content) new.is_under new.next))
   ]
 
 -- a chain under a Remove is one chain
-under_same : (rows : ℕ → Option Record) (row : ℕ) (content : Record) (remove : RemoveOf) (under below : List Record) → content ≡ Remove remove → IsChain rows below (next_row content) → IsChainFrom rows remove.next under → below ≡ under
+under_same : (rows : ℕ → Option Record) (row : ℕ) (content : Record) (remove : RemoveOf) (under below : List Record) → content ≡ Remove remove
+    → IsChain rows below (next_row content) → IsChainFrom rows remove.next under → below ≡ under
 under_same rows row content remove under below is there here = chain_unique rows below under (Some remove.next) (rw is at there) here
 
 -- a linked Remove stays, and so does what is under it

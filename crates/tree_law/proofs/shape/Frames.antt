@@ -19,7 +19,8 @@ pub data PageChange (a : ℕ) (o : Owners) (m m' : Shared) (was now : PageOwner)
   page_link : (st st' : Stage) (l : ℕ) (low : Key) → was ≡ Placed st l low → now ≡ Placed st' l low → rank st ≤ rank st' → (x y : ℕ) (c : List Record) → s ≡ Some x
       → IsChain m.rows c (Some x) → is_removed c ≡ false → t ≡ Some y → o.row y ≡ Spare a → PageChange a o m m' was now s t
   page_clear : (l : ℕ) (low : Key) → was ≡ Placed Merged l low → now ≡ Cleared a l low → t ≡ s
-      → ((f x : ℕ) (c : List Record) → o.row x ≡ Linked → IsChain m.rows c (Some x) → Reached 0 (level_in c) (low_in c) (o.page f) → is_removed c ≡ false → level_in c ≡ suc l → Covers c low → m.slots f ≡ Some x → m'.slots f ≡ Some x → ⊥)
+      → ((f x : ℕ) (c : List Record) → o.row x ≡ Linked → IsChain m.rows c (Some x) → Reached 0 (level_in c) (low_in c) (o.page f) → is_removed c ≡ false →
+      level_in c ≡ suc l → Covers c low → m.slots f ≡ Some x → m'.slots f ≡ Some x → ⊥)
       → PageChange a o m m' was now s t
   page_gone : (l : ℕ) (low : Key) → was ≡ Cleared a l low → now ≡ Cleared a l low → t ≡ None → PageChange a o m m' was now s t
 
@@ -65,7 +66,8 @@ kept_change {a} {o} {o'} {m} {m'} c = record {
     back w n u v x l s (page_clear lv low e f j g) r lx i = sym j ∙ i
     back w n u v x l s (page_gone lv low e f j) r lx i = absurd (cc)
 
-    frozen : (w n : PageOwner) (u v : Option ℕ) (x l : ℕ) (s : Key) (d : List Record) → PageChange a o m m' w n u v → Reached 0 l s w → u ≡ Some x → o.row x ≡ Linked → IsChain m.rows d (Some x) → is_removed d ≡ true → (v ≡ Some x) ⊎ IsOut n v
+    frozen : (w n : PageOwner) (u v : Option ℕ) (x l : ℕ) (s : Key) (d : List Record) → PageChange a o m m' w n u v → Reached 0 l s w → u ≡ Some x
+        → o.row x ≡ Linked → IsChain m.rows d (Some x) → is_removed d ≡ true → (v ≡ Some x) ⊎ IsOut n v
     frozen w n u v x l s d (page_free e) r i lx ch rm = absurd (rw e at r)
     frozen w n u v x l s d (page_own e) r i lx ch rm = absurd (rw e at r)
     frozen w n u v x l s d (page_same e f) r i lx ch rm = inl (f ∙ i)
@@ -86,7 +88,8 @@ kept_change {a} {o} {o'} {m} {m'} c = record {
     out w n u v (page_gone lv low e f j) i = (j, (a, lv, low, f))
 
     clears : (w n : PageOwner) (u v : Option ℕ) (l : ℕ) (s : Key) (st : Stage) → PageChange a o m m' w n u v → w ≡ Placed st l s → IsCleared n
-        → (f x : ℕ) (d : List Record) → o.row x ≡ Linked → IsChain m.rows d (Some x) → Reached 0 (level_in d) (low_in d) (o.page f) → is_removed d ≡ false → level_in d ≡ suc l → Covers d s → m.slots f ≡ Some x → m'.slots f ≡ Some x → ⊥
+        → (f x : ℕ) (d : List Record) → o.row x ≡ Linked → IsChain m.rows d (Some x) → Reached 0 (level_in d) (low_in d) (o.page f) → is_removed d ≡ false
+        → level_in d ≡ suc l → Covers d s → m.slots f ≡ Some x → m'.slots f ≡ Some x → ⊥
     clears w n u v l s st (page_free e) i cl f x d lx ch r nr lv cv sx sx' = absurd (cc)
     clears w n u v l s st (page_own e) i cl f x d lx ch r nr lv cv sx sx' = absurd (cc)
     clears w n u v l s st (page_same e j) i cl f x d lx ch r nr lv cv sx sx' = absurd (cc cl.3)
@@ -150,13 +153,33 @@ read_linked o m seen fits [] x h = absurd h
 read_linked o m seen fits (w ∷ c) x h = (rw h.0 at (fits x)).0
 
 -- one more own step
-pub knows_more : {o : Owners} {m : Shared} {seen : ℕ → Option Record} {learnt roots : ℕ → Bool} {heads : ℕ → Option ℕ} {before : ℕ → ℕ → Option ℕ} {linked : Option (Option ℕ)} {point : Option (List Update)} {logs : List (List Update)} (l : List Update)
+pub knows_more : {o : Owners} {m : Shared} {seen : ℕ → Option Record} {learnt roots : ℕ → Bool} {heads : ℕ → Option ℕ} {before : ℕ → ℕ → Option ℕ}
+    {linked : Option (Option ℕ)} {point : Option (List Update)} {logs : List (List Update)} (l : List Update)
     → Knows o m seen learnt roots heads before linked point logs → Knows o m seen learnt roots heads before linked point (l ∷ logs)
 knows_more {o} {m} {seen} {learnt} {roots} {heads} {before} {linked} {point} {logs} l k =
-    record { seen_fits = k.seen_fits; learnt_fits = k.learnt_fits; roots_fit = k.roots_fit; heads_fit = λ p. go p (heads p) (k.heads_fit p); orders_fit = λ p f. order p f (heads p) (before p f) (k.orders_fit p f); linked_fits = k.linked_fits }
+    record {
+      seen_fits = k.seen_fits;
+      learnt_fits = k.learnt_fits;
+      roots_fit = k.roots_fit;
+      heads_fit = λ p. go p (heads p) (k.heads_fit p);
+      orders_fit = λ p f.
+          order p f (heads p) (before p f) (k.orders_fit p f);
+      linked_fits = k.linked_fits;
+    }
   where
     order : (p f : ℕ) (y x : Option ℕ) → OrderFits o m logs p f y x → OrderFits o m (l ∷ logs) p f y x
-    order p f (Some y) (Some x) h = record { above = h.above; below = h.below; chain = h.chain; is_chain = h.is_chain; placed = h.placed; uncleared = h.uncleared; merged = h.merged; beyond = h.beyond; spelled = λ c d ic id rc nd z r. let s = h.spelled c d ic id rc nd z r in (s.0, inr s.1, s.2) }
+    order p f (Some y) (Some x) h = record {
+      above = h.above;
+      below = h.below;
+      chain = h.chain;
+      is_chain = h.is_chain;
+      placed = h.placed;
+      uncleared =
+          h.uncleared;
+      merged = h.merged;
+      beyond = h.beyond;
+      spelled = λ c d ic id rc nd z r. let s = h.spelled c d ic id rc nd z r in (s.0, inr s.1, s.2);
+    }
     order p f y x h = tt
 
     go : (p : ℕ) (x : Option ℕ) → HeadFits o m logs p x → HeadFits o m (l ∷ logs) p x

@@ -12,7 +12,8 @@ pub record Kept (o o' : Owners) (m m' : Shared) : Type 0 where
   -- what is linked comes into no slot again
   pub back : (p x l : ℕ) (s : Key) → Reached 0 l s (o.page p) → o.row x ≡ Linked → m'.slots p ≡ Some x → m.slots p ≡ Some x
   -- a is_removed chain stays
-  pub frozen : (p x l : ℕ) (s : Key) (c : List Record) → Reached 0 l s (o.page p) → m.slots p ≡ Some x → o.row x ≡ Linked → IsChain m.rows c (Some x) → is_removed c ≡ true → (m'.slots p ≡ Some x) ⊎ IsOut (o'.page p) (m'.slots p)
+  pub frozen : (p x l : ℕ) (s : Key) (c : List Record) → Reached 0 l s (o.page p) → m.slots p ≡ Some x → o.row x ≡ Linked → IsChain m.rows c (Some x)
+      → is_removed c ≡ true → (m'.slots p ≡ Some x) ⊎ IsOut (o'.page p) (m'.slots p)
   -- a cleared page's slot stays empty
   pub out : (p : ℕ) → IsOut (o.page p) (m.slots p) → IsOut (o'.page p) (m'.slots p)
   -- a page is cleared by an exchange on the page that has its low
@@ -125,7 +126,8 @@ knows_kept {o} {o'} {m} {m'} closed kept {seen} {learnt} {roots} {heads} {before
           still p f x y c d (chain_back closed kept c x i.above ic) (chain_back closed kept d y i.below id) nc nd e v s u h i;
       spelled = λ c d ic id. i.spelled c d (chain_back closed kept c x i.above ic) (chain_back closed kept d y i.below id);
       beyond = λ c d ic id rc nd e. names_kept o o' kept.page c (i.beyond c d (chain_back closed kept c x i.above ic) (chain_back closed kept d y i.below id) rc nd e);
-      merged = λ c d s q ic id nc nd e v t lo hi ne. kept.page q 4 (level_in d) s (i.merged c d s q (chain_back closed kept c x i.above ic) (chain_back closed kept d y i.below id) nc nd e v t lo hi ne);
+      merged =
+          λ c d s q ic id nc nd e v t lo hi ne. kept.page q 4 (level_in d) s (i.merged c d s q (chain_back closed kept c x i.above ic) (chain_back closed kept d y i.below id) nc nd e v t lo hi ne);
     }
     order_at p f y x h i = tt
 

@@ -8,12 +8,14 @@ use Rattle.tree_law.proofs.shape.KeyOrder.{both, covers_from, covers_to, upto_tr
 use Rattle.tree_law.proofs.shape.Mapping.{live, leaves, is_leaves, map_of}
 use Rattle.tree_law.proofs.shape.Sides.{one_chain}
 
-module _ (memory : Memory) {log : List Update} {o : Owners} {knows : ℕ → Knowledge} {point : ℕ → Option (List Update)} {logs : ℕ → List (List Update)} (g : IsTree (shared memory) log o knows point logs) where
+module _ (memory : Memory) {log : List Update} {o : Owners} {knows : ℕ → Knowledge} {point : ℕ → Option (List Update)} {logs : ℕ → List (List Update)}
+    (g : IsTree (shared memory) log o knows point logs) where
   abbrev Here : SidePage → Type 0
   Here f = InPlace o (shared memory) 0 (leaf_map log) f
 
   -- a page of the list, as it stands there
-  listed : (gs : List SidePage) (p : Option ℕ) (low : Option Key) → IsPart o (shared memory) 0 (leaf_map log) gs p low None None → (page : ℕ) → HasSidePage page gs → (f : SidePage) × (f.page ≡ page) × Contains (map live gs) (live f) × Here f
+  listed : (gs : List SidePage) (p : Option ℕ) (low : Option Key) → IsPart o (shared memory) 0 (leaf_map log) gs p low None None → (page : ℕ)
+      → HasSidePage page gs → (f : SidePage) × (f.page ≡ page) × Contains (map live gs) (live f) × Here f
   listed [] p low h page has = absurd has
   listed (f ∷ gs) p low h page (inl e) = (f, e, (zero, omega arith, refl), h.2)
   listed (f ∷ gs) p low h page (inr later) = let r = listed gs (right_in f.chain) (high_in f.chain) h.3 page later in (r.0, r.1, (suc r.2.0, (let lt = r.2.1 in omega arith), r.2.2), r.3)
@@ -38,7 +40,8 @@ valued (Some (Value v)) value e = ap (λ (w : Key). Some (Value w)) (let f : v �
 valued content value e = absurd (cc)
 
 -- the pairs of such a leaf from one of its keys on are those of the log
-pub shows : (memory : Memory) (log : List Update) → HasMapOf memory log → (page : LivePage) → IsLeafWith memory page → (from : Key) → IsTrue (covers page.chain from) → (pairs : List (Key × Key)) → ArePairsOf (found page.chain) from (high_in page.chain) pairs
+pub shows : (memory : Memory) (log : List Update) → HasMapOf memory log → (page : LivePage) → IsLeafWith memory page → (from : Key)
+    → IsTrue (covers page.chain from) → (pairs : List (Key × Key)) → ArePairsOf (found page.chain) from (high_in page.chain) pairs
     → IsCursorPage memory log from pairs (high_in page.chain)
 shows memory log has page leaf from inside pairs are = record {
   leaf = page;

@@ -34,7 +34,8 @@ below_any : (n q : ℕ) (xs : List ℕ) → AllByRecursion (λ x. x < n) xs → 
 below_any n q xs h e = elim (cases_lt q n) [
   | inl lt ↦ lt
   | inr le ↦
-      let others : All (λ x. eqb q x ≡ false) xs = All-weaker (λ x. x < n) (λ x. eqb q x ≡ false) (λ x lt. let ne : q ≢ x = omega (arith, le, lt) in grind (arith, nat_tests)) xs (All-from_recursion (λ x. x < n) xs h) in
+      let others : All (λ x. eqb q x ≡ false) xs = All-weaker (λ x. x < n) (λ x. eqb q x ≡ false)
+      (λ x lt. let ne : q ≢ x = omega (arith, le, lt) in grind (arith, nat_tests)) xs (All-from_recursion (λ x. x < n) xs h) in
       let none : list_any (eqb q) xs ≡ false = list_any_none (eqb q) xs others in
       absurd (cc)
 ]
@@ -49,11 +50,13 @@ apart_after x xs others apart = AllPairs-cons (λ x y. x ≢ y) x xs (All-from_r
 -- there are fewer than n numbers from 1 on and below n
 fewer : (n : ℕ) (xs : List ℕ) → 0 < n → AreApart xs → AllByRecursion (λ x. 0 ≢ x) xs → AllByRecursion (λ x. x < n) xs → length xs < n
 fewer n xs some apart above below =
-    let all : length (0 ∷ xs) ≤ n = length-le_from_distinct_below (0 ∷ xs) n (IsDistinct-from_AllPairs {eq = eqb} Decides-eqb (0 ∷ xs) (apart_after 0 xs above apart)) (λ q. below_any n q (0 ∷ xs) (some, below)) in
+    let all : length (0 ∷ xs) ≤ n = length-le_from_distinct_below (0 ∷ xs) n
+    (IsDistinct-from_AllPairs {eq = eqb} Decides-eqb (0 ∷ xs) (apart_after 0 xs above apart)) (λ q. below_any n q (0 ∷ xs) (some, below)) in
     omega arith
 
 -- no page stands twice in a part of a side chain
-apart_in : (o : Owners) (m : Shared) (lv : ℕ) (mp : Key → Option ContentOf) (gs : List SidePage) (p : Option ℕ) (low : Option Key) (q : Option ℕ) (high : Option Key) → IsPart o m lv mp gs p low q high → AreApart (pids gs)
+apart_in : (o : Owners) (m : Shared) (lv : ℕ) (mp : Key → Option ContentOf) (gs : List SidePage) (p : Option ℕ) (low : Option Key) (q : Option ℕ) (high : Option Key)
+    → IsPart o m lv mp gs p low q high → AreApart (pids gs)
 apart_in o m lv mp [] p low q high h = λ i j d lt below. absurd (omega (arith, lt, below))
 apart_in o m lv mp (g ∷ gs) p low q high h = apart_after g.page (pids gs)
     (of_pids (λ n. g.page ≢ n) gs (all_in o m lv mp (λ f. StartsFrom (high_in g.chain) (low_in f.chain)) (λ f. g.page ≢ f.page)
@@ -123,4 +126,5 @@ module _ (limits : Limits) (entries : List Entry) (state : IsState limits entrie
 
 -- by whatever points a trace is linearized, its memory has the map of their log
 pub has_map_of_log : (limits : Limits) (entries : List Entry) (linear : IsLinearized limits (map turn_of entries) entries) → HasMapOf (memory_of limits entries) (log_of entries linear.points)
-has_map_of_log limits entries linear = rw (take_all (length entries) entries (omega arith), take_all (length entries) linear.points (omega (arith, linear.pointed.beside))) at (linear.quiet.at_each (length entries) (omega arith))
+has_map_of_log limits entries linear =
+    rw (take_all (length entries) entries (omega arith), take_all (length entries) linear.points (omega (arith, linear.pointed.beside))) at (linear.quiet.at_each (length entries) (omega arith))

@@ -15,7 +15,8 @@ use Rattle.tree_law.proofs.shape.Leaves.{pages_on}
 use Rattle.tree_law.proofs.shape.Mapping.{chain_of}
 
 -- an index page has a child at its low key, which isn't held
-first_child : (level : ℕ) (low : Key) (items : List Item) → 0 < level → AllByRecursion (λ item. IsOfLevel level item.content) items → IsFirstAt low items → (child : ℕ) × (content_at items low ≡ Some (Child child false))
+first_child : (level : ℕ) (low : Key) (items : List Item) → 0 < level → AllByRecursion (λ item. IsOfLevel level item.content) items → IsFirstAt low items
+    → (child : ℕ) × (content_at items low ≡ Some (Child child false))
 first_child level low [] above kinds first = absurd first
 first_child level low (item ∷ items) above kinds first = go item.content kinds.0 first.1 refl
   where
@@ -38,7 +39,8 @@ module _ (limits : Limits) (entries : List Entry) (state : IsState limits entrie
   abbrev map : ℕ → Key → Option ContentOf
   map l = spec (log_of entries state.points) state.owners.index l
 
-  first_down : (l : ℕ) (le : suc l ≤ state.is_tree.tree.top) (chain : List Record) → IsChainOf memory (state.is_tree.tree.first (suc l)) chain → (low_in chain ≡ []) × (content_in chain [] ≡ Some (Child (state.is_tree.tree.first l) false))
+  first_down : (l : ℕ) (le : suc l ≤ state.is_tree.tree.top) (chain : List Record) → IsChainOf memory (state.is_tree.tree.first (suc l)) chain
+      → (low_in chain ≡ []) × (content_in chain [] ≡ Some (Child (state.is_tree.tree.first l) false))
   first_down l le chain is =
       let tree = state.is_tree.tree in
       let level = tree.levels (suc l) le in
@@ -50,7 +52,8 @@ module _ (limits : Limits) (entries : List Entry) (state : IsState limits entrie
       let on : made.0.level ≡ suc l = made.1.level ∙ f.3.is_page.on_level in
       let above : 0 < made.0.level = omega (arith, on) in
       let child = first_child made.0.level made.0.low made.0.items above (recursion_from_All _ made.0.items rules.is_page.kinds) (rules.terms above).first in
-      let content : content_in f.0.chain [] ≡ Some (Child child.0 false) = subst (λ (k : Key). content_in f.0.chain k ≡ Some (Child child.0 false)) (made.1.low ∙ f.2) (sym (made.1.items.contents made.0.low) ∙ child.1) in
+      let content : content_in f.0.chain [] ≡ Some (Child child.0 false) = subst (λ (k : Key). content_in f.0.chain k ≡ Some (Child child.0 false))
+      (made.1.low ∙ f.2) (sym (made.1.items.contents made.0.low) ∙ child.1) in
       let named = (tree.exact.named l [] (Child child.0 false) (sym (f.3.is_page.same [] (from_empty f.0.chain f.2 f.3.is_page.some)) ∙ content)).1 in
       let stage : named.0 ≡ Indexed = indexed_mark named.0 child.0 named.2 in
       let on_side : rank named.0 ≤ 3 = rw stage (omega arith) in

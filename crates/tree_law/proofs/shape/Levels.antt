@@ -18,7 +18,8 @@ of_stage Merged (Placed Merged l s) child is_held e k = (Merged, l, s, refl, k)
 of_stage st w child is_held e k = absurd (cc)
 
 -- the moment after all entries
-module _ (limits : Limits) (entries : List Entry) {log : List Update} {o : Owners} {knows : ℕ → Knowledge} {point : ℕ → Option (List Update)} {logs : ℕ → List (List Update)} (g : IsTree (shared (memory_of limits entries)) log o knows point logs) where
+module _ (limits : Limits) (entries : List Entry) {log : List Update} {o : Owners} {knows : ℕ → Knowledge} {point : ℕ → Option (List Update)}
+    {logs : ℕ → List (List Update)} (g : IsTree (shared (memory_of limits entries)) log o knows point logs) where
   abbrev m : Memory
   m = memory_of limits entries
 
@@ -54,7 +55,8 @@ module _ (limits : Limits) (entries : List Entry) {log : List Update} {o : Owner
     to_mark child true (inr (inl h)) = of_stage Removed (o.page child) child true (only_phase child removed h) refl
     to_mark child true (inr (inr h)) = of_stage Merged (o.page child) child true (only_phase child merged h) refl
 
-    indexes_now : (leftmost : (l q : ℕ) → IsFirst o l q → IsLeftmost limits entries (length entries) l q) (level : ℕ) (le : suc level ≤ is.top) → Indexes limits entries (length entries) level (is.pages (suc level) le)
+    indexes_now : (leftmost : (l q : ℕ) → IsFirst o l q → IsLeftmost limits entries (length entries) l q) (level : ℕ) (le : suc level ≤ is.top)
+        → Indexes limits entries (length entries) level (is.pages (suc level) le)
     indexes_now leftmost level le = record {
       pages = (is.first (suc level), leftmost (suc level) (is.first (suc level)) (is.firsts (suc level) le), rw whole_trace (is.side (suc level) le));
       whole = is.whole (suc level) le;
@@ -67,7 +69,8 @@ module _ (limits : Limits) (entries : List Entry) {log : List Update} {o : Owner
     }
 
 -- one more entry
-module _ (limits : Limits) (entries : List Entry) (last : Entry) {log log' : List Update} {o o' : Owners} {knows knows' : ℕ → Knowledge} {point point' : ℕ → Option (List Update)} {logs logs' : ℕ → List (List Update)}
+module _ (limits : Limits) (entries : List Entry) (last : Entry) {log log' : List Update} {o o' : Owners} {knows knows' : ℕ → Knowledge}
+    {point point' : ℕ → Option (List Update)} {logs logs' : ℕ → List (List Update)}
     (g : IsTree (shared (memory_of limits entries)) log o knows point logs) (g' : IsTree (shared (memory_of limits (entries ++ last ∷ []))) log' o' knows' point' logs')
     (stays : (l q : ℕ) → IsFirst o l q → IsFirst o' l q) (grows : (is_indexed (memory_of limits (entries ++ last ∷ [])) g').top ≤ suc ((is_indexed (memory_of limits entries) g).top))
     (in_phase : (pid : ℕ) → IsInPhase limits (entries ++ last ∷ []) (length (entries ++ last ∷ [])) pid (phase_of (o'.page pid)))
@@ -154,7 +157,8 @@ module _ (limits : Limits) (entries : List Entry) (last : Entry) {log log' : Lis
   }
 
 -- the empty trace, where all levels are the lowest
-module _ (limits : Limits) {log : List Update} {o : Owners} {knows : ℕ → Knowledge} {point : ℕ → Option (List Update)} {logs : ℕ → List (List Update)} (g : IsTree (shared (memory_of limits [])) log o knows point logs) (flat : (l q : ℕ) → IsFirst o l q → l ≡ 0) where
+module _ (limits : Limits) {log : List Update} {o : Owners} {knows : ℕ → Knowledge} {point : ℕ → Option (List Update)} {logs : ℕ → List (List Update)}
+    (g : IsTree (shared (memory_of limits [])) log o knows point logs) (flat : (l q : ℕ) → IsFirst o l q → l ≡ 0) where
   abbrev start : IsIndexed (memory_of limits []) o
   start = is_indexed (memory_of limits []) g
 
@@ -162,7 +166,9 @@ module _ (limits : Limits) {log : List Update} {o : Owners} {knows : ℕ → Kno
   top_zero = flat start.top ((memory_of limits []).slots 0) (Indexed, root_indexed (memory_of limits []) g, omega arith)
 
   root_first : (n : ℕ) → n ≤ 0 → IsRootLevel (memory_at limits [] n) start.top
-  root_first n le = let none : 0 ≡ n = omega arith in subst (λ k. IsRootLevel (memory_at limits [] k) start.top) none (subst (λ (x : Memory). IsRootLevel x start.top) (sym (whole_trace limits [] g)) (root_now limits [] g))
+  root_first n le =
+      let none : 0 ≡ n = omega arith in
+      subst (λ k. IsRootLevel (memory_at limits [] k) start.top) none (subst (λ (x : Memory). IsRootLevel x start.top) (sym (whole_trace limits [] g)) (root_now limits [] g))
 
   top_first : (n l : ℕ) → n ≤ 0 → IsRootLevel (memory_at limits [] n) l → l ≡ start.top
   top_first n l le h = let none : n ≡ 0 = omega arith in top_is limits [] g l (rw (whole_trace limits [] g) at (rw none at h))

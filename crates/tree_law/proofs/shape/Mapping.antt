@@ -28,7 +28,8 @@ module _ (memory : Memory) (o : Owners) (lv : ℕ) (mp : Key → Option ContentO
   chain_of g h = chain_at memory g.page g.row g.chain h.is_page.head h.is_page.is_chain
 
   -- the pages are a side chain, and their ranges follow one another
-  pub side_from : (gs : List SidePage) (p : Option ℕ) (low : Option Key) → IsPart o (shared memory) lv mp gs p low None None → MatchOption p (map live gs ≡ []) (λ q. IsSideChainFrom memory q (map live gs))
+  pub side_from : (gs : List SidePage) (p : Option ℕ) (low : Option Key) → IsPart o (shared memory) lv mp gs p low None None
+      → MatchOption p (map live gs ≡ []) (λ q. IsSideChainFrom memory q (map live gs))
   side_from [] None low h = refl
   side_from (g ∷ gs) (Some p) low h = (sym (same_Some p g.page h.0), rw (same_Some p g.page h.0) (chain_of g h.2), side_from gs (right_in g.chain) (high_in g.chain) h.3)
   side_from gs p low h = absurd (cc h.0)
@@ -39,7 +40,8 @@ module _ (memory : Memory) (o : Owners) (lv : ℕ) (mp : Key → Option ContentO
   whole_from gs p low h = absurd (cc h.1)
 
   -- a page among them is in its place
-  pub among : (gs : List SidePage) (p : Option ℕ) (low : Option Key) → IsPart o (shared memory) lv mp gs p low None None → (page : LivePage) → Contains (map live gs) page → (g : SidePage) × (live g ≡ page) × InPlace o (shared memory) lv mp g
+  pub among : (gs : List SidePage) (p : Option ℕ) (low : Option Key) → IsPart o (shared memory) lv mp gs p low None None → (page : LivePage)
+      → Contains (map live gs) page → (g : SidePage) × (live g ≡ page) × InPlace o (shared memory) lv mp g
   among [] p low h page (n, lt, e) = absurd (omega arith)
   among (g ∷ gs) p low h page (zero, lt, e) = (g, e, h.2)
   among (g ∷ gs) p low h page (suc n, lt, e) = among gs (right_in g.chain) (high_in g.chain) h.3 page (n, omega arith, e)
@@ -67,7 +69,8 @@ module _ (memory : Memory) (o : Owners) (lv : ℕ) (mp : Key → Option ContentO
       go rest None e = here (rw e)
       go rest (Some high) e = test rest high e (is_under key (Some high)) refl
 
-module _ (memory : Memory) {log : List Update} {o : Owners} {knows : ℕ → Knowledge} {point : ℕ → Option (List Update)} {logs : ℕ → List (List Update)} (g : IsTree (shared memory) log o knows point logs) where
+module _ (memory : Memory) {log : List Update} {o : Owners} {knows : ℕ → Knowledge} {point : ℕ → Option (List Update)} {logs : ℕ → List (List Update)}
+    (g : IsTree (shared memory) log o knows point logs) where
   pub leaves : Level o (shared memory) 0 (leaf_map log) 1
   leaves = rw g.tree.leaf at (g.tree.levels 0 (omega arith))
 
@@ -93,5 +96,6 @@ module _ (memory : Memory) {log : List Update} {o : Owners} {knows : ℕ → Kno
     same = λ key value. (spelled key value, spells key value);
   }
 
-pub map_of : {m : Memory} {log : List Update} {o : Owners} {knows : ℕ → Knowledge} {point : ℕ → Option (List Update)} {logs : ℕ → List (List Update)} → IsTree (shared m) log o knows point logs → HasMapOf m log
+pub map_of : {m : Memory} {log : List Update} {o : Owners} {knows : ℕ → Knowledge} {point : ℕ → Option (List Update)} {logs : ℕ → List (List Update)}
+    → IsTree (shared m) log o knows point logs → HasMapOf m log
 map_of {m} g = has_map m g

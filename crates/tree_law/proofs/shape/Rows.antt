@@ -14,13 +14,15 @@ chain_linked o m closed x [] l h row among = absurd h
 chain_linked o m closed x (w ∷ c) l h row (zero, lt, e) = rw e at l
 chain_linked o m closed x (w ∷ c) l h row (suc k, lt, e) =
     let nothing_under : c ≡ [] → k < length (chain_rows 0 c) → ⊥ = λ empty within. let none_there : length (chain_rows 0 c) ≡ 0 = ap (λ r. length (chain_rows 0 r)) empty in omega arith in
-    elim (next_row w) as (λ n. IfSome n (λ n. o.row n ≡ Linked) → MatchOption n (c ≡ []) (λ n. IsChainFrom m.rows n c) → k < length (chain_rows (unwrap_or n 0) c) → slice_index_or (chain_rows (unwrap_or n 0) c) k row ≡ row → o.row row ≡ Linked) [
+    elim (next_row w) as (λ n. IfSome n (λ n. o.row n ≡ Linked) → MatchOption n (c ≡ []) (λ n. IsChainFrom m.rows n c) → k < length
+    (chain_rows (unwrap_or n 0) c) → slice_index_or (chain_rows (unwrap_or n 0) c) k row ≡ row → o.row row ≡ Linked) [
       | None ↦ λ i empty within at. absurd (nothing_under empty within)
       | Some n ↦ λ i under within at. chain_linked o m closed n c i under row (k, within, at)
     ] (next_linked o m closed x w l h.0) h.1 (omega arith) e
 
 -- the chain of a linked row stays where the records of linked rows stay
-pub rows_kept : (o : Owners) (m : Shared) (rows' : ℕ → Option Record) → IsClosed o m → ((r : ℕ) → o.row r ≡ Linked → rows' r ≡ m.rows r) → (x : ℕ) (c : List Record) → o.row x ≡ Linked → IsChainFrom m.rows x c → IsChainFrom rows' x c
+pub rows_kept : (o : Owners) (m : Shared) (rows' : ℕ → Option Record) → IsClosed o m → ((r : ℕ) → o.row r ≡ Linked → rows' r ≡ m.rows r)
+    → (x : ℕ) (c : List Record) → o.row x ≡ Linked → IsChainFrom m.rows x c → IsChainFrom rows' x c
 rows_kept o m rows' closed kept x [] l h = h
 rows_kept o m rows' closed kept x (w ∷ c) l h = (
   kept x l ∙ h.0,
@@ -31,7 +33,8 @@ rows_kept o m rows' closed kept x (w ∷ c) l h = (
 )
 
 -- and it was so before
-pub chain_was : (o : Owners) (m : Shared) (rows' : ℕ → Option Record) → IsClosed o m → ((r : ℕ) → o.row r ≡ Linked → rows' r ≡ m.rows r) → (x : ℕ) (c : List Record) → o.row x ≡ Linked → IsChainFrom rows' x c → IsChainFrom m.rows x c
+pub chain_was : (o : Owners) (m : Shared) (rows' : ℕ → Option Record) → IsClosed o m → ((r : ℕ) → o.row r ≡ Linked → rows' r ≡ m.rows r)
+    → (x : ℕ) (c : List Record) → o.row x ≡ Linked → IsChainFrom rows' x c → IsChainFrom m.rows x c
 chain_was o m rows' closed kept x c l h =
     let k = closed x l in
     let d : IsChainFrom m.rows x (k.content ∷ k.rest) = (k.stands, k.is_rest) in

@@ -72,7 +72,8 @@ exact_moved {page} {index} {top} {root} b l s st n v was lt had fits full clears
 }
 
 -- a new root over the root and its right
-pub exact_root : {page : ℕ → PageOwner} {index : ℕ → Key → Option ContentOf} {top root : ℕ} (b : ℕ) (s : Key) (y : ℕ) → page b ≡ Placed Fresh top s → IsBelow [] s → ((l' : ℕ) (s' : Key) (st : Stage) → page y ≡ Placed st l' s' → ⊥) → Exact page index top root
+pub exact_root : {page : ℕ → PageOwner} {index : ℕ → Key → Option ContentOf} {top root : ℕ} (b : ℕ) (s : Key) (y : ℕ) → page b ≡ Placed Fresh top s
+    → IsBelow [] s → ((l' : ℕ) (s' : Key) (st : Stage) → page y ≡ Placed st l' s' → ⊥) → Exact page index top root
     → Exact (put (put page b (Placed Indexed top s)) y (Placed Indexed (suc top) [])) (put index top (put_key (put_key (λ k. None) s (Some (Child b false))) [] (Some (Child root false)))) (suc top) y
 exact_root {page} {index} {top} {root} b s y was some not x = record {
   gone = λ q a l' s'. grind (arith, nat_tests, x.gone);
@@ -80,10 +81,12 @@ exact_root {page} {index} {top} {root} b s y was some not x = record {
   posted = λ q l' s' st i. by_equal q y
       (λ j t. rw t λ e lt m. absurd (let f : suc top ≡ l' = cc in omega arith))
       (λ j t. rw t (by_equal q b
-      (λ k t. rw t λ e lt m. let f : top ≡ l' = cc in let h : s ≡ s' = cc in let w : Indexed ≡ st = cc in rw (sym f, sym h) (at_right ∙ ap (λ d. Some (Child d false)) (sym k) ∙ ap (λ v. mark v q) w ∙ m))
+      (λ k t. rw t λ e lt m. let f : top ≡ l' = cc in let h : s ≡ s' = cc in let w : Indexed ≡ st = cc in rw (sym f, sym h)
+      (at_right ∙ ap (λ d. Some (Child d false)) (sym k) ∙ ap (λ v. mark v q) w ∙ m))
       (λ k t. rw t λ e lt m. by_equal l' top
       (λ f t. rw t (by_equal q root
-      (λ h r. let w : Placed st l' s' ≡ Placed Indexed top [] = sym e ∙ ap page h ∙ x.is_root in let u : s' ≡ [] = cc in let v : Indexed ≡ st = cc in rw u (ap (λ d. Some (Child d false)) (sym h) ∙ ap (λ z. mark z q) v ∙ m))
+      (λ h r. let w : Placed st l' s' ≡ Placed Indexed top [] = sym e ∙ ap page h ∙ x.is_root in let u : s' ≡ [] = cc in let v : Indexed ≡ st = cc in rw u
+      (ap (λ d. Some (Child d false)) (sym h) ∙ ap (λ z. mark z q) v ∙ m))
       (λ h r. absurd (let u = x.others q s' st (rw f at e) h in let v : mark Fresh q ≡ Some i = ap (λ z. mark z q) (sym u) ∙ m in cc))))
       (λ f t. rw t (x.posted q l' s' st i e (omega arith) m)))));
   named = λ l' s' i. by_equal l' top

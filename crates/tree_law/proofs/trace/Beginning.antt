@@ -32,7 +32,20 @@ opening_timed : (limits : Limits) → Timed limits (opening limits) (opening_own
 unfolding opening_times
 opening_timed limits = record {
   within = λ b e. absurd (cc);
-  holds = λ b. record { learnt_inside = λ r e. absurd (cc); learnt_since = λ r e. absurd (cc); seen_learnt = λ r w e. absurd (cc); roots_inside = λ p e. absurd (cc); roots_since = λ p e. absurd (cc); heads_since = λ p x e. absurd (cc); before_since = λ p f x e. absurd (cc); beside_since = λ p f y x e. absurd (cc); linked_learnt = λ x e. absurd (cc) };
+  holds =
+      λ b. record {
+        learnt_inside = λ r e. absurd (cc);
+        learnt_since = λ r e. absurd (cc);
+        seen_learnt = λ r w e. absurd (cc);
+        roots_inside = λ p e. absurd
+            (cc);
+        roots_since = λ p e. absurd (cc);
+        heads_since = λ p x e. absurd (cc);
+        before_since = λ p f x e. absurd (cc);
+        beside_since = λ p f y x e. absurd
+            (cc);
+        linked_learnt = λ x e. absurd (cc);
+      };
   announced = λ b e. absurd (cc);
   epochs = λ b v e. absurd (cc);
   slots = λ p x l s h e. (by_equal p 1 (λ i t. sym i) (λ ne t. absurd (let f = rw t at (rw (opening_slots limits) at e) in cc)), refl);
@@ -48,12 +61,26 @@ opening_timed limits = record {
 }
 
 -- what an actor holds when it begins it held before
-begin_timed : {limits : Limits} {m : Memory} {log : List Update} {o : Owners} {knows : ℕ → Knowledge} {point : ℕ → Option (List Update)} {logs : ℕ → List (List Update)} {now : ℕ} {t : Times} (g : IsTree (shared m) log o knows point logs) (T : Timed limits m o knows now t) (a : ℕ) (c : Command)
+begin_timed : {limits : Limits} {m : Memory} {log : List Update} {o : Owners} {knows : ℕ → Knowledge} {point : ℕ → Option (List Update)}
+    {logs : ℕ → List (List Update)} {now : ℕ} {t : Times} (g : IsTree (shared m) log o knows point logs) (T : Timed limits m o knows now t) (a : ℕ)
+    (c : Command)
     → Timed limits m o (put knows a (begun (knows a) c)) (suc now) t
 begin_timed {m = m} {o = o} {knows = knows} g T a c =
     let h = T.holds a in
     read_timed (begun (knows a) c) (calm_same g T a) refl refl
-    (record { learnt_inside = h.learnt_inside; learnt_since = h.learnt_since; seen_learnt = h.seen_learnt; roots_inside = h.roots_inside; roots_since = h.roots_since; heads_since = λ p x e. absurd (cc); before_since = λ p f x e. absurd (cc); beside_since = λ p f y x e. absurd (cc); linked_learnt = λ x e. absurd (cc) })
+    (record {
+      learnt_inside = h.learnt_inside;
+      learnt_since = h.learnt_since;
+      seen_learnt = h.seen_learnt;
+      roots_inside = h.roots_inside;
+      roots_since =
+          h.roots_since;
+      heads_since = λ p x e. absurd (cc);
+      before_since = λ p f x e. absurd (cc);
+      beside_since = λ p f y x e. absurd (cc);
+      linked_learnt = λ x
+          e. absurd (cc);
+    })
     refl refl
 
 pub opens : Opens IsState
@@ -133,10 +160,13 @@ tells_new entries points a c = record {
 pub begins : BeginsKeep IsState
 begins limits entries a c state below idle =
     let rows_longer : (b q : ℕ) → IsInLimbo (entries ++ Begin a c ∷ []) b (UnlinksRow limits (entries ++ Begin a c ∷ []) b q) (HandsRow q) ((knows entries b).limbo.rows q) =
-    λ b q. limbo_push entries (Begin a c) (UnlinksRow limits entries b q) (UnlinksRow limits (entries ++ Begin a c ∷ []) b q) (HandsRow q) (row_longer entries (Begin a c) limits b q) b ((knows entries b).limbo.rows q) (λ f other s x h. absurd (cc h.1)) (state.limbo_rows b q) in
+    λ b q. limbo_push entries (Begin a c) (UnlinksRow limits entries b q) (UnlinksRow limits (entries ++ Begin a c ∷ []) b q) (HandsRow q)
+    (row_longer entries (Begin a c) limits b q) b ((knows entries b).limbo.rows q) (λ f other s x h. absurd (cc h.1)) (state.limbo_rows b q) in
     let pids_longer : (b q : ℕ) → IsInLimbo (entries ++ Begin a c ∷ []) b (UnlinksPid limits (entries ++ Begin a c ∷ []) b q) (HandsPid q) ((knows entries b).limbo.pids q) =
-    λ b q. limbo_push entries (Begin a c) (UnlinksPid limits entries b q) (UnlinksPid limits (entries ++ Begin a c ∷ []) b q) (HandsPid q) (pid_longer entries (Begin a c) limits b q) b ((knows entries b).limbo.pids q) (λ f other s x h. absurd (cc h.1)) (state.limbo_pids b q) in
-    let tree_after : IsTree (shared (memory_of limits (entries ++ Begin a c ∷ []))) (log_of (entries ++ Begin a c ∷ []) (state.points ++ false ∷ [])) state.owners (knows (entries ++ Begin a c ∷ [])) (put state.point a None) (put state.logs a []) =
+    λ b q. limbo_push entries (Begin a c) (UnlinksPid limits entries b q) (UnlinksPid limits (entries ++ Begin a c ∷ []) b q) (HandsPid q)
+    (pid_longer entries (Begin a c) limits b q) b ((knows entries b).limbo.pids q) (λ f other s x h. absurd (cc h.1)) (state.limbo_pids b q) in
+    let tree_after : IsTree (shared (memory_of limits (entries ++ Begin a c ∷ []))) (log_of (entries ++ Begin a c ∷ []) (state.points ++ false ∷ []))
+    state.owners (knows (entries ++ Begin a c ∷ [])) (put state.point a None) (put state.logs a []) =
     rw (memory_of-push limits entries (Begin a c), log_of-push entries state.points (Begin a c) false state.marked.beside, knows-push entries (Begin a c)) (tree_begins state.is_tree a c) in
     record {
       points = state.points ++ false ∷ [];
@@ -146,10 +176,13 @@ begins limits entries a c state below idle =
       is_tree = tree_after;
       fitted = rw (memory_of-push limits entries (Begin a c)) state.fitted;
       unheld = rw (memory_of-push limits entries (Begin a c)) state.unheld;
-      named = rw (memory_of-push limits entries (Begin a c), knows-push entries (Begin a c)) (named_begins limits entries state.owners (memory_of limits entries) (knows entries) a c state.named (command_of-push entries (Begin a c)));
+      named =
+          rw (memory_of-push limits entries (Begin a c), knows-push entries (Begin a c))
+          (named_begins limits entries state.owners (memory_of limits entries) (knows entries) a c state.named (command_of-push entries (Begin a c)));
       tells = λ b asked e. let now = rw (command_of-push entries (Begin a c)) at e in by_equal b a
           (λ i t. rw (t, i, same_Some asked c (sym (rw t at now))) (tells_new entries (state.points ++ false ∷ []) a c))
-          (λ ne t. rw t (tells_other entries state.points (Begin a c) false state.marked.beside b asked (state.point b) (state.logs b) (λ d i. ne (let j : a ≡ b = cc in sym j)) (λ s x r i. absurd (cc)) (state.tells b asked (rw t at now))));
+          (λ ne t. rw t (tells_other entries state.points (Begin a c) false state.marked.beside b asked (state.point b) (state.logs b)
+          (λ d i. ne (let j : a ≡ b = cc in sym j)) (λ s x r i. absurd (cc)) (state.tells b asked (rw t at now))));
       searches = searches_begin;
       stood = stood_begin;
       marked = marked_push entries state.points (Begin a c) false state.marked.beside limits state.marked (λ e. absurd (cc)) (λ e. absurd (cc)) (λ op s x r is e u. absurd (cc)) (λ e. absurd (cc));
@@ -165,11 +198,15 @@ begins limits entries a c state below idle =
       limbo_pids = rw (knows-push entries (Begin a c)) (λ b q. by_equal b a (λ i t. rw t (rw i (pids_longer a q))) (λ ne t. rw t (pids_longer b q)));
       freed = record {
         pids = λ n b word bits pid x h among. elim (TakesStep-push_cases entries (Begin a c) n b (ReusePids word bits) x h) [
-          | inl before ↦ freed_push entries (Begin a c) (UnlinksPid limits entries b pid) (UnlinksPid limits (entries ++ Begin a c ∷ []) b pid) (HandsPid pid) (pid_longer entries (Begin a c) limits b pid) limits b n (slice_get_below entries n _ before.1) (state.freed.pids n b word bits pid x before among)
+          | inl before ↦ freed_push entries (Begin a c) (UnlinksPid limits entries b pid) (UnlinksPid limits (entries ++ Begin a c ∷ []) b pid) (HandsPid pid)
+              (pid_longer entries (Begin a c) limits b pid) limits b n (slice_get_below entries n _ before.1)
+              (state.freed.pids n b word bits pid x before among)
           | inr at ↦ absurd (cc at.1.1)
         ];
         rows = λ n b word bits row x h among. elim (TakesStep-push_cases entries (Begin a c) n b (ReuseRows word bits) x h) [
-          | inl before ↦ freed_push entries (Begin a c) (UnlinksRow limits entries b row) (UnlinksRow limits (entries ++ Begin a c ∷ []) b row) (HandsRow row) (row_longer entries (Begin a c) limits b row) limits b n (slice_get_below entries n _ before.1) (state.freed.rows n b word bits row x before among)
+          | inl before ↦ freed_push entries (Begin a c) (UnlinksRow limits entries b row) (UnlinksRow limits (entries ++ Begin a c ∷ []) b row) (HandsRow row)
+              (row_longer entries (Begin a c) limits b row) limits b n (slice_get_below entries n _ before.1)
+              (state.freed.rows n b word bits row x before among)
           | inr at ↦ absurd (cc at.1.1)
         ];
       };
@@ -179,14 +216,18 @@ begins limits entries a c state below idle =
       rooted = λ b p e. by_equal b a
           (λ i t. let f = rw t at (rw (knows-push entries (Begin a c)) at e) in state.rooted a p f) (λ ne t. let f = rw t at (rw (knows-push entries (Begin a c)) at e) in state.rooted b p f);
       indexed = indexed_push limits entries (Begin a c) state.is_tree tree_after (λ l q h. h)
-          (let le = below_top (memory_of limits entries) state.is_tree ((memory_of limits (entries ++ Begin a c ∷ [])).slots 0) ((is_indexed (memory_of limits (entries ++ Begin a c ∷ [])) tree_after).top) [] Indexed (root_indexed (memory_of limits (entries ++ Begin a c ∷ [])) tree_after) in omega arith)
-          (λ pid. begins_in_phase limits entries a c pid (phase_of (state.owners.page pid)) (state.in_phase pid)) (begins_only limits entries a c state.owners.page state.in_phase state.only_phase) state.indexed;
+          (let le = below_top (memory_of limits entries) state.is_tree ((memory_of limits (entries ++ Begin a c ∷ [])).slots 0)
+          ((is_indexed (memory_of limits (entries ++ Begin a c ∷ [])) tree_after).top) [] Indexed
+          (root_indexed (memory_of limits (entries ++ Begin a c ∷ [])) tree_after) in omega arith)
+          (λ pid. begins_in_phase limits entries a c pid (phase_of (state.owners.page pid)) (state.in_phase pid))
+          (begins_only limits entries a c state.owners.page state.in_phase state.only_phase) state.indexed;
     }
   where
     -- what is so of each unfinished operation: the one that begins, and those of others
     unfinished_begin : (P : Operation → Knowledge → Type 0) → P (operation_from (length entries) a c) (begun (knows entries a) c)
         → ((op : Operation) → IsOperation entries op → IsUnended entries op.start op.actor → command_of entries op.actor ≡ Some op.command → P op (knows entries op.actor))
-        → (op : Operation) → IsOperation (entries ++ Begin a c ∷ []) op → IsUnended (entries ++ Begin a c ∷ []) op.start op.actor → command_of (entries ++ Begin a c ∷ []) op.actor ≡ Some op.command → P op (knows (entries ++ Begin a c ∷ []) op.actor)
+        → (op : Operation) → IsOperation (entries ++ Begin a c ∷ []) op → IsUnended (entries ++ Begin a c ∷ []) op.start op.actor
+        → command_of (entries ++ Begin a c ∷ []) op.actor ≡ Some op.command → P op (knows (entries ++ Begin a c ∷ []) op.actor)
     unfinished_begin P new others op is unended asks = rw (knows-push entries (Begin a c)) (elim (slice_get-push_cases entries (Begin a c) op.start _ is) [
       | inr at ↦
           let same : op ≡ operation_from (length entries) a c = same_operation op (operation_from (length entries) a c) at.0 (let e = at.1 in cc) (let e = at.1 in cc) in
@@ -194,22 +235,27 @@ begins limits entries a c state below idle =
       | inl before ↦
           let other : op.actor ≢ a = λ i. unended (length entries) c (slice_get_below entries op.start _ before) (rw i (slice_get-push entries (Begin a c))) in
           let asks' : command_of entries op.actor ≡ Some op.command = sym (put_other (command_of entries) a (Some c) op.actor other) ∙ (rw (command_of-push entries (Begin a c)) at asks) in
-          rw (put_other (knows entries) a (begun (knows entries a) c) op.actor other) (others op before (λ later d low e. unended later d low (slice_get_kept entries (Begin a c ∷ []) later _ e)) asks')
+          rw (put_other (knows entries) a (begun (knows entries a) c) op.actor other)
+          (others op before (λ later d low e. unended later d low (slice_get_kept entries (Begin a c ∷ []) later _ e)) asks')
     ])
 
-    searches_begin : (op : Operation) → IsOperation (entries ++ Begin a c ∷ []) op → IsUnended (entries ++ Begin a c ∷ []) op.start op.actor → command_of (entries ++ Begin a c ∷ []) op.actor ≡ Some op.command
+    searches_begin : (op : Operation) → IsOperation (entries ++ Begin a c ∷ []) op → IsUnended (entries ++ Begin a c ∷ []) op.start op.actor
+        → command_of (entries ++ Begin a c ∷ []) op.actor ≡ Some op.command
         → IsSearch (entries ++ Begin a c ∷ []) op (knows (entries ++ Begin a c ∷ []) op.actor)
     searches_begin = unfinished_begin (IsSearch (entries ++ Begin a c ∷ [])) (search_new entries (Begin a c) a c (knows entries a))
         (λ op is unended asks. search_other entries (Begin a c) op (knows entries op.actor) (state.searches op is unended asks) (λ s x r e. absurd (cc)))
 
-    stood_begin : (op : Operation) → IsOperation (entries ++ Begin a c ∷ []) op → IsUnended (entries ++ Begin a c ∷ []) op.start op.actor → command_of (entries ++ Begin a c ∷ []) op.actor ≡ Some op.command
+    stood_begin : (op : Operation) → IsOperation (entries ++ Begin a c ∷ []) op → IsUnended (entries ++ Begin a c ∷ []) op.start op.actor
+        → command_of (entries ++ Begin a c ∷ []) op.actor ≡ Some op.command
         → HaveStood limits (entries ++ Begin a c ∷ []) op (memory_of limits (entries ++ Begin a c ∷ [])).rows (knows (entries ++ Begin a c ∷ []) op.actor).read
     stood_begin = unfinished_begin (λ op k. HaveStood limits (entries ++ Begin a c ∷ []) op (memory_of limits (entries ++ Begin a c ∷ [])).rows k.read)
         (record { reads = λ page row chain read. absurd (cc); heads = λ page row chain read. absurd (cc); beside = λ page head other row basis chain read. absurd (cc) })
-        (λ op is unended asks. stood_kept limits entries (Begin a c) state.is_tree (memory_of limits (entries ++ Begin a c ∷ [])).rows (λ row l. ap (λ (m : Memory). m.rows row) (memory_of-push limits entries (Begin a c))) op op.actor (state.stood op is unended asks))
+        (λ op is unended asks. stood_kept limits entries (Begin a c) state.is_tree (memory_of limits (entries ++ Begin a c ∷ [])).rows
+        (λ row l. ap (λ (m : Memory). m.rows row) (memory_of-push limits entries (Begin a c))) op op.actor (state.stood op is unended asks))
 
 -- whose rows and pages are is as it was
-pub begins_owners : (limits : Limits) (entries : List Entry) (a : ℕ) (c : Command) (state : IsState limits entries) (below : a < limits.actors) (idle : command_of entries a ≡ None) → (begins limits entries a c state below idle).owners ≡ state.owners
+pub begins_owners : (limits : Limits) (entries : List Entry) (a : ℕ) (c : Command) (state : IsState limits entries) (below : a < limits.actors) (idle : command_of entries a ≡ None)
+    → (begins limits entries a c state below idle).owners ≡ state.owners
 unfolding begins
 begins_owners limits entries a c state below idle = refl
 

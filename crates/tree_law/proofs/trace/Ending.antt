@@ -15,7 +15,8 @@ ends_push entries last ends now = record {
 }
 
 -- a step as its actor may take it
-pub step_ends : (limits : Limits) (k : Knowledge) (a : ℕ) (step : StepOf Record) (answer : Answer Record) (reply : Option Reply) → IfSome reply (λ y. (step ≡ Leave) × MayReply limits a k y) → (step ≡ Leave → IsSome reply)
+pub step_ends : (limits : Limits) (k : Knowledge) (a : ℕ) (step : StepOf Record) (answer : Answer Record) (reply : Option Reply)
+    → IfSome reply (λ y. (step ≡ Leave) × MayReply limits a k y) → (step ≡ Leave → IsSome reply)
     → RepliesAtLeave (Step a step answer reply)
 step_ends limits k a Leave answer reply replied ends = ends refl
 step_ends limits k a step answer None replied ends = refl

@@ -27,7 +27,8 @@ moves_on (takes b step) e = cc
 moves_on m e = cc
 
 -- what leaves the free ones is taken from them
-taken_from : {m : Memory} {a : ℕ} {s : StepOf Record} {x : Answer Record} {r : Option Reply} {pid : ℕ} {from to : Phase} → MovesPhase m (Step a s x r) pid from to → from ≡ free → IsAnswer m s x → m.free_pids pid ≡ true
+taken_from : {m : Memory} {a : ℕ} {s : StepOf Record} {x : Answer Record} {r : Option Reply} {pid : ℕ} {from to : Phase}
+    → MovesPhase m (Step a s x r) pid from to → from ≡ free → IsAnswer m s x → m.free_pids pid ≡ true
 taken_from {m} {a} {s} {x} {r} {pid} (takes b step) e is =
     let f = step.1 in
     let i : s ≡ TakePid pid = cc in
@@ -48,11 +49,14 @@ pid_below_after limits f f' is cases below old pid = elim (old pid) [
 ]
 
 module _ (limits : Limits) (entries : List Entry) where
-  pub begins_in_phase : (a : ℕ) (c : Command) (pid : ℕ) (phase : Phase) → IsInPhase limits entries (length entries) pid phase → IsInPhase limits (entries ++ Begin a c ∷ []) (length (entries ++ Begin a c ∷ [])) pid phase
+  pub begins_in_phase : (a : ℕ) (c : Command) (pid : ℕ) (phase : Phase) → IsInPhase limits entries (length entries) pid phase
+      → IsInPhase limits (entries ++ Begin a c ∷ []) (length (entries ++ Begin a c ∷ [])) pid phase
   begins_in_phase a c pid phase h = rw pushed_length (IsInPhase-rested limits entries (Begin a c) pid phase (λ from to moves. begin_still moves) h)
 
   pub begins_phases : (a : ℕ) (c : Command) → KeepsPhases limits entries → KeepsPhases limits (entries ++ Begin a c ∷ [])
-  begins_phases a c keeps = KeepsPhases-push limits entries (Begin a c) keeps (λ pid from to moves. absurd (begin_still moves)) (λ b pid old won. absurd (cc won.0.1)) (λ pid remove chain installs stands. absurd (cc installs.3.0.1))
+  begins_phases a c keeps =
+      KeepsPhases-push limits entries (Begin a c) keeps (λ pid from to moves. absurd (begin_still moves)) (λ b pid old won. absurd (cc won.0.1))
+      (λ pid remove chain installs stands. absurd (cc installs.3.0.1))
 
   module _ (last : Entry) (f f' : ℕ → PageOwner) (before : (pid : ℕ) → IsInPhase limits entries (length entries) pid (phase_of (f pid)))
       (between : (pid : ℕ) (from to : Phase) → MovesPhase (memory_of limits entries) last pid from to → (phase_of (f pid) ≡ from) × (phase_of (f' pid) ≡ to)) where
@@ -71,7 +75,8 @@ module _ (limits : Limits) (entries : List Entry) where
       | inr at ↦ sym (between pid from phase at.1).1
       | inl before ↦
           let below : n < length entries = Happens-below before in
-          rested pid phase (cases pid) (λ one two mv. rests (length entries) one two (omega arith) (omega arith) (Happens-last limits entries last (λ memory entry. MovesPhase memory entry pid one two) mv))
+          rested pid phase (cases pid)
+          (λ one two mv. rests (length entries) one two (omega arith) (omega arith) (Happens-last limits entries last (λ memory entry. MovesPhase memory entry pid one two) mv))
           (only pid phase (inl (n, from, below, before, λ k one two low high mv. rests k one two low (omega arith) (Happens-kept (last ∷ []) mv))))
     ]
       where
@@ -80,12 +85,14 @@ module _ (limits : Limits) (entries : List Entry) where
         rested pid phase (inl mv) never e = absurd (never (phase_of (f pid)) (phase_of (f' pid)) mv)
         rested pid phase (inr same) never e = e ∙ sym same
     only_after cases only pid phase (inr (rests, is)) = elim (cases pid) [
-      | inl mv ↦ absurd (rests (length entries) (phase_of (f pid)) (phase_of (f' pid)) (omega arith) (omega arith) (Happens-last limits entries last (λ memory entry. MovesPhase memory entry pid (phase_of (f pid)) (phase_of (f' pid))) mv))
+      | inl mv ↦ absurd (rests (length entries) (phase_of (f pid)) (phase_of (f' pid)) (omega arith) (omega arith)
+          (Happens-last limits entries last (λ memory entry. MovesPhase memory entry pid (phase_of (f pid)) (phase_of (f' pid))) mv))
       | inr same ↦ only pid phase (inr ((λ k one two low high mv. rests k one two low (omega arith) (Happens-kept (last ∷ []) mv)), is)) ∙ sym same
     ]
 
     pub steps_phases : KeepsPhases limits entries → ((b pid old : ℕ) → Wins (memory_of limits entries) last b pid old 0 link.Clear → phase_of (f pid) ≡ cleared)
-        → ((pid : ℕ) (remove : RemoveOf) (chain : List Record) → Installs (memory_of limits entries) last pid (Remove remove) → IsChainOf (memory_of limits entries) pid chain → IsUnheld chain) → KeepsPhases limits (entries ++ last ∷ [])
+        → ((pid : ℕ) (remove : RemoveOf) (chain : List Record) → Installs (memory_of limits entries) last pid (Remove remove) → IsChainOf (memory_of limits entries) pid chain → IsUnheld chain)
+        → KeepsPhases limits (entries ++ last ∷ [])
     steps_phases keeps clears unheld = KeepsPhases-push limits entries last keeps
         (λ pid from to moves. rw (between pid from to moves).0 at (before pid))
         (λ b pid old won. rw (clears b pid old won) at (before pid))
@@ -95,4 +102,5 @@ module _ (limits : Limits) (entries : List Entry) where
   pub begins_only : (a : ℕ) (c : Command) (f : ℕ → PageOwner) → ((pid : ℕ) → IsInPhase limits entries (length entries) pid (phase_of (f pid)))
       → ((pid : ℕ) (phase : Phase) → IsInPhase limits entries (length entries) pid phase → phase ≡ phase_of (f pid))
       → (pid : ℕ) (phase : Phase) → IsInPhase limits (entries ++ Begin a c ∷ []) (length (entries ++ Begin a c ∷ [])) pid phase → phase ≡ phase_of (f pid)
-  begins_only a c f before only pid phase h = only_after limits entries (Begin a c) f f before (λ pid from to moves. absurd (begin_still moves)) (λ pid. inr refl) only pid phase (rw (pushed_length entries (Begin a c)) at h)
+  begins_only a c f before only pid phase h =
+      only_after limits entries (Begin a c) f f before (λ pid from to moves. absurd (begin_still moves)) (λ pid. inr refl) only pid phase (rw (pushed_length entries (Begin a c)) at h)

@@ -54,7 +54,8 @@ module _ (entries : List Entry) (points : List Bool) (last : Entry) (mark : Bool
   point_old op m own p = let lt : m < length entries = step_below entries last op m own in point_below points mark m (omega arith) p
 
   -- an answer without a point stays where the new step is no mark of its operation
-  answers_kept : (limits : Limits) (op : Operation) (reply : Reply) → IsOperation entries op → (mark ≡ true → IsOwnStep entries' op (length entries) → ⊥) → IsAnsweredBy limits entries points op reply → IsAnsweredBy limits entries' points' op reply
+  answers_kept : (limits : Limits) (op : Operation) (reply : Reply) → IsOperation entries op → (mark ≡ true → IsOwnStep entries' op (length entries) → ⊥)
+      → IsAnsweredBy limits entries points op reply → IsAnsweredBy limits entries' points' op reply
   answers_kept limits op reply is never (inl h) = inl (justifies_kept limits op reply h)
   answers_kept limits op reply is never (inr h) = inr (record {
     unmarked = λ m own p. elim (step_cases entries last op m own) [
@@ -67,7 +68,8 @@ module _ (entries : List Entry) (points : List Bool) (last : Entry) (mark : Bool
   pub marked_push : (limits : Limits) → IsMarked limits entries points
       → (mark ≡ true → (op : Operation) × IsOperation entries op × IsOwnStep entries' op (length entries))
       → (mark ≡ true → (op : Operation) → IsOperation entries op → IsOwnStep entries' op (length entries) → (m : ℕ) → IsOwnStep entries op m → IsPoint points m → ⊥)
-      → ((op : Operation) (step : StepOf Record) (answer : Answer Record) (reply : Reply) → IsOperation entries op → last ≡ Step op.actor step answer (Some reply) → IsUnended entries op.start op.actor → IsAnsweredBy limits entries points op reply × (mark ≡ false))
+      → ((op : Operation) (step : StepOf Record) (answer : Answer Record) (reply : Reply) → IsOperation entries op → last ≡ Step op.actor step answer
+      (Some reply) → IsUnended entries op.start op.actor → IsAnsweredBy limits entries points op reply × (mark ≡ false))
       → (mark ≡ true → (op : Operation) → IsOperation entries op → IsOwnStep entries' op (length entries) → (n : ℕ) (reply : Reply) → Finishes entries op n reply → ⊥)
       → IsMarked limits entries' points'
   marked_push limits old new fresh replied unfinished = record {
@@ -101,7 +103,8 @@ module _ (entries : List Entry) (points : List Bool) (last : Entry) (mark : Bool
 
   -- what is told of an actor whose entry this isn't
   pub tells_other : (b : ℕ) (asked : Command) (point : Option (List Update)) (logs : List (List Update)) → ((c : Command) → last ≡ Begin b c → ⊥)
-      → ((step : StepOf Record) (answer : Answer Record) (reply : Option Reply) → last ≡ Step b step answer reply → ⊥) → Tells entries points b asked point logs → Tells entries' points' b asked point logs
+      → ((step : StepOf Record) (answer : Answer Record) (reply : Option Reply) → last ≡ Step b step answer reply → ⊥) → Tells entries points b asked point logs
+      → Tells entries' points' b asked point logs
   tells_other b asked point logs no_begin no_step t =
       let op : Operation = operation_from t.start b asked in
       record {
@@ -118,13 +121,17 @@ module _ (entries : List Entry) (points : List Bool) (last : Entry) (mark : Bool
           let lt : m < length entries = step_below entries last (operation_from t.start b asked) m own in
           (m, own_step_kept entries last (operation_from t.start b asked) m own, log_same (operation_from t.start b asked) m own ∙ same, rw (take-push entries (last ∷ []) m (omega arith)) asks)
 
-      point_kept : (o : Option (List Update)) → MatchOption o ((m : ℕ) → IsOwnStep entries (operation_from t.start b asked) m → IsPoint points m → ⊥) (λ l. (m : ℕ) × IsOwnStep entries (operation_from t.start b asked) m × IsPoint points m × (log_at entries points m ≡ l))
-          → MatchOption o ((m : ℕ) → IsOwnStep entries' (operation_from t.start b asked) m → IsPoint points' m → ⊥) (λ l. (m : ℕ) × IsOwnStep entries' (operation_from t.start b asked) m × IsPoint points' m × (log_at entries' points' m ≡ l))
+      point_kept : (o : Option (List Update))
+          → MatchOption o ((m : ℕ) → IsOwnStep entries (operation_from t.start b asked) m → IsPoint points m → ⊥)
+          (λ l. (m : ℕ) × IsOwnStep entries (operation_from t.start b asked) m × IsPoint points m × (log_at entries points m ≡ l))
+          → MatchOption o ((m : ℕ) → IsOwnStep entries' (operation_from t.start b asked) m → IsPoint points' m → ⊥)
+          (λ l. (m : ℕ) × IsOwnStep entries' (operation_from t.start b asked) m × IsPoint points' m × (log_at entries' points' m ≡ l))
       point_kept None h = λ m own p. elim (step_cases entries last (operation_from t.start b asked) m own) [
         | inl own' ↦ h m own' (point_old (operation_from t.start b asked) m own' p)
         | inr at ↦ no_step at.1.0 at.1.1 at.1.2 at.1.3
       ]
-      point_kept (Some l) h = (h.0, own_step_kept entries last (operation_from t.start b asked) h.0 h.1, slice_get_kept points (mark ∷ []) h.0 true h.2, log_same (operation_from t.start b asked) h.0 h.1 ∙ h.3)
+      point_kept (Some l) h =
+          (h.0, own_step_kept entries last (operation_from t.start b asked) h.0 h.1, slice_get_kept points (mark ∷ []) h.0 true h.2, log_same (operation_from t.start b asked) h.0 h.1 ∙ h.3)
 
   -- what is told of the actor whose step this is
   pub tells_own : (a : ℕ) (step : StepOf Record) (answer : Answer Record) (reply : Option Reply) (asked : Command) (point : Option (List Update)) (logs : List (List Update)) (log : List Update)
@@ -153,14 +160,17 @@ module _ (entries : List Entry) (points : List Bool) (last : Entry) (mark : Bool
           (m, own_step_kept entries last (operation_from t.start a asked) m own, log_same (operation_from t.start a asked) m own ∙ same, rw (take-push entries (last ∷ []) m (omega arith)) asks')
 
       point_kept : (k : Bool) → mark ≡ k → (o : Option (List Update))
-          → MatchOption o ((m : ℕ) → IsOwnStep entries (operation_from t.start a asked) m → IsPoint points m → ⊥) (λ l. (m : ℕ) × IsOwnStep entries (operation_from t.start a asked) m × IsPoint points m × (log_at entries points m ≡ l))
-          → MatchOption (cond k (Some log) o) ((m : ℕ) → IsOwnStep entries' (operation_from t.start a asked) m → IsPoint points' m → ⊥) (λ l. (m : ℕ) × IsOwnStep entries' (operation_from t.start a asked) m × IsPoint points' m × (log_at entries' points' m ≡ l))
+          → MatchOption o ((m : ℕ) → IsOwnStep entries (operation_from t.start a asked) m → IsPoint points m → ⊥)
+          (λ l. (m : ℕ) × IsOwnStep entries (operation_from t.start a asked) m × IsPoint points m × (log_at entries points m ≡ l))
+          → MatchOption (cond k (Some log) o) ((m : ℕ) → IsOwnStep entries' (operation_from t.start a asked) m → IsPoint points' m → ⊥)
+          (λ l. (m : ℕ) × IsOwnStep entries' (operation_from t.start a asked) m × IsPoint points' m × (log_at entries' points' m ≡ l))
       point_kept true k o h = (length entries, new, rw beside at (slice_get-push points mark ∙ ap Some k), last_log)
       point_kept false k None h = λ m own p. elim (step_cases entries last (operation_from t.start a asked) m own) [
         | inl own' ↦ h m own' (point_old (operation_from t.start a asked) m own' p)
         | inr at ↦ let marked : mark ≡ true = point_last points mark m (at.0 ∙ sym beside) p in absurd (cc)
       ]
-      point_kept false k (Some l) h = (h.0, own_step_kept entries last (operation_from t.start a asked) h.0 h.1, slice_get_kept points (mark ∷ []) h.0 true h.2, log_same (operation_from t.start a asked) h.0 h.1 ∙ h.3)
+      point_kept false k (Some l) h =
+          (h.0, own_step_kept entries last (operation_from t.start a asked) h.0 h.1, slice_get_kept points (mark ∷ []) h.0 true h.2, log_same (operation_from t.start a asked) h.0 h.1 ∙ h.3)
 
   pub quiet_push : (limits : Limits) → IsQuiet limits entries points → HasMapOf (memory_of limits entries') (log_of entries' points') → IsQuiet limits entries' points'
   quiet_push limits old new = record {

@@ -41,7 +41,12 @@ pub named_begins : (limits : Limits) (entries : List Entry) (o : Owners) (m : Me
     → command_of (entries ++ Begin a c ∷ []) ≡ commands_after (command_of entries) (Begin a c)
     → IsNamed limits (entries ++ Begin a c ∷ []) o m (knows_after knows (Begin a c))
 named_begins limits entries o m knows a c old asks = record {
-  shown = λ b r h. elim (HasLearnt-push_cases entries (Begin a c) b r h) [ inl before ↦ elim (old.shown b r before.0) [ inl z ↦ inl z | inr l ↦ inr (by_equal b a (λ i t. rw t (rw i at l)) (λ ne t. rw t l)) ] | inr shows ↦ absurd (begin_shows entries a c b r shows) ];
+  shown =
+      λ b r h. elim (HasLearnt-push_cases entries (Begin a c) b r h) [
+        | inl before ↦ elim (old.shown b r before.0)
+            [ inl z ↦ inl z | inr l ↦ inr (by_equal b a (λ i t. rw t (rw i at l)) (λ ne t. rw t l)) ]
+        | inr shows ↦ absurd (begin_shows entries a c b r shows)
+      ];
   known = λ b r e. rw pushed_length (KnowsRow-kept entries (Begin a c) b r
       (old.known b r (by_equal b a (λ i t. let f = rw t at e in rw i f) (λ ne t. rw t at e)))
       (λ epoch x. ((λ h. let is = h.1 in cc), (λ h. let is = h.1 in cc)))
@@ -164,7 +169,8 @@ on_chain m row (p, c, chain, among) = go (slot_in m.slots p) refl
     go (Some x) e = let at = (slot_some m.slots p x e).1 in record { page = p; first = x; chain = c; held = e; records = rw at at chain.records; among = rw at at among }
 
 module _ {limits : Limits} {entries : List Entry} {o : Owners} {m : Memory} {knows : ℕ → Knowledge} {log : List Update} {points : ℕ → Option (List Update)} {logs : ℕ → List (List Update)}
-    (g : IsTree (shared m) log o knows points logs) (old : IsNamed limits entries o m knows) (a : ℕ) (s : StepOf Record) (x : Answer Record) (r : Option Reply) (may : May a (knows a) s) (is : IsAnswer m s x) where
+    (g : IsTree (shared m) log o knows points logs) (old : IsNamed limits entries o m knows) (a : ℕ) (s : StepOf Record) (x : Answer Record) (r : Option Reply)
+    (may : May a (knows a) s) (is : IsAnswer m s x) where
   abbrev last : Entry
   last = Step a s x r
 
@@ -237,7 +243,8 @@ module _ {limits : Limits} {entries : List Entry} {o : Owners} {m : Memory} {kno
   at_rest t st y b e = rw (same_announced a m t st) (by_equal b a
       (λ i is. let f = rw is at e in rw i (old.announced a (sym (learn_inside (knows a) t y st) ∙ f))) (λ ne is. let f = rw is at e in old.announced b f))
 
-  announced_after : (t : StepOf Record) → May a (knows a) t → (y : Answer Record) → (b : ℕ) → (cond (eqb b a) (finished (learn (knows a) t y) r) (knows b)).inside ≡ true → 0 < (memory_after a t m).announced b
+  announced_after : (t : StepOf Record) → May a (knows a) t → (y : Answer Record) → (b : ℕ)
+      → (cond (eqb b a) (finished (learn (knows a) t y) r) (knows b)).inside ≡ true → 0 < (memory_after a t m).announced b
   announced_after (Enter n) h y b e = by_equal b a (λ i t. rw t h.1) (λ ne t. rw t (old.announced b (rw t at e)))
   announced_after Leave h y b e = by_equal b a (λ i t. absurd (let f = rw t at e in cc)) (λ ne t. rw t (old.announced b (rw t at e)))
   announced_after t h y b e = at_rest t tt y b e
@@ -309,7 +316,8 @@ module _ {limits : Limits} {entries : List Entry} {o : Owners} {m : Memory} {kno
     free_pid_below = λ p e. old.free_pid_below p (free_pids_before s still_so may p e);
   }
 
-  pub named_steps : (o' : Owners) → Numbers o' → ((q : ℕ) → (knows a).read.learnt q ≡ true → (knows a).inside ≡ true) → ((e : ℕ) → (knows a).limbo.epoch ≡ Some e → e ≤ m.epoch) → ((p : ℕ) → (phase_of (o'.page p) ≡ phase.free) ⊎ ((0 < p) × (p < limits.pids)))
+  pub named_steps : (o' : Owners) → Numbers o' → ((q : ℕ) → (knows a).read.learnt q ≡ true → (knows a).inside ≡ true)
+      → ((e : ℕ) → (knows a).limbo.epoch ≡ Some e → e ≤ m.epoch) → ((p : ℕ) → (phase_of (o'.page p) ≡ phase.free) ⊎ ((0 < p) × (p < limits.pids)))
       → ((p q : ℕ) → slot_in (memory_after a s m).slots p ≡ Some q → IsInTree (o'.page p) ⊎ IsReadyPage o' (memory_after a s m) (knows_after knows last) p q)
       → command_of longer ≡ commands_after (command_of entries) last
       → IsNamed limits longer o' (memory_after a s m) (knows_after knows last)

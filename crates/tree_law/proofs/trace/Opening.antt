@@ -17,7 +17,20 @@ module _ (free free_pages : ℕ → Bool) (taken : free 1 ≡ false) (taken_page
   leaves : Level o start 0 (spec [] o.index 0) 1
   leaves = record {
     side = leaf ∷ [];
-    whole = (refl, refl, record { stage = Indexed; placed = refl; on = omega arith; flagged = refl; linked = refl; is_page = record { head = refl; is_chain = (refl, refl); on_level = refl; some = refl; same = λ k v. refl } }, (refl, refl));
+    whole = (
+      refl,
+      refl,
+      record {
+        stage = Indexed;
+        placed = refl;
+        on = omega arith;
+        flagged = refl;
+        linked = refl;
+        is_page = record
+            { head = refl; is_chain = (refl, refl); on_level = refl; some = refl; same = λ k v. refl };
+      },
+      (refl, refl),
+    );
     listed = λ p s st. by_equal p 1 (λ i t. rw t λ e on. inl (sym i)) (λ ne t. rw t λ e on. absurd (cc));
   }
 

@@ -21,10 +21,11 @@ commands_other cs a (Step b step answer (Some reply)) e = put_other cs b None a 
 module _ {X : Type 0} (after : (ℕ → X) → Entry → ℕ → X) (a : ℕ) (other : (xs : ℕ → X) (entry : Entry) → is_entry_of a entry ≡ false → after xs entry a ≡ xs a) where
   folds : (rest : List Entry) (xs : ℕ → X) → own_entries a rest ≡ [] → fold after xs rest a ≡ xs a
   folds [] xs none = refl
-  folds (entry ∷ rest) xs none = elim (is_entry_of a entry) as (λ t. is_entry_of a entry ≡ t → (if t then entry ∷ own_entries a rest else own_entries a rest) ≡ [] → fold after (after xs entry) rest a ≡ xs a) [
-    | true ↦ λ e f. cc
-    | false ↦ λ e f. folds rest (after xs entry) f ∙ other xs entry e
-  ] refl none
+  folds (entry ∷ rest) xs none = elim (is_entry_of a entry) as
+      (λ t. is_entry_of a entry ≡ t → (if t then entry ∷ own_entries a rest else own_entries a rest) ≡ [] → fold after (after xs entry) rest a ≡ xs a) [
+        | true ↦ λ e f. cc
+        | false ↦ λ e f. folds rest (after xs entry) f ∙ other xs entry e
+      ] refl none
 
   -- what an entry of another actor leaves, a run of them leaves
   lasts : (xs : ℕ → X) (seen run : List Entry) → Extends a seen run → fold after xs run a ≡ fold after xs seen a
@@ -44,10 +45,11 @@ accounts_other limits entries (Step b s x r) a left e accounts op latest same = 
 -- one entry after the other
 accounts_along : (limits : Limits) (a left : ℕ) (seen rest : List Entry) → own_entries a rest ≡ [] → Accounts limits seen a left → Accounts limits (seen ++ rest) a left
 accounts_along limits a left seen [] none accounts = rw (append-nil seen) accounts
-accounts_along limits a left seen (entry ∷ rest) none accounts = elim (is_entry_of a entry) as (λ t. is_entry_of a entry ≡ t → (if t then entry ∷ own_entries a rest else own_entries a rest) ≡ [] → Accounts limits (seen ++ entry ∷ rest) a left) [
-  | true ↦ λ e f. cc
-  | false ↦ λ e f. rw (append_assoc seen (entry ∷ []) rest) at (accounts_along limits a left (seen ++ entry ∷ []) rest f (accounts_other limits seen entry a left e accounts))
-] refl none
+accounts_along limits a left seen (entry ∷ rest) none accounts = elim (is_entry_of a entry) as
+    (λ t. is_entry_of a entry ≡ t → (if t then entry ∷ own_entries a rest else own_entries a rest) ≡ [] → Accounts limits (seen ++ entry ∷ rest) a left) [
+      | true ↦ λ e f. cc
+      | false ↦ λ e f. rw (append_assoc seen (entry ∷ []) rest) at (accounts_along limits a left (seen ++ entry ∷ []) rest f (accounts_other limits seen entry a left e accounts))
+    ] refl none
 
 pub own_lasts : OwnLasts
 own_lasts limits a seen run x = record {

@@ -40,8 +40,10 @@ not_zero : (n : ℕ) → eqb (suc n) 0 ≡ false
 not_zero n = eqb_apart (suc n) 0 (λ e. absurd (cc))
 
 -- the link of an exchange on a page, by its numbers
-link_page : (m : Memory) (p old new : ℕ) → link_of m (suc p) old new ≡ cond (eqb old 0) (Some link.Ready) (cond (eqb new 0) (option_map link_without (m.rows old)) (option_map record_link (m.rows new)))
-link_page m p old new = ap (λ t. cond t (Some link.Root) (cond (eqb old 0) (Some link.Ready) (cond (eqb new 0) (option_map link_without (m.rows old)) (option_map record_link (m.rows new))))) (not_zero p)
+link_page : (m : Memory) (p old new : ℕ)
+    → link_of m (suc p) old new ≡ cond (eqb old 0) (Some link.Ready) (cond (eqb new 0) (option_map link_without (m.rows old)) (option_map record_link (m.rows new)))
+link_page m p old new =
+    ap (λ t. cond t (Some link.Root) (cond (eqb old 0) (Some link.Ready) (cond (eqb new 0) (option_map link_without (m.rows old)) (option_map record_link (m.rows new))))) (not_zero p)
 
 pub link_ready : (m : Memory) (p new : ℕ) → link_of m (suc p) 0 new ≡ Some link.Ready
 link_ready m p new = link_page m p 0 new
@@ -50,7 +52,9 @@ pub link_empty : (m : Memory) (p old : ℕ) → link_of m (suc p) (suc old) 0 �
 link_empty m p old = link_page m p (suc old) 0 ∙ ap (λ t. cond t (Some link.Ready) (option_map link_without (m.rows (suc old)))) (not_zero old)
 
 pub link_front : (m : Memory) (p old new : ℕ) → link_of m (suc p) (suc old) (suc new) ≡ option_map record_link (m.rows (suc new))
-link_front m p old new = link_page m p (suc old) (suc new) ∙ ap (λ t. cond t (Some link.Ready) (cond (eqb (suc new) 0) (option_map link_without (m.rows (suc old))) (option_map record_link (m.rows (suc new))))) (not_zero old)
+link_front m p old new =
+    link_page m p (suc old) (suc new)
+    ∙ ap (λ t. cond t (Some link.Ready) (cond (eqb (suc new) 0) (option_map link_without (m.rows (suc old))) (option_map record_link (m.rows (suc new))))) (not_zero old)
     ∙ ap (λ t. cond t (option_map link_without (m.rows (suc old))) (option_map record_link (m.rows (suc new)))) (not_zero new)
 
 -- what is put at a place has its phase there
@@ -72,11 +76,13 @@ second_child key separator page right pid mark above said = by_key key []
     (λ ne t. by_key key separator (λ same u. let e = rw (t, u) at said in cc) (λ other u. absurd (let e = rw (t, u) at said in cc)))
 
 module _ (m : Memory) {log : List Update} {o : Owners} {knows : ℕ → Knowledge} {point : ℕ → Option (List Update)} {logs : ℕ → List (List Update)} (g : IsTree (shared m) log o knows point logs)
-    (inhabited : (p q : ℕ) → slot_in m.slots p ≡ Some q → IsInTree (o.page p) ⊎ IsReadyPage o m knows p q) (a : ℕ) (s : StepOf Record) (x : Answer Record) (r : Option Reply) (may : May a (knows a) s) (is : IsAnswer m s x) (f' : ℕ → PageOwner) (ph : Phased a (shared m) s x o.page f') where
+    (inhabited : (p q : ℕ) → slot_in m.slots p ≡ Some q → IsInTree (o.page p) ⊎ IsReadyPage o m knows p q) (a : ℕ) (s : StepOf Record) (x : Answer Record)
+    (r : Option Reply) (may : May a (knows a) s) (is : IsAnswer m s x) (f' : ℕ → PageOwner) (ph : Phased a (shared m) s x o.page f') where
   abbrev last : Entry
   last = Step a s x r
 
-  linked_by : (slot old new : ℕ) (w : Record) → s ≡ Exchange slot old new → x ≡ Whether true → link_of m slot old new ≡ Some (record_link w) → m.rows new ≡ Some w → (p : ℕ) × (slot ≡ suc p) × LinkMoves (shared m) a w (suc p) o.page f'
+  linked_by : (slot old new : ℕ) (w : Record) → s ≡ Exchange slot old new → x ≡ Whether true → link_of m slot old new ≡ Some (record_link w)
+      → m.rows new ≡ Some w → (p : ℕ) × (slot ≡ suc p) × LinkMoves (shared m) a w (suc p) o.page f'
   linked_by zero old new w i j kind stands = absurd (no_front link.Root w refl kind)
   linked_by (suc p) zero new w i j kind stands = absurd (no_front link.Ready w refl (sym (link_ready m p new) ∙ kind))
   linked_by (suc p) (suc old) zero w i j kind stands = absurd (no_front_map (m.rows (suc old)) w (sym (link_empty m p old) ∙ kind))
@@ -121,7 +127,8 @@ module _ (m : Memory) {log : List Update} {o : Owners} {knows : ℕ → Knowledg
       let here : h.0 ≡ pid = second_child key h.2 old h.0 pid mark (rw same at above) (rw same at said) in
       subst (λ q. (phase_of (o.page q) ≡ fresh) × (phase_of (f' q) ≡ indexed)) here (
         ap phase_of h.4,
-        ap (λ (k : ℕ → PageOwner). phase_of (k h.0)) h.6 ∙ ap phase_of (put_other (put o.page h.0 (Placed Indexed h.1 h.2)) root (Placed Indexed (suc h.1) []) h.0 (λ i. absurd (cc (h.4, h.5))) ∙ put_same o.page h.0 (Placed Indexed h.1 h.2)),
+        ap (λ (k : ℕ → PageOwner). phase_of (k h.0)) h.6 ∙ ap phase_of
+            (put_other (put o.page h.0 (Placed Indexed h.1 h.2)) root (Placed Indexed (suc h.1) []) h.0 (λ i. absurd (cc (h.4, h.5))) ∙ put_same o.page h.0 (Placed Indexed h.1 h.2)),
       )
   moves_between pid from to (holds slot hold installs at) =
       let h = (installed slot (Hold hold) installs).2 in
@@ -188,16 +195,22 @@ module _ (m : Memory) {log : List Update} {o : Owners} {knows : ℕ → Knowledg
   same_phase : (pid : ℕ) → f' ≡ o.page → MovesOrRests pid
   same_phase pid e = inr (rw e)
 
-  by_link : (p old new : ℕ) (w : Record) → s ≡ Exchange (suc p) (suc old) (suc new) → x ≡ Whether true → m.rows (suc new) ≡ Some w → LinkMoves (shared m) a w (suc p) o.page f' → (pid : ℕ) → MovesOrRests pid
-  by_link p old new (Split split) i j stands h pid = moved_at split.page pid (Keeps a) (Placed Fresh h.1 split.separator) h.4 h.5 (splits (suc p) split (installs_now p old new (Split split) i j stands) refl)
-  by_link p old new (Term term) i j stands h pid = moved_at term.child pid (Placed Fresh h.0 term.separator) (Placed Indexed h.0 term.separator) h.1 h.2 (terms (suc p) term (installs_now p old new (Term term) i j stands) refl)
-  by_link p old new (Hold hold) i j stands h pid = moved_at hold.child pid (Placed Indexed h.0 hold.separator) (Placed Held h.0 hold.separator) h.1 h.2 (holds (suc p) hold (installs_now p old new (Hold hold) i j stands) refl)
+  by_link : (p old new : ℕ) (w : Record) → s ≡ Exchange (suc p) (suc old) (suc new) → x ≡ Whether true → m.rows (suc new) ≡ Some w
+      → LinkMoves (shared m) a w (suc p) o.page f' → (pid : ℕ) → MovesOrRests pid
+  by_link p old new (Split split) i j stands h pid =
+      moved_at split.page pid (Keeps a) (Placed Fresh h.1 split.separator) h.4 h.5 (splits (suc p) split (installs_now p old new (Split split) i j stands) refl)
+  by_link p old new (Term term) i j stands h pid =
+      moved_at term.child pid (Placed Fresh h.0 term.separator) (Placed Indexed h.0 term.separator) h.1 h.2 (terms (suc p) term (installs_now p old new (Term term) i j stands) refl)
+  by_link p old new (Hold hold) i j stands h pid =
+      moved_at hold.child pid (Placed Indexed h.0 hold.separator) (Placed Held h.0 hold.separator) h.1 h.2 (holds (suc p) hold (installs_now p old new (Hold hold) i j stands) refl)
   by_link p old new (Remove remove) i j stands h pid = moved_at (suc p) pid (Placed Held h.0 h.1) (Placed Removed h.0 h.1) h.2 h.3 (removes remove (installs_now p old new (Remove remove) i j stands))
   by_link p old new (Merge merge) i j stands h pid =
       let side = h.4 in
       let at = slot_some m.slots (suc p) side.0 side.2 in
-      moved_at h.0 pid (Placed Removed h.1 merge.low) (Placed Merged h.1 merge.low) h.2 h.3 (merges (suc p) merge side.1 (installs_now p old new (Merge merge) i j stands) (record { page = at.0; linked = rw at.1 at.2; records = rw at.1 side.3 }) side.4)
-  by_link p old new (Unterm unterm) i j stands h pid = moved_at unterm.child pid (Placed Merged h.0 unterm.separator) (Cleared a h.0 unterm.separator) h.1 h.2 (unterms (suc p) unterm (installs_now p old new (Unterm unterm) i j stands) refl)
+      moved_at h.0 pid (Placed Removed h.1 merge.low) (Placed Merged h.1 merge.low) h.2 h.3
+      (merges (suc p) merge side.1 (installs_now p old new (Merge merge) i j stands) (record { page = at.0; linked = rw at.1 at.2; records = rw at.1 side.3 }) side.4)
+  by_link p old new (Unterm unterm) i j stands h pid =
+      moved_at unterm.child pid (Placed Merged h.0 unterm.separator) (Cleared a h.0 unterm.separator) h.1 h.2 (unterms (suc p) unterm (installs_now p old new (Unterm unterm) i j stands) refl)
   by_link p old new w i j stands h pid = same_phase pid h
 
   by_root : (old y : ℕ) → s ≡ Exchange 0 old y → x ≡ Whether true → Phased a (shared m) (Exchange 0 old y) (Whether true) o.page f' → (pid : ℕ) → MovesOrRests pid

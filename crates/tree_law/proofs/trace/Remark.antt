@@ -53,8 +53,10 @@ own_same entries p q m is is' own own' =
     ] in
     same_operation p q starts actors (let e : slice_get entries p.start ≡ Some (Begin q.actor q.command) = rw starts is' in cc (is, e))
 
-module _ (limits : Limits) (entries : List Entry) (points : List Bool) (a : ℕ) (asked : Command) (logs : List (List Update)) (marked : IsMarked limits entries points) (t : Tells entries points a asked None logs)
-    (place : ℕ) (mine : IsOwnStep entries (operation_from t.start a asked) place) (asks : command_of (take place entries) a ≡ Some asked) (none : update_of a asked (logged_value (log_at entries points place) (command_key asked)) ≡ None) where
+module _ (limits : Limits) (entries : List Entry) (points : List Bool) (a : ℕ) (asked : Command) (logs : List (List Update))
+    (marked : IsMarked limits entries points) (t : Tells entries points a asked None logs)
+    (place : ℕ) (mine : IsOwnStep entries (operation_from t.start a asked) place) (asks : command_of (take place entries) a ≡ Some asked)
+    (none : update_of a asked (logged_value (log_at entries points place) (command_key asked)) ≡ None) where
   abbrev pub remarked : List Bool
   remarked = set points place true
 
@@ -113,7 +115,8 @@ module _ (limits : Limits) (entries : List Entry) (points : List Bool) (a : ℕ)
     ];
   }
 
-  pub logs_told : (b : ℕ) (c : Command) (start : ℕ) (k : List Update) → ((m : ℕ) × IsOwnStep entries (operation_from start b c) m × (log_at entries points m ≡ k) × (command_of (take m entries) b ≡ Some c))
+  pub logs_told : (b : ℕ) (c : Command) (start : ℕ) (k : List Update)
+      → ((m : ℕ) × IsOwnStep entries (operation_from start b c) m × (log_at entries points m ≡ k) × (command_of (take m entries) b ≡ Some c))
       → (m : ℕ) × IsOwnStep entries (operation_from start b c) m × (log_at entries remarked m ≡ k) × (command_of (take m entries) b ≡ Some c)
   logs_told b c start k h = (h.0, h.1, log_at_same h.0 ∙ h.2, h.3)
 
@@ -139,8 +142,11 @@ module _ (limits : Limits) (entries : List Entry) (points : List Bool) (a : ℕ)
     point_at = go point u.point_at;
   }
     where
-      go : (o : Option (List Update)) → MatchOption o ((m : ℕ) → IsOwnStep entries (operation_from u.start b c) m → IsPoint points m → ⊥) (λ k. (m : ℕ) × IsOwnStep entries (operation_from u.start b c) m × IsPoint points m × (log_at entries points m ≡ k))
-          → MatchOption o ((m : ℕ) → IsOwnStep entries (operation_from u.start b c) m → IsPoint remarked m → ⊥) (λ k. (m : ℕ) × IsOwnStep entries (operation_from u.start b c) m × IsPoint remarked m × (log_at entries remarked m ≡ k))
+      go : (o : Option (List Update))
+          → MatchOption o ((m : ℕ) → IsOwnStep entries (operation_from u.start b c) m → IsPoint points m → ⊥)
+          (λ k. (m : ℕ) × IsOwnStep entries (operation_from u.start b c) m × IsPoint points m × (log_at entries points m ≡ k))
+          → MatchOption o ((m : ℕ) → IsOwnStep entries (operation_from u.start b c) m → IsPoint remarked m → ⊥)
+          (λ k. (m : ℕ) × IsOwnStep entries (operation_from u.start b c) m × IsPoint remarked m × (log_at entries remarked m ≡ k))
       go None h = λ m own p. elim (point_cases m p) [
         | inl e ↦ let e1 = (rw e at own).2.1.entry in let e2 = mine.2.1.entry in absurd (ne (cc (e1, e2)))
         | inr p' ↦ h m own p'
@@ -154,7 +160,9 @@ module _ (limits : Limits) (entries : List Entry) (points : List Bool) (a : ℕ)
   pub updates' : UpdatesAtLinks limits entries points → UpdatesAtLinks limits entries remarked
   updates' old n = (
     λ h. elim (point_cases n h.0) [
-      | inl here ↦ absurd (longer (log_at entries points place) h.1.0 (sym (log_at-step entries points place _ false marked.beside mine.2.1.entry was_unmarked) ∙ ap (log_at entries points) (ap suc (sym here)) ∙ sym (log_at_same (suc n)) ∙ h.1.1 ∙ ap (λ l. l ++ h.1.0 ∷ []) (log_at_same n ∙ ap (log_at entries points) here)))
+      | inl here ↦ absurd (longer (log_at entries points place) h.1.0 (sym (log_at-step entries points place _ false marked.beside mine.2.1.entry was_unmarked)
+          ∙ ap (log_at entries points) (ap suc (sym here)) ∙ sym (log_at_same (suc n)) ∙ h.1.1 ∙ ap (λ l. l ++ h.1.0 ∷ [])
+          (log_at_same n ∙ ap (log_at entries points) here)))
       | inr was ↦ (old n).0 (was, (h.1.0, sym (log_at_same (suc n)) ∙ h.1.1 ∙ ap (λ l. l ++ h.1.0 ∷ []) (log_at_same n)))
     ],
     λ h. let was = (old n).1 h in (point_kept n was.0, (was.1.0, log_at_same (suc n) ∙ was.1.1 ∙ ap (λ l. l ++ was.1.0 ∷ []) (sym (log_at_same n)))),

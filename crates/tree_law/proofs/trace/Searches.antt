@@ -23,7 +23,8 @@ bits_of true word = PidBits word
 bits_of false word = RowBits word
 
 -- Where a word is known as 0 after a step: the step read it, or it was known before.
-words_cases : (pids : Bool) (k : Knowledge) (s : StepOf Record) (x : Answer Record) (word : ℕ) → no_words pids (learn k s x).asked word ≡ true → (no_words pids k.asked word ≡ true) ⊎ Is s x (bits_of pids word) (Number 0)
+words_cases : (pids : Bool) (k : Knowledge) (s : StepOf Record) (x : Answer Record) (word : ℕ) → no_words pids (learn k s x).asked word ≡ true
+    → (no_words pids k.asked word ≡ true) ⊎ Is s x (bits_of pids word) (Number 0)
 words_cases true k s x word e = (elim (learning k s x) as (λ s x k' v. k'.asked.no_pids word ≡ true → (k.asked.no_pids word ≡ true) ⊎ Is s x (PidBits word) (Number 0)) [
   | pid_word v zero ↦ by_equal word v (λ i t. rw t λ f. inr (ap PidBits (sym i), refl)) (λ ne t. rw t λ f. inl f)
   | pid_word v (suc n) ↦ λ f. inl f
@@ -40,7 +41,8 @@ words_cases false k s x word e = (elim (learning k s x) as (λ s x k' v. k'.aske
 -- a page above the leaf was read, which held it back
 pub held_back : {limits : Limits} {entries : List Entry} {op : Operation} {n : ℕ} (leaf : LivePage) (page row : ℕ) (chain : List Record) → WasRead limits entries op n page row chain
     → is_removed chain ≡ false → HoldsBack chain leaf.pid (low_in leaf.chain) → WasHeldBack limits entries op n leaf
-held_back leaf page row chain read alive holds = record { step = read.step; before = read.before; parent = page; row = row; own = read.own; chain = chain; stood = read.stood; alive = alive; holds = holds }
+held_back leaf page row chain read alive holds = record
+    { step = read.step; before = read.before; parent = page; row = row; own = read.own; chain = chain; stood = read.stood; alive = alive; holds = holds }
 
 module _ (entries : List Entry) (last : Entry) where
   abbrev longer : List Entry
@@ -54,7 +56,8 @@ module _ (entries : List Entry) (last : Entry) where
   nothing_free_kept limits op (inr h) = inr (λ word lt. let f = h word lt in (f.0, takes_kept op f.0 _ _ f.1))
 
   -- what was read before a step was read before each later one
-  pub read_kept : (limits : Limits) (op : Operation) (n later page row : ℕ) (chain : List Record) → n ≤ later → WasRead limits entries op n page row chain → WasRead limits longer op later page row chain
+  pub read_kept : (limits : Limits) (op : Operation) (n later page row : ℕ) (chain : List Record) → n ≤ later → WasRead limits entries op n page row chain
+      → WasRead limits longer op later page row chain
   read_kept limits op n later page row chain le h =
       let early : h.step < n = h.before in
       let below : h.step < length entries = slice_get_below entries h.step _ h.own.1.entry in
@@ -73,7 +76,8 @@ module _ (entries : List Entry) (last : Entry) where
   pub search_other : (op : Operation) (k : Knowledge) → IsSearch entries op k → ((step : StepOf Record) (answer : Answer Record) (reply : Option Reply) → last ≡ Step op.actor step answer reply → ⊥)
       → IsSearch longer op k
   search_other op k h never = record {
-    unfinished = λ n reply ends. elim (own_cases entries last op n ends.0 ends.1 (Some reply) ends.2) [ inl own ↦ h.unfinished n reply (ends.0, ends.1, own) | inr at ↦ never ends.0 ends.1 (Some reply) at.1 ];
+    unfinished =
+        λ n reply ends. elim (own_cases entries last op n ends.0 ends.1 (Some reply) ends.2) [ inl own ↦ h.unfinished n reply (ends.0, ends.1, own) | inr at ↦ never ends.0 ends.1 (Some reply) at.1 ];
     pids_at = λ word e. let f = h.pids_at word e in (f.0, takes_kept op f.0 _ _ f.1);
     rows_at = λ word e. let f = h.rows_at word e in (f.0, takes_kept op f.0 _ _ f.1);
   }
@@ -94,9 +98,15 @@ module _ (entries : List Entry) (last : Entry) where
   pub search_own : (start a : ℕ) (c : Command) (s : StepOf Record) (x : Answer Record) (k : Knowledge) → slice_get entries start ≡ Some (Begin a c) → IsUnended entries start a
       → last ≡ Step a s x None → IsSearch entries (operation_from start a c) k → IsSearch longer (operation_from start a c) (finished (learn k s x) None)
   search_own start a c s x k begins unended is h = record {
-    unfinished = λ n reply ends. elim (own_cases entries last (operation_from start a c) n ends.0 ends.1 (Some reply) ends.2) [ inl own ↦ h.unfinished n reply (ends.0, ends.1, own) | inr at ↦ let e = at.1 in absurd (cc) ];
-    pids_at = λ word e. elim (words_cases true k s x word e) [ inl f ↦ let g = h.pids_at word f in (g.0, takes_kept (operation_from start a c) g.0 _ _ g.1) | inr new ↦ (length entries, takes (PidBits word) (Number 0) new.0 new.1) ];
-    rows_at = λ word e. elim (words_cases false k s x word e) [ inl f ↦ let g = h.rows_at word f in (g.0, takes_kept (operation_from start a c) g.0 _ _ g.1) | inr new ↦ (length entries, takes (RowBits word) (Number 0) new.0 new.1) ];
+    unfinished =
+        λ n reply ends. elim (own_cases entries last (operation_from start a c) n ends.0 ends.1 (Some reply) ends.2)
+        [ inl own ↦ h.unfinished n reply (ends.0, ends.1, own) | inr at ↦ let e = at.1 in absurd (cc) ];
+    pids_at =
+        λ word e. elim (words_cases true k s x word e)
+        [ inl f ↦ let g = h.pids_at word f in (g.0, takes_kept (operation_from start a c) g.0 _ _ g.1) | inr new ↦ (length entries, takes (PidBits word) (Number 0) new.0 new.1) ];
+    rows_at =
+        λ word e. elim (words_cases false k s x word e)
+        [ inl f ↦ let g = h.rows_at word f in (g.0, takes_kept (operation_from start a c) g.0 _ _ g.1) | inr new ↦ (length entries, takes (RowBits word) (Number 0) new.0 new.1) ];
   }
     where
       takes : (t : StepOf Record) (y : Answer Record) → s ≡ t → x ≡ y → TakesOwnStep longer (operation_from start a c) (length entries) t y

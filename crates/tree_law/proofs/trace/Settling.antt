@@ -11,7 +11,8 @@ use Rattle.tree_law.proofs.trace.Searches.{held_back, lacks}
 use Rattle.tree_law.proofs.trace.Standing.{was_standing}
 
 -- The points before a step that may reply: where it does, the actor's operation is answered by them.
-pub record Settled (limits : Limits) (entries : List Entry) (log : List Update) (point : ℕ → Option (List Update)) (logs : ℕ → List (List Update)) (a : ℕ) (asked : Command) (r : Option Reply) : Type 0 where
+pub record Settled (limits : Limits) (entries : List Entry) (log : List Update) (point : ℕ → Option (List Update)) (logs : ℕ → List (List Update)) (a : ℕ) (asked : Command) (r : Option Reply) : Type
+    0 where
   pub points : List Bool
   pub log_is : log_of entries points ≡ log
   pub marked : IsMarked limits entries points
@@ -31,7 +32,8 @@ module _ (limits : Limits) (entries : List Entry) (a : ℕ) (asked : Command) (s
   mine = operation_from begun.start a asked
 
   -- where the points stay
-  as_they_are : (r : Option Reply) → ((reply : Reply) → r ≡ Some reply → IsAnsweredBy limits entries state.points mine reply) → Settled limits entries (log_of entries state.points) state.point state.logs a asked r
+  as_they_are : (r : Option Reply) → ((reply : Reply) → r ≡ Some reply → IsAnsweredBy limits entries state.points mine reply)
+      → Settled limits entries (log_of entries state.points) state.point state.logs a asked r
   as_they_are r replied = record {
     points = state.points;
     log_is = refl;
@@ -49,7 +51,8 @@ module _ (limits : Limits) (entries : List Entry) (a : ℕ) (asked : Command) (s
   no_point e = rw e at (state.is_tree.sound a).linked_fits
 
   -- what is told of the actor's point, if it has one
-  point_told : (o : Option (List Update)) → state.point a ≡ o → MatchOption o ((m : ℕ) → IsOwnStep entries mine m → IsPoint state.points m → ⊥) (λ l. (m : ℕ) × IsOwnStep entries mine m × IsPoint state.points m × (log_at entries state.points m ≡ l))
+  point_told : (o : Option (List Update)) → state.point a ≡ o
+      → MatchOption o ((m : ℕ) → IsOwnStep entries mine m → IsPoint state.points m → ⊥) (λ l. (m : ℕ) × IsOwnStep entries mine m × IsPoint state.points m × (log_at entries state.points m ≡ l))
   point_told o e = rw e at begun.point_at
 
   -- where a mark is set late, at an own step at which the command makes no update and has this reply
@@ -66,7 +69,14 @@ module _ (limits : Limits) (entries : List Entry) (a : ℕ) (asked : Command) (s
     mine = told limits entries state.points a asked (state.logs a) state.marked t m own asked_then changeless;
     others = λ b c ne e. told_other limits entries state.points a asked (state.logs a) state.marked t m own asked_then changeless b c (state.point b) (state.logs b) ne (state.tells b c e);
     quietly = λ e. absurd (cc);
-    replied = λ y e. inl (m, own, marked_now limits entries state.points a asked (state.logs a) state.marked t m own asked_then changeless, let same : reply ≡ y = cc in rw (log_at_same limits entries state.points a asked (state.logs a) state.marked t m own asked_then changeless m, sym same) replies);
+    replied =
+        λ y e. inl (
+          m,
+          own,
+          marked_now limits entries state.points a asked (state.logs a) state.marked t m own asked_then changeless,
+          let same : reply ≡ y = cc
+              in rw (log_at_same limits entries state.points a asked (state.logs a) state.marked t m own asked_then changeless m, sym same) replies,
+        );
   }
     where
       t : Tells entries state.points a asked None (state.logs a)
@@ -100,14 +110,17 @@ module _ (limits : Limits) (entries : List Entry) (a : ℕ) (asked : Command) (s
         items = may.pairs;
         next = high_in may.chain;
         is = may.is;
-        page = shows (memory_at limits entries was.1.step) (log_at entries state.points was.1.step) (state.quiet.at_each was.1.step (omega (arith, below))) (record { pid = was.0; chain = may.chain }) was.1.stood may.from may.covers may.pairs may.exact;
+        page =
+            shows (memory_at limits entries was.1.step) (log_at entries state.points was.1.step) (state.quiet.at_each was.1.step (omega (arith, below)))
+            (record { pid = was.0; chain = may.chain }) was.1.stood may.from may.covers may.pairs may.exact;
       }))
     where
       was : (page : ℕ) × WasLeafWith limits entries mine (record { pid = page; chain = may.chain })
       was = was_standing state.is_tree a limits entries mine stood may.row may.chain may.read may.leaf may.basis
 
   -- what an operation without a point may reply
-  pointlessly : (reply : Reply) → (knows entries a).asked.linked ≡ None → HasFound limits entries mine reply → Settled limits entries (log_of entries state.points) state.point state.logs a asked (Some reply)
+  pointlessly : (reply : Reply) → (knows entries a).asked.linked ≡ None → HasFound limits entries mine reply
+      → Settled limits entries (log_of entries state.points) state.point state.logs a asked (Some reply)
   pointlessly reply unlinked finds = as_they_are (Some reply) (λ y e. let same : reply ≡ y = cc in inr (record { unmarked = point_told None (no_point unlinked); finds = rw same at finds }))
 
   by_tidying : (reply : Reply) → MayCallTidy (knows entries a) asked reply → Settled limits entries (log_of entries state.points) state.point state.logs a asked (Some reply)
@@ -132,7 +145,8 @@ module _ (limits : Limits) (entries : List Entry) (a : ℕ) (asked : Command) (s
       stands : (row : ℕ) (chain : List Record) → IsChainFrom (knows entries a).read.seen row chain → IsChainFrom (memory_of limits entries).rows row chain
       stands row chain = chain_stands state.owners (shared (memory_of limits entries)) (knows entries a).read.seen (state.is_tree.sound a).seen_fits chain (Some row)
 
-      was : (leaf : WasLeafWith limits entries mine (record { pid = may.page; chain = may.basis.chain })) × WereRead limits entries mine (memory_of limits entries).rows ((knows entries a).read.before may.page) leaf.step
+      was : (leaf : WasLeafWith limits entries mine (record { pid = may.page; chain = may.basis.chain })) × WereRead limits entries mine
+          (memory_of limits entries).rows ((knows entries a).read.before may.page) leaf.step
       was = stood.heads may.page may.head may.basis.chain may.basis.head (stands may.head may.basis.chain may.basis.read) (ap level_in may.alone ∙ may.leaf) may.basis.alive
 
       -- before it the page was read that held it back

@@ -34,7 +34,8 @@ reached_in_tree r l k (Cleared b l' k') h = tt
 reached_in_tree r l k w h = h
 
 module _ (m : Memory) {log : List Update} {o : Owners} {knows : ℕ → Knowledge} {point : ℕ → Option (List Update)} {logs : ℕ → List (List Update)} (g : IsTree (shared m) log o knows point logs)
-    (held : (p q : ℕ) → slot_in m.slots p ≡ Some q → IsInTree (o.page p) ⊎ IsReadyPage o m knows p q) (a : ℕ) (o' : Owners) (kept : (q : ℕ) → o.row q ≡ Linked → (o'.row q ≡ Linked)) (moved : (q : ℕ) → IsMoved a (m.free_rows q) (o.row q) (o'.row q)) where
+    (held : (p q : ℕ) → slot_in m.slots p ≡ Some q → IsInTree (o.page p) ⊎ IsReadyPage o m knows p q) (a : ℕ) (o' : Owners)
+    (kept : (q : ℕ) → o.row q ≡ Linked → (o'.row q ≡ Linked)) (moved : (q : ℕ) → IsMoved a (m.free_rows q) (o.row q) (o'.row q)) where
   -- whose the row is that is a base in a slot
   spare_after : (b q : ℕ) → o.row q ≡ Spare b → (o'.row q ≡ Linked) ⊎ (o'.row q ≡ Spare b)
   spare_after b q e = elim (moved q) [
@@ -47,7 +48,9 @@ module _ (m : Memory) {log : List Update} {o : Owners} {knows : ℕ → Knowledg
   owned_after b q (inr e) = spare_after b q e
 
   -- What is ready stays so for the other actors, and for this one where it still knows it so.
-  ready_after : (m' : Memory) (k : Knowledge) (p q : ℕ) → (h : IsReadyPage o m knows p q) → ((o.row q ≡ Linked) ⊎ (o.row q ≡ Spare h.actor) → m'.rows q ≡ m.rows q) → (h.actor ≡ a → k.own.pages p ≡ Ready q) → IsReadyPage o' m' (put knows a k) p q
+  ready_after : (m' : Memory) (k : Knowledge) (p q : ℕ) → (h : IsReadyPage o m knows p q)
+      → ((o.row q ≡ Linked) ⊎ (o.row q ≡ Spare h.actor) → m'.rows q ≡ m.rows q) → (h.actor ≡ a → k.own.pages p ≡ Ready q)
+      → IsReadyPage o' m' (put knows a k) p q
   ready_after m' k p q h same still = record {
     actor = h.actor;
     ready = by_equal h.actor a (λ e t. rw t (still e)) (λ ne t. rw t h.ready);
@@ -57,7 +60,8 @@ module _ (m : Memory) {log : List Update} {o : Owners} {knows : ℕ → Knowledg
   }
 
   -- after a step that leaves slots, and pages of the actor
-  still : (m' : Memory) (k : Knowledge) → m'.rows ≡ m.rows → o'.page ≡ o.page → k.own.pages ≡ (knows a).own.pages → (p q : ℕ) → slot_in m.slots p ≡ Some q → IsInTree (o'.page p) ⊎ IsReadyPage o' m' (put knows a k) p q
+  still : (m' : Memory) (k : Knowledge) → m'.rows ≡ m.rows → o'.page ≡ o.page → k.own.pages ≡ (knows a).own.pages → (p q : ℕ) → slot_in m.slots p ≡ Some q
+      → IsInTree (o'.page p) ⊎ IsReadyPage o' m' (put knows a k) p q
   still m' k rows same pages p q e = elim (held p q e) [
     | inl h ↦ inl (rw same h)
     | inr h ↦ inr (ready_after m' k p q h (λ i. ap (λ f. f q) rows) (λ i. ap (λ f. f p) pages ∙ (rw i at h.ready)))
@@ -70,7 +74,8 @@ module _ (m : Memory) {log : List Update} {o : Owners} {knows : ℕ → Knowledg
   -- a row that is linked on a page
   module _ (n x y : ℕ) (r : Option Reply) (w : Record) (stands : m.rows (suc y) ≡ Some w) (links : LinkMoves (shared m) a w (suc n) o.page o'.page) (in_tree : IsInTree (o.page (suc n))) where
     -- a page that is ready is so afterwards, or in the tree
-    linked_ready : (v : OwnRow) → OwnFits a (o.row (suc y)) (m.rows (suc y)) v → (p q : ℕ) → (knows a).own.pages p ≡ Ready q → IsInTree (o'.page p) ⊎ ((linked_over v (suc x) (suc y) (knows a)).own.pages p ≡ Ready q)
+    linked_ready : (v : OwnRow) → OwnFits a (o.row (suc y)) (m.rows (suc y)) v → (p q : ℕ) → (knows a).own.pages p ≡ Ready q
+        → IsInTree (o'.page p) ⊎ ((linked_over v (suc x) (suc y) (knows a)).own.pages p ≡ Ready q)
     linked_ready (Written (Split split)) fits p q e =
         let h = rw (same_Some w (Split split) (sym stands ∙ fits.1)) at links in
         elim ((knows a).own.pages split.page) as (λ z. IsInTree (o'.page p) ⊎ ((split_off z split.page (suc y) (knows a)).own.pages p ≡ Ready q)) [
@@ -92,7 +97,8 @@ module _ (m : Memory) {log : List Update} {o : Owners} {knows : ℕ → Knowledg
     filled_ready Empty p q ne e = inr (with_other (Ready (suc y)) (suc n) p q ne e)
     filled_ready v p q ne e = inr e
 
-    linking : (m' : Memory) → m'.rows ≡ m.rows → (p q : ℕ) → put (slot_in m.slots) (suc n) (Some (suc y)) p ≡ Some q → IsInTree (o'.page p) ⊎ IsReadyPage o' m' (put knows a (finished (exchanged (suc n) (suc x) (suc y) (knows a)) r)) p q
+    linking : (m' : Memory) → m'.rows ≡ m.rows → (p q : ℕ) → put (slot_in m.slots) (suc n) (Some (suc y)) p ≡ Some q
+        → IsInTree (o'.page p) ⊎ IsReadyPage o' m' (put knows a (finished (exchanged (suc n) (suc x) (suc y) (knows a)) r)) p q
     linking m' rows p q e = by_equal p (suc n)
         (λ i is. inl (links_in_tree (shared m) a w (suc n) o.page o'.page links p (rw i in_tree)))
         (λ ne is. let f = rw is at e in elim (held p q f) [
@@ -113,7 +119,8 @@ module _ (m : Memory) {log : List Update} {o : Owners} {knows : ℕ → Knowledg
   own_base q (Written (Base page)) fits h = (fits.0, (page, fits.1))
   own_base q v fits h = absurd h
 
-  readies : (n y : ℕ) (r : Option Reply) → (knows a).own.pages (suc n) ≡ Empty → IsOwnBase ((knows a).own.rows (suc y)) → o'.page ≡ o.page → (p q : ℕ) → put (slot_in m.slots) (suc n) (Some (suc y)) p ≡ Some q
+  readies : (n y : ℕ) (r : Option Reply) → (knows a).own.pages (suc n) ≡ Empty → IsOwnBase ((knows a).own.rows (suc y)) → o'.page ≡ o.page → (p q : ℕ)
+      → put (slot_in m.slots) (suc n) (Some (suc y)) p ≡ Some q
       → IsInTree (o'.page p) ⊎ IsReadyPage o' (record m { slots = replaced_at (suc n) (suc y) m.slots }) (put knows a (finished (exchanged (suc n) zero (suc y) (knows a)) r)) p q
   readies n y r empty base same p q e = rw empty (by_equal p (suc n)
       (λ i t. let f = rw t at e in let at : suc y ≡ q = same_Some (suc y) q f in let own = own_base (suc y) ((knows a).own.rows (suc y)) (g.owns a (suc y)) base in inr (record {
@@ -136,12 +143,14 @@ module _ (m : Memory) {log : List Update} {o : Owners} {knows : ℕ → Knowledg
   emptied_ready Gone n x p q ne e = with_other Other n p q ne e
   emptied_ready v n x p q ne e = e
 
-  empties : (n x : ℕ) (r : Option Reply) (m' : Memory) → m'.rows ≡ m.rows → o'.page ≡ o.page → (p q : ℕ) → put (slot_in m.slots) (suc n) None p ≡ Some q → IsInTree (o'.page p) ⊎ IsReadyPage o' m' (put knows a (finished (exchanged (suc n) (suc x) zero (knows a)) r)) p q
+  empties : (n x : ℕ) (r : Option Reply) (m' : Memory) → m'.rows ≡ m.rows → o'.page ≡ o.page → (p q : ℕ) → put (slot_in m.slots) (suc n) None p ≡ Some q
+      → IsInTree (o'.page p) ⊎ IsReadyPage o' m' (put knows a (finished (exchanged (suc n) (suc x) zero (knows a)) r)) p q
   empties n x r m' rows same p q e = by_equal p (suc n)
       (λ i t. absurd (let f = rw t at e in cc))
       (λ ne t. let f = rw t at e in elim (held p q f) [
         | inl h ↦ inl (rw same h)
-        | inr h ↦ inr (ready_after m' (finished (exchanged (suc n) (suc x) zero (knows a)) r) p q h (λ j. ap (λ f. f q) rows) (λ j. emptied_ready ((knows a).own.pages (suc n)) (suc n) (suc x) p q ne (rw j at h.ready)))
+        | inr h ↦ inr (ready_after m' (finished (exchanged (suc n) (suc x) zero (knows a)) r) p q h (λ j. ap (λ f. f q) rows)
+            (λ j. emptied_ready ((knows a).own.pages (suc n)) (suc n) (suc x) p q ne (rw j at h.ready)))
       ])
 
   rooted_ready : (v : OwnPage) (n p q : ℕ) → p ≢ n → (knows a).own.pages p ≡ Ready q → (rooted v n (knows a)).own.pages p ≡ Ready q
@@ -157,14 +166,16 @@ module _ (m : Memory) {log : List Update} {o : Owners} {knows : ℕ → Knowledg
         (λ ne t. inr (ready_after m' (finished (exchanged zero x y (knows a)) r) p q h (λ j. ap (λ f. f q) rows) (λ j. rooted_ready ((knows a).own.pages y) y p q ne (rw j at h.ready))))
   ]
 
-  exchange_won : (p x y : ℕ) (r : Option Reply) → MayExchange a (knows a) p x y → Phased a (shared m) (Exchange p x y) (Whether true) o.page o'.page → Holds (record m { slots = replaced_at p y m.slots }) (finished (exchanged p x y (knows a)) r)
+  exchange_won : (p x y : ℕ) (r : Option Reply) → MayExchange a (knows a) p x y → Phased a (shared m) (Exchange p x y) (Whether true) o.page o'.page
+      → Holds (record m { slots = replaced_at p y m.slots }) (finished (exchanged p x y (knows a)) r)
   exchange_won zero x y r may ph p q e = roots x y r (record m { slots = replaced_at 0 y m.slots }) refl ph.0 ph.1 ph.2 ph.6 p q (rw (root_apart m.slots y) at e)
   exchange_won (suc n) zero zero r may ph p q e = absurd may
   exchange_won (suc n) zero (suc y) r may ph p q e = readies n y r may.0 may.1 ph.0 p q (rw (slot_put m.slots n (suc y)) at e)
   exchange_won (suc n) (suc x) zero r may ph p q e = empties n x r (record m { slots = replaced_at (suc n) zero m.slots }) refl ph.0 p q (rw (slot_put m.slots n zero) at e)
   exchange_won (suc n) (suc x) (suc y) r may ph p q e =
       let h = rw may.basis.head at ((g.sound a).heads_fit (suc n)) in
-      linking n x y r ph.0 ph.1 ph.2 (reached_in_tree 0 (level_in h.2.chain) (low_in h.2.chain) (o.page (suc n)) h.3) (record m { slots = replaced_at (suc n) (suc y) m.slots }) refl p q (rw (slot_put m.slots n (suc y)) at e)
+      linking n x y r ph.0 ph.1 ph.2 (reached_in_tree 0 (level_in h.2.chain) (low_in h.2.chain) (o.page (suc n)) h.3)
+      (record m { slots = replaced_at (suc n) (suc y) m.slots }) refl p q (rw (slot_put m.slots n (suc y)) at e)
 
   takes : (n : ℕ) (r : Option Reply) → m.free_pids n ≡ true → o'.page ≡ put o.page n (Keeps a) → Holds (memory_after a (TakePid n) m) (finished (learn (knows a) (TakePid n) (Whether true)) r)
   takes n r free same p q e = by_equal p n
@@ -174,7 +185,8 @@ module _ (m : Memory) {log : List Update} {o : Owners} {knows : ℕ → Knowledg
         | inr h ↦ inr (ready_after (memory_after a (TakePid n) m) (finished (learn (knows a) (TakePid n) (Whether true)) r) p q h (λ j. refl) (λ j. with_other Empty n p q ne (rw j at h.ready)))
       ])
 
-  places : (n : ℕ) (w : Record) (x : Answer Record) (r : Option Reply) → IsOwn ((knows a).own.rows n) → ((page : ℕ) → (knows a).own.pages page ≡ Ready n → ⊥) → o'.page ≡ o.page → Holds (memory_after a (Place n w) m) (finished (learn (knows a) (Place n w) x) r)
+  places : (n : ℕ) (w : Record) (x : Answer Record) (r : Option Reply) → IsOwn ((knows a).own.rows n) → ((page : ℕ) → (knows a).own.pages page ≡ Ready n → ⊥)
+      → o'.page ≡ o.page → Holds (memory_after a (Place n w) m) (finished (learn (knows a) (Place n w) x) r)
   places n w x r own never same p q e = elim (held p q e) [
     | inl h ↦ inl (rw same h)
     | inr h ↦ inr (ready_after (memory_after a (Place n w) m) (finished (learn (knows a) (Place n w) x) r) p q h
@@ -190,7 +202,8 @@ module _ (m : Memory) {log : List Update} {o : Owners} {knows : ℕ → Knowledg
   ]
 
   -- after an allowed step
-  pub held_after : (s : StepOf Record) → (IsReuse s → ⊥) → (x : Answer Record) (r : Option Reply) → May a (knows a) s → IsAnswer m s x → Phased a (shared m) s x o.page o'.page → Holds (memory_after a s m) (finished (learn (knows a) s x) r)
+  pub held_after : (s : StepOf Record) → (IsReuse s → ⊥) → (x : Answer Record) (r : Option Reply) → May a (knows a) s → IsAnswer m s x
+      → Phased a (shared m) s x o.page o'.page → Holds (memory_after a s m) (finished (learn (knows a) s x) r)
   held_after (Slot zero) still_so (Number n) r may is ph = still (memory_after a (Slot zero) m) (finished (learn (knows a) (Slot zero) (Number n)) r) refl ph refl
   held_after (Slot (suc p)) still_so (Number zero) r may is ph = still (memory_after a (Slot (suc p)) m) (finished (learn (knows a) (Slot (suc p)) (Number zero)) r) refl ph refl
   held_after (Row q) still_so (Content w) r may is ph = still (memory_after a (Row q) m) (finished (learn (knows a) (Row q) (Content w)) r) refl ph refl

@@ -23,7 +23,8 @@ record ReadsNow (k : Knowledge) (s : StepOf Record) (x : Answer Record) (k' : Kn
   answer_is : x ≡ Number (suc held)
   before_is : k'.read.before page ≡ k.read.heads
 
-read_cases : (k : Knowledge) (s : StepOf Record) (x : Answer Record) (page row : ℕ) → (learn k s x).read.heads page ≡ Some row → ReadBefore k (learn k s x) page row ⊎ ReadsNow k s x (learn k s x) page row
+read_cases : (k : Knowledge) (s : StepOf Record) (x : Answer Record) (page row : ℕ) → (learn k s x).read.heads page ≡ Some row
+    → ReadBefore k (learn k s x) page row ⊎ ReadsNow k s x (learn k s x) page row
 read_cases k s x page row = elim (learning k s x) as (λ s x k' v. k'.read.heads page ≡ Some row → ReadBefore k k' page row ⊎ ReadsNow k s x k' page row) [
   | at_page p n ↦ λ e. by_equal page (suc p)
       (λ i t. inr (record { number = p; held = n; page_is = i; row_is = sym (same_Some (suc n) row (rw t at e)); step_is = refl; answer_is = refl; before_is = rw t }))
@@ -43,17 +44,21 @@ module _ {m : Shared} {log : List Update} {o : Owners} {knows : ℕ → Knowledg
       i.above
 
 -- A page whose slot is read, and the removed page that is its right, as its slot was read before, are leaves.
-module _ (memory : Memory) {log : List Update} {o : Owners} {knows : ℕ → Knowledge} {point : ℕ → Option (List Update)} {logs : ℕ → List (List Update)} (g : IsTree (shared memory) log o knows point logs) (a : ℕ)
-    (page head level : ℕ) (low : Key) (reached : Reached 0 level low (o.page page)) (at : slot_in memory.slots page ≡ Some head) (basis : List Record) (is : IsChainFrom memory.rows head basis) (alive : is_removed basis ≡ false) where
+module _ (memory : Memory) {log : List Update} {o : Owners} {knows : ℕ → Knowledge} {point : ℕ → Option (List Update)} {logs : ℕ → List (List Update)}
+    (g : IsTree (shared memory) log o knows point logs) (a : ℕ)
+    (page head level : ℕ) (low : Key) (reached : Reached 0 level low (o.page page)) (at : slot_in memory.slots page ≡ Some head) (basis : List Record)
+    (is : IsChainFrom memory.rows head basis) (alive : is_removed basis ≡ false) where
   place : InPlace o (shared memory) (level_in basis) (spec log o.index (level_in basis)) (record { page = page; row = head; chain = basis })
   place = alive_place g a page level low reached head at basis is alive
 
   head_leaf : level_in basis ≡ 0 → IsLeafWith memory (record { pid = page; chain = basis })
   head_leaf leaf = is_leaf memory g page head basis (rw leaf at place)
 
-  beside_leaf : (other row : ℕ) (chain : List Record) → right_in basis ≡ Some other → (knows a).read.heads other ≡ Some row → IsChainFrom memory.rows row chain → level_in chain ≡ 0 → is_removed chain ≡ true → IsLeafWith memory (record { pid = other; chain = chain })
+  beside_leaf : (other row : ℕ) (chain : List Record) → right_in basis ≡ Some other → (knows a).read.heads other ≡ Some row → IsChainFrom memory.rows row chain
+      → level_in chain ≡ 0 → is_removed chain ≡ true → IsLeafWith memory (record { pid = other; chain = chain })
   beside_leaf other row chain right read stands leaf gone =
-      let on : Level o (shared memory) (level_in basis) (spec log o.index (level_in basis)) (g.tree.first (level_in basis)) = g.tree.levels (level_in basis) (g.tree.exact.below page (level_in basis) (low_in basis) place.stage place.placed) in
+      let on : Level o (shared memory) (level_in basis) (spec log o.index (level_in basis)) (g.tree.first (level_in basis)) = g.tree.levels (level_in basis)
+      (g.tree.exact.below page (level_in basis) (low_in basis) place.stage place.placed) in
       let n = right_page on (record { page = page; row = head; chain = basis }) place other right in
       let h = rw read at ((g.sound a).heads_fit other) in
       let same : h.2.chain ≡ chain = chain_unique memory.rows h.2.chain chain (Some row) h.2.is_chain stands in
@@ -76,34 +81,41 @@ module _ (limits : Limits) (entries : List Entry) (last : Entry) where
       }
 
   -- the leaf stood, and before it pages were read, whose chains were as they are
-  leaf_kept : (op : Operation) (page : LivePage) (rows rows' : ℕ → Option Record) (before : ℕ → Option ℕ) → ((other row : ℕ) (chain : List Record) → before other ≡ Some row → IsChainFrom rows' row chain → IsChainFrom rows row chain)
+  leaf_kept : (op : Operation) (page : LivePage) (rows rows' : ℕ → Option Record) (before : ℕ → Option ℕ)
+      → ((other row : ℕ) (chain : List Record) → before other ≡ Some row → IsChainFrom rows' row chain → IsChainFrom rows row chain)
       → (h : WasLeafWith limits entries op page) → WereRead limits entries op rows before h.step → (w : WasLeafWith limits longer op page) × WereRead limits longer op rows' before w.step
   unfolding was_kept
-  leaf_kept op page rows rows' before was h were = (was_kept op page h, λ other row chain order is. read_kept entries last limits op h.step h.step other row chain (omega arith) (were other row chain order (was other row chain order is)))
+  leaf_kept op page rows rows' before was h were =
+      (was_kept op page h, λ other row chain order is. read_kept entries last limits op h.step h.step other row chain (omega arith) (were other row chain order (was other row chain order is)))
 
   not_less : length entries ≤ length longer
   not_less = let long : length longer ≡ suc (length entries) = pushed_length entries last in omega arith
 
-  module _ {m : Shared} {log : List Update} {o : Owners} {knows : ℕ → Knowledge} {point : ℕ → Option (List Update)} {logs : ℕ → List (List Update)} (g : IsTree m log o knows point logs) (rows' : ℕ → Option Record) (kept : (row : ℕ) → o.row row ≡ Linked → rows' row ≡ m.rows row) where
+  module _ {m : Shared} {log : List Update} {o : Owners} {knows : ℕ → Knowledge} {point : ℕ → Option (List Update)} {logs : ℕ → List (List Update)}
+      (g : IsTree m log o knows point logs) (rows' : ℕ → Option Record) (kept : (row : ℕ) → o.row row ≡ Linked → rows' row ≡ m.rows row) where
     -- the chain of a page as its slot was last read, and as it had been read before
     head_was : (b page row : ℕ) (chain : List Record) → (knows b).read.heads page ≡ Some row → IsChainFrom rows' row chain → IsChainFrom m.rows row chain
     head_was b page row chain read = chain_was o m rows' g.closed kept row chain (head_linked g b page row read)
 
-    order_was : (b page head : ℕ) → (knows b).read.heads page ≡ Some head → (other row : ℕ) (chain : List Record) → (knows b).read.before page other ≡ Some row → IsChainFrom rows' row chain → IsChainFrom m.rows row chain
+    order_was : (b page head : ℕ) → (knows b).read.heads page ≡ Some head → (other row : ℕ) (chain : List Record) → (knows b).read.before page other ≡ Some row
+        → IsChainFrom rows' row chain → IsChainFrom m.rows row chain
     order_was b page head read other row chain order = chain_was o m rows' g.closed kept row chain (order_linked g b page head other row read order)
 
     -- what an actor has read stood, after an entry that keeps the records of linked rows
     pub stood_kept : (op : Operation) (b : ℕ) → HaveStood limits entries op m.rows (knows b).read → HaveStood limits longer op rows' (knows b).read
     stood_kept op b h = record {
       reads = λ page row chain read is. read_kept entries last limits op (length entries) _ page row chain not_less (h.reads page row chain read (head_was b page row chain read is));
-      heads = λ page row chain read is level alive. let was = h.heads page row chain read (head_was b page row chain read is) level alive in leaf_kept op _ m.rows rows' _ (order_was b page row read) was.0 was.1;
+      heads =
+          λ page row chain read is level alive. let was = h.heads page row chain read (head_was b page row chain read is) level alive in leaf_kept op _ m.rows
+          rows' _ (order_was b page row read) was.0 was.1;
       beside = λ page head other row basis chain read is alive right order stands level gone. was_kept op _ (h.beside page head other row basis chain
           read (head_was b page head basis read is) alive right
           order (order_was b page head read other row chain order stands) level gone);
     }
 
   -- and after an own step
-  module _ (memory : Memory) {log : List Update} {o : Owners} {knows : ℕ → Knowledge} {point : ℕ → Option (List Update)} {logs : ℕ → List (List Update)} (g : IsTree (shared memory) log o knows point logs)
+  module _ (memory : Memory) {log : List Update} {o : Owners} {knows : ℕ → Knowledge} {point : ℕ → Option (List Update)} {logs : ℕ → List (List Update)}
+      (g : IsTree (shared memory) log o knows point logs)
       (a start : ℕ) (c : Command) (step : StepOf Record) (answer : Answer Record) (r : Option Reply) (now : memory_at limits entries (length entries) ≡ memory)
       (begins : slice_get entries start ≡ Some (Begin a c)) (unended : IsUnended entries start a) (asks : command_of entries a ≡ Some c) (last_is : last ≡ Step a step answer r)
       (may : May a (knows a) step) (is_answer : IsAnswer memory step answer) (kept : (row : ℕ) → o.row row ≡ Linked → (memory_after a step memory).rows row ≡ memory.rows row) where
@@ -143,7 +155,8 @@ module _ (limits : Limits) (entries : List Entry) (last : Entry) where
     rows' = (memory_after a step memory).rows
 
     -- a slot's chain is read as it is
-    now_read : (page row : ℕ) (chain : List Record) → ReadsNow (knows a) step answer (learn (knows a) step answer) page row → IsChainFrom rows' row chain → WasRead limits longer op (length longer) page row chain
+    now_read : (page row : ℕ) (chain : List Record) → ReadsNow (knows a) step answer (learn (knows a) step answer) page row → IsChainFrom rows' row chain
+        → WasRead limits longer op (length longer) page row chain
     now_read page row chain n is =
         let s = sees page row n in
         let long : length longer ≡ suc (length entries) = pushed_length entries last in
@@ -159,7 +172,11 @@ module _ (limits : Limits) (entries : List Entry) (last : Entry) where
     leaf_new : (page : LivePage) → IsLeafWith memory page → ((row : ℕ) (chain : List Record) → IsChainFrom rows' row chain → IsChainFrom memory.rows row chain)
         → WereRead limits entries op memory.rows (knows a).read.heads (length entries) → (w : WasLeafWith limits longer op page) × WereRead limits longer op rows' (knows a).read.heads w.step
     unfolding was_new
-    leaf_new page leaf was reads = (was_new page leaf, λ other row chain order is. read_kept entries last limits op (length entries) (length entries) other row chain (omega arith) (reads other row chain order (was row chain is)))
+    leaf_new page leaf was reads = (
+      was_new page leaf,
+      λ other row chain order is. read_kept entries last limits op (length entries) (length entries) other row chain (omega arith)
+          (reads other row chain order (was row chain is)),
+    )
 
     pub stood_own : HaveStood limits entries op memory.rows (knows a).read → HaveStood limits longer op (memory_after a step memory).rows (learn (knows a) step answer).read
     stood_own h = record {
@@ -176,7 +193,8 @@ module _ (limits : Limits) (entries : List Entry) (last : Entry) where
       beside = λ page head other row basis chain read is alive right order stands level gone. elim (read_cases (knows a) step answer page head read) [
         | inl b ↦
             let order' : (knows a).read.before page other ≡ Some row = sym (ap (λ (f : ℕ → Option ℕ). f other) b.1) ∙ order in
-            was_kept op _ (h.beside page head other row basis chain b.0 (head_was g rows' kept a page head basis b.0 is) alive right order' (order_was g rows' kept a page head b.0 other row chain order' stands) level gone)
+            was_kept op _ (h.beside page head other row basis chain b.0 (head_was g rows' kept a page head basis b.0 is) alive right order'
+            (order_was g rows' kept a page head b.0 other row chain order' stands) level gone)
         | inr n ↦
             let s = sees page head n in
             let read' : (knows a).read.heads other ≡ Some row = sym (ap (λ (f : ℕ → Option ℕ). f other) n.before_is) ∙ order in
@@ -185,10 +203,17 @@ module _ (limits : Limits) (entries : List Entry) (last : Entry) where
     }
 
 -- where a chain that was read stood: on its page
-pub was_standing : {m : Shared} {log : List Update} {o : Owners} {knows : ℕ → Knowledge} {point : ℕ → Option (List Update)} {logs : ℕ → List (List Update)} (g : IsTree m log o knows point logs) (a : ℕ)
+pub was_standing : {m : Shared} {log : List Update} {o : Owners} {knows : ℕ → Knowledge} {point : ℕ → Option (List Update)} {logs : ℕ → List (List Update)}
+    (g : IsTree m log o knows point logs) (a : ℕ)
     (limits : Limits) (entries : List Entry) (of : Operation) → HaveStood limits entries of m.rows (knows a).read
-    → (row : ℕ) (chain : List Record) → IsChainFrom (knows a).read.seen row chain → level_in chain ≡ 0 → WasStanding (knows a) row chain → (page : ℕ) × WasLeafWith limits entries of (record { pid = page; chain = chain })
-was_standing {m} {log} {o} {knows} g a limits entries of h row chain read level (inl u) = (u.0.0, (h.heads u.0.0 row chain u.0.1 (chain_stands o m (knows a).read.seen (g.sound a).seen_fits chain (Some row) read) level u.1).0)
+    → (row : ℕ) (chain : List Record) → IsChainFrom (knows a).read.seen row chain → level_in chain ≡ 0 → WasStanding (knows a) row chain
+    → (page : ℕ) × WasLeafWith limits entries of (record { pid = page; chain = chain })
+was_standing {m} {log} {o} {knows} g a limits entries of h row chain read level (inl u) =
+    (u.0.0, (h.heads u.0.0 row chain u.0.1 (chain_stands o m (knows a).read.seen (g.sound a).seen_fits chain (Some row) read) level u.1).0)
 was_standing {m} {log} {o} {knows} g a limits entries of h row chain read level (inr u) =
-    let b = u.0 in
-    (b.other, h.beside b.left b.head b.other row b.basis.chain chain b.basis.head (chain_stands o m (knows a).read.seen (g.sound a).seen_fits b.basis.chain (Some b.head) b.basis.read) b.basis.alive b.right b.order (chain_stands o m (knows a).read.seen (g.sound a).seen_fits chain (Some row) read) level u.1)
+    let b = u.0 in (
+      b.other,
+      h.beside b.left b.head b.other row b.basis.chain chain b.basis.head
+          (chain_stands o m (knows a).read.seen (g.sound a).seen_fits b.basis.chain (Some b.head) b.basis.read) b.basis.alive b.right b.order
+          (chain_stands o m (knows a).read.seen (g.sound a).seen_fits chain (Some row) read) level u.1,
+    )

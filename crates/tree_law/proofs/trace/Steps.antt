@@ -45,12 +45,16 @@ abbrev is_update : Option Update → Bool
 is_update None = false
 is_update (Some u) = true
 
-module _ (limits : Limits) (entries : List Entry) (a : ℕ) (step : StepOf Record) (answer : Answer Record) (r : Option Reply) (asked : Command) (state : IsState limits entries) (asks : command_of entries a ≡ Some asked)
+module _ (limits : Limits) (entries : List Entry) (a : ℕ) (step : StepOf Record) (answer : Answer Record) (r : Option Reply) (asked : Command)
+    (state : IsState limits entries) (asks : command_of entries a ≡ Some asked)
     (allowed : IsAllowed limits a (knows entries a) step r) (is : IsAnswer (memory_of limits entries) step answer)
-    (n : After a (shared (memory_of limits entries)) (shared (memory_after a step (memory_of limits entries))) (log_of entries state.points) state.owners (knows entries) state.point state.logs step answer r)
+    (n : After a (shared (memory_of limits entries)) (shared (memory_after a step (memory_of limits entries))) (log_of entries state.points) state.owners
+    (knows entries) state.point state.logs step answer r)
     (numbers : Numbers state.is_tree state.named a step answer r allowed.may is n.owners)
-    (held' : (p q : ℕ) → slot_in (memory_after a step (memory_of limits entries)).slots p ≡ Some q → IsInTree (n.owners.page p) ⊎ IsReadyPage n.owners (memory_after a step (memory_of limits entries)) (put (knows entries) a (finished (learn (knows entries a) step answer) r)) p q)
-    (times' : Times) (timed' : Timed limits (memory_after a step (memory_of limits entries)) n.owners (put (knows entries) a (finished (learn (knows entries a) step answer) r)) (suc (length entries)) times')
+    (held' : (p q : ℕ) → slot_in (memory_after a step (memory_of limits entries)).slots p ≡ Some q → IsInTree (n.owners.page p) ⊎ IsReadyPage n.owners
+    (memory_after a step (memory_of limits entries)) (put (knows entries) a (finished (learn (knows entries a) step answer) r)) p q)
+    (times' : Times)
+    (timed' : Timed limits (memory_after a step (memory_of limits entries)) n.owners (put (knows entries) a (finished (learn (knows entries a) step answer) r)) (suc (length entries)) times')
     (z : Settled limits entries (log_of entries state.points) state.point state.logs a asked r) where
   abbrev last : Entry
   last = Step a step answer r
@@ -99,8 +103,11 @@ module _ (limits : Limits) (entries : List Entry) (a : ℕ) (step : StepOf Recor
   updated_now : UpdatesNow limits entries z.points last mark z.marked.beside ↔ LinksUpdate (memory_of limits entries) last
   updated_now =
       let logged' : log_of longer (z.points ++ mark ∷ []) ≡ grown (log_of entries z.points) n.update = rw (log_of-push entries z.points last mark z.marked.beside, z.log_is) logged in (
-        λ h. let l = update_links (memory_of limits entries) state.is_tree a step answer r allowed.may is n (some_update n.update h.0) in (a, l.slot, l.old, l.new, l.kind, ((r, λ d. Step a (l.step d) (l.won d) r), l.link), l.update),
-        λ h. makes_one n.update (link_updates (memory_of limits entries) state.is_tree a step answer r allowed.may is n (let e = h.5.0.1 in record { slot = h.1; old = h.2; new = h.3; kind = h.4; step = cc; won = cc; link = h.5.1; update = h.6 })) (log_of entries z.points) (log_of longer (z.points ++ mark ∷ [])) logged',
+        λ h. let l = update_links (memory_of limits entries) state.is_tree a step answer r allowed.may is n (some_update n.update h.0) in
+            (a, l.slot, l.old, l.new, l.kind, ((r, λ d. Step a (l.step d) (l.won d) r), l.link), l.update),
+        λ h. makes_one n.update (link_updates (memory_of limits entries) state.is_tree a step answer r allowed.may is n
+            (let e = h.5.0.1 in record { slot = h.1; old = h.2; new = h.3; kind = h.4; step = cc; won = cc; link = h.5.1; update = h.6 })) (log_of entries
+            z.points) (log_of longer (z.points ++ mark ∷ [])) logged',
       )
     where
       some_update : (u : Option Update) → is_update u ≡ true → IsSome u
@@ -127,12 +134,14 @@ module _ (limits : Limits) (entries : List Entry) (a : ℕ) (step : StepOf Recor
       → Tells longer (z.points ++ mark ∷ []) a c (cond mark (Some (log_of entries state.points)) (state.point a)) (log_of entries state.points ∷ state.logs a)
   tells_mine None i c f =
       let log = log_of entries state.points in
-      rw (same_Some asked c (sym asks ∙ f)) at (tells_own entries z.points last mark z.marked.beside a step answer r asked (state.point a) (state.logs a) log refl z.log_is asks alone (rw (z.quietly i) at z.mine))
+      rw (same_Some asked c (sym asks ∙ f)) at
+      (tells_own entries z.points last mark z.marked.beside a step answer r asked (state.point a) (state.logs a) log refl z.log_is asks alone (rw (z.quietly i) at z.mine))
   tells_mine (Some y) i c f = let e = put_same (command_of entries) a None in let g : None ≡ Some c = sym e ∙ f in absurd (cc)
 
   -- what is so of each unfinished operation: the actor's own, where it goes on, and those of others
   unfinished_after : (P : Operation → Knowledge → Type 0)
-      → ((start : ℕ) (c : Command) → slice_get entries start ≡ Some (Begin a c) → IsUnended entries start a → command_of entries a ≡ Some c → r ≡ None → P (operation_from start a c) (finished (learn (knows entries a) step answer) r))
+      → ((start : ℕ) (c : Command) → slice_get entries start ≡ Some (Begin a c) → IsUnended entries start a → command_of entries a ≡ Some c → r ≡ None → P
+      (operation_from start a c) (finished (learn (knows entries a) step answer) r))
       → ((op : Operation) → op.actor ≢ a → IsOperation entries op → IsUnended entries op.start op.actor → command_of entries op.actor ≡ Some op.command → P op (knows entries op.actor))
       → (op : Operation) → IsOperation longer op → IsUnended longer op.start op.actor → command_of longer op.actor ≡ Some op.command → P op (knows longer op.actor)
   unfinished_after P goes_on others op begun' unended' asks' = rw (knows-push entries last) (by_equal op.actor a
@@ -168,13 +177,16 @@ module _ (limits : Limits) (entries : List Entry) (a : ℕ) (step : StepOf Recor
   stood_after : (op : Operation) → IsOperation longer op → IsUnended longer op.start op.actor → command_of longer op.actor ≡ Some op.command
       → HaveStood limits longer op (memory_of limits longer).rows (knows longer op.actor).read
   stood_after op = rw (memory_of-push limits entries last) (unfinished_after (λ op k. HaveStood limits longer op (memory_after a step (memory_of limits entries)).rows k.read)
-      (λ start c begun unended asks no_reply. stood_own limits entries last (memory_of limits entries) state.is_tree a start c step answer r (ap (memory_of limits) (take_whole entries (length entries) refl)) begun unended asks refl allowed.may is n.same (state.stood (operation_from start a c) begun unended asks))
+      (λ start c begun unended asks no_reply. stood_own limits entries last (memory_of limits entries) state.is_tree a start c step answer r
+      (ap (memory_of limits) (take_whole entries (length entries) refl)) begun unended asks refl allowed.may is n.same
+      (state.stood (operation_from start a c) begun unended asks))
       (λ op ne begun unended asks. stood_kept limits entries last state.is_tree (memory_after a step (memory_of limits entries)).rows n.same op op.actor (state.stood op begun unended asks)) op)
 
   between : (pid : ℕ) (from to : Phase) → MovesPhase (memory_of limits entries) last pid from to → (phase_of (state.owners.page pid) ≡ from) × (phase_of (n.owners.page pid) ≡ to)
   between = moves_between (memory_of limits entries) state.is_tree state.named.in_slots a step answer r allowed.may is n.owners.page n.phased
 
-  lives : (pid : ℕ) → MovesPhase (memory_of limits entries) last pid (phase_of (state.owners.page pid)) (phase_of (n.owners.page pid)) ⊎ (phase_of (n.owners.page pid) ≡ phase_of (state.owners.page pid))
+  lives : (pid : ℕ)
+      → MovesPhase (memory_of limits entries) last pid (phase_of (state.owners.page pid)) (phase_of (n.owners.page pid)) ⊎ (phase_of (n.owners.page pid) ≡ phase_of (state.owners.page pid))
   lives = moves_or_rests (memory_of limits entries) state.is_tree state.named.in_slots a step answer r allowed.may is n.owners.page n.phased
 
   in_phase_after : (pid : ℕ) → IsInPhase limits longer (length longer) pid (phase_of (n.owners.page pid))
@@ -193,7 +205,8 @@ module _ (limits : Limits) (entries : List Entry) (a : ℕ) (step : StepOf Recor
       let top = is_indexed (memory_of limits entries) state.is_tree in
       (top.top, (Indexed, rw same (root_indexed (memory_of limits entries) state.is_tree), omega arith)) in
       by_equal b a
-      (λ i t. let f = rw t at (rw (knows-push entries last) at e) in elim (learns_root (knows entries a) step answer p f) [ inl before ↦ stays (state.rooted a p before) | inr now ↦ stays (at_root p now.0 now.1) ])
+      (λ i t. let f = rw t at (rw (knows-push entries last) at e) in elim (learns_root (knows entries a) step answer p f)
+      [ inl before ↦ stays (state.rooted a p before) | inr now ↦ stays (at_root p now.0 now.1) ])
       (λ ne t. let f = rw t at (rw (knows-push entries last) at e) in stays (state.rooted b p f))
 
   state_after : IsState limits longer
@@ -203,8 +216,12 @@ module _ (limits : Limits) (entries : List Entry) (a : ℕ) (step : StepOf Recor
     point = put state.point a (cond mark (Some (log_of entries state.points)) (state.point a));
     logs = put state.logs a (log_of entries state.points ∷ state.logs a);
     is_tree = tree_after;
-    fitted = rw (memory_of-push limits entries last) (fitted_after state.owners (shared (memory_of limits entries)) state.is_tree.closed state.fitted n.owners (memory_after a step (memory_of limits entries)).rows n.same n.added);
-    unheld = rw (memory_of-push limits entries last) (unheld_after state.owners (shared (memory_of limits entries)) state.is_tree.closed state.unheld n.owners (memory_after a step (memory_of limits entries)).rows n.same n.added);
+    fitted =
+        rw (memory_of-push limits entries last)
+        (fitted_after state.owners (shared (memory_of limits entries)) state.is_tree.closed state.fitted n.owners (memory_after a step (memory_of limits entries)).rows n.same n.added);
+    unheld =
+        rw (memory_of-push limits entries last)
+        (unheld_after state.owners (shared (memory_of limits entries)) state.is_tree.closed state.unheld n.owners (memory_after a step (memory_of limits entries)).rows n.same n.added);
     named = rw (memory_of-push limits entries last, knows-push entries last)
         (named_steps state.is_tree state.named a step answer r allowed.may is n.owners numbers (state.timed.holds a).learnt_inside (state.timed.epochs a)
         (pid_below_after limits state.owners.page n.owners.page is lives state.named.free_pid_below state.named.pid_below)
@@ -218,12 +235,16 @@ module _ (limits : Limits) (entries : List Entry) (a : ℕ) (step : StepOf Recor
     marked = marked_push entries z.points last mark z.marked.beside limits z.marked
         (λ e. (operation_from z.mine.start a asked, z.mine.begins, own_new entries last z.mine.start a asked step answer r z.mine.begins z.mine.unended refl))
         (λ e op begun own m own' p.
-        let same : op ≡ operation_from z.mine.start a asked = own_same longer op (operation_from z.mine.start a asked) (length entries) (slice_get_kept entries (last ∷ []) op.start _ begun) (slice_get_kept entries (last ∷ []) z.mine.start _ z.mine.begins) own (own_new entries last z.mine.start a asked step answer r z.mine.begins z.mine.unended refl) in
+        let same : op ≡ operation_from z.mine.start a asked = own_same longer op (operation_from z.mine.start a asked) (length entries)
+        (slice_get_kept entries (last ∷ []) op.start _ begun) (slice_get_kept entries (last ∷ []) z.mine.start _ z.mine.begins) own
+        (own_new entries last z.mine.start a asked step answer r z.mine.begins z.mine.unended refl) in
         let none = rw (pointed e) at z.mine.point_at in
         none m (rw same at own') p)
         (λ op s x reply begun e unended. let same : r ≡ Some reply = cc in (justified op reply begun (let i : a ≡ op.actor = cc in sym i) unended same, unpointed reply same))
         (λ e op begun own m reply ends.
-        let same : op ≡ operation_from z.mine.start a asked = own_same longer op (operation_from z.mine.start a asked) (length entries) (slice_get_kept entries (last ∷ []) op.start _ begun) (slice_get_kept entries (last ∷ []) z.mine.start _ z.mine.begins) own (own_new entries last z.mine.start a asked step answer r z.mine.begins z.mine.unended refl) in
+        let same : op ≡ operation_from z.mine.start a asked = own_same longer op (operation_from z.mine.start a asked) (length entries)
+        (slice_get_kept entries (last ∷ []) op.start _ begun) (slice_get_kept entries (last ∷ []) z.mine.start _ z.mine.begins) own
+        (own_new entries last z.mine.start a asked step answer r z.mine.begins z.mine.unended refl) in
         (state.searches (operation_from z.mine.start a asked) z.mine.begins z.mine.unended asks).unfinished m reply (rw same at ends));
     run = IsRun-push limits entries last state.run (rw asks refl, may_take state.is_tree state.named a step answer r allowed.may is refl step allowed.may, is);
     ends = ends_push entries last state.ends (step_ends limits (knows entries a) a step answer r allowed.replied allowed.ends);
@@ -326,7 +347,8 @@ without_point : (limits : Limits) (entries : List Entry) (op : Operation) (answe
 without_point limits entries op answer (inl h) = ap has_point h.0
 without_point limits entries op answer (inr h) = ap has_point h.0
 
-true_reply : (limits : Limits) (entries : List Entry) (points : List Bool) (op : Operation) (answer : Reply) → IsAnsweredBy limits entries points op answer → IsTrueReply limits entries points op answer
+true_reply : (limits : Limits) (entries : List Entry) (points : List Bool) (op : Operation) (answer : Reply) → IsAnsweredBy limits entries points op answer
+    → IsTrueReply limits entries points op answer
 true_reply limits entries points op reply.Full (inl h) = absurd (cc (points_at _ _ op.command reply.Full h.3))
 true_reply limits entries points op reply.Full (inr h) = elim h.finds [ inl tidied ↦ let e = tidied.0 in absurd (cc) | inr full ↦ (full.1, full.2) ]
 true_reply limits entries points op reply.Tidied (inl h) = absurd (cc (points_at _ _ op.command reply.Tidied h.3))
@@ -334,11 +356,13 @@ true_reply limits entries points op reply.Tidied (inr h) = elim h.finds [ inl ti
 true_reply limits entries points op answer (inl h) = h
 true_reply limits entries points op answer (inr h) = let e = without_point limits entries op answer h.finds in absurd (cc)
 
-pointed_by : (limits : Limits) (entries : List Entry) (points : List Bool) (op : Operation) (answer : Reply) → IsAnsweredBy limits entries points op answer → IsTrue (has_point answer) → (m : ℕ) × IsOwnStep entries op m × IsPoint points m
+pointed_by : (limits : Limits) (entries : List Entry) (points : List Bool) (op : Operation) (answer : Reply) → IsAnsweredBy limits entries points op answer
+    → IsTrue (has_point answer) → (m : ℕ) × IsOwnStep entries op m × IsPoint points m
 pointed_by limits entries points op answer (inl h) e = (h.0, h.1, h.2)
 pointed_by limits entries points op answer (inr h) e = let f = without_point limits entries op answer h.finds in absurd (cc)
 
-pointless : (limits : Limits) (entries : List Entry) (points : List Bool) (op : Operation) (answer : Reply) → IsAnsweredBy limits entries points op answer → IsFalse (has_point answer) → (m : ℕ) → IsOwnStep entries op m → IsPoint points m → ⊥
+pointless : (limits : Limits) (entries : List Entry) (points : List Bool) (op : Operation) (answer : Reply) → IsAnsweredBy limits entries points op answer
+    → IsFalse (has_point answer) → (m : ℕ) → IsOwnStep entries op m → IsPoint points m → ⊥
 pointless limits entries points op answer (inl h) e m own p = let f = points_at _ _ op.command answer h.3 in cc
 pointless limits entries points op answer (inr h) e m own p = h.unmarked m own p
 

@@ -22,7 +22,8 @@ module _ (limits : Limits) (entries : List Entry) (points : List Bool) (last : E
   log_same n le = log_at-push entries points (last ∷ []) (mark ∷ []) n beside le
 
   log_before : log_at entries' points' (length entries) ≡ log_of entries points
-  log_before = ap (λ es. log_of es (take (length entries) points')) (take-push_whole entries (last ∷ [])) ∙ ap (log_of entries) (ap (λ n. take n points') (sym beside) ∙ take-push_whole points (mark ∷ []))
+  log_before =
+      ap (λ es. log_of es (take (length entries) points')) (take-push_whole entries (last ∷ [])) ∙ ap (log_of entries) (ap (λ n. take n points') (sym beside) ∙ take-push_whole points (mark ∷ []))
 
   log_after : log_at entries' points' (suc (length entries)) ≡ log_of entries' points'
   log_after = ap (λ es. log_of es (take (suc (length entries)) points')) (take_whole entries' (suc (length entries)) (sym (pushed_length entries last)))
@@ -32,7 +33,10 @@ module _ (limits : Limits) (entries : List Entry) (points : List Bool) (last : E
   updates_push old now n =
       let to : IsUpdating entries' points' n → Happens limits entries' n LinksUpdate = λ h. elim (cases_lt n (length entries)) [
         | inl lt ↦
-            let was = (old n).0 (point_below points mark n (omega (arith, lt, beside)) h.0, (h.1.0, sym (log_same (suc n) (omega (arith, lt))) ∙ h.1.1 ∙ ap (λ l. l ++ h.1.0 ∷ []) (log_same n (omega (arith, lt))))) in
+            let was = (old n).0 (
+              point_below points mark n (omega (arith, lt, beside)) h.0,
+              (h.1.0, sym (log_same (suc n) (omega (arith, lt))) ∙ h.1.1 ∙ ap (λ l. l ++ h.1.0 ∷ []) (log_same n (omega (arith, lt)))),
+            ) in
             record { entry = was.entry; at = slice_get_kept entries (last ∷ []) n _ was.at; holds = rw (memory_at-push limits entries (last ∷ []) n (omega (arith, lt))) was.holds }
         | inr le ↦
             let at : n ≡ length entries = omega (arith, (slice_get_below points' n true h.0), (pushed_length points mark), beside, le) in

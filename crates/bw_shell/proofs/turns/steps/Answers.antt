@@ -23,8 +23,10 @@ returns-then-not-goes_on c =
     let same = ap seen (c.step_on.ensures.none c.in-None.is) in
     let took = subst (λ (n : ℕ). TurnTold (seen c.loop-turn.core) n c.turn-told.result (seen c.turn-told.new.self)) c.in_ok-number.ensures.ok
     (subst (λ (t : Trace). TurnTold t c.in_ok-number.number c.turn-told.result (seen c.turn-told.new.self)) same
-    (turn_told c.step_on.new.self c.turn-told.new.self c.in_ok-number.number c.turn-told.result c.turn-told.ensures.refused c.turn-told.ensures.memory c.turn-told.ensures.ok c.turn-told.ensures.err)) in
-    steps_told c.args.until (seen c.args.core.now) c.args.actor c.loop-turn._turn c.args.limit (seen c.loop-turn.core) c.turn-told.result (seen c.turn-told.new.self) c.told_of.result c.loop-turn.invariant c.loop-turn-test.true took c.if-not-goes_on.ensures c.told_of.ensures
+    (turn_told c.step_on.new.self c.turn-told.new.self c.in_ok-number.number c.turn-told.result c.turn-told.ensures.refused c.turn-told.ensures.memory c.turn-told.ensures.ok c.turn-told.ensures.err))
+    in
+    steps_told c.args.until (seen c.args.core.now) c.args.actor c.loop-turn._turn c.args.limit (seen c.loop-turn.core) c.turn-told.result
+    (seen c.turn-told.new.self) c.told_of.result c.loop-turn.invariant c.loop-turn-test.true took c.if-not-goes_on.ensures c.told_of.ensures
 
 pub loop-turn-preserved : goal.loop-turn-preserved
 loop-turn-preserved c = elim c.match-step_on.branch [
@@ -37,7 +39,8 @@ loop-turn-preserved c = elim c.match-step_on.branch [
       let same = ap seen (c.step_on.ensures.none w.in-None.is) in
       let took = subst (λ (n : ℕ). TurnTold (seen c.loop-turn.core) n w.turn-told.result (seen w.turn-told.new.self)) c.in_ok-number.ensures.ok
       (subst (λ (t : Trace). TurnTold t c.in_ok-number.number w.turn-told.result (seen w.turn-told.new.self)) same
-      (turn_told c.step_on.new.self w.turn-told.new.self c.in_ok-number.number w.turn-told.result w.turn-told.ensures.refused w.turn-told.ensures.memory w.turn-told.ensures.ok w.turn-told.ensures.err)) in
+      (turn_told c.step_on.new.self w.turn-told.new.self c.in_ok-number.number w.turn-told.result w.turn-told.ensures.refused w.turn-told.ensures.memory
+      w.turn-told.ensures.ok w.turn-told.ensures.err)) in
       subst (λ (core : Core). StepsOn c.args.until (seen c.args.core.now) c.args.actor (c.loop-turn._turn + 1) (seen core)) (sym w.core-is)
       (steps_more _ _ _ _ _ _ c.loop-turn.invariant (goes_told c.args.until (seen c.loop-turn.core) c.args.actor w.turn-told.result (seen w.turn-told.new.self) took w.if-not-goes_on.ensures))
 ]

@@ -21,8 +21,10 @@ returns-in-Some-clause-ok c = record {
 
 pub returns-in-Err-Full-clause-err : goal.returns-in-Err-Full-clause-err
 returns-in-Err-Full-clause-err c = is_full c.args.limits c.args.given.now
-    (subst (λ pairs. IsStopped c.args.limits pairs LOAD_BUDGET (called.Done reply.Full)) (c.as_slice.ensures.value ∙ c.in_ok-pairs.ensures.ok) (c.in-Err-Full.ensures.full (cc (c.in-Err-Full.is, c.in-Err-Full.field-0-is))))
+    (subst (λ pairs. IsStopped c.args.limits pairs LOAD_BUDGET (called.Done reply.Full)) (c.as_slice.ensures.value ∙ c.in_ok-pairs.ensures.ok)
+    (c.in-Err-Full.ensures.full (cc (c.in-Err-Full.is, c.in-Err-Full.field-0-is))))
 
 pub returns-in-Err-Spent-clause-err : goal.returns-in-Err-Spent-clause-err
 returns-in-Err-Spent-clause-err c = is_spent c.args.limits c.args.given.now
-    (subst (λ pairs. IsStopped c.args.limits pairs LOAD_BUDGET called.Spent) (c.as_slice.ensures.value ∙ c.in_ok-pairs.ensures.ok) (c.in-Err-Spent.ensures.spent (cc (c.in-Err-Spent.is, c.in-Err-Spent.field-0-is))))
+    (subst (λ pairs. IsStopped c.args.limits pairs LOAD_BUDGET called.Spent) (c.as_slice.ensures.value ∙ c.in_ok-pairs.ensures.ok)
+    (c.in-Err-Spent.ensures.spent (cc (c.in-Err-Spent.is, c.in-Err-Spent.field-0-is))))

@@ -14,9 +14,11 @@ returns-in-Step g c = rw (c.in-Step.is, c.step_of.ensures, c.answer_of.ensures) 
 pub returns-in-Begin : goal.returns-in-Begin
 returns-in-Begin g c =
     let within = rw c.in-Begin.is at c.requires in
-    rw (c.in-Begin.is, c.copied.ensures) (ap (entry.Begin c.in-Begin.actor) (c.index-commands-place.is ∙ get_or_default c.args.commands.now c.in-Begin.place c.index-commands-place.result (Page []) within))
+    rw (c.in-Begin.is, c.copied.ensures)
+    (ap (entry.Begin c.in-Begin.actor) (c.index-commands-place.is ∙ get_or_default c.args.commands.now c.in-Begin.place c.index-commands-place.result (Page []) within))
 
 pub returns-in-Leave : goal.returns-in-Leave
 returns-in-Leave g c =
     let within = rw c.in-Leave.is at c.requires in
-    rw (c.in-Leave.is, c.reply-reply.ensures) (ap (λ (reply : Reply). entry.Step c.in-Leave.actor step.Leave Done (Some reply)) (c.index-replies-place.is ∙ get_or_default c.args.replies.now c.in-Leave.place c.index-replies-place.result kind.None within))
+    rw (c.in-Leave.is, c.reply-reply.ensures) (ap (λ (reply : Reply). entry.Step c.in-Leave.actor step.Leave Done (Some reply))
+    (c.index-replies-place.is ∙ get_or_default c.args.replies.now c.in-Leave.place c.index-replies-place.result kind.None within))

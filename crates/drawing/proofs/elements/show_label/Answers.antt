@@ -2,4 +2,7 @@ use Rattle.byte_streams.proofs.Showing.{shows_then}
 use Rattle.drawing.proofs.elements.show_label.Goals as goal
 
 pub returns : goal.returns
-returns g c = shows_then (shows_then (shows_then (shows_then c.show.ensures (shows_then c.show_place.ensures (shows_then c.show_place-2.ensures c.show_style.ensures))) c.show-2.ensures) c.show_escaped.ensures) c.show-3.ensures
+returns g c =
+    shows_then
+    (shows_then (shows_then (shows_then c.show.ensures (shows_then c.show_place.ensures (shows_then c.show_place-2.ensures c.show_style.ensures))) c.show-2.ensures) c.show_escaped.ensures)
+    c.show-3.ensures

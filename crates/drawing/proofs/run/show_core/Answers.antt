@@ -6,6 +6,14 @@ pub returns-in-Ok : goal.returns-in-Ok
 returns-in-Ok g c =
     let picture = c.in-Ok.picture in (
       document_text picture.width picture.height picture.shapes.items,
-      record { width = picture.width; height = picture.height; shapes = picture.shapes.items; shown = c.in-Ok.ensures; spells = refl; well_formed = c.documents_are_well_formed.ensures picture.width picture.height picture.shapes.items },
+      record {
+        width = picture.width;
+        height = picture.height;
+        shapes = picture.shapes.items;
+        shown = c.in-Ok.ensures;
+        spells = refl;
+        well_formed =
+            c.documents_are_well_formed.ensures picture.width picture.height picture.shapes.items;
+      },
       rw c.as_slice.ensures.value at c.show_document.ensures,
     )

@@ -9,4 +9,5 @@ loop-place-init g c = ap (λ entries. record c.args.queue.now { entries = entrie
 pub loop-place-preserved : goal.loop-place-preserved
 loop-place-preserved g c =
     let lt : c.loop-place.place < length c.args.queue.now.entries = omega (arith, c.loop-place-test.true, ap length c.as_slice-place-end.ensures) in
-    restaged_next (stamped_by c.args.epoch) c.args.queue.now c.loop-place.queue c.restage.new.self c.loop-place.place c.stamped_by-stage.result _ lt c.loop-place.invariant (rw c.as_slice.ensures at c.stamped_by-stage.ensures) (c.restage.ensures _)
+    restaged_next (stamped_by c.args.epoch) c.args.queue.now c.loop-place.queue c.restage.new.self c.loop-place.place c.stamped_by-stage.result _ lt
+    c.loop-place.invariant (rw c.as_slice.ensures at c.stamped_by-stage.ensures) (c.restage.ensures _)

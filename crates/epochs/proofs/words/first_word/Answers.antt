@@ -6,8 +6,10 @@ use Rattle.epochs.proofs.words.first_word.Goals as goal
 
 pub loop-entry-preserved : goal.loop-entry-preserved
 loop-entry-preserved c = elim c.if-is_passed.branch [
-  | then-is_passed w ↦ rw (w.first-is, w.earlier.ensures) (first_more c.args.entries.now c.loop-entry.entry-index _ c.loop-entry.first c.loop-entry-test.true (sym c.is_passed.ensures ∙ w.if-is_passed.true) c.loop-entry.invariant)
-  | else-is_passed w ↦ rw w.first-is (first_same c.args.entries.now c.loop-entry.entry-index _ c.loop-entry.first c.loop-entry-test.true (sym c.is_passed.ensures ∙ w.if-is_passed.false) c.loop-entry.invariant)
+  | then-is_passed w ↦ rw (w.first-is, w.earlier.ensures)
+      (first_more c.args.entries.now c.loop-entry.entry-index _ c.loop-entry.first c.loop-entry-test.true (sym c.is_passed.ensures ∙ w.if-is_passed.true) c.loop-entry.invariant)
+  | else-is_passed w ↦ rw w.first-is
+      (first_same c.args.entries.now c.loop-entry.entry-index _ c.loop-entry.first c.loop-entry-test.true (sym c.is_passed.ensures ∙ w.if-is_passed.false) c.loop-entry.invariant)
 ]
 
 pub returns : goal.returns

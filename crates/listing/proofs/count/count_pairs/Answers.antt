@@ -38,7 +38,8 @@ loop-preserved g c = record {
       let long : length (pairs ++ pairs_of c.page_of-leaf.result.items) ≡ length pairs + length (pairs_of c.page_of-leaf.result.items) = length-append pairs (pairs_of c.page_of-leaf.result.items) in
       let values : c.count_values-count.result ≡ length (pairs_of c.page_of-leaf.result.items) = c.count_values-count.ensures.values ∙ ap (λ items. length (pairs_of items)) c.items.ensures in (
         pairs ++ pairs_of c.page_of-leaf.result.items,
-        (λ leaves. leaf_more _ memory leaves _ _ _ (listed leaves) c.page_of-leaf.result (λ chain. c.page_of-leaf.ensures.makes memory chain has) c.page_of-leaf.ensures.ruled _ (sym c.right.ensures ∙ c.in-Some.is)),
+        (λ leaves. leaf_more _ memory leaves _ _ _ (listed leaves) c.page_of-leaf.result (λ chain. c.page_of-leaf.ensures.makes memory chain has)
+            c.page_of-leaf.ensures.ruled _ (sym c.right.ensures ∙ c.in-Some.is)),
         omega (arith, long, values, counted),
       );
   few = omega (arith, c.loop.invariant.few, c.count_values-count.ensures.few);

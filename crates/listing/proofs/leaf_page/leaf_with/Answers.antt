@@ -5,7 +5,8 @@ use Rattle.listing.proofs.leaf_page.leaf_with.Goals as goal
 pub loop-init : goal.loop-init
 loop-init g c = λ memory has leaves. elim c.first_of-pid.ensures [
   | inl first ↦ subst (IsOnWay memory leaves.pages c.args.from.now 0) (sym first) (from_first _ memory leaves c.args.from.now)
-  | inr near ↦ subst (IsOnWay memory leaves.pages c.args.from.now 0) (sym near.0) (from_near _ memory leaves c.args.from.now c.args.near (c.requires.near memory has leaves) (λ chain stands. near.1 memory chain has stands))
+  | inr near ↦ subst (IsOnWay memory leaves.pages c.args.from.now 0) (sym near.0)
+      (from_near _ memory leaves c.args.from.now c.args.near (c.requires.near memory has leaves) (λ chain stands. near.1 memory chain has stands))
 ]
 
 pub page_of-leaf-requires-clause-there : goal.page_of-leaf-requires-clause-there
@@ -26,7 +27,8 @@ returns-in-None g c = λ memory has leaves.
 
 pub loop-preserved : goal.loop-preserved
 loop-preserved g c = λ memory has leaves.
-    way_on _ memory leaves _ _ _ (c.loop.invariant memory has leaves) c.page_of-leaf.result (λ chain. c.page_of-leaf.ensures.makes memory chain has) c.in-Some.right c.in-Some.ensures.right.0 c.in-Some.ensures.right.1
+    way_on _ memory leaves _ _ _ (c.loop.invariant memory has leaves) c.page_of-leaf.result (λ chain. c.page_of-leaf.ensures.makes memory chain has)
+    c.in-Some.right c.in-Some.ensures.right.0 c.in-Some.ensures.right.1
 
 pub unreachable-requires : goal.unreachable-requires
 unreachable-requires g c =

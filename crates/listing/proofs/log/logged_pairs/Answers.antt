@@ -18,7 +18,11 @@ loop-update-preserved c =
     elim c.if-is_inside.branch [
       | then-is_inside+in_ok-note w ↦
           let within : is_in_range low high (updated_key update) ≡ true = subst (λ key. is_in_range low high key ≡ true) c.key.ensures (sym c.is_inside.ensures ∙ w.if-is_inside.true) in
-          rw (w.values-is, grown) record { ordered = w.in_ok-note.ensures.ordered; says = Says-inside (take i log) update low high c.loop-update.values w.note.new.values within c.loop-update.invariant.says w.in_ok-note.ensures.noted }
+          rw (w.values-is, grown) record {
+            ordered = w.in_ok-note.ensures.ordered;
+            says = Says-inside (take i log) update low high c.loop-update.values
+                w.note.new.values within c.loop-update.invariant.says w.in_ok-note.ensures.noted;
+          }
       | else-is_inside w ↦
           let within : is_in_range low high (updated_key update) ≡ false = subst (λ key. is_in_range low high key ≡ false) c.key.ensures (sym c.is_inside.ensures ∙ w.if-is_inside.false) in
           rw (w.values-is, grown) record { ordered = c.loop-update.invariant.ordered; says = Says-outside (take i log) update low high c.loop-update.values within c.loop-update.invariant.says }
@@ -26,5 +30,8 @@ loop-update-preserved c =
 
 pub returns : goal.returns
 returns c =
-    let says : Says c.args.log.now c.args.low.now (option_copied c.args.high) c.loop-update.values = rw (take_all c.loop-update.update-index c.args.log.now c.loop-update-test.false) at c.loop-update.invariant.says in
-    IfOk-weaker c.pairs_of.result _ _ (λ pairs same. rw same (pairs_of_map c.args.log.now c.args.low.now (option_copied c.args.high) c.loop-update.values c.loop-update.invariant.ordered says)) c.pairs_of.ensures
+    let says : Says c.args.log.now c.args.low.now (option_copied c.args.high) c.loop-update.values = rw
+    (take_all c.loop-update.update-index c.args.log.now c.loop-update-test.false) at c.loop-update.invariant.says in
+    IfOk-weaker c.pairs_of.result _ _
+    (λ pairs same. rw same (pairs_of_map c.args.log.now c.args.low.now (option_copied c.args.high) c.loop-update.values c.loop-update.invariant.ordered says))
+    c.pairs_of.ensures

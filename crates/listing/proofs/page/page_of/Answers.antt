@@ -39,7 +39,8 @@ loop-place-init g c = λ memory chain has stands.
     let long = c.len-base.ensures.value ∙ ap length rows ∙ rows_long (memory.slots c.args.pid) chain in
     let many : 0 < length chain = some chain stands.fits.fitted in
     let base = Base c.base_at-page.result in
-    let at = record_at memory.rows (memory.slots c.args.pid) chain stands.records c.deref.result.now (c.deref.ensures.0 ∙ rows) (c.len-base.result - 1) (omega (arith, long, many)) 0 base base (c.base_at-page.ensures memory has) in
+    let at = record_at memory.rows (memory.slots c.args.pid) chain stands.records c.deref.result.now (c.deref.ensures.0 ∙ rows) (c.len-base.result - 1)
+    (omega (arith, long, many)) 0 base base (c.base_at-page.ensures memory has) in
     base_makes chain (c.len-base.result - 1) c.base_at-page.result stands.fits.fitted (omega (arith, long, many)) (sym at)
 
 pub record-requires : goal.record-requires
@@ -47,8 +48,13 @@ record-requires g c =
     let (memory, chain, has, stands) = c.requires.stands in
     let rows = c.rows_of-chain.ensures memory chain has stands in
     let long = c.len-base.ensures.value ∙ ap length rows ∙ rows_long (memory.slots c.args.pid) chain in
-    let within : c.loop-place.place - 1 < length chain = omega (arith, long, c.loop-place.auto.place, c.loop-place-test.true) in
-    (memory, get_or chain (c.loop-place.place - 1) no_record, has, record_there memory.rows (memory.slots c.args.pid) chain stands.records c.deref-in-loop-place.result.now (c.deref-in-loop-place.ensures.0 ∙ rows) (c.loop-place.place - 1) within 0 no_record)
+    let within : c.loop-place.place - 1 < length chain = omega (arith, long, c.loop-place.auto.place, c.loop-place-test.true) in (
+      memory,
+      get_or chain (c.loop-place.place - 1) no_record,
+      has,
+      record_there memory.rows (memory.slots c.args.pid) chain stands.records
+          c.deref-in-loop-place.result.now (c.deref-in-loop-place.ensures.0 ∙ rows) (c.loop-place.place - 1) within 0 no_record,
+    )
 
 pub apply-requires : goal.apply-requires
 apply-requires g c =
@@ -56,7 +62,8 @@ apply-requires g c =
     let rows = c.rows_of-chain.ensures memory chain has stands in
     let long = c.len-base.ensures.value ∙ ap length rows ∙ rows_long (memory.slots c.args.pid) chain in
     let within : c.loop-place.place < length chain = omega (arith, long, c.loop-place.auto.place, c.loop-place-test.true) in
-    let at = record_at memory.rows (memory.slots c.args.pid) chain stands.records c.deref-in-loop-place.result.now (c.deref-in-loop-place.ensures.0 ∙ rows) (c.loop-place.place - 1) (omega (arith, within)) 0 c.record.result c.record.result (c.record.ensures memory has) in
+    let at = record_at memory.rows (memory.slots c.args.pid) chain stands.records c.deref-in-loop-place.result.now (c.deref-in-loop-place.ensures.0 ∙ rows)
+    (c.loop-place.place - 1) (omega (arith, within)) 0 c.record.result c.record.result (c.record.ensures memory has) in
     fits_above chain c.loop-place.place c.loop-place.page c.record.result stands.fits.fitted c.loop-place-test.true within (c.loop-place.invariant memory chain has stands) at
 
 pub loop-place-preserved : goal.loop-place-preserved
@@ -64,9 +71,11 @@ loop-place-preserved g c = λ memory chain has stands.
     let rows = c.rows_of-chain.ensures memory chain has stands in
     let long = c.len-base.ensures.value ∙ ap length rows ∙ rows_long (memory.slots c.args.pid) chain in
     let within : c.loop-place.place - 1 < length chain = omega (arith, long, c.loop-place.auto.place, c.loop-place-test.true) in
-    let at = record_at memory.rows (memory.slots c.args.pid) chain stands.records c.deref-in-loop-place.result.now (c.deref-in-loop-place.ensures.0 ∙ rows) (c.loop-place.place - 1) within 0 c.record.result c.record.result (c.record.ensures memory has) in
+    let at = record_at memory.rows (memory.slots c.args.pid) chain stands.records c.deref-in-loop-place.result.now (c.deref-in-loop-place.ensures.0 ∙ rows)
+    (c.loop-place.place - 1) within 0 c.record.result c.record.result (c.record.ensures memory has) in
     let next : c.loop-place.place ≡ suc (c.loop-place.place - 1) = omega (arith, c.loop-place-test.true) in
-    next_makes chain (c.loop-place.place - 1) within c.record.result at _ _ (subst (λ n. Makes (drop n chain) c.loop-place.page) next (c.loop-place.invariant memory chain has stands)) c.apply.ensures.applies
+    next_makes chain (c.loop-place.place - 1) within c.record.result at _ _
+    (subst (λ n. Makes (drop n chain) c.loop-place.page) next (c.loop-place.invariant memory chain has stands)) c.apply.ensures.applies
 
 pub returns-clause-ruled : goal.returns-clause-ruled
 returns-clause-ruled g c =

@@ -24,14 +24,19 @@ page_of-leaf-requires-clause-stands g c =
 
 pub returns-in-None-clause-ok : goal.returns-in-None-clause-ok
 returns-in-None-clause-ok g c = λ memory has leaves.
-    let grown : c.add_values.new.pairs.items ≡ c.loop.pairs.items ++ pairs_of c.page_of-leaf.result.items = c.in_ok-add_values.ensures.ok ∙ ap (λ items. c.loop.pairs.items ++ pairs_of items) c.items.ensures in
-    rw grown (leaf_last _ memory leaves _ _ _ (c.loop.invariant.listed memory has leaves) c.page_of-leaf.result (λ chain. c.page_of-leaf.ensures.makes memory chain has) c.page_of-leaf.ensures.ruled (sym c.right.ensures ∙ c.in-None.is))
+    let grown : c.add_values.new.pairs.items ≡ c.loop.pairs.items ++ pairs_of c.page_of-leaf.result.items = c.in_ok-add_values.ensures.ok ∙ ap
+    (λ items. c.loop.pairs.items ++ pairs_of items) c.items.ensures in
+    rw grown (leaf_last _ memory leaves _ _ _ (c.loop.invariant.listed memory has leaves) c.page_of-leaf.result
+    (λ chain. c.page_of-leaf.ensures.makes memory chain has) c.page_of-leaf.ensures.ruled (sym c.right.ensures ∙ c.in-None.is))
 
 pub loop-preserved : goal.loop-preserved
 loop-preserved g c =
-    let grown : c.add_values.new.pairs.items ≡ c.loop.pairs.items ++ pairs_of c.page_of-leaf.result.items = c.in_ok-add_values.ensures.ok ∙ ap (λ items. c.loop.pairs.items ++ pairs_of items) c.items.ensures in
+    let grown : c.add_values.new.pairs.items ≡ c.loop.pairs.items ++ pairs_of c.page_of-leaf.result.items = c.in_ok-add_values.ensures.ok ∙ ap
+    (λ items. c.loop.pairs.items ++ pairs_of items) c.items.ensures in
     record {
-      listed = λ memory has leaves. rw grown (leaf_more _ memory leaves _ _ _ (c.loop.invariant.listed memory has leaves) c.page_of-leaf.result (λ chain. c.page_of-leaf.ensures.makes memory chain has) c.page_of-leaf.ensures.ruled _ (sym c.right.ensures ∙ c.in-Some.is));
+      listed =
+          λ memory has leaves. rw grown (leaf_more _ memory leaves _ _ _ (c.loop.invariant.listed memory has leaves) c.page_of-leaf.result
+          (λ chain. c.page_of-leaf.ensures.makes memory chain has) c.page_of-leaf.ensures.ruled _ (sym c.right.ensures ∙ c.in-Some.is));
       count = omega (arith, c.in_ok-add_values.ensures.count, c.loop.invariant.count);
       capacity = omega (arith, c.add_values.ensures.capacity, c.loop.invariant.capacity);
     }

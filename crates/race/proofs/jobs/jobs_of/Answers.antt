@@ -13,7 +13,9 @@ pub loop-commands-preserved : goal.loop-commands-preserved
 loop-commands-preserved c =
     let inv = c.loop-commands.invariant in
     let lists = c.in_ok-lists.ensures in
-    let turn = YieldsList-turn (YieldsList-from_vec {s = c.into_iter-commands-iterator.result} c.in_ok-lists.lists.items (search rules) (search rules)) c.loop-commands.yielded c.loop-commands.commands-iterator c.loop-commands.yielded_by c.next.result c.next.new.self c.in-Some.commands c.in-Some.is c.next.ensures.steps in
+    let turn = YieldsList-turn (YieldsList-from_vec {s = c.into_iter-commands-iterator.result} c.in_ok-lists.lists.items (search rules) (search rules))
+    c.loop-commands.yielded c.loop-commands.commands-iterator c.loop-commands.yielded_by c.next.result c.next.new.self c.in-Some.commands c.in-Some.is
+    c.next.ensures.steps in
     let many = length-map c.in_ok-lists.lists.items (λ list. list.items) in
     let low : c.loop-commands.number < 4096 = omega (arith, turn.0, many, lists.count, inv.count) in
     let own : c.in-Some.commands.items ≡ commands_of c.loop-commands.number c.args.asked.items =
@@ -29,7 +31,9 @@ loop-commands-preserved c =
 pub returns : goal.returns
 returns c =
     let inv = c.loop-commands.invariant in
-    let end = YieldsList-end (YieldsList-from_vec {s = c.into_iter-commands-iterator.result} c.in_ok-lists.lists.items (search rules) (search rules)) c.loop-commands.yielded c.loop-commands.commands-iterator c.loop-commands.yielded_by c.next.result c.next.new.self c.in-None.is c.next.ensures.steps in
+    let end = YieldsList-end (YieldsList-from_vec {s = c.into_iter-commands-iterator.result} c.in_ok-lists.lists.items (search rules) (search rules))
+    c.loop-commands.yielded c.loop-commands.commands-iterator c.loop-commands.yielded_by c.next.result c.next.new.self c.in-None.is c.next.ensures.steps
+    in
     let many = length-map c.in_ok-lists.lists.items (λ list. list.items) in
     let all : c.loop-commands.number ≡ 4096 = omega (arith, inv.count, end.1, many, c.in_ok-lists.ensures.count) in
     all_jobs c.args.asked.items c.loop-commands.jobs.items (rw all at inv.jobs) c.requires

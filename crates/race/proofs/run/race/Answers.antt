@@ -18,6 +18,7 @@ returns g c =
           c.finish.ensures.shows c.requires.sound_out c.requires.fresh c.finish.ensures.ends zero c.status.ensures.one
       | in-Err w ↦
           let took = w.in-Err.ensures.taken in
-          is_race add.both add.whole _ _ _ _ _ _ _ took.0 (lone_refusal_text Memory) _ _ took.1 (rw w.refused-is (inr (w.in-Err.ensures.unfailed, refl, refl))) (rw w.out-is w.show_lone_refusal.ensures)
+          is_race add.both add.whole _ _ _ _ _ _ _ took.0 (lone_refusal_text Memory) _ _ took.1 (rw w.refused-is (inr (w.in-Err.ensures.unfailed, refl, refl)))
+          (rw w.out-is w.show_lone_refusal.ensures)
           c.finish.ensures.shows c.requires.sound_out c.requires.fresh c.finish.ensures.ends zero c.status.ensures.one
     ]

@@ -24,7 +24,16 @@ returns-in-Err g c =
       inr (inr (
         refl,
         why,
-        record { tree = c.in-Ok.tree; fresh = c.in-Ok.seats.items; seats = c.in-Err.error.seats.items; results = c.in-Err.error.results.items; limited = c.in-Ok.ensures.limits; opened = c.in-Ok.ensures.seats; stopped = c.in-Err.ensures.refused },
+        record {
+          tree = c.in-Ok.tree;
+          fresh = c.in-Ok.seats.items;
+          seats = c.in-Err.error.seats.items;
+          results = c.in-Err.error.results.items;
+          limited =
+              c.in-Ok.ensures.limits;
+          opened = c.in-Ok.ensures.seats;
+          stopped = c.in-Err.ensures.refused;
+        },
         refl,
       )),
       rw c.refusal_of.ensures at c.show_lone_refusal-in-Err.ensures,

@@ -15,6 +15,8 @@ returns-then-not-keeps_rules c =
     let are = c.read_items.ensures.read c.if-not-read_items.false in
     no_base row c.args.words.now c.read_items.new.items.items are (λ right is ruled.
     let same = only_right row.page right c.right_in-right.result is c.right_in-right.ensures in
-    let yes = c.keeps_rules.ensures.1 (subst IsRuled (λ i. record { level = row.level; low = row.first; high = row.second; right = same i; removed = false; items = sym c.in-Some.ensures.0 i }) ruled) in
+    let yes = c.keeps_rules.ensures.1
+    (subst IsRuled (λ i. record { level = row.level; low = row.first; high = row.second; right = same i; removed = false; items = sym c.in-Some.ensures.0 i }) ruled)
+    in
     let no = c.if-not-keeps_rules.true in
     cc) c.requires.kind

@@ -30,6 +30,10 @@ loop-place-preserved c =
     let low : c.args.from ≤ c.loop-place.place = c.loop-place.auto.place in
     let places : suc (c.loop-place.place - c.args.from) ≡ c.loop-place.place + 1 - c.args.from = omega arith in
     record {
-      whole = one_more c.loop-place.word c.from.result c.args.from c.loop-place.place (packed 8 (drop c.args.from c.args.bytes.now)) c.args.bytes.now low c.loop-place-test.true is c.loop-place.invariant.whole;
-      fits = subst (λ k. c.loop-place.word * 256 + c.from.result < 256 ^ k) places (byte_more c.loop-place.word c.from.result (c.loop-place.place - c.args.from) (omega arith) c.loop-place.invariant.fits);
+      whole =
+          one_more c.loop-place.word c.from.result c.args.from c.loop-place.place (packed 8 (drop c.args.from c.args.bytes.now)) c.args.bytes.now low
+          c.loop-place-test.true is c.loop-place.invariant.whole;
+      fits =
+          subst (λ k. c.loop-place.word * 256 + c.from.result < 256 ^ k) places
+          (byte_more c.loop-place.word c.from.result (c.loop-place.place - c.args.from) (omega arith) c.loop-place.invariant.fits);
     }

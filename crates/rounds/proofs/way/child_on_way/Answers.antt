@@ -16,5 +16,6 @@ returns-clause-leads g c = rw c.if-below.false (goes_down (passes false c.args.k
 pub unreachable-requires-in-None-child_of : goal.unreachable-requires-in-None-child_of
 unreachable-requires-in-None-child_of g c =
     let reached : IsTrue (passes false c.args.key.now (low_in c.args.chain.now.records)) = rw c.if-below.false at c.requires.reached in
-    let some = has_child c.args.chain.now.records (passes false c.args.key.now) c.keeps_rules.ensures.fitted c.requires.index reached (IsGreatestChild (content_in c.args.chain.now.records) (passes false c.args.key.now)) None c.in-None-child_of.ensures.child in
+    let some = has_child c.args.chain.now.records (passes false c.args.key.now) c.keeps_rules.ensures.fitted c.requires.index reached
+    (IsGreatestChild (content_in c.args.chain.now.records) (passes false c.args.key.now)) None c.in-None-child_of.ensures.child in
     cc

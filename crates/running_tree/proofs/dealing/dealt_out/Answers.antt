@@ -39,9 +39,13 @@ invariant_of-push g c =
     let tree : c.args.tree.now.limits ≡ c.tree.inside.limits = sym (ap (λ (t : Tree). t.limits) c.tree.view_is) in
     let same : c.first.inside.limits ≡ c.tree.inside.limits = ap (λ (s : Seat). s.limits) c.first.view_is ∙ c.requires.own.limits ∙ tree in
     let seen : seen_of c.first.inside.desk.place.me ≡ c.args.first.seen = ap (λ (s : Seat). s.seen) c.first.view_is in
-    let alone_is : c.cut-others.new.seat.me ≡ (alone c.tree.inside.limits c.loop-number.number c.args.first.seen Idle, []) = deals_one c.tree.inside.limits c.args.first.seen c.loop-number.number left c.loop-number.rest.me c.cut-others.new.seat.me c.loop-number-test.true all is c.cut-others.ensures.first in
-    fresh_then c.own_lasts.ensures c.tree.inside.limits c.loop-number.number c.args.first.seen c.replace-place.result.me c.in-Ok.actor c.idle_actors_rest.ensures (c.empty_run_is_lawful.ensures c.tree.inside.limits)
-    (subst (IsSeenRun c.tree.inside.limits) seen (subst (λ (l : Limits). IsSeenRun l (seen_of c.first.inside.desk.place.me)) same (record { lawful = c.first.invariant.seated.lawful; begins = c.first.invariant.begins })))
+    let alone_is : c.cut-others.new.seat.me ≡ (alone c.tree.inside.limits c.loop-number.number c.args.first.seen Idle, []) = deals_one c.tree.inside.limits
+    c.args.first.seen c.loop-number.number left c.loop-number.rest.me c.cut-others.new.seat.me c.loop-number-test.true all is c.cut-others.ensures.first
+    in
+    fresh_then c.own_lasts.ensures c.tree.inside.limits c.loop-number.number c.args.first.seen c.replace-place.result.me c.in-Ok.actor
+    c.idle_actors_rest.ensures (c.empty_run_is_lawful.ensures c.tree.inside.limits)
+    (subst (IsSeenRun c.tree.inside.limits) seen
+    (subst (λ (l : Limits). IsSeenRun l (seen_of c.first.inside.desk.place.me)) same (record { lawful = c.first.invariant.seated.lawful; begins = c.first.invariant.begins })))
     (extends_one c.tree.inside.limits c.args.first.seen c.loop-number.number left c.loop-number-test.true all each) c.loop-number-test.true
     (ap (λ place. place.me) c.replace-place.ensures.value ∙ alone_is) c.in-Ok.ensures.ok
 
@@ -49,10 +53,13 @@ pub loop-number-preserved : goal.loop-number-preserved
 loop-number-preserved g c =
     let (left, all, is, each) = c.loop-number.invariant.rest in
     let tree : c.args.tree.now.limits ≡ c.tree.inside.limits = sym (ap (λ (t : Tree). t.limits) c.tree.view_is) in
-    let alone_is : c.cut-others.new.seat.me ≡ (alone c.tree.inside.limits c.loop-number.number c.args.first.seen Idle, []) = deals_one c.tree.inside.limits c.args.first.seen c.loop-number.number left c.loop-number.rest.me c.cut-others.new.seat.me c.loop-number-test.true all is c.cut-others.ensures.first in
+    let alone_is : c.cut-others.new.seat.me ≡ (alone c.tree.inside.limits c.loop-number.number c.args.first.seen Idle, []) = deals_one c.tree.inside.limits
+    c.args.first.seen c.loop-number.number left c.loop-number.rest.me c.cut-others.new.seat.me c.loop-number-test.true all is c.cut-others.ensures.first
+    in
     let mine : c.replace-place.result.me ≡ (alone c.tree.inside.limits c.loop-number.number c.args.first.seen Idle, []) = ap (λ place. place.me) c.replace-place.ensures.value ∙ alone_is in
     let table : c.replace-place.result.table_id ≡ c.args.tree.now.table = ap (λ place. place.table_id) c.replace-place.ensures.value ∙ c.cut-others.ensures.same ∙ c.loop-number.invariant.table in
-    let (fewer, sum, others, extend) = leaves_others c.tree.inside.limits c.args.first.seen c.loop-number.number left c.loop-number.rest.me c.cut-others.result.me c.loop-number-test.true all is each c.cut-others.ensures.others in
+    let (fewer, sum, others, extend) = leaves_others c.tree.inside.limits c.args.first.seen c.loop-number.number left c.loop-number.rest.me
+    c.cut-others.result.me c.loop-number-test.true all is each c.cut-others.ensures.others in
     record {
       table = ap (λ place. place.table_id) c.replace-place.ensures.after ∙ c.cut-others.ensures.table ∙ c.loop-number.invariant.table;
       rest = (fewer, sum, ap (λ place. place.me) c.replace-place.ensures.after ∙ others, extend);

@@ -14,13 +14,15 @@ pub refresh-requires-clause-some : goal.refresh-requires-clause-some
 refresh-requires-clause-some g c =
     let tree : c.args.tree.now.limits ≡ c.tree.inside.limits = sym (ap (λ (t : Tree). t.limits) c.tree.view_is) in
     let same : c.seat.inside.limits ≡ c.tree.inside.limits = ap (λ (s : Seat). s.limits) c.seat.view_is ∙ c.requires.own.limits ∙ tree in
-    some_part c.tree.inside.limits c.seat.inside.desk.number c.seat.inside.desk.place.me c.args.others.me c.join.new.seat.me (subst (λ (l : Limits). SitsAt l c.seat.inside.desk.number Idle c.seat.inside.desk.place.me) same c.seat.invariant.place) c.join.ensures.both
+    some_part c.tree.inside.limits c.seat.inside.desk.number c.seat.inside.desk.place.me c.args.others.me c.join.new.seat.me
+    (subst (λ (l : Limits). SitsAt l c.seat.inside.desk.number Idle c.seat.inside.desk.place.me) same c.seat.invariant.place) c.join.ensures.both
 
 pub invariant_of-seat : goal.invariant_of-seat
 invariant_of-seat g c =
     let tree : c.args.tree.now.limits ≡ c.tree.inside.limits = sym (ap (λ (t : Tree). t.limits) c.tree.view_is) in
     let same : c.seat.inside.limits ≡ c.tree.inside.limits = ap (λ (s : Seat). s.limits) c.seat.view_is ∙ c.requires.own.limits ∙ tree in
-    let seat : IsSeat c.tree.inside.limits c.seat.inside.desk.number c.seat.inside.desk.place.me c.seat.inside.actor = subst (λ (l : Limits). IsSeat l c.seat.inside.desk.number c.seat.inside.desk.place.me c.seat.inside.actor) same c.seat.invariant in
+    let seat : IsSeat c.tree.inside.limits c.seat.inside.desk.number c.seat.inside.desk.place.me c.seat.inside.actor = subst
+    (λ (l : Limits). IsSeat l c.seat.inside.desk.number c.seat.inside.desk.place.me c.seat.inside.actor) same c.seat.invariant in
     subst (λ (l : Limits). IsSeat l c.seat.inside.desk.number c.cut.new.seat.me c.seat.inside.actor) (sym same)
     (first_seat c.tree.inside.limits c.seat.inside.desk.number c.seat.inside.desk.place.me c.args.others.me c.join.new.seat.me seat.place c.join.ensures.both
     c.refresh.new.seat.me c.cut.new.seat.me c.cut.result.me c.refresh.ensures.saw c.cut.ensures.first c.cut.ensures.others c.own_lasts.ensures c.seat.inside.actor seat)
@@ -29,7 +31,8 @@ pub returns-clause-each : goal.returns-clause-each
 returns-clause-each g c =
     let tree : c.args.tree.now.limits ≡ c.tree.inside.limits = sym (ap (λ (t : Tree). t.limits) c.tree.view_is) in
     let same : c.seat.inside.limits ≡ c.tree.inside.limits = ap (λ (s : Seat). s.limits) c.seat.view_is ∙ c.requires.own.limits ∙ tree in
-    others_extend c.tree.inside.limits c.seat.inside.desk.number c.seat.inside.desk.place.me c.args.others.me c.join.new.seat.me (subst (λ (l : Limits). SitsAt l c.seat.inside.desk.number Idle c.seat.inside.desk.place.me) same c.seat.invariant.place) c.join.ensures.both
+    others_extend c.tree.inside.limits c.seat.inside.desk.number c.seat.inside.desk.place.me c.args.others.me c.join.new.seat.me
+    (subst (λ (l : Limits). SitsAt l c.seat.inside.desk.number Idle c.seat.inside.desk.place.me) same c.seat.invariant.place) c.join.ensures.both
     c.refresh.new.seat.me c.cut.new.seat.me c.cut.result.me c.refresh.ensures.saw c.cut.ensures.first c.cut.ensures.others
 
 pub join-requires-clause-table : goal.join-requires-clause-table
@@ -53,7 +56,8 @@ returns-clause-extends g c =
     let tree : c.args.tree.now.limits ≡ c.tree.inside.limits = sym (ap (λ (t : Tree). t.limits) c.tree.view_is) in
     let same : c.seat.inside.limits ≡ c.tree.inside.limits = ap (λ (s : Seat). s.limits) c.seat.view_is ∙ c.requires.own.limits ∙ tree in
     subst (λ (s : Seat). Extends s.actor s.seen (seen_of c.cut.new.seat.me)) c.seat.view_is
-    (first_extends c.tree.inside.limits c.seat.inside.desk.number c.seat.inside.desk.place.me c.args.others.me c.join.new.seat.me (subst (λ (l : Limits). SitsAt l c.seat.inside.desk.number Idle c.seat.inside.desk.place.me) same c.seat.invariant.place) c.join.ensures.both
+    (first_extends c.tree.inside.limits c.seat.inside.desk.number c.seat.inside.desk.place.me c.args.others.me c.join.new.seat.me
+    (subst (λ (l : Limits). SitsAt l c.seat.inside.desk.number Idle c.seat.inside.desk.place.me) same c.seat.invariant.place) c.join.ensures.both
     c.refresh.new.seat.me c.cut.new.seat.me c.cut.result.me c.refresh.ensures.saw c.cut.ensures.first c.cut.ensures.others)
 
 pub returns-clause-history : goal.returns-clause-history
@@ -61,7 +65,8 @@ returns-clause-history g c =
     let tree : c.args.tree.now.limits ≡ c.tree.inside.limits = sym (ap (λ (t : Tree). t.limits) c.tree.view_is) in
     let same : c.seat.inside.limits ≡ c.tree.inside.limits = ap (λ (s : Seat). s.limits) c.seat.view_is ∙ c.requires.own.limits ∙ tree in
     c.runs_are_one_history.ensures c.seat.inside.limits (seen_of c.cut.new.seat.me) (subst (λ (l : Limits). IsSeenRun l (seen_of c.cut.new.seat.me)) (sym same)
-    (first_run c.tree.inside.limits c.seat.inside.desk.number c.seat.inside.desk.place.me c.args.others.me c.join.new.seat.me (subst (λ (l : Limits). SitsAt l c.seat.inside.desk.number Idle c.seat.inside.desk.place.me) same c.seat.invariant.place) c.join.ensures.both
+    (first_run c.tree.inside.limits c.seat.inside.desk.number c.seat.inside.desk.place.me c.args.others.me c.join.new.seat.me
+    (subst (λ (l : Limits). SitsAt l c.seat.inside.desk.number Idle c.seat.inside.desk.place.me) same c.seat.invariant.place) c.join.ensures.both
     c.refresh.new.seat.me c.cut.new.seat.me c.cut.result.me c.refresh.ensures.saw c.cut.ensures.first c.cut.ensures.others))
 
 pub returns-clause-table : goal.returns-clause-table
@@ -71,5 +76,6 @@ pub returns-clause-others : goal.returns-clause-others
 returns-clause-others g c =
     let tree : c.args.tree.now.limits ≡ c.tree.inside.limits = sym (ap (λ (t : Tree). t.limits) c.tree.view_is) in
     let same : c.seat.inside.limits ≡ c.tree.inside.limits = ap (λ (s : Seat). s.limits) c.seat.view_is ∙ c.requires.own.limits ∙ tree in
-    others_are c.tree.inside.limits c.seat.inside.desk.number c.seat.inside.desk.place.me c.args.others.me c.join.new.seat.me (subst (λ (l : Limits). SitsAt l c.seat.inside.desk.number Idle c.seat.inside.desk.place.me) same c.seat.invariant.place) c.join.ensures.both
+    others_are c.tree.inside.limits c.seat.inside.desk.number c.seat.inside.desk.place.me c.args.others.me c.join.new.seat.me
+    (subst (λ (l : Limits). SitsAt l c.seat.inside.desk.number Idle c.seat.inside.desk.place.me) same c.seat.invariant.place) c.join.ensures.both
     c.refresh.new.seat.me c.cut.new.seat.me c.cut.result.me c.refresh.ensures.saw c.cut.ensures.first c.cut.ensures.others

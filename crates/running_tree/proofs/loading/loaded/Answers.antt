@@ -20,7 +20,9 @@ pub returns-in-Err-Full-clause-err : goal.returns-in-Err-Full-clause-err
 returns-in-Err-Full-clause-err g c =
     let limits : c.gathered-others.new.seat.limits ≡ c.args.tree.now.limits = c.gathered-others.ensures.same.limits ∙ c.load-load.ensures.same.limits ∙ ap (λ (s : Seat). s.limits) c.requires.first in
     let number : c.load-load.new.seat.actor ≡ 0 = c.load-load.ensures.same.actor ∙ ap (λ (s : Seat). s.actor) c.requires.first in
-    let told : HasStopped c.args.first c.args.pairs.now LOAD_BUDGET c.in-Err-Full.field-0 c.load-load.new.seat = subst (λ r. IfErr r (λ why. HasStopped c.args.first c.args.pairs.now LOAD_BUDGET why c.load-load.new.seat)) c.in-Err-Full.is c.load-load.ensures.stopped in
+    let told : HasStopped c.args.first c.args.pairs.now LOAD_BUDGET c.in-Err-Full.field-0 c.load-load.new.seat = subst
+    (λ r. IfErr r (λ why. HasStopped c.args.first c.args.pairs.now LOAD_BUDGET why c.load-load.new.seat)) c.in-Err-Full.is c.load-load.ensures.stopped
+    in
     let is : c.in-Err-Full.field-0 ≡ stop.Full c.in-Err-Full.field-0-0 = cc c.in-Err-Full.field-0-is in
     is_stopped c.args.tree.now c.gathered-others.new.seat.seen c.args.pairs.now LOAD_BUDGET c.in-Err-Full.field-0-0 (called.Done reply.Full) c.load-load.new.seat
     (subst (λ (l : Limits). IsOneHistory l c.gathered-others.new.seat.seen) limits c.gathered-others.ensures.history)
@@ -33,7 +35,9 @@ pub returns-in-Err-Spent-clause-err : goal.returns-in-Err-Spent-clause-err
 returns-in-Err-Spent-clause-err g c =
     let limits : c.gathered-others.new.seat.limits ≡ c.args.tree.now.limits = c.gathered-others.ensures.same.limits ∙ c.load-load.ensures.same.limits ∙ ap (λ (s : Seat). s.limits) c.requires.first in
     let number : c.load-load.new.seat.actor ≡ 0 = c.load-load.ensures.same.actor ∙ ap (λ (s : Seat). s.actor) c.requires.first in
-    let told : HasStopped c.args.first c.args.pairs.now LOAD_BUDGET c.in-Err-Spent.field-0 c.load-load.new.seat = subst (λ r. IfErr r (λ why. HasStopped c.args.first c.args.pairs.now LOAD_BUDGET why c.load-load.new.seat)) c.in-Err-Spent.is c.load-load.ensures.stopped in
+    let told : HasStopped c.args.first c.args.pairs.now LOAD_BUDGET c.in-Err-Spent.field-0 c.load-load.new.seat = subst
+    (λ r. IfErr r (λ why. HasStopped c.args.first c.args.pairs.now LOAD_BUDGET why c.load-load.new.seat)) c.in-Err-Spent.is c.load-load.ensures.stopped
+    in
     let is : c.in-Err-Spent.field-0 ≡ stop.Spent c.in-Err-Spent.field-0-0 = cc c.in-Err-Spent.field-0-is in
     is_stopped c.args.tree.now c.gathered-others.new.seat.seen c.args.pairs.now LOAD_BUDGET c.in-Err-Spent.field-0-0 called.Spent c.load-load.new.seat
     (subst (λ (l : Limits). IsOneHistory l c.gathered-others.new.seat.seen) limits c.gathered-others.ensures.history)
@@ -49,7 +53,8 @@ pub returns-in-Ok-dealt_out-clause-loaded : goal.returns-in-Ok-dealt_out-clause-
 returns-in-Ok-dealt_out-clause-loaded g c =
     let limits : c.gathered-others.new.seat.limits ≡ c.args.tree.now.limits = c.gathered-others.ensures.same.limits ∙ c.load-load.ensures.same.limits ∙ ap (λ (s : Seat). s.limits) c.requires.first in
     let number : c.load-load.new.seat.actor ≡ 0 = c.load-load.ensures.same.actor ∙ ap (λ (s : Seat). s.actor) c.requires.first in
-    let told : HasLoaded c.args.first c.args.pairs.now c.load-load.new.seat = subst (λ r. IfOk r (λ _. HasLoaded c.args.first c.args.pairs.now c.load-load.new.seat)) c.in-Ok.is c.load-load.ensures.loaded in
+    let told : HasLoaded c.args.first c.args.pairs.now c.load-load.new.seat = subst
+    (λ r. IfOk r (λ _. HasLoaded c.args.first c.args.pairs.now c.load-load.new.seat)) c.in-Ok.is c.load-load.ensures.loaded in
     let calls : calls_in c.load-load.new.seat ≡ told.made = told.calls ∙ ap (λ (s : Seat). calls_in s ++ told.made) c.requires.first in
     are_loaded c.own_lasts.ensures c.args.tree.now c.gathered-others.new.seat.seen c.in-Ok-dealt_out.seats.items c.args.pairs.now
     (subst (λ (l : Limits). IsOneHistory l c.gathered-others.new.seat.seen) limits c.gathered-others.ensures.history)

@@ -21,8 +21,13 @@ loop-work-preserved g c =
     let works = before.all in record {
       left = all_before (IsSeatOf c.args.tree.now) seats (seat ∷ []) all;
       own = rw c.push_reserved.ensures.items (All-push (λ job. IsSeatOf c.args.tree.now job.0) jobs (seat, work) before.own (last_of (IsSeatOf c.args.tree.now) seats (Some seat) all));
-      seats = ap (λ z. with_each_behind (λ job. job.0) seats z) c.push_reserved.ensures.items ∙ behind_push (λ job. job.0) seats jobs (seat, work) ∙ ap (λ z. with_each_behind (λ job. job.0) z jobs) (sym c.in-Some-pop.ensures.items) ∙ before.seats;
-      works = ap (λ z. with_each_behind (λ job. job.1) c.pop.new.self.items z) c.push_reserved.ensures.items ∙ behind_push (λ job. job.1) c.pop.new.self.items jobs (seat, work) ∙ ap (λ z. with_each_behind (λ job. job.1) z jobs) (sym c.in-Some.ensures.items) ∙ before.works;
+      seats =
+          ap (λ z. with_each_behind (λ job. job.0) seats z) c.push_reserved.ensures.items ∙ behind_push (λ job. job.0) seats jobs (seat, work)
+          ∙ ap (λ z. with_each_behind (λ job. job.0) z jobs) (sym c.in-Some-pop.ensures.items) ∙ before.seats;
+      works =
+          ap (λ z. with_each_behind (λ job. job.1) c.pop.new.self.items z) c.push_reserved.ensures.items
+          ∙ behind_push (λ job. job.1) c.pop.new.self.items jobs (seat, work) ∙ ap (λ z. with_each_behind (λ job. job.1) z jobs) (sym c.in-Some.ensures.items)
+          ∙ before.works;
       count = omega (arith, fewer, longer, count);
       all = omega (arith, less, longer, works);
       enough = before.enough;

@@ -19,7 +19,8 @@ note-note-requires g c =
     let same = c.loop-place.invariant.others in
     let long = ap length same in
     let there = at_index c.loop-place.others c.loop-place.place c.index-others-place.result (omega (arith, below, long)) c.index-others-place.is in
-    let own : IsSeatOf c.args.tree.now c.index-others-place.result = c.requires.others c.loop-place.place c.index-others-place.result (subst (λ z. slice_get z c.loop-place.place ≡ Some c.index-others-place.result) same there) in
+    let own : IsSeatOf c.args.tree.now c.index-others-place.result = c.requires.others c.loop-place.place c.index-others-place.result
+    (subst (λ z. slice_get z c.loop-place.place ≡ Some c.index-others-place.result) same there) in
     record { own = subst (IsSeatOf c.args.tree.now) c.index-others-place.is own }
 
 pub heed-requires-clause-note : goal.heed-requires-clause-note
@@ -29,7 +30,8 @@ heed-requires-clause-note g c =
     let long = ap length same in
     let at = slice_index_or c.loop-place.others c.loop-place.place c.index-others-place.result in
     let there = at_index c.loop-place.others c.loop-place.place c.index-others-place.result (omega (arith, below, long)) c.index-others-place.is in
-    let own : IsSeatOf c.args.tree.now c.index-others-place.result = c.requires.others c.loop-place.place c.index-others-place.result (subst (λ z. slice_get z c.loop-place.place ≡ Some c.index-others-place.result) same there) in
+    let own : IsSeatOf c.args.tree.now c.index-others-place.result = c.requires.others c.loop-place.place c.index-others-place.result
+    (subst (λ z. slice_get z c.loop-place.place ≡ Some c.index-others-place.result) same there) in
     let is : IsSeatOf c.args.tree.now at = subst (IsSeatOf c.args.tree.now) c.index-others-place.is own in
     let note : IsNoteOf c.args.tree.now (note_of at) = record { table = is.table; limits = is.limits } in
     subst (IsNoteOf c.args.tree.now) (sym c.note-note.ensures.noted) note

@@ -30,7 +30,8 @@ loop-place-preserved g c =
     let shown = c.loop-place.invariant.shown in
     let count = shown.count in
     let at = slice_index_or c.loop-place.seats place c.index-seats-place.result in
-    let there : slice_get c.loop-place.seats place ≡ Some at = at_index c.loop-place.seats place c.index-seats-place.result (omega (arith, below, count)) c.index-seats-place.is ∙ ap Some c.index-seats-place.is in
+    let there : slice_get c.loop-place.seats place ≡ Some at = at_index c.loop-place.seats place c.index-seats-place.result (omega (arith, below, count))
+    c.index-seats-place.is ∙ ap Some c.index-seats-place.is in
     let noted = c.note-note.ensures.noted ∙ ap note_of c.loop-place.invariant.one in
     let heeds : HasHeeded at (note_of c.args.one.now) c.heed.new.seat = subst (λ note. HasHeeded at note c.heed.new.seat) noted c.heed.ensures.heeds in
     record {

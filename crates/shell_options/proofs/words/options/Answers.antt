@@ -40,5 +40,6 @@ returns-in-Err-2-clause-refused c =
     let kinds = c.in-Err-2.ensures.kinds (ap is_simple_and_free app ∙ is_simple_and_free-bwtree_app) in
     let same_error : c.in-Err-2.error ≡ c.in-Err.error = cc in (
       outside _ _ _ c.in-Ok.ensures c.in-Err-2.ensures.passes other,
-      subst (λ (e : Error). IsAmong (kind_of e) (fault_of bwtree_app words)) same_error (subst (λ (a : App). IsAmong (kind_of c.in-Err-2.error) (fault_of a words)) app (among _ c.in-Err-2.error other kinds)),
+      subst (λ (e : Error). IsAmong (kind_of e) (fault_of bwtree_app words)) same_error
+          (subst (λ (a : App). IsAmong (kind_of c.in-Err-2.error) (fault_of a words)) app (among _ c.in-Err-2.error other kinds)),
     )

@@ -14,9 +14,14 @@ leave-requires-clause-told g c =
 pub new-requires : goal.new-requires
 new-requires g c =
     let (limits, k, r, ready) = c.requires.knows in
-    let goes = goes_by limits c.args.number k r (memory_in c.args.memory.now) Leave Done c.args.actor.now c.leave.new.self Done (Some c.leave.new.reply) c.requires.running ready c.requires.leaves refl refl (c.leave.ensures.goes limits c.args.number k r) in
-    record { room = λ pairs. c.requires.room (needs_room limits c.args.number k r (memory_in c.args.memory.now) Leave Done c.args.actor.now c.leave.new.self c.leave.new.reply c.requires.running ready.0 c.requires.leaves goes pairs) }
+    let goes = goes_by limits c.args.number k r (memory_in c.args.memory.now) Leave Done c.args.actor.now c.leave.new.self Done (Some c.leave.new.reply)
+    c.requires.running ready c.requires.leaves refl refl (c.leave.ensures.goes limits c.args.number k r) in
+    record {
+      room = λ pairs. c.requires.room
+          (needs_room limits c.args.number k r (memory_in c.args.memory.now) Leave Done c.args.actor.now c.leave.new.self c.leave.new.reply c.requires.running ready.0 c.requires.leaves goes pairs);
+    }
 
 pub returns-clause-goes : goal.returns-clause-goes
 returns-clause-goes g c = λ limits k r ready.
-    rw c.new.ensures (goes_by limits c.args.number k r (memory_in c.args.memory.now) Leave Done c.args.actor.now c.leave.new.self Done (Some c.leave.new.reply) c.requires.running ready c.requires.leaves refl refl (c.leave.ensures.goes limits c.args.number k r))
+    rw c.new.ensures (goes_by limits c.args.number k r (memory_in c.args.memory.now) Leave Done c.args.actor.now c.leave.new.self Done (Some c.leave.new.reply)
+    c.requires.running ready c.requires.leaves refl refl (c.leave.ensures.goes limits c.args.number k r))

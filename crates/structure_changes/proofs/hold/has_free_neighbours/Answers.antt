@@ -5,7 +5,8 @@ use Rattle.structure_changes.proofs.hold.has_free_neighbours.Goals as goal
 use Rattle.structure_changes.proofs.hold.has_free_neighbours.Goals.{then-not-is_free_beside-via-then-not-is_free_beside, then-not-is_free_beside-via-else-not-is_free_beside+then-not-is_free_beside-2}
 
 pub loop-place-preserved : goal.loop-place-preserved
-loop-place-preserved c = free_so_far c.args.key.now c.args.items.now c.loop-place.place c.index-items-place.result c.index-items-place-in-loop-place.result c.loop-place.auto.place c.loop-place-test.true
+loop-place-preserved c =
+    free_so_far c.args.key.now c.args.items.now c.loop-place.place c.index-items-place.result c.index-items-place-in-loop-place.result c.loop-place.auto.place c.loop-place-test.true
     c.index-items-place.is c.index-items-place-in-loop-place.is c.loop-place.invariant
     (c.is_free_beside.ensures.0 c.if-not-is_free_beside.false)
     (c.is_free_beside-else-not-is_free_beside.ensures.0 c.if-not-is_free_beside-2.false)

@@ -36,9 +36,12 @@ returns-clause-plan g c =
     let low : c.low-low.result ≡ low_in c.args.page.now.chain = c.low-low.ensures.low ∙ ap low_in (same_records c.chain.ensures) in
     let alive : is_removed chain ≡ _ = sym (ap is_removed (same_records c.chain-above.ensures)) ∙ sym c.is_removed.ensures ∙ c.if-is_removed.false in
     let other : low_in c.args.page.now.chain ≢ low_in chain = λ same.
-    absurd (false≢true (sym c.if-is_eq.false ∙ (decides_key c.low-low.result c.low.result c.is_eq.result (rw (← c.cmp.ensures) c.is_eq.ensures)).1 (low ∙ same ∙ sym (c.low.ensures.low ∙ ap low_in (same_records c.chain-above.ensures))))) in
-    let held : held_count made.items < 4 = (let count = c.held_count.ensures ∙ ap held_count (c.as_slice.ensures.items ∙ c.items.ensures) in let few = c.if-held_count-ge-MAX_HELD.false in omega (arith, count, few)) in
-    let free : HasFreeNeighbours (low_in c.args.page.now.chain) made.items = rw (← low, ← c.items-2.ensures, ← c.as_slice-2.ensures.items) (c.has_free_neighbours.ensures.0 c.if-not-has_free_neighbours.false) in
+    absurd (false≢true (sym c.if-is_eq.false ∙ (decides_key c.low-low.result c.low.result c.is_eq.result (rw (← c.cmp.ensures) c.is_eq.ensures)).1
+    (low ∙ same ∙ sym (c.low.ensures.low ∙ ap low_in (same_records c.chain-above.ensures))))) in
+    let held : held_count made.items < 4 = (let count = c.held_count.ensures ∙ ap held_count (c.as_slice.ensures.items ∙ c.items.ensures) in let few =
+    c.if-held_count-ge-MAX_HELD.false in omega (arith, count, few)) in
+    let free : HasFreeNeighbours (low_in c.args.page.now.chain) made.items = rw (← low, ← c.items-2.ensures, ← c.as_slice-2.ensures.items)
+    (c.has_free_neighbours.ensures.0 c.if-not-has_free_neighbours.false) in
     planned c.args.parent.now c.args.page.now made _ alive makes c.page-made.ensures.ruled (rw (c.level.ensures, c.chain-above.ensures, c.head.ensures, c.pid.ensures, low) refl)
     (record {
       above = alive;

@@ -18,15 +18,18 @@ no_bytes (x ∷ xs) e = let none = eqb-true (length (x ∷ xs)) 0 e in absurd (o
 
 pub two_terms-items-requires : goal.two_terms-items-requires
 two_terms-items-requires g c =
-    let lowest : low_in c.args.left.now.chain ≡ [] = rw (← same_records c.chain-chain.ensures, ← c.low.ensures.low, ← c.as_slice.ensures.bytes) (no_bytes c.as_slice.result.now (sym c.is_empty.ensures ∙ c.if-not-is_empty.false)) in
+    let lowest : low_in c.args.left.now.chain ≡ [] = rw (← same_records c.chain-chain.ensures, ← c.low.ensures.low, ← c.as_slice.ensures.bytes)
+    (no_bytes c.as_slice.result.now (sym c.is_empty.ensures ∙ c.if-not-is_empty.false)) in
     let fitted : IsFitted c.args.left.now.chain = rw c.chain-chain.ensures at c.keeps_rules.ensures.fitted in
     rw (c.low-separator.ensures.low, c.chain-beside.ensures) (some c.args.left.now c.args.right.now fitted lowest (c.is_next_to.ensures.next.0 c.if-not-is_next_to.false))
 
 pub new-requires : goal.new-requires
 new-requires g c =
-    let lowest : low_in c.args.left.now.chain ≡ [] = rw (← same_records c.chain-chain.ensures, ← c.low.ensures.low, ← c.as_slice.ensures.bytes) (no_bytes c.as_slice.result.now (sym c.is_empty.ensures ∙ c.if-not-is_empty.false)) in
+    let lowest : low_in c.args.left.now.chain ≡ [] = rw (← same_records c.chain-chain.ensures, ← c.low.ensures.low, ← c.as_slice.ensures.bytes)
+    (no_bytes c.as_slice.result.now (sym c.is_empty.ensures ∙ c.if-not-is_empty.false)) in
     let fitted : IsFitted c.args.left.now.chain = rw c.chain-chain.ensures at c.keeps_rules.ensures.fitted in
-    let above : IsTrue (is_below [] c.low-separator.result) = rw (c.low-separator.ensures.low, c.chain-beside.ensures) (some c.args.left.now c.args.right.now fitted lowest (c.is_next_to.ensures.next.0 c.if-not-is_next_to.false)) in
+    let above : IsTrue (is_below [] c.low-separator.result) = rw (c.low-separator.ensures.low, c.chain-beside.ensures)
+    (some c.args.left.now c.args.right.now fitted lowest (c.is_next_to.ensures.next.0 c.if-not-is_next_to.false)) in
     let level : c.level-2.result + 1 ≤ 15 = (let low = c.if-level-ge-TOP_LEVEL.false in let a = c.level.ensures in let b = c.level-2.ensures in omega (arith, low, a, b)) in
     let left : IsPid c.pid.result = rw c.pid.ensures c.args.left.now.is_pid in
     let right : IsPid c.pid-2.result = rw c.pid-2.ensures c.args.right.now.is_pid in
@@ -35,7 +38,8 @@ new-requires g c =
 
 pub returns-clause-plan : goal.returns-clause-plan
 returns-clause-plan g c =
-    let lowest : low_in c.args.left.now.chain ≡ [] = rw (← same_records c.chain-chain.ensures, ← c.low.ensures.low, ← c.as_slice.ensures.bytes) (no_bytes c.as_slice.result.now (sym c.is_empty.ensures ∙ c.if-not-is_empty.false)) in
+    let lowest : low_in c.args.left.now.chain ≡ [] = rw (← same_records c.chain-chain.ensures, ← c.low.ensures.low, ← c.as_slice.ensures.bytes)
+    (no_bytes c.as_slice.result.now (sym c.is_empty.ensures ∙ c.if-not-is_empty.false)) in
     let fitted : IsFitted c.args.left.now.chain = rw c.chain-chain.ensures at c.keeps_rules.ensures.fitted in
     let level : c.level-2.result + 1 ≡ suc (level_in c.args.left.now.chain) = rw (← same_records c.chain-chain.ensures) (let a = c.level-2.ensures in omega (arith, a)) in
     let terms : ℕ → List ℕ → ℕ → List Item = λ left key right. record { key = []; content = Child left false } ∷ record { key = key; content = Child right false } ∷ [] in

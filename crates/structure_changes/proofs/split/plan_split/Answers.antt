@@ -25,7 +25,8 @@ split_place-place-requires-clause-apart g c = rw c.items.ensures (apart c.page-w
 
 pub returns-clause-plan : goal.returns-clause-plan
 returns-clause-plan g c =
-    let many : 16 ≤ length c.page-whole.result.items = (let a = c.item_count.ensures.count c.page-whole.result.items c.page-whole.ensures.makes.items in let d = c.if-item_count-lt-MANY_ITEMS.false in omega (arith, a, d)) in
+    let many : 16 ≤ length c.page-whole.result.items = (let a = c.item_count.ensures.count c.page-whole.result.items c.page-whole.ensures.makes.items in let d =
+    c.if-item_count-lt-MANY_ITEMS.false in omega (arith, a, d)) in
     let fitted : IsFitted c.args.page.now.chain = rw c.chain-chain.ensures at c.keeps_rules.ensures.fitted in
     let makes : Makes c.args.page.now.chain c.page-whole.result = rw c.chain-chain.ensures at c.page-whole.ensures.makes in
     rw c.head.ensures (planned c.args.page.now c.page-whole.result c.cut_at-upper.result.0 c.cut_at-upper.result.1 c.split_place-place.result fitted makes
@@ -34,4 +35,12 @@ returns-clause-plan g c =
     many
     c.split_place-place.ensures.inside
     (rw (← c.items.ensures) c.split_place-place.ensures.place)
-    (record { pages = c.cut_at-upper.ensures.pages; separator = c.cut_at-upper.ensures.separator; is_lower = (1, c.cut_at-upper.ensures.lower); is_upper = c.cut_at-upper.ensures.upper; below = c.cut_at-upper.ensures.below; above = c.cut_at-upper.ensures.above }))
+    (record {
+      pages = c.cut_at-upper.ensures.pages;
+      separator = c.cut_at-upper.ensures.separator;
+      is_lower = (1, c.cut_at-upper.ensures.lower);
+      is_upper =
+          c.cut_at-upper.ensures.upper;
+      below = c.cut_at-upper.ensures.below;
+      above = c.cut_at-upper.ensures.above;
+    }))

@@ -17,10 +17,12 @@ returns-clause-walk c = λ seen head row chain is few. (
 
 pub returns-clause-rows : goal.returns-clause-rows
 returns-clause-rows c = λ limits actor head limbo k chain kept free is few.
-    let one : OneChain k.read.seen = λ row some a b left right. c.chain_is_one.ensures (holding k.read.seen row) 1 a b (record { page = omega arith; linked = some; records = left }) (record { page = omega arith; linked = some; records = right }) in
+    let one : OneChain k.read.seen = λ row some a b left right. c.chain_is_one.ensures (holding k.read.seen row) 1 a b
+    (record { page = omega arith; linked = some; records = left }) (record { page = omega arith; linked = some; records = right }) in
     chain_taken limits actor limbo k head chain kept free is few one
 
 pub returns-clause-page : goal.returns-clause-page
 returns-clause-page c = λ limits actor head page limbo k chain kept free is few some below absent.
-    let one : OneChain k.read.seen = λ row some a b left right. c.chain_is_one.ensures (holding k.read.seen row) 1 a b (record { page = omega arith; linked = some; records = left }) (record { page = omega arith; linked = some; records = right }) in
+    let one : OneChain k.read.seen = λ row some a b left right. c.chain_is_one.ensures (holding k.read.seen row) 1 a b
+    (record { page = omega arith; linked = some; records = left }) (record { page = omega arith; linked = some; records = right }) in
     page_taken limits actor limbo k head chain kept free is few one page some below absent

@@ -20,7 +20,8 @@ store-requires g c =
     let wide = c.requires.table.wide in (
       v.table ∙ c.requires.table.same,
       omega (arith, c.requires.range, wide, base, few),
-      fills_at g.P.Law.law _ c.args.limits.now c.requires.table.own c.requires.law _ _ c.args.actor _ c.args.row c.args.first written _ (seen_of c.args.seat.now.me) v.seen c.requires.range v.at c.requires.owned _ (omega (arith, base, k)) (omega (arith, few, k)),
+      fills_at g.P.Law.law _ c.args.limits.now c.requires.table.own c.requires.law _ _ c.args.actor _ c.args.row c.args.first written _
+          (seen_of c.args.seat.now.me) v.seen c.requires.range v.at c.requires.owned _ (omega (arith, base, k)) (omega (arith, few, k)),
     )
 
 pub loop-i-preserved : goal.loop-i-preserved
@@ -31,7 +32,8 @@ loop-i-preserved g c =
     let written : List ℕ = take c.loop-i.i (tail_from c.args.spelt.now) in
     let told = c.store.ensures.2 c.args.limits.now c.args.actor c.args.row c.args.first written v.at in
     let more : take (c.loop-i.i + 1) (tail_from c.args.spelt.now) ≡ written ++ get_or c.args.spelt.now (c.loop-i.i + 1) 0 ∷ [] =
-    ap (λ (j : ℕ). take j (tail_from c.args.spelt.now)) (add-one c.loop-i.i) ∙ take-suc (tail_from c.args.spelt.now) c.loop-i.i 0 (omega (arith, rest, few)) ∙ ap (λ (u : ℕ). written ++ u ∷ []) (sym (next_in_tail c.args.spelt.now c.loop-i.i)) in
+    ap (λ (j : ℕ). take j (tail_from c.args.spelt.now)) (add-one c.loop-i.i) ∙ take-suc (tail_from c.args.spelt.now) c.loop-i.i 0 (omega (arith, rest, few)) ∙
+    ap (λ (u : ℕ). written ++ u ∷ []) (sym (next_in_tail c.args.spelt.now c.loop-i.i)) in
     record {
       within = omega (arith, c.loop-i-test.true);
       table = c.store.ensures.0 ∙ v.table;

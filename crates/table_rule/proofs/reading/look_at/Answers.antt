@@ -8,7 +8,8 @@ load-requires g c =
     let base = c.row_place.ensures in (
       c.requires.table.same,
       omega (arith, c.requires.range, c.requires.word, wide, base),
-      looks_at g.P.Law.law _ c.args.limits.now c.requires.table.own c.requires.law _ _ c.args.actor _ c.args.row _ c.requires.range c.requires.seat c.requires.known c.args.at c.requires.word (omega (arith, base)),
+      looks_at g.P.Law.law _ c.args.limits.now c.requires.table.own c.requires.law _ _ c.args.actor _ c.args.row _ c.requires.range c.requires.seat
+          c.requires.known c.args.at c.requires.word (omega (arith, base)),
     )
 
 pub returns-clause-found : goal.returns-clause-found

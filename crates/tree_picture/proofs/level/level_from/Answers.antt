@@ -17,11 +17,13 @@ page_at-requires-clause-stands g c =
 
 pub returns-in-None : goal.returns-in-None
 returns-in-None g c = λ number has.
-    c.in_ok-push.ensures.items ∙ page_last _ _ number _ has _ _ _ (c.loop.invariant number has) c.in_ok-page.page c.in_ok-page.ensures.pid c.in_ok-page.ensures.chain (sym c.right-right.ensures ∙ c.in-None.is)
+    c.in_ok-push.ensures.items ∙ page_last _ _ number _ has _ _ _ (c.loop.invariant number has) c.in_ok-page.page c.in_ok-page.ensures.pid
+    c.in_ok-page.ensures.chain (sym c.right-right.ensures ∙ c.in-None.is)
 
 pub loop-preserved : goal.loop-preserved
 loop-preserved g c = λ number has.
-    rw c.in_ok-push.ensures.items (page_more _ _ number _ has _ _ _ (c.loop.invariant number has) c.in_ok-page.page c.in_ok-page.ensures.pid c.in_ok-page.ensures.chain _ (sym c.right-right.ensures ∙ c.in-Some.is))
+    rw c.in_ok-push.ensures.items
+    (page_more _ _ number _ has _ _ _ (c.loop.invariant number has) c.in_ok-page.page c.in_ok-page.ensures.pid c.in_ok-page.ensures.chain _ (sym c.right-right.ensures ∙ c.in-Some.is))
 
 pub unreachable-requires : goal.unreachable-requires
 unreachable-requires g c =
@@ -35,5 +37,6 @@ loop-init g c = λ number has. rw c.new-pages.ensures.items (no_front _ _ _ numb
 pub invariant_of-result : goal.invariant_of-result
 invariant_of-result g c =
     let (number, has) = c.requires.stands in
-    let whole = c.in_ok-push.ensures.items ∙ page_last _ _ number _ has _ _ _ (c.loop.invariant number has) c.in_ok-page.page c.in_ok-page.ensures.pid c.in_ok-page.ensures.chain (sym c.right-right.ensures ∙ c.in-None.is) in
+    let whole = c.in_ok-push.ensures.items ∙ page_last _ _ number _ has _ _ _ (c.loop.invariant number has) c.in_ok-page.page c.in_ok-page.ensures.pid
+    c.in_ok-page.ensures.chain (sym c.right-right.ensures ∙ c.in-None.is) in
     omega (arith, ap length whole, has.few, c.args.limits.now.allowed.few_pids)

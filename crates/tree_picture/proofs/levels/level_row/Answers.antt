@@ -22,11 +22,18 @@ loop-page-preserved c =
       | else-is_some w ↦ w.sheet-is
     ] in
     let high : page_height page ≤ level_height c.args.level.now =
-    subst (λ ps. page_height page ≤ level_height ps) c.pages-page-items.ensures.pages (subst (λ p. page_height p ≤ level_height pages) (sym c.page-item.is) (page_in_level pages c.loop-page.page-index page there)) in
+    subst (λ ps. page_height page ≤ level_height ps) c.pages-page-items.ensures.pages
+    (subst (λ p. page_height p ≤ level_height pages) (sym c.page-item.is) (page_in_level pages c.loop-page.page-index page there)) in
     record {
-      pids = ap (λ sheet. sheet.pids) same ∙ c.in_ok-page_box.ensures.pids ∙ told_next _ _ _ _ (page.pid ∷ []) c.loop-page.invariant.pids (map_next (λ page. page.pid) pages c.loop-page.page-index page there c.page-item.is);
-      ranges = ap (λ sheet. sheet.ranges) same ∙ c.in_ok-page_box.ensures.ranges ∙ told_next _ _ _ _ (page_range page ∷ []) c.loop-page.invariant.ranges (map_next page_range pages c.loop-page.page-index page there c.page-item.is);
-      marks = mark_next (IsMarkFor c.args.root c.args.above.now) pages c.loop-page.page-index page there c.page-item.is c.args.sheet.now.marks c.loop-page.sheet.marks _ c.mark_of.result c.loop-page.invariant.marks
+      pids =
+          ap (λ sheet. sheet.pids) same ∙ c.in_ok-page_box.ensures.pids
+          ∙ told_next _ _ _ _ (page.pid ∷ []) c.loop-page.invariant.pids (map_next (λ page. page.pid) pages c.loop-page.page-index page there c.page-item.is);
+      ranges =
+          ap (λ sheet. sheet.ranges) same ∙ c.in_ok-page_box.ensures.ranges
+          ∙ told_next _ _ _ _ (page_range page ∷ []) c.loop-page.invariant.ranges (map_next page_range pages c.loop-page.page-index page there c.page-item.is);
+      marks =
+          mark_next (IsMarkFor c.args.root c.args.above.now) pages c.loop-page.page-index page there c.page-item.is c.args.sheet.now.marks
+          c.loop-page.sheet.marks _ c.mark_of.result c.loop-page.invariant.marks
           (ap (λ sheet. sheet.marks) same ∙ c.in_ok-page_box.ensures.marks) c.mark_of.ensures;
       at = omega (arith, at);
       laid = λ width fits to. subst (λ sheet. AreLaidTo width (c.args.y + level_height c.args.level.now) (c.loop-page.x + 276) c.args.y sheet.boxes) (sym same)
@@ -45,5 +52,6 @@ returns-clause-marks c =
     let told = c.loop-page.invariant.marks in (
       told.0,
       told.1,
-      subst (λ pages. AllZip (IsMarkFor c.args.root c.args.above.now) pages told.0) (take_all c.loop-page.page-index c.pages-page-items.result.now c.loop-page-test.false ∙ c.pages-page-items.ensures.pages) told.2,
+      subst (λ pages. AllZip (IsMarkFor c.args.root c.args.above.now) pages told.0)
+          (take_all c.loop-page.page-index c.pages-page-items.result.now c.loop-page-test.false ∙ c.pages-page-items.ensures.pages) told.2,
     )

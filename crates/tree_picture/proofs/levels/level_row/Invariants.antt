@@ -14,5 +14,6 @@ invariant-loop-page l = record {
   ranges : l.sheet.ranges ≡ l.initial.sheet.ranges ++ level_ranges (take l.page-index l.page-items);
   marks : (own : List Mark) × (l.sheet.marks ≡ l.initial.sheet.marks ++ own) × AllZip (IsMarkFor l.root l.above) (take l.page-index l.page-items) own;
   at : l.x ≡ l.initial.x + l.page-index * 276;
-  laid : (width : ℕ) → l.initial.x + length l.level * 276 ≤ width + 40 → AreLaidTo width (l.y + level_height l.level) l.initial.x l.y l.initial.sheet.boxes → AreLaidTo width (l.y + level_height l.level) l.x l.y l.sheet.boxes;
+  laid : (width : ℕ) → l.initial.x + length l.level * 276 ≤ width + 40 → AreLaidTo width (l.y + level_height l.level) l.initial.x l.y l.initial.sheet.boxes
+      → AreLaidTo width (l.y + level_height l.level) l.x l.y l.sheet.boxes;
 }

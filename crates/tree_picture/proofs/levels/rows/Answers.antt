@@ -21,12 +21,16 @@ loop-level-preserved c =
     let lower = y + (c.level_height.result + 84) in
     record {
       pids = c.in_ok-level_row.ensures.pids ∙ told_next _ _ _ _ (level_pids level) c.loop-level.invariant.pids (flat_next level_pids levels c.loop-level.level-index level there c.level-item.is);
-      ranges = c.in_ok-level_row.ensures.ranges ∙ told_next _ _ _ _ (level_ranges level) c.loop-level.invariant.ranges (flat_next level_ranges levels c.loop-level.level-index level there c.level-item.is);
-      marks = level_next_marked c.args.root levels c.loop-level.level-index level there c.level-item.is c.args.sheet.now.marks c.loop-level.sheet.marks _ c.loop-level.above.now c.loop-level.invariant.above c.loop-level.invariant.marks c.in_ok-level_row.ensures.marks;
+      ranges =
+          c.in_ok-level_row.ensures.ranges ∙ told_next _ _ _ _ (level_ranges level) c.loop-level.invariant.ranges (flat_next level_ranges levels c.loop-level.level-index level there c.level-item.is);
+      marks =
+          level_next_marked c.args.root levels c.loop-level.level-index level there c.level-item.is c.args.sheet.now.marks c.loop-level.sheet.marks _
+          c.loop-level.above.now c.loop-level.invariant.above c.loop-level.invariant.marks c.in_ok-level_row.ensures.marks;
       above = c.pages-above.ensures.pages ∙ last_next levels c.loop-level.level-index level there c.level-item.is;
       at = omega (arith, c.loop-level.invariant.at, exact, levels_next levels c.loop-level.level-index level there c.level-item.is);
       laid = λ to. next_level
-          (c.in_ok-level_row.ensures.laid c.args.width (omega (arith, first, own)) (next_level (c.loop-level.invariant.laid to) (y + level_height level) c.first_x.result y (omega arith) (omega arith)))
+          (c.in_ok-level_row.ensures.laid c.args.width (omega (arith, first, own))
+          (next_level (c.loop-level.invariant.laid to) (y + level_height level) c.first_x.result y (omega arith) (omega arith)))
           lower 0 lower (omega (arith, exact)) (omega (arith, exact));
     }
 

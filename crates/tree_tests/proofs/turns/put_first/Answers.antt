@@ -5,4 +5,7 @@ use Rattle.tree_tests.proofs.Inserted.{all_maybe_inserted}
 use Rattle.tree_tests.proofs.turns.put_first.Goals as goal
 
 pub returns : goal.returns
-returns c = record { own = subst (AreSeatsOf c.args.tree.now) (sym c.insert.ensures.items) (all_maybe_inserted (IsSeatOf c.args.tree.now) c.args.seats.now.items c.args.seat (is_ok c.insert.result) c.requires.own c.requires.given) }
+returns c = record {
+  own = subst (AreSeatsOf c.args.tree.now) (sym c.insert.ensures.items)
+      (all_maybe_inserted (IsSeatOf c.args.tree.now) c.args.seats.now.items c.args.seat (is_ok c.insert.result) c.requires.own c.requires.given);
+}

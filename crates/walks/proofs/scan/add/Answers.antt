@@ -13,7 +13,9 @@ loop-key-preserved g c =
     let longer = ap (λ n. take n c.args.pairs.now) next ∙ take-suc c.args.pairs.now c.loop-key.key-index item c.loop-key-test.true in
     let count = before.count in
     let more = c.push_reserved.ensures.len in record {
-      added = c.push_reserved.ensures.items ∙ (λ i. before.added i ++ copied i ∷ []) ∙ append_assoc c.args.list.now.items first (item ∷ []) ∙ ap (λ z. c.args.list.now.items ++ z) (ap (λ z. first ++ z ∷ []) c.loop-key-item.is ∙ sym longer);
+      added =
+          c.push_reserved.ensures.items ∙ (λ i. before.added i ++ copied i ∷ []) ∙ append_assoc c.args.list.now.items first (item ∷ [])
+          ∙ ap (λ z. c.args.list.now.items ++ z) (ap (λ z. first ++ z ∷ []) c.loop-key-item.is ∙ sym longer);
       count = omega (arith, count, more);
       room = c.push_reserved.ensures.capacity ∙ before.room;
     }

@@ -21,8 +21,14 @@ returns-in_err-content-clause-refused c =
 pub returns-then-is_narrow-clause-spelled : goal.returns-then-is_narrow-clause-spelled
 returns-then-is_narrow-clause-spelled c =
     let words = c.args.words.now in
-    let content = c.in_ok-content.content in
-    (content, (narrowed content words c.told-words (subst (IsSpelling content) c.spread-wide.ensures c.in_ok-content.ensures.spelling) c.in_ok-content.ensures.small (c.is_narrow.ensures.0 c.if-is_narrow.true), c.in_ok-content.ensures.spelling))
+    let content = c.in_ok-content.content in (
+      content,
+      (
+        narrowed content words c.told-words (subst (IsSpelling content) c.spread-wide.ensures c.in_ok-content.ensures.spelling)
+            c.in_ok-content.ensures.small (c.is_narrow.ensures.0 c.if-is_narrow.true),
+        c.in_ok-content.ensures.spelling,
+      ),
+    )
 
 pub returns-else-is_narrow-clause-refused : goal.returns-else-is_narrow-clause-refused
 returns-else-is_narrow-clause-refused c content h =

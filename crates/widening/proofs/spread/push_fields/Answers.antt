@@ -13,7 +13,8 @@ loop-place-preserved c =
     let one : first_field * place + first_field - first_field * place ≡ first_field = omega arith in
     let now = c.push_zeros.new.wide.items in
     let some : c.args.count - place ≡ suc left = omega (arith, c.loop-place-test.true) in
-    let field : c.push_words.new.wide.items ≡ before ++ take first_field (drop (first_field * place) words) = c.push_words.ensures ∙ ap (λ n. before ++ take n (drop (first_field * place) words)) one in
+    let field : c.push_words.new.wide.items ≡ before ++ take first_field (drop (first_field * place) words) = c.push_words.ensures ∙ ap
+    (λ n. before ++ take n (drop (first_field * place) words)) one in
     let gap : List ℕ = replicate grown_by 0 in
     let more : now ≡ (before ++ take first_field (drop (first_field * place) words)) ++ gap = c.push_zeros.ensures ∙ ap (λ ws. ws ++ gap) field in
     let dropped = length-drop (first_field * place) words in

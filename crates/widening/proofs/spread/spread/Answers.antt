@@ -14,7 +14,8 @@ returns c =
     let all : take 253 behind ≡ behind = take_all 253 behind (omega (arith, c.told-words)) in
     let pushed = c.push_fields.ensures ∙ ap (λ ws. c.push-3.new.self.items ++ spread_fields fields ws) all in
     let left = ap (λ n. row_size - n) c.len-left.ensures.value in
-    let whole = spread_written words c.new-wide.result.items c.push.new.self.items c.push-2.new.self.items c.push-3.new.self.items c.push_fields.new.wide.items c.push_zeros.new.wide.items (row_size - c.len-left.result)
+    let whole = spread_written words c.new-wide.result.items c.push.new.self.items c.push-2.new.self.items c.push-3.new.self.items c.push_fields.new.wide.items
+    c.push_zeros.new.wide.items (row_size - c.len-left.result)
     c.told-words c.new-wide.ensures c.push.ensures.items c.push-2.ensures.items c.push-3.ensures.items pushed left c.push_zeros.ensures in
     let array : c.unwrap.result ≡ c.push_zeros.new.wide.items = subst (λ (r : Result (List ℕ) _). IfOk r (λ array. array ≡ c.push_zeros.new.wide.items)) c.unwrap.ensures c.into_inner.ensures.ok in
     array ∙ whole

@@ -10,4 +10,5 @@ join_all-back-requires-clause-told g c =
 
 pub returns : goal.returns
 returns g c =
-    came_back c.init-told.result.value c.value.result.now c.args.shared.now.limit c.args.shared.now.may_run.id c.args.workers.items c.join_all-back.result.items c.begin_all-begun.result.items c.begin_all-begun.ensures c.join_all-back.ensures c.value.ensures
+    came_back c.init-told.result.value c.value.result.now c.args.shared.now.limit c.args.shared.now.may_run.id c.args.workers.items c.join_all-back.result.items
+    c.begin_all-begun.result.items c.begin_all-begun.ensures c.join_all-back.ensures c.value.ensures

@@ -10,10 +10,14 @@ pub loop-place-init : goal.loop-place-init
 loop-place-init g c = λ n job given below at at_given. absurd (omega (arith, below))
 
 pub loop-place-preserved : goal.loop-place-preserved
-loop-place-preserved g c = one_looked c.args.jobs.now c.args.results.now c.loop-place.place c.index-jobs-place.result c.index-results-place.result c.index-jobs-place.is c.index-results-place.is c.if-not-is_result.ensures c.loop-place.invariant
+loop-place-preserved g c =
+    one_looked c.args.jobs.now c.args.results.now c.loop-place.place c.index-jobs-place.result c.index-results-place.result c.index-jobs-place.is
+    c.index-results-place.is c.if-not-is_result.ensures c.loop-place.invariant
 
 pub returns-then-not-is_result : goal.returns-then-not-is_result
-returns-then-not-is_result g c = one_wrong c.args.jobs.now c.args.results.now c.loop-place.place c.index-jobs-place.result c.index-results-place.result c.index-jobs-place.is c.index-results-place.is c.loop-place-test.true c.if-not-is_result.ensures
+returns-then-not-is_result g c =
+    one_wrong c.args.jobs.now c.args.results.now c.loop-place.place c.index-jobs-place.result c.index-results-place.result c.index-jobs-place.is
+    c.index-results-place.is c.loop-place-test.true c.if-not-is_result.ensures
 
 pub returns : goal.returns
 returns g c =

@@ -11,5 +11,7 @@ loop-preserved g c =
     let before = c.loop.invariant.count in
     let longer = c.in_ok-push.ensures.len in record {
       count = omega (arith, before, longer);
-      each = rw c.in_ok-push.ensures.items (All-push (HasRoom c.args.limit) c.loop.lists.items c.in_ok-with_capacity.field-0 c.loop.invariant.each (c.in_ok-with_capacity.ensures.items, c.in_ok-with_capacity.ensures.capacity));
+      each =
+          rw c.in_ok-push.ensures.items
+          (All-push (HasRoom c.args.limit) c.loop.lists.items c.in_ok-with_capacity.field-0 c.loop.invariant.each (c.in_ok-with_capacity.ensures.items, c.in_ok-with_capacity.ensures.capacity));
     }

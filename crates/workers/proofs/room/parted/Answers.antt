@@ -32,7 +32,8 @@ loop-worker-preserved g c =
     let longer = c.push_reserved.ensures.len in
     let count = before.count in
     let made = c.into_iter-worker-iterator.ensures.into_iter_gives in
-    let turn = one_yielded c.args.workers c.into_iter-worker-iterator.result c.loop-worker.worker-iterator c.next.new.self c.loop-worker.yielded c.in-Some.worker c.next.result made.0 made.1 c.loop-worker.yielded_by c.in-Some.is c.next.ensures.steps in
+    let turn = one_yielded c.args.workers c.into_iter-worker-iterator.result c.loop-worker.worker-iterator c.next.new.self c.loop-worker.yielded
+    c.in-Some.worker c.next.result made.0 made.1 c.loop-worker.yielded_by c.in-Some.is c.next.ensures.steps in
     let few = all_here (IsFew c.args.limit) c.args.workers.items ones worker turn c.requires.few in
     let room = before.results_room in
     let kept = c.append.ensures.capacity in record {
@@ -48,7 +49,8 @@ pub push_reserved-requires : goal.push_reserved-requires
 push_reserved-requires g c =
     let before = c.loop-worker.invariant in
     let made = c.into_iter-worker-iterator.ensures.into_iter_gives in
-    let turn = one_yielded c.args.workers c.into_iter-worker-iterator.result c.loop-worker.worker-iterator c.next.new.self c.loop-worker.yielded c.in-Some.worker c.next.result made.0 made.1 c.loop-worker.yielded_by c.in-Some.is c.next.ensures.steps in
+    let turn = one_yielded c.args.workers c.into_iter-worker-iterator.result c.loop-worker.worker-iterator c.next.new.self c.loop-worker.yielded
+    c.in-Some.worker c.next.result made.0 made.1 c.loop-worker.yielded_by c.in-Some.is c.next.ensures.steps in
     let count = before.count in
     let below = turn.0 in
     let room = before.seats_room in omega (arith, count, below, room)
@@ -56,7 +58,8 @@ push_reserved-requires g c =
 pub returns : goal.returns
 returns g c =
     let made = c.into_iter-worker-iterator.ensures.into_iter_gives in
-    let all = all_yielded c.args.workers c.into_iter-worker-iterator.result c.loop-worker.worker-iterator c.next.new.self c.loop-worker.yielded c.next.result made.0 made.1 c.loop-worker.yielded_by c.in-None.is c.next.ensures.steps in record {
+    let all = all_yielded c.args.workers c.into_iter-worker-iterator.result c.loop-worker.worker-iterator c.next.new.self c.loop-worker.yielded c.next.result
+    made.0 made.1 c.loop-worker.yielded_by c.in-None.is c.next.ensures.steps in record {
       results = c.loop-worker.invariant.results ∙ ap (flat_map done_by) all;
       seats = c.loop-worker.invariant.seats ∙ ap (map seat_of) all;
     }
@@ -68,8 +71,10 @@ unreachable-requires g c =
     let worker = c.in-Some.worker in
     let parts = c.into_parts-seat in
     let made = c.into_iter-worker-iterator.ensures.into_iter_gives in
-    let turn = one_yielded c.args.workers c.into_iter-worker-iterator.result c.loop-worker.worker-iterator c.next.new.self c.loop-worker.yielded c.in-Some.worker c.next.result made.0 made.1 c.loop-worker.yielded_by c.in-Some.is c.next.ensures.steps in
+    let turn = one_yielded c.args.workers c.into_iter-worker-iterator.result c.loop-worker.worker-iterator c.next.new.self c.loop-worker.yielded
+    c.in-Some.worker c.next.result made.0 made.1 c.loop-worker.yielded_by c.in-Some.is c.next.ensures.steps in
     let few = all_here (IsFew c.args.limit) c.args.workers.items ones worker turn c.requires.few in
     let below = turn.0 in
     let all = c.args.workers.ok.0 in
-    has_room (vec_len c.loop-worker.results) (vec_capacity c.loop-worker.results) c.args.limit (length ones) (vec_len c.args.workers) parts.result.1 worker parts.ensures.done few before.few (omega (arith, below, all)) before.results_room c.in_default.ensures.full
+    has_room (vec_len c.loop-worker.results) (vec_capacity c.loop-worker.results) c.args.limit (length ones) (vec_len c.args.workers) parts.result.1 worker
+    parts.ensures.done few before.few (omega (arith, below, all)) before.results_room c.in_default.ensures.full

@@ -43,7 +43,8 @@ pub unreachable-requires : goal.unreachable-requires
 unreachable-requires g c =
     let before = c.loop-seat.invariant in
     let made = c.into_iter-seat-iterator.ensures.into_iter_gives in
-    let turn = one_yielded c.args.seats c.into_iter-seat-iterator.result c.loop-seat.seat-iterator c.next.new.self c.loop-seat.yielded c.in-Some.seat c.next.result made.0 made.1 c.loop-seat.yielded_by c.in-Some.is c.next.ensures.steps in
+    let turn = one_yielded c.args.seats c.into_iter-seat-iterator.result c.loop-seat.seat-iterator c.next.new.self c.loop-seat.yielded c.in-Some.seat
+    c.next.result made.0 made.1 c.loop-seat.yielded_by c.in-Some.is c.next.ensures.steps in
     let lists = before.lists in
     let below = turn.0 in
     let some = c.in_default.ensures.variant.1 (omega (arith, lists, below)) in cc
@@ -51,5 +52,6 @@ unreachable-requires g c =
 pub returns-clause-seats : goal.returns-clause-seats
 returns-clause-seats g c =
     let made = c.into_iter-seat-iterator.ensures.into_iter_gives in
-    let all = all_yielded c.args.seats c.into_iter-seat-iterator.result c.loop-seat.seat-iterator c.next.new.self c.loop-seat.yielded c.next.result made.0 made.1 c.loop-seat.yielded_by c.in-None.is c.next.ensures.steps in
+    let all = all_yielded c.args.seats c.into_iter-seat-iterator.result c.loop-seat.seat-iterator c.next.new.self c.loop-seat.yielded c.next.result made.0
+    made.1 c.loop-seat.yielded_by c.in-None.is c.next.ensures.steps in
     c.loop-seat.invariant.seats ∙ all

@@ -37,7 +37,8 @@ returns-then-are_results-clause-some g c =
 
 pub returns-clause-refused : goal.returns-clause-refused
 returns-clause-refused g c =
-    let other = where_false (AreResultsOf c.as_slice-2.result.now c.as_slice-3.result.now) (AreResultsOf c.as_slice-2.result.now c.as_slice-3.result.now → ⊥) c.are_results.result c.if-are_results.false c.are_results.ensures in
+    let other = where_false (AreResultsOf c.as_slice-2.result.now c.as_slice-3.result.now) (AreResultsOf c.as_slice-2.result.now c.as_slice-3.result.now → ⊥)
+    c.are_results.result c.if-are_results.false c.are_results.ensures in
     let worked = gathered c.in-Ok-worked.done.0.items c.args.seats.items c.in-Ok-worked.done.1.items c.gather.new.seats.items c.in-Ok-worked.ensures.worked c.gather.ensures.gathered in
     stopped c.args.jobs.items c.wrong.result.refusal c.sorted-results.result.items c.wrong.result.results.items c.args.seats.items c.gather.new.seats.items c.wrong.result.seats.items
     c.wrong.ensures.refusal c.wrong.ensures.results c.wrong.ensures.seats
@@ -56,7 +57,8 @@ pub returns-in_default-clause-left : goal.returns-in_default-clause-left
 returns-in_default-clause-left g c = (subst (AreSeatsOf c.args.tree.now) (sym c.not_run.ensures.seats) c.requires.own, subst AreIdle (sym c.not_run.ensures.seats) c.requires.idle)
 
 pub returns-in_default-tasks-clause-left : goal.returns-in_default-tasks-clause-left
-returns-in_default-tasks-clause-left g c = (subst (AreSeatsOf c.args.tree.now) (sym c.not_run-in_default-tasks.ensures.seats) c.requires.own, subst AreIdle (sym c.not_run-in_default-tasks.ensures.seats) c.requires.idle)
+returns-in_default-tasks-clause-left g c =
+    (subst (AreSeatsOf c.args.tree.now) (sym c.not_run-in_default-tasks.ensures.seats) c.requires.own, subst AreIdle (sym c.not_run-in_default-tasks.ensures.seats) c.requires.idle)
 
 pub returns-in-Err-clause-left : goal.returns-in-Err-clause-left
 returns-in-Err-clause-left g c =
@@ -64,12 +66,17 @@ returns-in-Err-clause-left g c =
     (subst (AreSeatsOf c.args.tree.now) (sym same) c.requires.own, subst AreIdle (sym same) c.requires.idle)
 
 pub returns-in_default-clause-refused : goal.returns-in_default-clause-refused
-returns-in_default-clause-refused g c = not_run c.args.jobs.items c.not_run.result.refusal c.not_run.result.results.items c.args.seats.items c.not_run.result.seats.items c.not_run.ensures.refusal c.not_run.ensures.seats c.not_run.ensures.results
+returns-in_default-clause-refused g c =
+    not_run c.args.jobs.items c.not_run.result.refusal c.not_run.result.results.items c.args.seats.items c.not_run.result.seats.items c.not_run.ensures.refusal
+    c.not_run.ensures.seats c.not_run.ensures.results
 
 pub returns-in_default-tasks-clause-refused : goal.returns-in_default-tasks-clause-refused
 returns-in_default-tasks-clause-refused g c =
-    not_run c.args.jobs.items c.not_run-in_default-tasks.result.refusal c.not_run-in_default-tasks.result.results.items c.args.seats.items c.not_run-in_default-tasks.result.seats.items c.not_run-in_default-tasks.ensures.refusal c.not_run-in_default-tasks.ensures.seats c.not_run-in_default-tasks.ensures.results
+    not_run c.args.jobs.items c.not_run-in_default-tasks.result.refusal c.not_run-in_default-tasks.result.results.items c.args.seats.items
+    c.not_run-in_default-tasks.result.seats.items c.not_run-in_default-tasks.ensures.refusal c.not_run-in_default-tasks.ensures.seats
+    c.not_run-in_default-tasks.ensures.results
 
 pub returns-in-Err-clause-refused : goal.returns-in-Err-clause-refused
 returns-in-Err-clause-refused g c =
-    not_run c.args.jobs.items c.not_run-in-Err.result.refusal c.not_run-in-Err.result.results.items c.args.seats.items c.not_run-in-Err.result.seats.items c.not_run-in-Err.ensures.refusal (c.not_run-in-Err.ensures.seats ∙ c.in-Err.ensures.left) c.not_run-in-Err.ensures.results
+    not_run c.args.jobs.items c.not_run-in-Err.result.refusal c.not_run-in-Err.result.results.items c.args.seats.items c.not_run-in-Err.result.seats.items
+    c.not_run-in-Err.ensures.refusal (c.not_run-in-Err.ensures.seats ∙ c.in-Err.ensures.left) c.not_run-in-Err.ensures.results

@@ -12,7 +12,8 @@ returns-then-not-is_lt c are =
     let within : suc (c.loop-place.place - 1) < length c.args.items.items = omega (arith, c.len-place-end.ensures.value, c.loop-place-test.true, c.loop-place.auto.place) in
     let at : suc (c.loop-place.place - 1) ≡ c.loop-place.place = omega (arith, c.loop-place.auto.place) in
     let first : before ≡ get_or c.args.items.items (c.loop-place.place - 1) before = c.index-deref-place.is ∙ ap (λ (xs : List Item). get_or xs (c.loop-place.place - 1) before) c.deref.ensures.0 in
-    let second : next ≡ get_or c.args.items.items (suc (c.loop-place.place - 1)) next = c.index-deref-place-in-loop-place.is ∙ ap (λ (xs : List Item). get_or xs c.loop-place.place next) c.deref-in-loop-place.ensures.0 ∙ ap (λ k. get_or c.args.items.items k next) (sym at) in
+    let second : next ≡ get_or c.args.items.items (suc (c.loop-place.place - 1)) next = c.index-deref-place-in-loop-place.is ∙ ap
+    (λ (xs : List Item). get_or xs c.loop-place.place next) c.deref-in-loop-place.ensures.0 ∙ ap (λ k. get_or c.args.items.items k next) (sym at) in
     let less : is_below before.key next.key ≡ true = less_next c.args.items.items (c.loop-place.place - 1) before next are.ascending within first second in
     let order : c.cmp.result ≡ key_cmp before.key next.key = c.cmp.ensures ∙ (λ i. key_cmp (sym c.index-deref-place.is i).key (sym c.index-deref-place-in-loop-place.is i).key) in
     let turned : true ≡ false = sym less ∙ sym (ap is_lt order) ∙ sym c.is_lt.ensures ∙ c.if-not-is_lt.true in

@@ -28,12 +28,15 @@ invariant_of-self-in-Err c =
     rw (c.insert.ensures.items, c.self.view_is) (AreItems-insert c.args.self.now c.args.key c.in-Err.place c.in-Err.ensures.absent c.args.content (subst AreItems c.self.view_is c.self.invariant) room)
 
 pub returns-in-Ok-clause-contents : goal.returns-in-Ok-clause-contents
-returns-in-Ok-clause-contents c q = rw (written c.self.inside.items.items c.deref_mut.result.now c.in-Ok.place (record { key = c.args.key; content = c.args.content }) c.deref_mut.ensures.value, c.self.view_is)
-    (content_at-set c.args.self.now (subst AreItems c.self.view_is c.self.invariant) c.args.key c.in-Ok.place (record { key = c.args.key; content = c.args.content }) c.in-Ok.ensures.found c.args.content q)
+returns-in-Ok-clause-contents c q =
+    rw (written c.self.inside.items.items c.deref_mut.result.now c.in-Ok.place (record { key = c.args.key; content = c.args.content }) c.deref_mut.ensures.value, c.self.view_is)
+    (content_at-set c.args.self.now (subst AreItems c.self.view_is c.self.invariant) c.args.key c.in-Ok.place
+    (record { key = c.args.key; content = c.args.content }) c.in-Ok.ensures.found c.args.content q)
 
 pub returns-in-Ok-clause-count : goal.returns-in-Ok-clause-count
 returns-in-Ok-clause-count c =
-    let there = content_at_place c.args.self.now (subst AreItems c.self.view_is c.self.invariant) c.args.key c.in-Ok.place (record { key = c.args.key; content = c.args.content }) c.in-Ok.ensures.found in
+    let there = content_at_place c.args.self.now (subst AreItems c.self.view_is c.self.invariant) c.args.key c.in-Ok.place
+    (record { key = c.args.key; content = c.args.content }) c.in-Ok.ensures.found in
     rw (there, written c.self.inside.items.items c.deref_mut.result.now c.in-Ok.place (record { key = c.args.key; content = c.args.content }) c.deref_mut.ensures.value, c.self.view_is)
     (length-set c.args.self.now c.in-Ok.place (record { key = c.args.key; content = c.args.content }))
 

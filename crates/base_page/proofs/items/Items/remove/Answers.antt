@@ -11,7 +11,9 @@ pub invariant_of-self : goal.invariant_of-self
 invariant_of-self c = rw c.remove.ensures.items (AreItems-remove _ c.self.invariant c.args.key.now c.in-Ok.place c.remove.result (rw c.self.view_is c.in-Ok.ensures.found))
 
 pub returns-in-Ok-clause-contents : goal.returns-in-Ok-clause-contents
-returns-in-Ok-clause-contents c q = rw (c.remove.ensures.items, c.self.view_is) (content_at-remove c.args.self.now (subst AreItems c.self.view_is c.self.invariant) c.args.key.now c.in-Ok.place c.remove.result c.in-Ok.ensures.found q)
+returns-in-Ok-clause-contents c q =
+    rw (c.remove.ensures.items, c.self.view_is)
+    (content_at-remove c.args.self.now (subst AreItems c.self.view_is c.self.invariant) c.args.key.now c.in-Ok.place c.remove.result c.in-Ok.ensures.found q)
 
 pub returns-in-Ok-clause-count : goal.returns-in-Ok-clause-count
 returns-in-Ok-clause-count c =

@@ -8,7 +8,8 @@ use Rattle.base_page.proofs.CutLaws.{IsCut-here, under_here, above_low, content_
 use Rattle.base_page.proofs.page.Page.cut_at.Goals as goal
 
 -- the items are cut at the separator
-cut_here : (page : Page) (is : IsPage page) (place : ℕ) (slice : List Item) (item : Item) (key : List ℕ) → slice ≡ page.items → item ≡ get_or slice place item → key ≡ (get_or slice place item).key → place < length page.items
+cut_here : (page : Page) (is : IsPage page) (place : ℕ) (slice : List Item) (item : Item) (key : List ℕ) → slice ≡ page.items → item ≡ get_or slice place item
+    → key ≡ (get_or slice place item).key → place < length page.items
     → IsCut page.items key place × (is_under key page.high ≡ true)
 cut_here page is place slice item key slice_is here key_is lt =
     let there : item ≡ get_or page.items place item = here ∙ ap (λ (xs : List Item). get_or xs place item) slice_is in
@@ -18,28 +19,34 @@ cut_here page is place slice item key slice_is here key_is lt =
 pub invariant_of-lower : goal.invariant_of-lower
 invariant_of-lower c =
     let lt = subst (λ (page : Page). c.args.place < length page.items) (sym c.lower.view_is) c.requires.1 in
-    let cut = cut_here _ c.lower.invariant c.args.place c.as_slice.result.now c.index-as_slice-place.result c.copied-separator.result c.as_slice.ensures.items c.index-as_slice-place.is c.copied-separator.ensures lt in
+    let cut = cut_here _ c.lower.invariant c.args.place c.as_slice.result.now c.index-as_slice-place.result c.copied-separator.result c.as_slice.ensures.items
+    c.index-as_slice-place.is c.copied-separator.ensures lt in
     rw c.split_off.ensures.front (IsPage-lower _ c.lower.invariant c.copied-separator.result c.args.place cut.0 c.args.right
     (above_low _ c.lower.invariant c.copied-separator.result c.args.place c.requires.0 (omega (arith, lt)) cut.0))
 
 pub invariant_of-upper : goal.invariant_of-upper
 invariant_of-upper c =
     let lt = subst (λ (page : Page). c.args.place < length page.items) (sym c.lower.view_is) c.requires.1 in
-    let cut = cut_here _ c.lower.invariant c.args.place c.as_slice.result.now c.index-as_slice-place.result c.copied-separator.result c.as_slice.ensures.items c.index-as_slice-place.is c.copied-separator.ensures lt in
+    let cut = cut_here _ c.lower.invariant c.args.place c.as_slice.result.now c.index-as_slice-place.result c.copied-separator.result c.as_slice.ensures.items
+    c.index-as_slice-place.is c.copied-separator.ensures lt in
     rw (c.split_off.ensures.back, c.take.ensures.value, c.copied.ensures) (IsPage-upper _ c.lower.invariant c.copied-separator.result c.args.place cut.0 cut.1)
 
 pub returns-clause-below : goal.returns-clause-below
 returns-clause-below c q =
     let lt = subst (λ (page : Page). c.args.place < length page.items) (sym c.lower.view_is) c.requires.1 in
-    let cut = cut_here _ c.lower.invariant c.args.place c.as_slice.result.now c.index-as_slice-place.result c.copied-separator.result c.as_slice.ensures.items c.index-as_slice-place.is c.copied-separator.ensures lt in
-    let there : content_at c.split_off.new.self q ≡ (if is_below q c.copied.result then content_at c.lower.inside.items q else None) = rw (c.split_off.ensures.front, c.copied.ensures) (content_at-take c.lower.inside.items c.copied-separator.result c.args.place cut.0 q) in
+    let cut = cut_here _ c.lower.invariant c.args.place c.as_slice.result.now c.index-as_slice-place.result c.copied-separator.result c.as_slice.ensures.items
+    c.index-as_slice-place.is c.copied-separator.ensures lt in
+    let there : content_at c.split_off.new.self q ≡ (if is_below q c.copied.result then content_at c.lower.inside.items q else None) = rw
+    (c.split_off.ensures.front, c.copied.ensures) (content_at-take c.lower.inside.items c.copied-separator.result c.args.place cut.0 q) in
     there ∙ ap (λ (page : Page). if is_below q c.copied.result then content_at page.items q else None) c.lower.view_is
 
 pub returns-clause-above : goal.returns-clause-above
 returns-clause-above c q =
     let lt = subst (λ (page : Page). c.args.place < length page.items) (sym c.lower.view_is) c.requires.1 in
-    let cut = cut_here _ c.lower.invariant c.args.place c.as_slice.result.now c.index-as_slice-place.result c.copied-separator.result c.as_slice.ensures.items c.index-as_slice-place.is c.copied-separator.ensures lt in
-    let there : content_at c.split_off.result q ≡ (if is_below q c.copied.result then None else content_at c.lower.inside.items q) = rw (c.split_off.ensures.back, c.copied.ensures) (content_at-drop c.lower.inside.items c.copied-separator.result c.args.place cut.0 q) in
+    let cut = cut_here _ c.lower.invariant c.args.place c.as_slice.result.now c.index-as_slice-place.result c.copied-separator.result c.as_slice.ensures.items
+    c.index-as_slice-place.is c.copied-separator.ensures lt in
+    let there : content_at c.split_off.result q ≡ (if is_below q c.copied.result then None else content_at c.lower.inside.items q) = rw
+    (c.split_off.ensures.back, c.copied.ensures) (content_at-drop c.lower.inside.items c.copied-separator.result c.args.place cut.0 q) in
     there ∙ ap (λ (page : Page). if is_below q c.copied.result then None else content_at page.items q) c.lower.view_is
 
 pub returns-clause-pages : goal.returns-clause-pages

@@ -23,4 +23,5 @@ pub read-requires : goal.read-requires
 read-requires g c =
     let lookup = rw c.deref.ensures.value at c.in-Some.ensures.lookup in
     rw (c.deref-in-Some.ensures.value, c.deref-in-Some-2.ensures.value)
-    (subst (HasCommandOrReply (length c.self.inside.commands.items) (length c.self.inside.replies.items)) (sym lookup.1) (c.self.invariant c.args.place c.in-Some.happening.now (ltb-true _ _ (sym lookup.0))))
+    (subst (HasCommandOrReply (length c.self.inside.commands.items) (length c.self.inside.replies.items)) (sym lookup.1)
+    (c.self.invariant c.args.place c.in-Some.happening.now (ltb-true _ _ (sym lookup.0))))

@@ -10,7 +10,8 @@ use Rattle.core_memory.proofs.WholeRows.{few}
 use Rattle.core_memory.proofs.shared.SharedRecord.record.Goals as goal
 
 pub write_row-requires : goal.write_row-requires
-write_row-requires g c = subst (λ words. length words ≤ row_size) (sym c.as_slice.ensures.value) (few (rc_slice_items c.self.inside.words) (record_of (rc_slice_items c.self.inside.words)) c.self.invariant)
+write_row-requires g c =
+    subst (λ words. length words ≤ row_size) (sym c.as_slice.ensures.value) (few (rc_slice_items c.self.inside.words) (record_of (rc_slice_items c.self.inside.words)) c.self.invariant)
 
 pub returns : goal.returns
 returns g c =

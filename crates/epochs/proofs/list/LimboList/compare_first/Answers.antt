@@ -8,4 +8,5 @@ invariant_of-self g c =
     let front = c.self.invariant.front in
     let count = c.min-count.ensures in
     let now = c.max-self-inside.ensures in
-    rw c.compare_first.ensures (compared_kept _ _ c.min-count.result _ c.args.announces.now _ (omega (arith, all, count)) (omega (arith, now)) (omega (arith, now)) (omega (arith, all, front, count, now)) c.self.invariant)
+    rw c.compare_first.ensures
+    (compared_kept _ _ c.min-count.result _ c.args.announces.now _ (omega (arith, all, count)) (omega (arith, now)) (omega (arith, now)) (omega (arith, all, front, count, now)) c.self.invariant)

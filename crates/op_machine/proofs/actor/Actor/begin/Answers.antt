@@ -14,7 +14,11 @@ pub go_on-requires : goal.go_on-requires
 go_on-requires g c =
     let (k, r, at) = c.requires.shows in
     let idle = idle_at _ _ k r c.self.inside.hand _ (rw (← c.self.view_is) at c.requires.idle) (rw (← c.self.view_is) at at) in
-    record { told = told_start (begun k c.args.command) c.self.inside.hand c.begin.new.self c.begin.ensures.sweep c.begin.ensures.state (c.begin.ensures.shows _ _ idle); stays = ap is_leaving c.begin.ensures.state }
+    record {
+      told = told_start (begun k c.args.command) c.self.inside.hand c.begin.new.self c.begin.ensures.sweep c.begin.ensures.state
+          (c.begin.ensures.shows _ _ idle);
+      stays = ap is_leaving c.begin.ensures.state;
+    }
 
 pub wanted-requires-clause-shown : goal.wanted-requires-clause-shown
 wanted-requires-clause-shown g c =
@@ -28,7 +32,8 @@ returns-clause-shows g c = λ k r h.
     let shown = shown_begun (begun k c.args.command) c.self.inside.hand c.begin.new.self c.begin.ensures.sweep c.begin.ensures.state (c.begin.ensures.shows _ _ idle) _ _ c.go_on.ensures in
     let asks = (c.wanted.ensures shown.0 shown.1 shown.2).wanted in
     subst (λ (o : Option UnderWay). IsActorWith c.args.limits.now c.args.number (begun k c.args.command) blank c.go_on.new.hand o) (sym (is_asking c.go_on.new.self c.go_on.new.hand _ asks))
-    (begun_left (begun k c.args.command) c.self.inside.hand c.begin.new.self c.begin.ensures.sweep c.begin.ensures.state (c.begin.ensures.shows _ _ idle) _ _ _ _ (ap (λ (t : Task). t.limits) c.begin.ensures.task) (ap (λ (t : Task). t.actor) c.begin.ensures.task) _ (c.go_on.ensures.obeys _ c.wanted.ensures)
+    (begun_left (begun k c.args.command) c.self.inside.hand c.begin.new.self c.begin.ensures.sweep c.begin.ensures.state (c.begin.ensures.shows _ _ idle) _ _ _
+    _ (ap (λ (t : Task). t.limits) c.begin.ensures.task) (ap (λ (t : Task). t.actor) c.begin.ensures.task) _ (c.go_on.ensures.obeys _ c.wanted.ensures)
     c.go_on.ensures.same)
 
 pub returns-clause-command : goal.returns-clause-command
@@ -40,4 +45,6 @@ returns-clause-bounded g c =
     let idle = idle_at _ _ k r c.self.inside.hand _ (rw (← c.self.view_is) at c.requires.idle) (rw (← c.self.view_is) at at) in
     let shown = shown_begun (begun k c.args.command) c.self.inside.hand c.begin.new.self c.begin.ensures.sweep c.begin.ensures.state (c.begin.ensures.shows _ _ idle) _ _ c.go_on.ensures in
     let asks = (c.wanted.ensures shown.0 shown.1 shown.2).wanted in
-    rw asks (begun_few (begun k c.args.command) c.self.inside.hand c.begin.new.self c.begin.ensures.sweep c.begin.ensures.state (c.begin.ensures.shows _ _ idle) (cause_worth c.args.limits.now) c.go_on.new.self c.go_on.new.hand (lent c.wanted.result) (c.go_on.ensures.spends (lent c.wanted.result)) c.begin.ensures.few)
+    rw asks (begun_few (begun k c.args.command) c.self.inside.hand c.begin.new.self c.begin.ensures.sweep c.begin.ensures.state (c.begin.ensures.shows _ _ idle)
+    (cause_worth c.args.limits.now) c.go_on.new.self c.go_on.new.hand (lent c.wanted.result) (c.go_on.ensures.spends (lent c.wanted.result))
+    c.begin.ensures.few)

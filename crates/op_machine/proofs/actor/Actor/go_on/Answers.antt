@@ -22,4 +22,6 @@ returns-clause-goes g c =
     goes_here limits number k r c.self.inside.is_running c.self.inside.operation c.self.inside.hand c.self.inside.lacks _ going _ _ c.go_on.ensures _ stays c.wanted.ensures c.errands.ensures.few)
 
 pub returns-clause-command : goal.returns-clause-command
-returns-clause-command g c = rw (← c.self.view_is) (command_same c.self.inside.is_running c.self.inside.operation c.go_on.new.self c.self.inside.hand c.go_on.new.hand c.self.invariant c.go_on.ensures.asks c.go_on.ensures.same)
+returns-clause-command g c =
+    rw (← c.self.view_is)
+    (command_same c.self.inside.is_running c.self.inside.operation c.go_on.new.self c.self.inside.hand c.go_on.new.hand c.self.invariant c.go_on.ensures.asks c.go_on.ensures.same)

@@ -21,7 +21,10 @@ pub returns-clause-goes : goal.returns-clause-goes
 returns-clause-goes g c =
     let asked = rw (← c.self.view_is) at c.requires.asked in
     rw (← c.self.view_is) (λ limits number k r going.
-    goes_here limits number k r c.self.inside.is_running c.self.inside.operation c.self.inside.hand c.self.inside.lacks _ going _ _ c.take_record.ensures.takes _ (λ leaves. let no = sym asked ∙ leaves in cc) c.wanted.ensures c.errands.ensures.few)
+    goes_here limits number k r c.self.inside.is_running c.self.inside.operation c.self.inside.hand c.self.inside.lacks _ going _ _ c.take_record.ensures.takes
+    _ (λ leaves. let no = sym asked ∙ leaves in cc) c.wanted.ensures c.errands.ensures.few)
 
 pub returns-clause-command : goal.returns-clause-command
-returns-clause-command g c = rw (← c.self.view_is) (command_same c.self.inside.is_running c.self.inside.operation c.take_record.new.self c.self.inside.hand c.take_record.new.hand c.self.invariant c.take_record.ensures.takes.asks c.take_record.ensures.takes.same)
+returns-clause-command g c =
+    rw (← c.self.view_is) (command_same c.self.inside.is_running c.self.inside.operation c.take_record.new.self c.self.inside.hand c.take_record.new.hand
+    c.self.invariant c.take_record.ensures.takes.asks c.take_record.ensures.takes.same)

@@ -18,4 +18,5 @@ returns-in-Won-After-Limbo-clause-keeps g c = λ limits actor k after kept unlin
     let is : c.args.then.now ≡ After (Limbo c.in-Won-After-Limbo.unlinked) = search rules in
     let out = gone limits k c.args.end c.args.then.now c.in-Won-After-Limbo.unlinked after c.in-Won-After-Limbo.is-0 is unlinks in
     let here = rw (← ap (λ (h : Hand). h.limbo) c.self.view_is) at kept in
-    rw (c.take_out.ensures, c.as_slice.ensures.value) ((taken limits actor c.self.inside.limbo k here c.chains_go_to_limbo.ensures.rows c.chains_go_to_limbo.ensures.page c.in-Won-After-Limbo.unlinked after out).kept)
+    rw (c.take_out.ensures, c.as_slice.ensures.value)
+    ((taken limits actor c.self.inside.limbo k here c.chains_go_to_limbo.ensures.rows c.chains_go_to_limbo.ensures.page c.in-Won-After-Limbo.unlinked after out).kept)

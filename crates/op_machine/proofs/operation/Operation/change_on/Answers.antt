@@ -20,7 +20,8 @@ returns-in-Some-clause-asks g c =
     (in_change _ _ _ _ (rw (← c.self.view_is) at c.requires.changing)))
 
 pub returns-in-Some-clause-keeps : goal.returns-in-Some-clause-keeps
-returns-in-Some-clause-keeps g c k r h f kept = rw (← c.self.view_is) (c.ended.ensures.keeps c.self.inside.task k r (rw (← c.self.view_is) at h) (rw (← c.self.view_is) at f) (rw (← c.self.view_is) at kept))
+returns-in-Some-clause-keeps g c k r h f kept =
+    rw (← c.self.view_is) (c.ended.ensures.keeps c.self.inside.task k r (rw (← c.self.view_is) at h) (rw (← c.self.view_is) at f) (rw (← c.self.view_is) at kept))
 
 pub returns-in_default-clause-asks : goal.returns-in_default-clause-asks
 returns-in_default-clause-asks g c =
@@ -29,4 +30,5 @@ returns-in_default-clause-asks g c =
     (in_change _ _ _ _ (rw (← c.self.view_is) at c.requires.changing)))
 
 pub returns-in_default-clause-keeps : goal.returns-in_default-clause-keeps
-returns-in_default-clause-keeps g c k r h f kept = rw (← c.self.view_is) (c.ended.ensures.keeps c.self.inside.task k r (rw (← c.self.view_is) at h) (rw (← c.self.view_is) at f) (rw (← c.self.view_is) at kept))
+returns-in_default-clause-keeps g c k r h f kept =
+    rw (← c.self.view_is) (c.ended.ensures.keeps c.self.inside.task k r (rw (← c.self.view_is) at h) (rw (← c.self.view_is) at f) (rw (← c.self.view_is) at kept))

@@ -16,8 +16,10 @@ returns-clause-shows g c k r spares h f =
     elim c.match-take.branch [
       | in-None w ↦
           let s = w.sweep-self-inside in
-          rw (← c.self.view_is, w.self-is, w.limbo-is) (begins_from c.self.inside.task spares c.args.limbo.now s.new.limbo k r state c.self.inside.sweep s.result told (sym c.take.ensures.value ∙ w.in-None.is) first shows s.ensures.shows s.ensures.sound s.ensures.same s.ensures.writer)
+          rw (← c.self.view_is, w.self-is, w.limbo-is) (begins_from c.self.inside.task spares c.args.limbo.now s.new.limbo k r state c.self.inside.sweep
+          s.result told (sym c.take.ensures.value ∙ w.in-None.is) first shows s.ensures.shows s.ensures.sound s.ensures.same s.ensures.writer)
       | in-Some w ↦
           let s = w.swept-self-inside in
-          rw (← c.self.view_is, w.self-is, w.limbo-is) (goes_on_from c.self.inside.task spares c.args.limbo.now s.new.limbo k r state c.self.inside.sweep s.result w.in-Some.sweep told (sym c.take.ensures.value ∙ w.in-Some.is) first shows fits s.ensures.follows s.ensures.sound s.ensures.same)
+          rw (← c.self.view_is, w.self-is, w.limbo-is) (goes_on_from c.self.inside.task spares c.args.limbo.now s.new.limbo k r state c.self.inside.sweep
+          s.result w.in-Some.sweep told (sym c.take.ensures.value ∙ w.in-Some.is) first shows fits s.ensures.follows s.ensures.sound s.ensures.same)
     ]

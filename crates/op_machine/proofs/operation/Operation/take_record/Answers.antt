@@ -23,4 +23,6 @@ returns-clause-takes g c =
     let op = c.args.self.now in
     let hand = c.args.hand.now in
     let started = begun op.task.limits told.k c.args.found.content hand.spares op.sweep op.state told.fits in
-    takes_begun op hand _ started _ hand (rw (← c.hand.view_is) c.round_record.ensures.asks) (λ k r h f kept. work_keeps _ _ k r _ _ kept c.limbos_are_kept.ensures.read _ h (still op.task.limits k c.args.found.content hand.spares op.state f) f) (told_alone op hand _ started _ told)
+    takes_begun op hand _ started _ hand (rw (← c.hand.view_is) c.round_record.ensures.asks)
+    (λ k r h f kept. work_keeps _ _ k r _ _ kept c.limbos_are_kept.ensures.read _ h (still op.task.limits k c.args.found.content hand.spares op.state f) f)
+    (told_alone op hand _ started _ told)

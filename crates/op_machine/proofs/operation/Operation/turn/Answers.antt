@@ -16,5 +16,6 @@ returns-in-Enter g c =
     let is : places.stand ≡ Enter c.in-Enter.epoch = sym c.stand.ensures ∙ c.in-Enter.is in
     let entered : TurnsInto (state_of places) spares (answer_of c.args.told) (state_of places) spares (Some Entered) = rw is (has_entered c.in-Enter.epoch spares (answer_of c.args.told)) in
     let begins = c.begin_round.ensures in
-    rw (← c.self.view_is) (follows _ _ _ _ told _ _ entered _ refl _ (comes_to c.self.inside.task c.self.inside.sweep (state_of places) (state_of c.begin_round.new.places) spares Entered (begins.stands spares) (begins.few spares) (begins.asks spares))
+    rw (← c.self.view_is) (follows _ _ _ _ told _ _ entered _ refl _
+    (comes_to c.self.inside.task c.self.inside.sweep (state_of places) (state_of c.begin_round.new.places) spares Entered (begins.stands spares) (begins.few spares) (begins.asks spares))
     (rw is tt))

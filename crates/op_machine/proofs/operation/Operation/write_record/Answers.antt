@@ -12,4 +12,5 @@ returns-then-is_some-clause-asks g c =
     let mid = c.write_on.new.self in
     let is = stands_writing places.reader.round places.writer.round places.change places.then places.reply places.lacks places.stand (rw (← c.self.view_is) at c.requires.writing) in
     rw (← c.self.view_is) (goes_on _ _ _ _ (told_alone _ _ _ _ told) _ _ (writes_into places mid spares (Content c.args.found.content) None is c.write_on.ensures.writes) refl
-    (writes_step places mid spares (Content c.args.found.content) c.self.inside.task None is c.write_on.ensures.writes _ (writes_state places mid spares (Content c.args.found.content) None is c.write_on.ensures.writes)))
+    (writes_step places mid spares (Content c.args.found.content) c.self.inside.task None is c.write_on.ensures.writes _
+    (writes_state places mid spares (Content c.args.found.content) None is c.write_on.ensures.writes)))

@@ -7,7 +7,8 @@ returns-clause-makes g c =
     let is = rw (← c.self.view_is) at c.requires.changing in
     let next = c.next.ensures in
     rw (← c.self.view_is, is)
-    (changes_into c.self.inside.change c.next.new.self c.self.inside.then c.args.spares.now c.next.new.spares (answer_of c.args.told) c.next.result next.follows next.sound next.made next.room next.same next.pid next.spends)
+    (changes_into c.self.inside.change c.next.new.self c.self.inside.then c.args.spares.now c.next.new.spares (answer_of c.args.told) c.next.result next.follows
+    next.sound next.made next.room next.same next.pid next.spends)
 
 pub returns-clause-unlinks : goal.returns-clause-unlinks
 returns-clause-unlinks g c task k r h f =

@@ -4,7 +4,8 @@ use Rattle.op_machine.proofs.task.Task.end_at_sought_leaf.Goals as goal
 
 pub returns-in-Some-clause-stands : goal.returns-in-Some-clause-stands
 returns-in-Some-clause-stands g c k r h =
-    c.begin_round.ensures.stands c.args.spares.now k r (without_errand c.args.self.now c.finish_errand.new.self c.args.spares.now k (rw c.finish_errand.ensures refl) (rw c.finish_errand.ensures refl) h.at.seeks)
+    c.begin_round.ensures.stands c.args.spares.now k r
+    (without_errand c.args.self.now c.finish_errand.new.self c.args.spares.now k (rw c.finish_errand.ensures refl) (rw c.finish_errand.ensures refl) h.at.seeks)
 
 pub tend_leaf-requires : goal.tend_leaf-requires
 tend_leaf-requires g c = record { have = c.requires.have; faced = c.requires.faced; last = none_left c.args.self.now.errands (sym c.in-None.ensures) }
@@ -31,7 +32,8 @@ pub returns-in-None-clause-have : goal.returns-in-None-clause-have
 returns-in-None-clause-have g c = c.tend_leaf.ensures.have
 
 pub returns-in-Some-clause-few : goal.returns-in-Some-clause-few
-returns-in-Some-clause-few g c r = rw c.finish_errand.ensures (errand_less c.args.self.now.limits c.args.self.now.errands _ _ c.in-Some.ensures (rw c.finish_errand.ensures at (c.begin_round.ensures.few c.args.spares.now r)))
+returns-in-Some-clause-few g c r =
+    rw c.finish_errand.ensures (errand_less c.args.self.now.limits c.args.self.now.errands _ _ c.in-Some.ensures (rw c.finish_errand.ensures at (c.begin_round.ensures.few c.args.spares.now r)))
 
 pub returns-in-Some-clause-asks : goal.returns-in-Some-clause-asks
 returns-in-Some-clause-asks g c = c.begin_round.ensures.asks c.args.spares.now

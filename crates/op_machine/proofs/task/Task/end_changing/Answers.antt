@@ -24,7 +24,12 @@ returns-in-Full-default-clause-stands g c spares k r h =
     let task = c.args.self.now in
     rw c.give_up.ensures (
       record { inside = full.0.inside; spare = full.0.spare; going = full.0.asked.going },
-      record { command = task.command; going = full.0.asked.going; justified = inr (inr (inr (record { is = refl; writes = full.1; unlinked = full.0.asked.unlinked; lacks = lacks_room task.limits k c.in-Full-default.kind full.2 }))) },
+      record {
+        command = task.command;
+        going = full.0.asked.going;
+        justified = inr
+            (inr (inr (record { is = refl; writes = full.1; unlinked = full.0.asked.unlinked; lacks = lacks_room task.limits k c.in-Full-default.kind full.2 })));
+      },
       (refl, full.2),
     )
 

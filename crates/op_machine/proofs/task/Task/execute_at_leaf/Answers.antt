@@ -16,7 +16,8 @@ use Rattle.op_machine.proofs.task.Task.execute_at_leaf.Goals as goal
 pub find-old-requires : goal.find-old-requires
 find-old-requires g c =
     let (k, r, h, there) = c.requires.faced in
-    rw (c.chain.ensures, c.page-leaf.ensures, c.writer.ensures) (record { read = seen_is_read (g.R.Rows.has c.args.rows.now c.args.pass.now) k c.args.places.now.writer.page h.page.in_hand.seen there })
+    rw (c.chain.ensures, c.page-leaf.ensures, c.writer.ensures)
+    (record { read = seen_is_read (g.R.Rows.has c.args.rows.now c.args.pass.now) k c.args.places.now.writer.page h.page.in_hand.seen there })
 
 pub update_over-requires : goal.update_over-requires
 update_over-requires g c = (c.find-old.result, rw (← c.as_ref-2.ensures.value, ← c.command-3.ensures, ← c.changes.ensures) c.if-not-changes.false)
@@ -54,7 +55,8 @@ returns-clause-stands g c parent k r below idle =
     let covered = within task c.args.spares.now k r leaf h c.requires.last in
     let few = of_made leaf.chain page (λ items. length items < 16) makes h.few in
     let alive = h.page in
-    let fits = over_fits leaf.chain page makes alive.alive h.level few h.short (λ put. c.updates_fit.ensures.put leaf.chain page put makes ruled) (λ delete. c.updates_fit.ensures.delete leaf.chain page delete makes ruled)
+    let fits = over_fits leaf.chain page makes alive.alive h.level few h.short (λ put. c.updates_fit.ensures.put leaf.chain page put makes ruled)
+    (λ delete. c.updates_fit.ensures.delete leaf.chain page delete makes ruled)
     task.command leaf.head (old, some) leaf.is_row covered in
     c.begin_change.ensures.stands k r (rw (c.update_over.ensures, c.pid.ensures, c.head.ensures, c.head-2.ensures, leaf_is) (record {
       seeks = h.seeks;
@@ -62,7 +64,16 @@ returns-clause-stands g c parent k r below idle =
       may = record {
         inside = h.seeks.inside;
         links = c.plans_may_be_linked.ensures.update task.actor k leaf (update_over task.command leaf.head) alive.in_hand.seen alive.alive
-            (record { leaf = h.level; command = task.command; going = h.seeks.asked.going; unlinked = h.seeks.asked.unlinked; covers = covered; update = due.0; due = due.1; is = change_is task.actor task.command old due.0 leaf.head due.1 })
+            (record {
+              leaf = h.level;
+              command = task.command;
+              going = h.seeks.asked.going;
+              unlinked = h.seeks.asked.unlinked;
+              covers = covered;
+              update = due.0;
+              due = due.1;
+              is = change_is task.actor task.command old due.0 leaf.head due.1;
+            })
             fits;
       };
       keeps = over_kept task.command leaf.head _;

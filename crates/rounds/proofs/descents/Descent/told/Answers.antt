@@ -7,7 +7,8 @@ use Rattle.rounds.proofs.descents.Descent.told.Goals as goal
 pub returns-in-Slot-clause-responds : goal.returns-in-Slot-clause-responds
 returns-in-Slot-clause-responds g c =
     let limits = c.self.inside.limits in
-    rw (← c.self.view_is, c.in-Slot.is) (is_empty limits c.in-Slot.pid c.self.inside.part.records c.args.number (record { limits = limits; state = placed_state limits (Slot c.in-Slot.pid) c.self.inside.part }) c.if-number-eq0.true)
+    rw (← c.self.view_is, c.in-Slot.is)
+    (is_empty limits c.in-Slot.pid c.self.inside.part.records c.args.number (record { limits = limits; state = placed_state limits (Slot c.in-Slot.pid) c.self.inside.part }) c.if-number-eq0.true)
 
 pub returns-in-Slot-2-clause-responds : goal.returns-in-Slot-2-clause-responds
 returns-in-Slot-2-clause-responds g c =

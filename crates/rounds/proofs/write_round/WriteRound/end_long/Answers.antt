@@ -11,6 +11,10 @@ returns-clause-treats g c =
     let base = c.plan_base-base.result in
     rw c.ends_due.ensures.ends (record {
       change = due.Consolidate page base;
-      planned = (c.over-plan.ensures ∙ ap (λ (page : Version). over page (kind.Base base)) c.page-page.ensures, record { unlinked = c.chain-unlinked.result; is = refl; rows = rw c.page-page.ensures at c.chain-unlinked.ensures.rows; of = c.chain-unlinked.ensures.pid });
+      planned = (
+        c.over-plan.ensures ∙ ap (λ (page : Version). over page (kind.Base base)) c.page-page.ensures,
+        record
+            { unlinked = c.chain-unlinked.result; is = refl; rows = rw c.page-page.ensures at c.chain-unlinked.ensures.rows; of = c.chain-unlinked.ensures.pid },
+      );
       due = record { is = refl; here = c.requires.here; long = c.requires.long; plan = rw c.page-page.ensures at c.plan_base-base.ensures.plan };
     })

@@ -8,5 +8,6 @@ pub go_to-requires : goal.go_to-requires
 go_to-requires g c =
     let old = c.args.self.now in
     let index : 0 < level_in old.page.chain = let above = c.requires.index in omega (arith, above) in
-    let there = down_within old.round.limits (write_way old.round.goal old.round.key) old.page.chain c.next_below-child.result (c.requires.can.reached.names c.requires.here.alive) index c.next_below-child.ensures.leads in
+    let there = down_within old.round.limits (write_way old.round.goal old.round.key) old.page.chain c.next_below-child.result
+    (c.requires.can.reached.names c.requires.here.alive) index c.next_below-child.ensures.leads in
     record { some = there.0; below = rw (← c.self.view_is, ← c.go_below.ensures.way) at there.1 }

@@ -14,7 +14,8 @@ take_record-requires-clause-told g c =
     way_told was.round told (rw (← c.self.view_is) at (is_told (g.R.Rows.has c.args.rows.now c.args.pass.now) (machine writing) c.args.self.now.round told c.requires.told))
 
 pub take_record-requires-clause-read : goal.take_record-requires-clause-read
-take_record-requires-clause-read g c = read_now (g.R.Rows.has c.args.rows.now c.args.pass.now) (machine writing) c.args.self.now.round c.args.found.row c.args.found.content c.requires.asked c.requires.told
+take_record-requires-clause-read g c =
+    read_now (g.R.Rows.has c.args.rows.now c.args.pass.now) (machine writing) c.args.self.now.round c.args.found.row c.args.found.content c.requires.asked c.requires.told
 
 pub returns-clause-same : goal.returns-clause-same
 returns-clause-same g c = rw (← c.self.view_is) (record { limits = c.take_record.ensures.limits; key = refl; due = refl; tends = refl; floor = refl; seeks = λ is. is })

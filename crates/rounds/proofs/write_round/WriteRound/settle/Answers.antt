@@ -17,7 +17,13 @@ end_wide-requires-clause-short g c =
 pub end_wide-requires-clause-can : goal.end_wide-requires-clause-can
 end_wide-requires-clause-can g c =
     let old = c.args.self.now in
-    record { alive = c.requires.here.alive; short = few_deltas old.round.limits old.round.due old.page.chain (denied c.is_long.result (IsLong old.round.limits old.round.due old.page.chain) c.is_long.ensures.1 c.if-is_long.false); wide = c.is_wide.ensures.wide.0 c.if-is_wide.true }
+    record {
+      alive = c.requires.here.alive;
+      short = few_deltas old.round.limits old.round.due old.page.chain
+          (denied c.is_long.result (IsLong old.round.limits old.round.due old.page.chain) c.is_long.ensures.1 c.if-is_long.false);
+      wide = c.is_wide.ensures.wide.0
+          c.if-is_wide.true;
+    }
 
 pub returns-then-is_wide-clause-treats : goal.returns-then-is_wide-clause-treats
 returns-then-is_wide-clause-treats g c = c.end_wide.ensures.treats

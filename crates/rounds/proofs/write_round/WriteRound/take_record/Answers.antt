@@ -20,7 +20,8 @@ treat-requires-clause-can g c =
     let was : PlacedWrite = placed c.self.inside.key c.self.inside.due c.self.inside.tends c.self.inside.floor c.self.inside.course c.self.inside.descent c.self.inside.plan c.self.inside.after in
     let told = Content c.args.found.content in
     let b : Moved was c.take_record.new.self told Whole = subst (Moved was c.take_record.new.self told) c.in-Whole.is c.take_record.ensures.responds in
-    can_treat_now was c.take_record.new.self told b c.take_record.ensures.limits (rw (← c.self.view_is) at (is_told (g.R.Rows.has c.args.rows.now c.args.pass.now) (machine writing) c.args.self.now.round told c.requires.told))
+    can_treat_now was c.take_record.new.self told b c.take_record.ensures.limits
+    (rw (← c.self.view_is) at (is_told (g.R.Rows.has c.args.rows.now c.args.pass.now) (machine writing) c.args.self.now.round told c.requires.told))
 
 pub returns-in-Whole-clause-responds : goal.returns-in-Whole-clause-responds
 returns-in-Whole-clause-responds g c =

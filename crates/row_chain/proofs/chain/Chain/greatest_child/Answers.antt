@@ -69,7 +69,8 @@ returns-then-is_last-clause-child g c =
     let further = one_further rows place row (let within = c.loop-place-test.true in omega (arith, within)) c.index-records-place.is in
     let all : whole ++ rest ≡ chain = ap (λ records. records ++ rest) (sym further) ∙ sym (parted rows (place + 1)) ∙ c.as_read-records.ensures.records in
     let greatest = at_bound whole rest c.args.below c.args.bound.now item.key item.content at.0 key_is after in
-    child_found chain c.keeps_rules.ensures.fitted passes item.key item.content c.child_at-child.result (subst (λ (records : List Record). IsGreatest (content_in records) passes item.key item.content) all greatest) (c.child_at-child.ensures.child none)
+    child_found chain c.keeps_rules.ensures.fitted passes item.key item.content c.child_at-child.result
+    (subst (λ (records : List Record). IsGreatest (content_in records) passes item.key item.content) all greatest) (c.child_at-child.ensures.child none)
 
 -- of the last record
 pub returns-then-place-records-clause-child : goal.returns-then-place-records-clause-child
@@ -89,7 +90,8 @@ returns-then-place-records-clause-child g c =
     let further = one_further rows place row (let within = c.loop-place-test.true in omega (arith, within)) c.index-records-place.is in
     let end : length rows ≤ place + 1 = (let last = c.if-place-records.true in omega (arith, last)) in
     let all : whole ≡ chain = sym further ∙ ap contents (take_all (place + 1) rows end) ∙ c.as_read-records.ensures.records in
-    child_found chain c.keeps_rules.ensures.fitted passes item.key item.content c.child_at-child.result (subst (λ (records : List Record). IsGreatest (content_in records) passes item.key item.content) all after) (c.child_at-child.ensures.child none)
+    child_found chain c.keeps_rules.ensures.fitted passes item.key item.content c.child_at-child.result
+    (subst (λ (records : List Record). IsGreatest (content_in records) passes item.key item.content) all after) (c.child_at-child.ensures.child none)
 
 -- after the last one
 pub returns-clause-child : goal.returns-clause-child
@@ -100,4 +102,5 @@ returns-clause-child g c =
     let passes = is_left c.args.below c.args.bound.now in
     let end : length rows ≤ place = c.loop-place-test.false in
     let all : contents (take place rows) ≡ chain = ap contents (take_all place rows end) ∙ c.as_read-records.ensures.records in
-    child_best chain c.keeps_rules.ensures.fitted passes c.loop-place.best c.loop-place.child (subst (λ (records : List Record). IsBest (content_in records) passes c.loop-place.best c.loop-place.child) all c.loop-place.invariant.best)
+    child_best chain c.keeps_rules.ensures.fitted passes c.loop-place.best c.loop-place.child
+    (subst (λ (records : List Record). IsBest (content_in records) passes c.loop-place.best c.loop-place.child) all c.loop-place.invariant.best)

@@ -41,7 +41,8 @@ loop-place-preserved g c =
     let over : drop (place - 1) records ≡ row.content ∷ drop place records = drop-cons records (place - 1) row.content low ∙ (λ i. sym here i ∷ drop (next i) records) in
     record {
       same = c.change.ensures.same ∙ v.same;
-      makes = subst (λ (rows : List Record). Makes rows c.change.new.page) (sym over) (Makes-next (drop place records) row.content c.loop-place.page c.change.new.page v.makes c.change.ensures.applies);
+      makes =
+          subst (λ (rows : List Record). Makes rows c.change.new.page) (sym over) (Makes-next (drop place records) row.content c.loop-place.page c.change.new.page v.makes c.change.ensures.applies);
     }
 
 pub returns-clause-ruled : goal.returns-clause-ruled

@@ -25,16 +25,19 @@ loop-place-preserved g c =
 pub returns-then-not-is_above-clause-wins : goal.returns-then-not-is_above-clause-wins
 returns-then-not-is_above-clause-wins g c passes are cut best =
     let place = c.loop-place.auto.place in
-    outdone c.args.row.now.content (contents c.args.newer.now) c.keeps_spelling.ensures.spellable passes are c.args.count cut (option_copied c.args.best) best c.loop-place.place c.loop-place.invariant.named
+    outdone c.args.row.now.content (contents c.args.newer.now) c.keeps_spelling.ensures.spellable passes are c.args.count cut (option_copied c.args.best) best
+    c.loop-place.place c.loop-place.invariant.named
     none c.loop-place-test.true (omega (arith, place)) (sym (c.is_above.ensures.above none) ∙ c.if-not-is_above.true)
 
 pub returns-then-not-is_taken-clause-wins : goal.returns-then-not-is_taken-clause-wins
 returns-then-not-is_taken-clause-wins g c passes are cut best d =
     let place = c.loop-place.auto.place in
-    wins c.args.row.now.content (contents c.args.newer.now) c.keeps_spelling.ensures.spellable passes are c.args.count cut (option_copied c.args.best) best c.loop-place.place c.loop-place.invariant.named
+    wins c.args.row.now.content (contents c.args.newer.now) c.keeps_spelling.ensures.spellable passes are c.args.count cut (option_copied c.args.best) best
+    c.loop-place.place c.loop-place.invariant.named
     d c.loop-place-test.true (omega (arith, place)) (sym (c.is_above.ensures.above d) ∙ c.if-not-is_above.false) (sym (c.is_taken.ensures.taken d) ∙ c.if-not-is_taken.true)
 
 pub returns-clause-wins : goal.returns-clause-wins
 returns-clause-wins g c passes are cut best =
-    none_left c.args.row.now.content (contents c.args.newer.now) c.keeps_spelling.ensures.spellable passes are c.args.count cut (option_copied c.args.best) best c.loop-place.place c.loop-place.invariant.named
+    none_left c.args.row.now.content (contents c.args.newer.now) c.keeps_spelling.ensures.spellable passes are c.args.count cut (option_copied c.args.best) best
+    c.loop-place.place c.loop-place.invariant.named
     (let end = c.loop-place-test.false in omega (arith, end))

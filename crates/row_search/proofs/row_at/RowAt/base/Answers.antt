@@ -30,10 +30,14 @@ new-requires g c =
     let content = c.args.self.now.content in
     let base = base_of content c.requires.base in
     let is : IsPage base.0 = (subst IsSpellable base.1 c.keeps_spelling.ensures.spellable).ruled.is_page in
-    subst IsPage (sym (parts content base.0 base.1 c.keeps_spelling.ensures.spellable c.level.result c.first-low.result c.second-high.result c.right-right.result c.items.result c.level.ensures c.first-low.ensures.first c.second-high.ensures.second c.right-right.ensures.right c.items.ensures.items)) is
+    subst IsPage (sym (parts content base.0 base.1 c.keeps_spelling.ensures.spellable c.level.result c.first-low.result c.second-high.result
+    c.right-right.result c.items.result c.level.ensures c.first-low.ensures.first c.second-high.ensures.second c.right-right.ensures.right
+    c.items.ensures.items)) is
 
 pub returns-clause-page : goal.returns-clause-page
 returns-clause-page g c =
     let content = c.args.self.now.content in
     let base = base_of content c.requires.base in
-    ap Base (c.new.ensures ∙ parts content base.0 base.1 c.keeps_spelling.ensures.spellable c.level.result c.first-low.result c.second-high.result c.right-right.result c.items.result c.level.ensures c.first-low.ensures.first c.second-high.ensures.second c.right-right.ensures.right c.items.ensures.items) ∙ sym base.1
+    ap Base (c.new.ensures ∙ parts content base.0 base.1 c.keeps_spelling.ensures.spellable c.level.result c.first-low.result c.second-high.result
+    c.right-right.result c.items.result c.level.ensures c.first-low.ensures.first c.second-high.ensures.second c.right-right.ensures.right
+    c.items.ensures.items) ∙ sym base.1

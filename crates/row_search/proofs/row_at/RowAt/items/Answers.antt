@@ -9,7 +9,8 @@ use Rattle.row_search.proofs.RowTexts.{stands}
 use Rattle.row_search.proofs.row_at.RowAt.items.Goals as goal
 
 -- one more item
-more : (items before : List Item) (place : ℕ) (item : Item) → before ≡ take place items → place < length items → ((d : Item) → item ≡ get_or items place d) → before ++ item ∷ [] ≡ take (place + 1) items
+more : (items before : List Item) (place : ℕ) (item : Item) → before ≡ take place items → place < length items → ((d : Item) → item ≡ get_or items place d)
+    → before ++ item ∷ [] ≡ take (place + 1) items
 more items before place item e within is = (λ i. e i ++ is item i ∷ []) ∙ sym (take_more items place item within)
 
 pub push-requires : goal.push-requires

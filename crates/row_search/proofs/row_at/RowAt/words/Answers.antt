@@ -25,6 +25,7 @@ returns-clause-words g c =
     let content = c.args.self.now.content in
     let spelt = c.keeps_spelling.ensures in
     let all : length (words_of content) ≡ row_size = c.rows_have_words.ensures.all content (words_of content) spelt in
-    let many : items_at + item_size * (row_of content).count ≤ c.loop-place.place = let n = counts content in let is = c.item_count.ensures.count in let w = v.within in omega (arith, c.loop-place-test.false) in
+    let many : items_at + item_size * (row_of content).count ≤ c.loop-place.place = let n = counts content in let is = c.item_count.ensures.count in let w =
+    v.within in omega (arith, c.loop-place-test.false) in
     same_lists c.loop-place.words (words_of content) (v.long ∙ sym all)
     (λ j below. ⊎_elim (λ low. v.read j low) (λ high. v.rest j high ∙ sym (zero_behind (words_of content) content spelt j (omega (arith, many, high)))) (cases_lt j c.loop-place.place))

@@ -11,9 +11,11 @@ row_of-requires-clause-there g c =
 pub unreachable-requires : goal.unreachable-requires
 unreachable-requires g c =
     let (memory, content, has, at) = c.requires in
-    c.in-Err.ensures content (row_spells c.args.self.now.limits.now c.args.self.now.closed.now.words.items memory c.args.row content c.row_of.result c.rows_have_words.ensures.all has.1 at c.row_of.ensures.long c.row_of.ensures.words)
+    c.in-Err.ensures content (row_spells c.args.self.now.limits.now c.args.self.now.closed.now.words.items memory c.args.row content c.row_of.result
+    c.rows_have_words.ensures.all has.1 at c.row_of.ensures.long c.row_of.ensures.words)
 
 pub returns : goal.returns
 returns g c = λ memory keep.
     let (first, content, has, at) = c.requires in
-    row_is c.args.self.now.limits.now c.args.self.now.closed.now.words.items memory first c.args.row c.in-Ok.record content c.row_of.result c.rows_have_words.ensures.all c.spelling_is_one.ensures has.1 at keep.1 c.row_of.ensures.long c.row_of.ensures.words c.in-Ok.ensures
+    row_is c.args.self.now.limits.now c.args.self.now.closed.now.words.items memory first c.args.row c.in-Ok.record content c.row_of.result
+    c.rows_have_words.ensures.all c.spelling_is_one.ensures has.1 at keep.1 c.row_of.ensures.long c.row_of.ensures.words c.in-Ok.ensures

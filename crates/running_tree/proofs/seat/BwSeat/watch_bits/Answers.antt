@@ -21,7 +21,9 @@ invariant_of-self g c =
 pub returns-clause-watched : goal.returns-clause-watched
 returns-clause-watched g c =
     let watched = c.watch.ensures.watched in
-    subst (λ (old : Seat). HasWatched c.args.kind c.args.word old (seat_of c.watch.new.seat.table_id c.self.inside.limits c.self.inside.desk.number (seen_of c.watch.new.seat.me)) (count_ones c.watch.result)) c.self.view_is
+    subst (λ (old : Seat). HasWatched c.args.kind c.args.word old
+    (seat_of c.watch.new.seat.table_id c.self.inside.limits c.self.inside.desk.number (seen_of c.watch.new.seat.me)) (count_ones c.watch.result))
+    c.self.view_is
     record {
       extends = watched.extends;
       counted = bits_counted c.args.kind (memory_of c.self.inside.limits (seen_of c.watch.new.seat.me)) c.args.word c.watch.result

@@ -25,7 +25,8 @@ invariant_of-seat g c =
     let tree : c.args.self.now.limits ≡ c.self.inside.limits = sym (ap (λ (t : Tree). t.limits) c.self.view_is) in
     let same : c.seat.inside.limits ≡ c.self.inside.limits = ap (λ (s : Seat). s.limits) c.seat.view_is ∙ c.requires.own.limits ∙ tree in
     let same_note : c.note.inside.limits ≡ c.self.inside.limits = ap (λ (n : Note). n.limits) c.note.view_is ∙ c.requires.note.limits ∙ tree in
-    let seat : IsSeat c.self.inside.limits c.seat.inside.desk.number c.seat.inside.desk.place.me c.seat.inside.actor = subst (λ (l : Limits). IsSeat l c.seat.inside.desk.number c.seat.inside.desk.place.me c.seat.inside.actor) same c.seat.invariant in
+    let seat : IsSeat c.self.inside.limits c.seat.inside.desk.number c.seat.inside.desk.place.me c.seat.inside.actor = subst
+    (λ (l : Limits). IsSeat l c.seat.inside.desk.number c.seat.inside.desk.place.me c.seat.inside.actor) same c.seat.invariant in
     subst (λ (l : Limits). IsSeat l c.seat.inside.desk.number c.cut.new.seat.me c.seat.inside.actor) (sym same)
     (left_seat c.self.inside.limits c.seat.inside.desk.number c.note.invariant.0 Noted c.seat.inside.desk.place.me c.note.inside.place.me c.join.new.seat.me seat.place
     (subst (λ (l : Limits). SitsAt l c.note.invariant.0 Noted c.note.inside.place.me) same_note c.note.invariant.1) c.join.ensures.both
@@ -36,8 +37,10 @@ returns-clause-heeds g c =
     let tree : c.args.self.now.limits ≡ c.self.inside.limits = sym (ap (λ (t : Tree). t.limits) c.self.view_is) in
     let same : c.seat.inside.limits ≡ c.self.inside.limits = ap (λ (s : Seat). s.limits) c.seat.view_is ∙ c.requires.own.limits ∙ tree in
     let same_note : c.note.inside.limits ≡ c.self.inside.limits = ap (λ (n : Note). n.limits) c.note.view_is ∙ c.requires.note.limits ∙ tree in
-    let at : SitsAt c.self.inside.limits c.seat.inside.desk.number Idle c.seat.inside.desk.place.me = subst (λ (l : Limits). SitsAt l c.seat.inside.desk.number Idle c.seat.inside.desk.place.me) same c.seat.invariant.place in
-    let at_note : SitsAt c.self.inside.limits c.note.invariant.0 Noted c.note.inside.place.me = subst (λ (l : Limits). SitsAt l c.note.invariant.0 Noted c.note.inside.place.me) same_note c.note.invariant.1 in
+    let at : SitsAt c.self.inside.limits c.seat.inside.desk.number Idle c.seat.inside.desk.place.me = subst
+    (λ (l : Limits). SitsAt l c.seat.inside.desk.number Idle c.seat.inside.desk.place.me) same c.seat.invariant.place in
+    let at_note : SitsAt c.self.inside.limits c.note.invariant.0 Noted c.note.inside.place.me = subst
+    (λ (l : Limits). SitsAt l c.note.invariant.0 Noted c.note.inside.place.me) same_note c.note.invariant.1 in
     let ours : Extends c.seat.inside.desk.number (seen_of c.seat.inside.desk.place.me) (seen_of c.cut.new.seat.me) =
     left_extends c.self.inside.limits c.seat.inside.desk.number c.note.invariant.0 Noted c.seat.inside.desk.place.me c.note.inside.place.me c.join.new.seat.me at at_note c.join.ensures.both
     c.refresh.new.seat.me c.cut.new.seat.me c.cut.result.me c.refresh.ensures.saw c.cut.ensures.first c.cut.ensures.others in
@@ -74,8 +77,10 @@ returns-clause-history g c =
     let tree : c.args.self.now.limits ≡ c.self.inside.limits = sym (ap (λ (t : Tree). t.limits) c.self.view_is) in
     let same : c.seat.inside.limits ≡ c.self.inside.limits = ap (λ (s : Seat). s.limits) c.seat.view_is ∙ c.requires.own.limits ∙ tree in
     let same_note : c.note.inside.limits ≡ c.self.inside.limits = ap (λ (n : Note). n.limits) c.note.view_is ∙ c.requires.note.limits ∙ tree in
-    let at : SitsAt c.self.inside.limits c.seat.inside.desk.number Idle c.seat.inside.desk.place.me = subst (λ (l : Limits). SitsAt l c.seat.inside.desk.number Idle c.seat.inside.desk.place.me) same c.seat.invariant.place in
-    let at_note : SitsAt c.self.inside.limits c.note.invariant.0 Noted c.note.inside.place.me = subst (λ (l : Limits). SitsAt l c.note.invariant.0 Noted c.note.inside.place.me) same_note c.note.invariant.1 in
+    let at : SitsAt c.self.inside.limits c.seat.inside.desk.number Idle c.seat.inside.desk.place.me = subst
+    (λ (l : Limits). SitsAt l c.seat.inside.desk.number Idle c.seat.inside.desk.place.me) same c.seat.invariant.place in
+    let at_note : SitsAt c.self.inside.limits c.note.invariant.0 Noted c.note.inside.place.me = subst
+    (λ (l : Limits). SitsAt l c.note.invariant.0 Noted c.note.inside.place.me) same_note c.note.invariant.1 in
     c.runs_are_one_history.ensures c.seat.inside.limits (seen_of c.cut.new.seat.me) (subst (λ (l : Limits). IsSeenRun l (seen_of c.cut.new.seat.me)) (sym same)
     (left_run c.self.inside.limits c.seat.inside.desk.number c.note.invariant.0 Noted c.seat.inside.desk.place.me c.note.inside.place.me c.join.new.seat.me at at_note c.join.ensures.both
     c.refresh.new.seat.me c.cut.new.seat.me c.cut.result.me c.refresh.ensures.saw c.cut.ensures.first c.cut.ensures.others))

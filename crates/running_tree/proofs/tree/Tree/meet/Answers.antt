@@ -17,7 +17,9 @@ refresh-requires-clause-some g c =
     let same : c.one.inside.limits ≡ c.self.inside.limits = ap (λ (s : Seat). s.limits) c.one.view_is ∙ c.requires.own.limits ∙ tree in
     let same_other : c.other.inside.limits ≡ c.self.inside.limits = ap (λ (s : Seat). s.limits) c.other.view_is ∙ c.requires.own_other.limits ∙ tree in
     let moved : c.other.inside.desk.place.me ≡ c.replace-others.result.me = sym (ap (λ place. place.me) c.replace-others.ensures.value) in
-    let at_other : SitsAt c.self.inside.limits c.other.inside.desk.number Idle c.replace-others.result.me = subst (SitsAt c.self.inside.limits c.other.inside.desk.number Idle) moved (subst (λ (l : Limits). SitsAt l c.other.inside.desk.number Idle c.other.inside.desk.place.me) same_other c.other.invariant.place) in
+    let at_other : SitsAt c.self.inside.limits c.other.inside.desk.number Idle c.replace-others.result.me = subst
+    (SitsAt c.self.inside.limits c.other.inside.desk.number Idle) moved
+    (subst (λ (l : Limits). SitsAt l c.other.inside.desk.number Idle c.other.inside.desk.place.me) same_other c.other.invariant.place) in
     has_part c.self.inside.limits c.one.inside.desk.number c.other.inside.desk.number Idle c.one.inside.desk.place.me c.replace-others.result.me c.join.new.seat.me
     (subst (λ (l : Limits). SitsAt l c.one.inside.desk.number Idle c.one.inside.desk.place.me) same c.one.invariant.place) at_other c.join.ensures.both
 
@@ -27,10 +29,14 @@ invariant_of-one g c =
     let same : c.one.inside.limits ≡ c.self.inside.limits = ap (λ (s : Seat). s.limits) c.one.view_is ∙ c.requires.own.limits ∙ tree in
     let same_other : c.other.inside.limits ≡ c.self.inside.limits = ap (λ (s : Seat). s.limits) c.other.view_is ∙ c.requires.own_other.limits ∙ tree in
     let moved : c.other.inside.desk.place.me ≡ c.replace-others.result.me = sym (ap (λ place. place.me) c.replace-others.ensures.value) in
-    let at_other : SitsAt c.self.inside.limits c.other.inside.desk.number Idle c.replace-others.result.me = subst (SitsAt c.self.inside.limits c.other.inside.desk.number Idle) moved (subst (λ (l : Limits). SitsAt l c.other.inside.desk.number Idle c.other.inside.desk.place.me) same_other c.other.invariant.place) in
-    let seat : IsSeat c.self.inside.limits c.one.inside.desk.number c.one.inside.desk.place.me c.one.inside.actor = subst (λ (l : Limits). IsSeat l c.one.inside.desk.number c.one.inside.desk.place.me c.one.inside.actor) same c.one.invariant in
+    let at_other : SitsAt c.self.inside.limits c.other.inside.desk.number Idle c.replace-others.result.me = subst
+    (SitsAt c.self.inside.limits c.other.inside.desk.number Idle) moved
+    (subst (λ (l : Limits). SitsAt l c.other.inside.desk.number Idle c.other.inside.desk.place.me) same_other c.other.invariant.place) in
+    let seat : IsSeat c.self.inside.limits c.one.inside.desk.number c.one.inside.desk.place.me c.one.inside.actor = subst
+    (λ (l : Limits). IsSeat l c.one.inside.desk.number c.one.inside.desk.place.me c.one.inside.actor) same c.one.invariant in
     subst (λ (l : Limits). IsSeat l c.one.inside.desk.number c.cut.new.seat.me c.one.inside.actor) (sym same)
-    (left_seat c.self.inside.limits c.one.inside.desk.number c.other.inside.desk.number Idle c.one.inside.desk.place.me c.replace-others.result.me c.join.new.seat.me seat.place at_other c.join.ensures.both
+    (left_seat c.self.inside.limits c.one.inside.desk.number c.other.inside.desk.number Idle c.one.inside.desk.place.me c.replace-others.result.me
+    c.join.new.seat.me seat.place at_other c.join.ensures.both
     c.refresh.new.seat.me c.cut.new.seat.me c.cut.result.me c.refresh.ensures.saw c.cut.ensures.first c.cut.ensures.others c.own_lasts.ensures c.one.inside.actor seat)
 
 pub invariant_of-other : goal.invariant_of-other
@@ -40,7 +46,8 @@ invariant_of-other g c =
     let same_other : c.other.inside.limits ≡ c.self.inside.limits = ap (λ (s : Seat). s.limits) c.other.view_is ∙ c.requires.own_other.limits ∙ tree in
     let moved : c.other.inside.desk.place.me ≡ c.replace-others.result.me = sym (ap (λ place. place.me) c.replace-others.ensures.value) in
     let seat : IsSeat c.self.inside.limits c.other.inside.desk.number c.replace-others.result.me c.other.inside.actor =
-    subst (λ (m : Mine). IsSeat c.self.inside.limits c.other.inside.desk.number m c.other.inside.actor) moved (subst (λ (l : Limits). IsSeat l c.other.inside.desk.number c.other.inside.desk.place.me c.other.inside.actor) same_other c.other.invariant) in
+    subst (λ (m : Mine). IsSeat c.self.inside.limits c.other.inside.desk.number m c.other.inside.actor) moved
+    (subst (λ (l : Limits). IsSeat l c.other.inside.desk.number c.other.inside.desk.place.me c.other.inside.actor) same_other c.other.invariant) in
     subst (λ (l : Limits). IsSeat l c.other.inside.desk.number c.cut.result.me c.other.inside.actor) (sym same_other)
     (right_seat c.self.inside.limits c.one.inside.desk.number c.other.inside.desk.number Idle c.one.inside.desk.place.me c.replace-others.result.me c.join.new.seat.me
     (subst (λ (l : Limits). SitsAt l c.one.inside.desk.number Idle c.one.inside.desk.place.me) same c.one.invariant.place) seat.place c.join.ensures.both
@@ -52,8 +59,11 @@ returns-clause-met g c =
     let same : c.one.inside.limits ≡ c.self.inside.limits = ap (λ (s : Seat). s.limits) c.one.view_is ∙ c.requires.own.limits ∙ tree in
     let same_other : c.other.inside.limits ≡ c.self.inside.limits = ap (λ (s : Seat). s.limits) c.other.view_is ∙ c.requires.own_other.limits ∙ tree in
     let moved : c.other.inside.desk.place.me ≡ c.replace-others.result.me = sym (ap (λ place. place.me) c.replace-others.ensures.value) in
-    let at : SitsAt c.self.inside.limits c.one.inside.desk.number Idle c.one.inside.desk.place.me = subst (λ (l : Limits). SitsAt l c.one.inside.desk.number Idle c.one.inside.desk.place.me) same c.one.invariant.place in
-    let at_other : SitsAt c.self.inside.limits c.other.inside.desk.number Idle c.replace-others.result.me = subst (SitsAt c.self.inside.limits c.other.inside.desk.number Idle) moved (subst (λ (l : Limits). SitsAt l c.other.inside.desk.number Idle c.other.inside.desk.place.me) same_other c.other.invariant.place) in
+    let at : SitsAt c.self.inside.limits c.one.inside.desk.number Idle c.one.inside.desk.place.me = subst
+    (λ (l : Limits). SitsAt l c.one.inside.desk.number Idle c.one.inside.desk.place.me) same c.one.invariant.place in
+    let at_other : SitsAt c.self.inside.limits c.other.inside.desk.number Idle c.replace-others.result.me = subst
+    (SitsAt c.self.inside.limits c.other.inside.desk.number Idle) moved
+    (subst (λ (l : Limits). SitsAt l c.other.inside.desk.number Idle c.other.inside.desk.place.me) same_other c.other.invariant.place) in
     let ours : Extends c.one.inside.desk.number (seen_of c.one.inside.desk.place.me) (seen_of c.cut.new.seat.me) =
     left_extends c.self.inside.limits c.one.inside.desk.number c.other.inside.desk.number Idle c.one.inside.desk.place.me c.replace-others.result.me c.join.new.seat.me at at_other c.join.ensures.both
     c.refresh.new.seat.me c.cut.new.seat.me c.cut.result.me c.refresh.ensures.saw c.cut.ensures.first c.cut.ensures.others in
@@ -67,8 +77,11 @@ returns-clause-met g c =
       same = record { table = table; limits = ap (λ (s : Seat). s.limits) c.one.view_is; actor = ap (λ (s : Seat). s.actor) c.one.view_is };
       same_other = record { table = table_other; limits = ap (λ (s : Seat). s.limits) c.other.view_is; actor = ap (λ (s : Seat). s.actor) c.other.view_is };
       extends = subst (λ (s : Seat). Extends s.actor s.seen (seen_of c.cut.new.seat.me)) c.one.view_is ours;
-      extends_other = subst (λ (s : Seat). Extends s.actor s.seen (seen_of c.cut.result.me)) c.other.view_is (subst (λ (z : List Entry). Extends c.other.inside.desk.number z (seen_of c.cut.result.me)) back theirs);
-      one = saw_one c.self.inside.limits c.one.inside.desk.number c.other.inside.desk.number Idle c.one.inside.desk.place.me c.replace-others.result.me c.join.new.seat.me at at_other c.join.ensures.both
+      extends_other =
+          subst (λ (s : Seat). Extends s.actor s.seen (seen_of c.cut.result.me)) c.other.view_is
+          (subst (λ (z : List Entry). Extends c.other.inside.desk.number z (seen_of c.cut.result.me)) back theirs);
+      one =
+          saw_one c.self.inside.limits c.one.inside.desk.number c.other.inside.desk.number Idle c.one.inside.desk.place.me c.replace-others.result.me c.join.new.seat.me at at_other c.join.ensures.both
           c.refresh.new.seat.me c.cut.new.seat.me c.cut.result.me c.refresh.ensures.saw c.cut.ensures.first c.cut.ensures.others;
     }
 
@@ -95,8 +108,11 @@ returns-clause-history g c =
     let same : c.one.inside.limits ≡ c.self.inside.limits = ap (λ (s : Seat). s.limits) c.one.view_is ∙ c.requires.own.limits ∙ tree in
     let same_other : c.other.inside.limits ≡ c.self.inside.limits = ap (λ (s : Seat). s.limits) c.other.view_is ∙ c.requires.own_other.limits ∙ tree in
     let moved : c.other.inside.desk.place.me ≡ c.replace-others.result.me = sym (ap (λ place. place.me) c.replace-others.ensures.value) in
-    let at : SitsAt c.self.inside.limits c.one.inside.desk.number Idle c.one.inside.desk.place.me = subst (λ (l : Limits). SitsAt l c.one.inside.desk.number Idle c.one.inside.desk.place.me) same c.one.invariant.place in
-    let at_other : SitsAt c.self.inside.limits c.other.inside.desk.number Idle c.replace-others.result.me = subst (SitsAt c.self.inside.limits c.other.inside.desk.number Idle) moved (subst (λ (l : Limits). SitsAt l c.other.inside.desk.number Idle c.other.inside.desk.place.me) same_other c.other.invariant.place) in
+    let at : SitsAt c.self.inside.limits c.one.inside.desk.number Idle c.one.inside.desk.place.me = subst
+    (λ (l : Limits). SitsAt l c.one.inside.desk.number Idle c.one.inside.desk.place.me) same c.one.invariant.place in
+    let at_other : SitsAt c.self.inside.limits c.other.inside.desk.number Idle c.replace-others.result.me = subst
+    (SitsAt c.self.inside.limits c.other.inside.desk.number Idle) moved
+    (subst (λ (l : Limits). SitsAt l c.other.inside.desk.number Idle c.other.inside.desk.place.me) same_other c.other.invariant.place) in
     c.runs_are_one_history.ensures c.one.inside.limits (seen_of c.cut.new.seat.me) (subst (λ (l : Limits). IsSeenRun l (seen_of c.cut.new.seat.me)) (sym same)
     (left_run c.self.inside.limits c.one.inside.desk.number c.other.inside.desk.number Idle c.one.inside.desk.place.me c.replace-others.result.me c.join.new.seat.me at at_other c.join.ensures.both
     c.refresh.new.seat.me c.cut.new.seat.me c.cut.result.me c.refresh.ensures.saw c.cut.ensures.first c.cut.ensures.others))
@@ -107,8 +123,11 @@ returns-clause-history_other g c =
     let same : c.one.inside.limits ≡ c.self.inside.limits = ap (λ (s : Seat). s.limits) c.one.view_is ∙ c.requires.own.limits ∙ tree in
     let same_other : c.other.inside.limits ≡ c.self.inside.limits = ap (λ (s : Seat). s.limits) c.other.view_is ∙ c.requires.own_other.limits ∙ tree in
     let moved : c.other.inside.desk.place.me ≡ c.replace-others.result.me = sym (ap (λ place. place.me) c.replace-others.ensures.value) in
-    let at : SitsAt c.self.inside.limits c.one.inside.desk.number Idle c.one.inside.desk.place.me = subst (λ (l : Limits). SitsAt l c.one.inside.desk.number Idle c.one.inside.desk.place.me) same c.one.invariant.place in
-    let at_other : SitsAt c.self.inside.limits c.other.inside.desk.number Idle c.replace-others.result.me = subst (SitsAt c.self.inside.limits c.other.inside.desk.number Idle) moved (subst (λ (l : Limits). SitsAt l c.other.inside.desk.number Idle c.other.inside.desk.place.me) same_other c.other.invariant.place) in
+    let at : SitsAt c.self.inside.limits c.one.inside.desk.number Idle c.one.inside.desk.place.me = subst
+    (λ (l : Limits). SitsAt l c.one.inside.desk.number Idle c.one.inside.desk.place.me) same c.one.invariant.place in
+    let at_other : SitsAt c.self.inside.limits c.other.inside.desk.number Idle c.replace-others.result.me = subst
+    (SitsAt c.self.inside.limits c.other.inside.desk.number Idle) moved
+    (subst (λ (l : Limits). SitsAt l c.other.inside.desk.number Idle c.other.inside.desk.place.me) same_other c.other.invariant.place) in
     c.runs_are_one_history.ensures c.other.inside.limits (seen_of c.cut.result.me) (subst (λ (l : Limits). IsSeenRun l (seen_of c.cut.result.me)) (sym same_other)
     (right_run c.self.inside.limits c.one.inside.desk.number c.other.inside.desk.number Idle c.one.inside.desk.place.me c.replace-others.result.me c.join.new.seat.me at at_other c.join.ensures.both
     c.refresh.new.seat.me c.cut.new.seat.me c.cut.result.me c.refresh.ensures.saw c.cut.ensures.first c.cut.ensures.others))

@@ -11,7 +11,9 @@ use Rattle.step_core.specs.Cores.{IsCore}
 pub invariant_of-self-2 : goal.invariant_of-self-2
 invariant_of-self-2 g c =
     let begins = core_begins _ _ _ _ _ _ _ c.args.command c.self.invariant _ _ c.self.view_is c.requires.goes c.from.ensures c.index_mut-place.ensures.value in
-    core_begun _ c.begins_keep_laws.ensures.state c.begins_keep_laws.ensures.paid _ _ _ _ _ _ _ c.args.command c.self.invariant _ _ c.self.view_is c.requires.goes c.from.ensures (c.begin.ensures.shows _ _ begins.1) c.begin.ensures.command (c.entries_grow.ensures _ c.self.inside.trace.items (Begin c.args.actor c.args.command))
+    core_begun _ c.begins_keep_laws.ensures.state c.begins_keep_laws.ensures.paid _ _ _ _ _ _ _ c.args.command c.self.invariant _ _ c.self.view_is
+    c.requires.goes c.from.ensures (c.begin.ensures.shows _ _ begins.1) c.begin.ensures.command
+    (c.entries_grow.ensures _ c.self.inside.trace.items (Begin c.args.actor c.args.command))
     (c.begins_keep_laws.ensures.direct _ _ _ _ _ c.self.invariant.direct (let few = c.begin.ensures.bounded in omega arith)) (rw c.reserve.ensures.items at c.push_begin.ensures.items)
 
 pub returns-clause-ok : goal.returns-clause-ok
@@ -43,7 +45,8 @@ begin-requires-clause-there g c =
     begins.3
 
 pub returns-then-is_err-clause-memory : goal.returns-then-is_err-clause-memory
-returns-then-is_err-clause-memory g c = (ap Memory c.turns-number.ensures, rw (← c.self.view_is) (refused c.reserve.result _ c.is_err.result c.is_err.ensures.value c.if-is_err.true c.reserve.ensures.full))
+returns-then-is_err-clause-memory g c =
+    (ap Memory c.turns-number.ensures, rw (← c.self.view_is) (refused c.reserve.result _ c.is_err.result c.is_err.ensures.value c.if-is_err.true c.reserve.ensures.full))
 
 pub returns-then-is_err-clause-err : goal.returns-then-is_err-clause-err
 returns-then-is_err-clause-err g c = rw (refused c.reserve.result _ c.is_err.result c.is_err.ensures.value c.if-is_err.true c.reserve.ensures.err) c.self.view_is

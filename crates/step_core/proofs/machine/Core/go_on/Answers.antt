@@ -16,17 +16,22 @@ use Rattle.step_core.specs.declared.event.RunError.TheVariants.{Memory}
 
 pub invariant_of-self-2 : goal.invariant_of-self-2
 invariant_of-self-2 g c =
-    let asks = core_asks _ c.steps_keep_laws.ensures.apart c.steps_keep_laws.ensures.fit _ _ _ _ _ _ c.self.invariant _ _ c.self.view_is c.requires.goes c.from-2.ensures c.index_mut-place.ensures.value in
+    let asks = core_asks _ c.steps_keep_laws.ensures.apart c.steps_keep_laws.ensures.fit _ _ _ _ _ _ c.self.invariant _ _ c.self.view_is c.requires.goes
+    c.from-2.ensures c.index_mut-place.ensures.value in
     let goes = c.go_on-stepped.ensures.goes _ _ _ asks.2 in
     let took = core_took _ c.steps_keep_laws.ensures.apart _ _ _ _ c.go_on-stepped.result.step c.go_on-stepped.result.answer c.self.invariant c.go_on-stepped.ensures.answer goes.allowed.may in
     let affords = core_affords _ _ _ _ _ _ _ c.self.invariant c.from-2.ensures asks.1 c.index_mut-place.ensures.value in
     let stays = c.steps_keep_laws.ensures.direct _ _ _ _ _ _ _ _ c.self.invariant.state goes.allowed goes.useful took.1 c.self.invariant.direct affords goes.spends goes.few in
-    core_stepped _ c.steps_keep_laws.ensures.state c.steps_keep_laws.ensures.paid _ _ _ _ _ _ _ _ _ c.go_on-stepped.result.step c.go_on-stepped.result.answer None c.self.invariant c.from-2.ensures asks.1
-    c.index_mut-place.ensures.value asks.3 goes.allowed goes.useful.useful goes.halved goes.shows c.go_on-stepped.ensures.command (c.entries_grow.ensures _ c.self.inside.trace.items (Step c.args.actor c.go_on-stepped.result.step c.go_on-stepped.result.answer None)) stays c.go_on-stepped.ensures.limits took.1 c.go_on-stepped.ensures.memory (rw c.reserve.ensures.items at c.push_step.ensures.items)
+    core_stepped _ c.steps_keep_laws.ensures.state c.steps_keep_laws.ensures.paid _ _ _ _ _ _ _ _ _ c.go_on-stepped.result.step c.go_on-stepped.result.answer
+    None c.self.invariant c.from-2.ensures asks.1
+    c.index_mut-place.ensures.value asks.3 goes.allowed goes.useful.useful goes.halved goes.shows c.go_on-stepped.ensures.command
+    (c.entries_grow.ensures _ c.self.inside.trace.items (Step c.args.actor c.go_on-stepped.result.step c.go_on-stepped.result.answer None)) stays
+    c.go_on-stepped.ensures.limits took.1 c.go_on-stepped.ensures.memory (rw c.reserve.ensures.items at c.push_step.ensures.items)
 
 pub returns-clause-ok : goal.returns-clause-ok
 returns-clause-ok g c =
-    let asks = core_asks _ c.steps_keep_laws.ensures.apart c.steps_keep_laws.ensures.fit _ _ _ _ _ _ c.self.invariant _ _ c.self.view_is c.requires.goes c.from-2.ensures c.index_mut-place.ensures.value in
+    let asks = core_asks _ c.steps_keep_laws.ensures.apart c.steps_keep_laws.ensures.fit _ _ _ _ _ _ c.self.invariant _ _ c.self.view_is c.requires.goes
+    c.from-2.ensures c.index_mut-place.ensures.value in
     let goes = c.go_on-stepped.ensures.goes _ _ _ asks.2 in
     let took = core_took _ c.steps_keep_laws.ensures.apart _ _ _ _ c.go_on-stepped.result.step c.go_on-stepped.result.answer c.self.invariant c.go_on-stepped.ensures.answer goes.allowed.may in
     record {
@@ -37,13 +42,17 @@ returns-clause-ok g c =
       others = core_others _ _ _ _ _ _ _ _ c.self.view_is c.from-2.ensures;
       room = rw (← c.self.view_is) (let grown = c.reserve.ensures.room in let kept = c.push_step.ensures.room in omega (arith, grown, kept));
       told = rw (← c.self.view_is) took.1;
-      event_of = told_to _ _ (Step c.args.actor c.go_on-stepped.result.step c.go_on-stepped.result.answer None) (Stepped c.link-link.result) c.self.view_is (event_is _ _ c.args.actor _ _ None _ (c.go_on-stepped.ensures.memory ∙ ap (memory_after c.args.actor c.go_on-stepped.result.step) c.self.invariant.has) (heads _ _ c.self.invariant.state c.steps_keep_laws.ensures.heads) took.0 took.1 (ap Stepped c.link-link.ensures));
+      event_of =
+          told_to _ _ (Step c.args.actor c.go_on-stepped.result.step c.go_on-stepped.result.answer None) (Stepped c.link-link.result) c.self.view_is (event_is _
+          _ c.args.actor _ _ None _ (c.go_on-stepped.ensures.memory ∙ ap (memory_after c.args.actor c.go_on-stepped.result.step) c.self.invariant.has)
+          (heads _ _ c.self.invariant.state c.steps_keep_laws.ensures.heads) took.0 took.1 (ap Stepped c.link-link.ensures));
       same_limits = rw (← c.self.view_is) refl;
     }
 
 pub go_on-stepped-requires-clause-knows : goal.go_on-stepped-requires-clause-knows
 go_on-stepped-requires-clause-knows g c =
-    let asks = core_asks _ c.steps_keep_laws.ensures.apart c.steps_keep_laws.ensures.fit _ _ _ _ _ _ c.self.invariant _ _ c.self.view_is c.requires.goes c.from-2.ensures c.index_mut-place.ensures.value in
+    let asks = core_asks _ c.steps_keep_laws.ensures.apart c.steps_keep_laws.ensures.fit _ _ _ _ _ _ c.self.invariant _ _ c.self.view_is c.requires.goes
+    c.from-2.ensures c.index_mut-place.ensures.value in
     (c.self.inside.limits, knows c.self.inside.trace.items c.args.actor, recalls c.self.inside.trace.items c.args.actor, asks.2)
 
 pub go_on-stepped-requires-clause-within : goal.go_on-stepped-requires-clause-within
@@ -67,7 +76,8 @@ returns-in_default-clause-memory g c =
     (ap Memory c.turns-number.ensures, core_wants _ _ _ _ _ _ _ _ c.self.invariant _ c.self.view_is c.requires.goes c.from.ensures c.index-place.ensures c.in_default.ensures.err)
 
 pub returns-then-is_err-clause-memory : goal.returns-then-is_err-clause-memory
-returns-then-is_err-clause-memory g c = (ap Memory c.turns-number.ensures, inl (rw (← c.self.view_is) (refused c.reserve.result _ c.is_err.result c.is_err.ensures.value c.if-is_err.true c.reserve.ensures.full)))
+returns-then-is_err-clause-memory g c =
+    (ap Memory c.turns-number.ensures, inl (rw (← c.self.view_is) (refused c.reserve.result _ c.is_err.result c.is_err.ensures.value c.if-is_err.true c.reserve.ensures.full)))
 
 pub returns-then-is_err-clause-err : goal.returns-then-is_err-clause-err
 returns-then-is_err-clause-err g c = rw (refused c.reserve.result _ c.is_err.result c.is_err.ensures.value c.if-is_err.true c.reserve.ensures.err) c.self.view_is
@@ -91,7 +101,9 @@ go_on-stepped-requires-clause-stays g c = λ leaves.
 pub go_on-stepped-requires-clause-wanted : goal.go_on-stepped-requires-clause-wanted
 go_on-stepped-requires-clause-wanted g c =
     let there = (rw (← c.self.view_is) at (step_goes c.args.self.now c.args.actor c.requires.goes)).0 in
-    let same = get_same c.self.inside.actors.items c.from.result c.from-2.result c.index-place.result.now c.index_mut-place.result.now (c.from.ensures ∙ sym c.from-2.ensures) (omega (arith, there, c.from.ensures, c.self.invariant.count)) c.index-place.ensures c.index_mut-place.ensures.value in
+    let same = get_same c.self.inside.actors.items c.from.result c.from-2.result c.index-place.result.now c.index_mut-place.result.now
+    (c.from.ensures ∙ sym c.from-2.ensures) (omega (arith, there, c.from.ensures, c.self.invariant.count)) c.index-place.ensures
+    c.index_mut-place.ensures.value in
     subst (λ (at : Actor). wanted_by at.running ≡ Some c.in-Ok.ready.step) same c.in-Ok.ensures.wanted
 
 pub invariant_of-self : goal.invariant_of-self

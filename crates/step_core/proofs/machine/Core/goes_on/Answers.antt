@@ -18,7 +18,8 @@ is_leaving-requires-clause-running g c =
 pub returns-then-is_leaving-clause-none : goal.returns-then-is_leaving-clause-none
 returns-then-is_leaving-clause-none g c = λ none.
     let goes : refusal_of c.args.self.now (Step c.in-Step.actor) ≡ None = subst (λ (t : Turn). refusal_of c.args.self.now t ≡ None) c.in-Step.is c.requires.goes in
-    subst (λ (t : Turn). BeginsOrLeaves c.args.self.now t) (sym c.in-Step.is) (core_leaves _ _ _ _ _ _ c.index.result.now _ c.self.invariant _ c.self.view_is goes c.from.ensures c.index.ensures c.if-is_leaving.ensures)
+    subst (λ (t : Turn). BeginsOrLeaves c.args.self.now t) (sym c.in-Step.is)
+    (core_leaves _ _ _ _ _ _ c.index.result.now _ c.self.invariant _ c.self.view_is goes c.from.ensures c.index.ensures c.if-is_leaving.ensures)
 
 pub returns-else-is_leaving-clause-some : goal.returns-else-is_leaving-clause-some
 returns-else-is_leaving-clause-some g c =

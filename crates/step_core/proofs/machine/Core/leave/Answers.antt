@@ -20,17 +20,21 @@ use Rattle.step_core.specs.declared.event.RunError.TheVariants.{Memory}
 
 pub invariant_of-self-2 : goal.invariant_of-self-2
 invariant_of-self-2 g c =
-    let asks = core_asks _ c.steps_keep_laws.ensures.apart c.steps_keep_laws.ensures.fit _ _ _ _ _ _ c.self.invariant _ _ c.self.view_is c.requires.goes c.from-2.ensures c.index_mut-place.ensures.value in
+    let asks = core_asks _ c.steps_keep_laws.ensures.apart c.steps_keep_laws.ensures.fit _ _ _ _ _ _ c.self.invariant _ _ c.self.view_is c.requires.goes
+    c.from-2.ensures c.index_mut-place.ensures.value in
     let goes = c.leave-reply.ensures.goes _ _ _ asks.2 in
     let took = core_took _ c.steps_keep_laws.ensures.apart _ _ _ _ Leave Done c.self.invariant refl goes.allowed.may in
     let affords = core_affords _ _ _ _ _ _ _ c.self.invariant c.from-2.ensures asks.1 c.index_mut-place.ensures.value in
     let stays = c.steps_keep_laws.ensures.direct _ _ _ _ _ _ _ _ c.self.invariant.state goes.allowed goes.useful took.1 c.self.invariant.direct affords goes.spends goes.few in
     core_stepped _ c.steps_keep_laws.ensures.state c.steps_keep_laws.ensures.paid _ _ _ _ _ _ _ _ _ Leave Done (Some c.leave-reply.result) c.self.invariant c.from-2.ensures asks.1
-    c.index_mut-place.ensures.value asks.3 goes.allowed goes.useful.useful goes.halved goes.shows c.leave-reply.ensures.command (c.entries_grow.ensures _ c.self.inside.trace.items (Step c.args.actor Leave Done (Some c.leave-reply.result))) stays c.leave-reply.ensures.limits took.1 c.leave-reply.ensures.memory (rw c.reserve.ensures.items at c.push_leave.ensures.items)
+    c.index_mut-place.ensures.value asks.3 goes.allowed goes.useful.useful goes.halved goes.shows c.leave-reply.ensures.command
+    (c.entries_grow.ensures _ c.self.inside.trace.items (Step c.args.actor Leave Done (Some c.leave-reply.result))) stays c.leave-reply.ensures.limits
+    took.1 c.leave-reply.ensures.memory (rw c.reserve.ensures.items at c.push_leave.ensures.items)
 
 pub returns-clause-ok : goal.returns-clause-ok
 returns-clause-ok g c =
-    let asks = core_asks _ c.steps_keep_laws.ensures.apart c.steps_keep_laws.ensures.fit _ _ _ _ _ _ c.self.invariant _ _ c.self.view_is c.requires.goes c.from-2.ensures c.index_mut-place.ensures.value in
+    let asks = core_asks _ c.steps_keep_laws.ensures.apart c.steps_keep_laws.ensures.fit _ _ _ _ _ _ c.self.invariant _ _ c.self.view_is c.requires.goes
+    c.from-2.ensures c.index_mut-place.ensures.value in
     let goes = c.leave-reply.ensures.goes _ _ _ asks.2 in
     let took = core_took _ c.steps_keep_laws.ensures.apart _ _ _ _ Leave Done c.self.invariant refl goes.allowed.may in
     record {
@@ -41,13 +45,17 @@ returns-clause-ok g c =
       others = core_others _ _ _ _ _ _ _ _ c.self.view_is c.from-2.ensures;
       room = rw (← c.self.view_is) (let grown = c.reserve.ensures.room in let kept = c.push_leave.ensures.room in omega (arith, grown, kept));
       told = refl;
-      event_of = told_to _ _ (Step c.args.actor Leave Done (Some c.leave-reply.result)) (Finished c.reply.result) c.self.view_is (event_is _ _ c.args.actor Leave Done (Some c.leave-reply.result) (Finished c.reply.result) (c.leave-reply.ensures.memory ∙ ap (memory_after c.args.actor Leave) c.self.invariant.has) (heads _ _ c.self.invariant.state c.steps_keep_laws.ensures.heads) took.0 took.1 (ap Finished c.reply.ensures));
+      event_of =
+          told_to _ _ (Step c.args.actor Leave Done (Some c.leave-reply.result)) (Finished c.reply.result) c.self.view_is (event_is _ _ c.args.actor Leave Done
+          (Some c.leave-reply.result) (Finished c.reply.result) (c.leave-reply.ensures.memory ∙ ap (memory_after c.args.actor Leave) c.self.invariant.has)
+          (heads _ _ c.self.invariant.state c.steps_keep_laws.ensures.heads) took.0 took.1 (ap Finished c.reply.ensures));
       same_limits = rw (← c.self.view_is) refl;
     }
 
 pub leave-reply-requires-clause-knows : goal.leave-reply-requires-clause-knows
 leave-reply-requires-clause-knows g c =
-    let asks = core_asks _ c.steps_keep_laws.ensures.apart c.steps_keep_laws.ensures.fit _ _ _ _ _ _ c.self.invariant _ _ c.self.view_is c.requires.goes c.from-2.ensures c.index_mut-place.ensures.value in
+    let asks = core_asks _ c.steps_keep_laws.ensures.apart c.steps_keep_laws.ensures.fit _ _ _ _ _ _ c.self.invariant _ _ c.self.view_is c.requires.goes
+    c.from-2.ensures c.index_mut-place.ensures.value in
     (c.self.inside.limits, knows c.self.inside.trace.items c.args.actor, recalls c.self.inside.trace.items c.args.actor, asks.2)
 
 pub leave-reply-requires-clause-within : goal.leave-reply-requires-clause-within
@@ -59,7 +67,8 @@ returns-in_default-clause-memory g c =
     (ap Memory c.turns-number.ensures, core_wants _ _ _ _ _ _ _ _ c.self.invariant _ c.self.view_is c.requires.goes c.from.ensures c.index-place.ensures c.in_default.ensures.err)
 
 pub returns-then-is_err-clause-memory : goal.returns-then-is_err-clause-memory
-returns-then-is_err-clause-memory g c = (ap Memory c.turns-number.ensures, inl (rw (← c.self.view_is) (refused c.reserve.result _ c.is_err.result c.is_err.ensures.value c.if-is_err.true c.reserve.ensures.full)))
+returns-then-is_err-clause-memory g c =
+    (ap Memory c.turns-number.ensures, inl (rw (← c.self.view_is) (refused c.reserve.result _ c.is_err.result c.is_err.ensures.value c.if-is_err.true c.reserve.ensures.full)))
 
 pub returns-then-is_err-clause-err : goal.returns-then-is_err-clause-err
 returns-then-is_err-clause-err g c = rw (refused c.reserve.result _ c.is_err.result c.is_err.ensures.value c.if-is_err.true c.reserve.ensures.err) c.self.view_is
@@ -79,7 +88,9 @@ leave-reply-requires-clause-running g c =
 pub leave-reply-requires-clause-room : goal.leave-reply-requires-clause-room
 leave-reply-requires-clause-room g c =
     let there = (rw (← c.self.view_is) at (step_goes c.args.self.now c.args.actor c.requires.goes)).0 in
-    let same = get_same c.self.inside.actors.items c.from.result c.from-2.result c.index-place.result.now c.index_mut-place.result.now (c.from.ensures ∙ sym c.from-2.ensures) (omega (arith, there, c.from.ensures, c.self.invariant.count)) c.index-place.ensures c.index_mut-place.ensures.value in
+    let same = get_same c.self.inside.actors.items c.from.result c.from-2.result c.index-place.result.now c.index_mut-place.result.now
+    (c.from.ensures ∙ sym c.from-2.ensures) (omega (arith, there, c.from.ensures, c.self.invariant.count)) c.index-place.ensures
+    c.index_mut-place.ensures.value in
     subst (λ (at : Actor). NeedsRoom at → IsSome c.in-Ok.room) same c.in-Ok.ensures.some
 
 pub room-requires : goal.room-requires

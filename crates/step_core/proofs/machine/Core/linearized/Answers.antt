@@ -15,6 +15,7 @@ returns-clause-orderly g c = rw (← c.self.view_is) (record {
   reads = c.states_are_lawful.ensures.reads _ _ c.self.invariant.state.run (c.states_are_lawful.ensures.phases _ _ c.self.invariant.state) c.self.invariant.direct.direct;
   unhindered = c.states_are_lawful.ensures.unhindered _ _ c.self.invariant.state.run (c.states_are_lawful.ensures.phases _ _ c.self.invariant.state) c.self.invariant.direct.direct;
   alone = c.states_are_lawful.ensures.alone _ _ c.self.invariant.state.run (c.states_are_lawful.ensures.phases _ _ c.self.invariant.state) c.self.invariant.direct.direct c.self.invariant.paid.few;
-  together = c.states_are_lawful.ensures.together _ _ c.self.invariant.state.run (c.states_are_lawful.ensures.phases _ _ c.self.invariant.state) c.self.invariant.direct.direct c.self.invariant.paid.few;
+  together =
+      c.states_are_lawful.ensures.together _ _ c.self.invariant.state.run (c.states_are_lawful.ensures.phases _ _ c.self.invariant.state) c.self.invariant.direct.direct c.self.invariant.paid.few;
   freed = c.states_are_lawful.ensures.freed _ _ c.self.invariant.state;
 })

@@ -25,7 +25,9 @@ returns-clause-root c = λ left right root key is. ap (λ (r : Record). content_
 
 pub returns-clause-split : goal.returns-clause-split
 returns-clause-split c = λ page plan right key is within.
-    subst (λ (r : Record). Decides (kind.Split (split_to plan right) ∷ page.chain) key (content_in page.chain key) ⊎ Decides (r ∷ []) key (content_in page.chain key)) (sym is.base) (halves page plan right is key within)
+    subst
+    (λ (r : Record). Decides (kind.Split (split_to plan right) ∷ page.chain) key (content_in page.chain key) ⊎ Decides (r ∷ []) key (content_in page.chain key))
+    (sym is.base) (halves page plan right is key within)
 
 pub returns-clause-merge_left : goal.returns-clause-merge_left
 returns-clause-merge_left c = λ left removed merge key is rules rules_removed within.

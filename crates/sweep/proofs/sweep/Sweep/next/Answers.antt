@@ -13,8 +13,12 @@ next g c = record { limits = c.self-2.inside.limits; actor = c.self-2.inside.act
 same : (g : _) (c : goal.After-state-in-Some-1 g) → HasNewState c.args.self.now (next g c)
 same g c = let is = rw (← c.self-2.view_is) at c.move_on.ensures.same in record { limits = is.limits; actor = is.actor }
 
-goes : (g : _) (c : goal.After-state-in-Some-1 g) → IsSoundState c.self-2.inside.limits c.in-Some.state × IsSoundSweep (next g c) c.move_on.new.limbo × (steps_left c.args.self.now.limits c.in-Some.state < steps_left c.args.self.now.limits c.args.self.now.state)
-goes g c = goes_on c.args.self.now (next g c) (answer_of c.args.told) c.args.limbo.now c.move_on.new.limbo c.has_each_once.ensures.rows c.has_each_once.ensures.pids (rw (← c.self.view_is) c.self.invariant.1) c.requires.sound (same g c) c.in-Some.ensures.moves
+goes : (g : _) (c : goal.After-state-in-Some-1 g)
+    → IsSoundState c.self-2.inside.limits c.in-Some.state × IsSoundSweep (next g c) c.move_on.new.limbo ×
+    (steps_left c.args.self.now.limits c.in-Some.state < steps_left c.args.self.now.limits c.args.self.now.state)
+goes g c =
+    goes_on c.args.self.now (next g c) (answer_of c.args.told) c.args.limbo.now c.move_on.new.limbo c.has_each_once.ensures.rows c.has_each_once.ensures.pids
+    (rw (← c.self.view_is) c.self.invariant.1) c.requires.sound (same g c) c.in-Some.ensures.moves
 
 pub invariant_of-self : goal.invariant_of-self
 invariant_of-self g c = (c.self-2.invariant.0, (goes g c).0)
@@ -34,4 +38,5 @@ returns-in-Some-clause-spends g c = (goes g c).2
 
 pub returns-in-None-clause-follows : goal.returns-in-None-clause-follows
 returns-in-None-clause-follows g c =
-    follows c.args.self.now c.move_on.new.self c.args.limbo.now c.move_on.new.limbo (answer_of c.args.told) false (rw (← c.self.view_is) c.self.invariant.0) c.move_on.ensures.same c.in-None.ensures.moves
+    follows c.args.self.now c.move_on.new.self c.args.limbo.now c.move_on.new.limbo (answer_of c.args.told) false (rw (← c.self.view_is) c.self.invariant.0)
+    c.move_on.ensures.same c.in-None.ensures.moves

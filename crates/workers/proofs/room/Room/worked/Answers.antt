@@ -48,7 +48,8 @@ parted-done-requires-clause-results_room g c =
 pub parted-done-requires-clause-few : goal.parted-done-requires-clause-few
 parted-done-requires-clause-few g c =
     all_few c.in_threads-may_run.result.0 c.args.shared.now.limit c.seated-workers.result.items c.in_threads-may_run.result.1.items
-    (All-weaker (λ worker. HasRoom c.args.shared.now.limit worker.done) (λ worker. vec_len worker.done ≤ c.args.shared.now.limit) (λ worker room. let none = worker.done.ok.0 ∙ ap length room.0 in omega (arith, none)) c.seated-workers.result.items c.seated-workers.ensures.room)
+    (All-weaker (λ worker. HasRoom c.args.shared.now.limit worker.done) (λ worker. vec_len worker.done ≤ c.args.shared.now.limit)
+    (λ worker room. let none = worker.done.ok.0 ∙ ap length room.0 in omega (arith, none)) c.seated-workers.result.items c.seated-workers.ensures.room)
     c.in_threads-may_run.ensures
 
 pub returns-then-may_run-clause-worked : goal.returns-then-may_run-clause-worked
@@ -62,5 +63,6 @@ returns-then-may_run-clause-worked g c =
 pub returns-else-may_run-clause-left : goal.returns-else-may_run-clause-left
 returns-else-may_run-clause-left g c =
     c.parted-done.ensures.seats
-    ∙ ap (map seat_of) (all_same c.in_threads-may_run.result.0 c.args.shared.now.limit c.seated-workers.result.items c.in_threads-may_run.result.1.items c.in_threads-may_run.ensures c.if-may_run.false)
+    ∙ ap (map seat_of)
+    (all_same c.in_threads-may_run.result.0 c.args.shared.now.limit c.seated-workers.result.items c.in_threads-may_run.result.1.items c.in_threads-may_run.ensures c.if-may_run.false)
     ∙ c.seated-workers.ensures.seats
