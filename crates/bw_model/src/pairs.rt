@@ -52,15 +52,30 @@ impl Pairs {
         self.pairs.as_slice()
     }
 
+    /// No pairs from now on.
+    pub fn clear(&mut self)
+        ensures { self.new ≡ [] }
+    {
+        self.pairs.clear();
+    }
+
+    /// These pairs from now on, each copied to its place.
+    pub fn set(&mut self, pairs: &Pairs)
+        ensures { self.new ≡ pairs.now }
+    {
+        self.clear();
+        for (key, value) in pairs.as_slice() {
+            self.pairs.push((key.copied(), value.copied()));
+        }
+    }
+
     /// The same pairs again, without memory.
     pub fn copied(&self) -> Pairs
         ensures { result ≡ self.now }
     {
-        let mut pairs = ArrayVec::new();
-        for (key, value) in self.pairs.as_slice() {
-            pairs.push((key.copied(), value.copied()));
-        }
-        Pairs { pairs }
+        let mut pairs = Pairs::new();
+        pairs.set(self);
+        pairs
     }
 }
 

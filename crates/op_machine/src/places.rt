@@ -225,16 +225,10 @@ impl<R: Rows, A: Allocator> Places<R, A> {
     pub(crate) fn leaf_read(&self, is_beside: bool) -> &PageInHand<R, A>
         ensures { result.now ≡ leaf_read is_beside self.now.reader }
     {
-        if is_beside {
-            self.reader.aside()
-        } else {
-            self.reader.page()
-        }
+        leaf_of(&self.reader, is_beside)
     }
 
-    /// The operation is to leave with the pairs of the leaf that was read, from a key on, and where the next page goes on. Not inlined: no
-    /// other reply needs room for pairs.
-    #[inline(never)]
+    /// The operation is to leave with the pairs of the leaf that was read, from a key on, and where the next page goes on.
     pub(crate) fn leave_with_page(
         &mut self,
         is_beside: bool,
@@ -246,9 +240,8 @@ impl<R: Rows, A: Allocator> Places<R, A> {
         ensures looks { pass.new ≡ pass.old }
         ensures page { (pairs : List (List ℕ × List ℕ)) × ArePairsOf (found (leaf_read is_beside self.old.reader).chain) from.now (high_in (leaf_read is_beside self.old.reader).chain) pairs × (self.new ≡ record self.old { stand = StateKind.Leave; reply = Reply.Page pairs (high_in (leaf_read is_beside self.old.reader).chain); lacks = None }) }
     {
-        let leaf = self.leaf_read(is_beside).chain();
-        let (pairs, next) = (leaf.pairs_from(rows, pass, from), leaf.high(rows, pass));
-        self.reply.put_page(pairs, next);
+        let leaf = leaf_of(&self.reader, is_beside).chain();
+        self.reply.put_page(leaf, from, rows, pass);
         self.lacks = None;
         self.stand = StateKind::Leave;
     }
@@ -418,4 +411,15 @@ fn no_change(limits: &Limits) -> Change {
         content: Record::Remove(Remove { level: 0, next: 1 }),
     };
     Change::new(limits, &Spares::new(), plan)
+}
+
+/// The leaf in the hand of a reader's round, or the removed one beside it.
+fn leaf_of<R: Rows, A: Allocator>(reader: &ReadRound<R, A>, is_beside: bool) -> &PageInHand<R, A>
+    ensures { result.now ≡ leaf_read is_beside reader.now }
+{
+    if is_beside {
+        reader.aside()
+    } else {
+        reader.page()
+    }
 }

@@ -24,6 +24,7 @@ ghost use Rattle.structure_changes.specs.Reads.{chain_of};
 use crate::places::Places;
 use crate::short_reply::ShortReply;
 use crate::task::Task;
+use bw_model::Command;
 use round_model::read_leaves_stood;
 use rounds::ReadEndKind;
 use row_search::{KeyWords, Rows};
@@ -90,6 +91,10 @@ impl Task {
         ensures may { (spares : Spares) (k : Knowledge) (head : ℕ) → StandsForReader self.now spares k head (leaf_read is_beside places.old.reader).chain → IsBetweenChanges self.now spares k × MayReply self.now.limits self.now.actor k places.new.reply }
         ensures answers { places.new.reply ≢ reply.Full }
     {
+        if let Command::Page(from) = self.command() {
+            places.leave_with_page(is_beside, from, rows, pass);
+            return;
+        }
         let key = self.command().key();
         let leaf = places.leaf_read(is_beside).chain();
         let found = leaf.find(rows, pass, &KeyWords::of(key));

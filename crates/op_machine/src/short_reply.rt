@@ -1,10 +1,17 @@
 //! What an operation is to answer: a cursor page's pairs have a place of their own, so that no other reply moves their room.
-ghost use Rattle.std.specs.Prelude.{◌≡◌, [], option_copied};
+ghost use Rattle.std.specs.Prelude.{◌≡◌, ℕ, List, [], option_copied};
 ghost use Rattle.bw_model.specs.Replies.{reply_of};
 ghost use Rattle.bw_model.specs.declared.command.Reply.TheVariants as replied;
+ghost use Rattle.bw_model.specs.Pairs.{ArePairsOf};
+ghost use Rattle.traces.specs.chain.Chains.{high_in};
+ghost use Rattle.traces.specs.discipline.Discipline.{found};
+ghost use Rattle.row_chain.specs.Placed.{IsReadChain};
 ghost use Rattle.op_machine.specs.machine.ShortReplies.{reply_with};
 
 use bw_model::{Command, Key, Pairs, Reply, Value};
+use row_chain::Chain;
+use row_search::Rows;
+use std::alloc::Allocator;
 use std::marker::Model;
 
 /// Which reply it is, but for a cursor page.
@@ -177,13 +184,21 @@ impl ReplyPlace {
         self.short = reply;
     }
 
-    /// Puts a cursor page there.
-    pub(crate) fn put_page(&mut self, pairs: Pairs, next: Option<Key>)
-        ensures { self.new ≡ replied.Page pairs next }
+    /// Puts the cursor page of a leaf there, from a key on.
+    pub(crate) fn put_page<R: Rows, A: Allocator>(
+        &mut self,
+        leaf: &Chain<R, A>,
+        from: &Key,
+        rows: &R,
+        pass: &mut R::Pass,
+    )
+        requires read { IsReadChain (R.has rows.now pass.old) leaf.now }
+        ensures looks { pass.new ≡ pass.old }
+        ensures page { (pairs : List (List ℕ × List ℕ)) × ArePairsOf (found leaf.now.records) from.now (high_in leaf.now.records) pairs × (self.new ≡ replied.Page pairs (high_in leaf.now.records)) }
     {
         self.is_page = true;
-        self.pairs = pairs;
-        self.next = next;
+        leaf.show_pairs(rows, pass, from, &mut self.pairs);
+        self.next = leaf.high(rows, pass);
     }
 
     /// Tells the reply that is there in another place.
@@ -198,9 +213,21 @@ impl ReplyPlace {
     }
 }
 
-/// Tells a cursor page. Not inlined: no other reply needs room for its pairs.
-#[inline(never)]
+/// Tells a cursor page: over the one that lies there, where one does.
 fn tell_page(pairs: &Pairs, next: &Option<Key>, reply: &mut Reply)
+    ensures { reply.new ≡ replied.Page pairs.now next.now }
+{
+    if let Reply::Page { items, next: after } = &mut *reply {
+        items.set(pairs);
+        *after = next.as_ref().map(Key::copied);
+        return;
+    }
+    tell_page_anew(pairs, next, reply);
+}
+
+/// The same, whatever lies there. Not inlined: no other reply needs room for its pairs.
+#[inline(never)]
+fn tell_page_anew(pairs: &Pairs, next: &Option<Key>, reply: &mut Reply)
     ensures { reply.new ≡ replied.Page pairs.now next.now }
 {
     *reply = Reply::Page {

@@ -14,25 +14,25 @@ use row_search::Rows;
 use std::alloc::Allocator;
 
 impl<R: Rows, A: Allocator> Chain<R, A> {
-    /// The pairs of the page from the key on, up to its high key; an index page has none.
+    /// Makes these the pairs of the page from the key on, up to its high key; an index page has none.
     #[inline(never)]
-    pub fn pairs_from(&self, rows: &R, pass: &mut R::Pass, from: &Key) -> Pairs
+    pub fn show_pairs(&self, rows: &R, pass: &mut R::Pass, from: &Key, pairs: &mut Pairs)
         requires read { IsReadChain (R.has rows.now pass.old) self.now }
         ensures same { pass.new ≡ pass.old }
-        ensures pairs { ArePairsOf (found self.now.records) from.now (high_in self.now.records) result }
+        ensures pairs { ArePairsOf (found self.now.records) from.now (high_in self.now.records) pairs.new }
     {
         let page = self.page(rows, pass);
-        pairs_among(page.items().as_slice(), from)
+        show_among(page.items().as_slice(), from, pairs);
     }
 }
 
-/// The pairs of the items from the key on.
-fn pairs_among(items: &[Item], from: &Key) -> Pairs
+/// Makes these the pairs of the items from the key on.
+fn show_among(items: &[Item], from: &Key, pairs: &mut Pairs)
     requires ascending { IsAscending items.now }
     requires few { length items.now ≤ MAX_PAIRS }
-    ensures { ArePairsOf (λ key. value_of (content_at items.now key)) from.now None result }
+    ensures { ArePairsOf (λ key. value_of (content_at items.now key)) from.now None pairs.new }
 {
-    let mut pairs = Pairs::new();
+    pairs.clear();
     for item in items {
         if let Content::Value(value) = &item.content
             && !item.key.cmp(from).is_lt()
@@ -40,5 +40,4 @@ fn pairs_among(items: &[Item], from: &Key) -> Pairs
             pairs.push(item.key.copied(), value.copied());
         }
     }
-    pairs
 }

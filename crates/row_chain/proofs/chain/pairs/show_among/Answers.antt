@@ -1,7 +1,7 @@
 use Rattle.std.proofs.Common.{◌≡◌, ◌∙◌, ◌++◌, [], drop, ap, sym}
 use Rattle.std.proofs.lemmas.List.{append-nil, drop_all}
 use Rattle.row_chain.proofs.PairLaws.{among, are_pairs}
-use Rattle.row_chain.proofs.chain.pairs.pairs_among.Goals as goal
+use Rattle.row_chain.proofs.chain.pairs.show_among.Goals as goal
 
 pub returns : goal.returns
 returns c =

@@ -1,6 +1,6 @@
 use Rattle.std.proofs.Common.{◌≡◌, ◌≤◌, ◌++◌, length, drop}
 use Rattle.row_chain.proofs.PairLaws.{among}
-use Rattle.row_chain.proofs.chain.pairs.pairs_among.Given as goal
+use Rattle.row_chain.proofs.chain.pairs.show_among.Given as goal
 
 abbrev pub invariant-loop-item : goal.invariant-loop-item
 invariant-loop-item l = record {
