@@ -92,7 +92,7 @@ impl<A: Allocator> Entries<A> {
         self.replies.try_reserve(1)
     }
 
-    /// Adds that an actor began an operation; there is room for it.
+    /// Adds the begin of an actor's operation, for which there is room.
     pub fn push_begin(&mut self, actor: u8, command: &Command)
         requires { length self.old.items < self.old.room }
         ensures items { self.new.items ≡ self.old.items ++ entry.Begin actor command.now ∷ [] }

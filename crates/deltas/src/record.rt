@@ -146,7 +146,7 @@ impl Record {
         }
     }
 
-    /// The same record again, without memory.
+    /// A copy, which takes no memory.
     pub fn copied(&self) -> Record
         ensures { result ≡ self.now }
     {
@@ -165,7 +165,7 @@ impl Record {
 }
 
 impl Put {
-    /// The same record again, without memory.
+    /// A copy, which takes no memory.
     pub fn copied(&self) -> Put
         ensures { result ≡ self.now }
     {
@@ -178,7 +178,7 @@ impl Put {
 }
 
 impl Delete {
-    /// The same record again, without memory.
+    /// A copy, which takes no memory.
     pub fn copied(&self) -> Delete
         ensures { result ≡ self.now }
     {
@@ -190,7 +190,7 @@ impl Delete {
 }
 
 impl Split {
-    /// The same record again, without memory.
+    /// A copy, which takes no memory.
     pub fn copied(&self) -> Split
         ensures { result ≡ self.now }
     {
@@ -204,7 +204,7 @@ impl Split {
 }
 
 impl Term {
-    /// The same record again, without memory.
+    /// A copy, which takes no memory.
     pub fn copied(&self) -> Term
         ensures { result ≡ self.now }
     {
@@ -218,7 +218,7 @@ impl Term {
 }
 
 impl Hold {
-    /// The same record again, without memory.
+    /// A copy, which takes no memory.
     pub fn copied(&self) -> Hold
         ensures { result ≡ self.now }
     {
@@ -232,7 +232,7 @@ impl Hold {
 }
 
 impl Merge {
-    /// The same record again, without memory.
+    /// A copy, which takes no memory.
     pub fn copied(&self) -> Merge
         ensures { result ≡ self.now }
     {
@@ -251,7 +251,7 @@ impl Merge {
 }
 
 impl Unterm {
-    /// The same record again, without memory.
+    /// A copy, which takes no memory.
     pub fn copied(&self) -> Unterm
         ensures { result ≡ self.now }
     {

@@ -48,7 +48,8 @@ use std::alloc::{AllocError, Allocator, Global};
 use std::marker::Model;
 use structure_changes::{After, PageInHand, Plan};
 
-/// Where an operation stands, by the place of what is under way: a state without a place is named by the step that it has asked for.
+/// Which state an operation is in. Its round, its change or its reply lies in a place of its own; each other state is named by the
+/// step that it has asked for.
 #[derive(Clone, Copy)]
 pub(crate) enum StateKind {
     Begun,

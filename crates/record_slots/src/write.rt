@@ -194,7 +194,7 @@ fn value_bytes(value: &Value) -> &[u8]
     bytes
 }
 
-/// So few bytes are a key or a value.
+/// Shows that as many bytes as a key or a value has at most are short, at no cost.
 fn are_short(bytes: &[u8])
     requires { length bytes.now ≤ longest }
     ensures { IsShort bytes.now }

@@ -111,7 +111,7 @@ impl<R: Rows, A: Allocator> Chain<R, A> {
         &self.part.as_slice()[self.deltas()]
     }
 
-    /// The same, to look at.
+    /// The base of a chain that was read, whose words may be looked at.
     fn base_read(&self, rows: &R, pass: &R::Pass) -> &RowAt<R>
         requires { IsReadChain (R.has rows.now pass.now) self.now }
         ensures there { R.has rows.now pass.now result.now.row result.now.content }

@@ -8,7 +8,7 @@ use bw_model::Key;
 pub enum After {
     /// A new round.
     Round,
-    /// A new round, once this is in limbo, which the change has taken out of the tree.
+    /// What the change has taken out of the tree goes into limbo, and then a new round begins.
     Limbo(Unlinked),
     /// A new round, with one errand more: the page that was split off begins at this key.
     Errand(Key),

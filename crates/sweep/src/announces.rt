@@ -34,7 +34,7 @@ impl Announces {
         }
     }
 
-    /// Of how many actors they are.
+    /// How many actors' epochs were read.
     pub(crate) fn len(&self) -> usize
         ensures { result ≡ length self.now }
     {

@@ -11,8 +11,8 @@ pub fn small_limbo_is_kept()
     ensures { (limits : Limits) → AreKept limits 0 (small_limbo limits) (known_with (Stamped 3 all_passed)) }
 {}
 
-/// The list has what was freed, or what nobody has passed; what it has as passed has no stamp by what is known, or a later
-/// one; or it hasn't what is out of the tree.
+/// No limbo agrees with what is known that has an item which was freed, or lacks one which is out of the tree. Nor does one that calls
+/// an item passed which has no stamp, or a later one, or which nobody has passed.
 pub fn other_limbos_are_refused()
     ensures freed { (limits : Limits) → ¬ AreKept limits 0 (small_limbo limits) (known_with Absent) }
     ensures unstamped { (limits : Limits) → ¬ AreKept limits 0 (small_limbo limits) (known_with Unstamped) }

@@ -45,7 +45,7 @@ LeavesRow row Idle = ⊤
 LeavesRow row (Writing at first words) = at ≢ row
 LeavesRow row Noted = ⊤
 
--- no seat is
+-- No seat is in the midst of placing a record into the row.
 abbrev pub IsSettled : List (List Part) → ℕ → Type 0
 IsSettled views row = (id : ℕ) (view : List Part) → get_elem? views id ≡ some view → Each (λ part. LeavesRow row part.reach) view
 

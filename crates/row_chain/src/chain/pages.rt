@@ -76,7 +76,7 @@ fn change<R: Rows>(page: &mut Page, row: &RowAt<R>, rows: &R, pass: &mut R::Pass
     change_unless_put(page, row, rows, pass);
 }
 
-/// The same of a record that is no put.
+/// Makes of the page what a record that is no put makes of it.
 fn change_unless_put<R: Rows>(page: &mut Page, row: &RowAt<R>, rows: &R, pass: &mut R::Pass)
     requires read { R.has rows.now pass.old row.now.row row.now.content }
     requires fits { FitsOnPage page.old row.now.content }
@@ -90,7 +90,7 @@ fn change_unless_put<R: Rows>(page: &mut Page, row: &RowAt<R>, rows: &R, pass: &
     change_decoded(page, row, rows, pass);
 }
 
-/// The same by the whole record, decoded.
+/// Makes of the page what the whole record makes of it, decoded.
 #[inline(never)]
 fn change_decoded<R: Rows>(page: &mut Page, row: &RowAt<R>, rows: &R, pass: &mut R::Pass)
     requires read { R.has rows.now pass.old row.now.row row.now.content }
