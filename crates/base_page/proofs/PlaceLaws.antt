@@ -1,5 +1,6 @@
 -- What a search finds among ascending items, and what an edit at that place does.
-use Rattle.std.proofs.Common.{◌≡◌, ℕ, zero, suc, ◌+◌, ◌<◌, ◌≤◌, List, [], ◌∷◌, ◌++◌, length, get_or, take, drop, set, map, add-one, true, false, Result, Ok, Err, IfOk, IfErr, Some, None, refl, sym, ap, subst, ◌∙◌, arith}
+use Rattle.std.proofs.Common.{◌≡◌, ℕ, zero, suc, ◌+◌, ◌<◌, ◌≤◌, List, [], ◌∷◌, ◌++◌, length, get_or, take, drop, set, map, add-one, true, false, Result, Ok}
+use Rattle.std.proofs.Common.{Err, IfOk, IfErr, Some, None, refl, sym, ap, subst, ◌∙◌, arith}
 use Rattle.std.specs.Prelude.{if◌then◌else◌}
 use Rattle.std.specs.List.{AllByRecursion, AllWithin, insert, remove, refill}
 use Rattle.std.specs.List.Sorted.{IsSearchInRange, IsBinarySearchResult, IsSortedBy}
@@ -18,7 +19,8 @@ use Rattle.base_page.specs.declared.item.Item.{Item}
 use Rattle.base_page.specs.Pages.{content_at, AreItems, IsAscending}
 use Rattle.base_page.specs.Places.{IsAt, IsCut, IsGap}
 use Rattle.base_page.proofs.KeyLaws.{above, below, itself, same, either}
-use Rattle.base_page.proofs.ItemLaws.{all-weaker, all-both, AllAbove, AllBelow, Ascends, Ascends-from, IsAscending-from, joined, front_ascends, back_ascends, before, lacks_below, lacks_above, append_lacks, middle_other, middle_here}
+use Rattle.base_page.proofs.ItemLaws.{all-weaker, all-both, AllAbove, AllBelow, Ascends, Ascends-from, IsAscending-from, joined, front_ascends, back_ascends}
+use Rattle.base_page.proofs.ItemLaws.{before, lacks_below, lacks_above, append_lacks, middle_other, middle_here}
 
 pub within_take : {X : Type 0} (P : X → Type 0) (xs : List X) (i : ℕ) → i ≤ length xs → AllWithin P xs 0 i → AllByRecursion P (take i xs)
 within_take P [] zero l h = tt

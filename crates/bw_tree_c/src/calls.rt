@@ -114,7 +114,8 @@ pub extern "C" fn bwtree_raw_swap(
     old: &mut Bytes,
 ) -> u32
     ensures long { (MAX_LENGTH < length key.now) ⊎ (MAX_LENGTH < length expected.now) ⊎ (MAX_LENGTH < length value.now) → (result ≡ TOO_LONG) × (old.new ≡ old.old) }
-    ensures called { length key.now ≤ MAX_LENGTH → length expected.now ≤ MAX_LENGTH → length value.now ≤ MAX_LENGTH → ComesToValue tree.now.kept.value seat (command.Swap key.now expected.now value.now) result old.old old.new }
+    ensures called { length key.now ≤ MAX_LENGTH → length expected.now ≤ MAX_LENGTH → length value.now ≤ MAX_LENGTH
+        → ComesToValue tree.now.kept.value seat (command.Swap key.now expected.now value.now) result old.old old.new }
 {
     let Ok(key) = Key::from_slice(key) else {
         return TOO_LONG;

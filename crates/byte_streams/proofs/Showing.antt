@@ -1,5 +1,6 @@
 -- Laws of writing one text behind another.
-use Rattle.std.proofs.Common.{◌≡◌, ℕ, ◌+◌, ◌<◌, get_or, List, [], ◌∷◌, ◌++◌, length, take, drop, refl, sym, ap, ◌∙◌, arith, length-append, Bool, true, false, not, Option, subst, Result, Ok, Err, is_ok, OnErr}
+use Rattle.std.proofs.Common.{◌≡◌, ℕ, ◌+◌, ◌<◌, get_or, List, [], ◌∷◌, ◌++◌, length, take, drop, refl, sym, ap, ◌∙◌, arith, length-append, Bool, true, false}
+use Rattle.std.proofs.Common.{not, Option, subst, Result, Ok, Err, is_ok, OnErr}
 use Rattle.std.proofs.lemmas.List.{append_assoc, append-nil, take-append-drop, take_more}
 use Rattle.std.proofs.lemmas.Grind.{flat_map-append}
 use Rattle.std.specs.List.{flat_map}

@@ -13,7 +13,8 @@ use Rattle.traces.specs.discipline.Discipline.{IsOwn, IsUnset, MayExchange}
 use Rattle.traces.specs.discipline.Fitting.{Fits, ReadsRemoved}
 use Rattle.traces.specs.discipline.Knowledge.{Belongings, Knowledge, OwnPage, OwnRow, Written, Empty, Ready, learn, set_page}
 use Rattle.structure_changes.specs.Splits.{split_to}
-use Rattle.change_machine.specs.Changes.{AreEnough, Change, ChangesOn, IsLike, ChangeIsOver, IsPlaced, StandsReady, IsSoundChange, IsTarget, KeepsSpare, MayChange, MayInstall, MayLinkAs, Shows, ShowsState, base_row, linked_after, linked_number, wanted_at}
+use Rattle.change_machine.specs.Changes.{AreEnough, Change, ChangesOn, IsLike, ChangeIsOver, IsPlaced, StandsReady, IsSoundChange, IsTarget, KeepsSpare}
+use Rattle.change_machine.specs.Changes.{MayChange, MayInstall, MayLinkAs, Shows, ShowsState, base_row, linked_after, linked_number, wanted_at}
 use Rattle.structure_changes.specs.Plans.{head_of, needs_pid, new_base, new_record, rows_needed, slot_of}
 use Rattle.change_machine.specs.Moves.{after_ready}
 use Rattle.change_machine.specs.Spares.{AreSpare, AreTheSpares, AreUnset, HaveRoom, IsUnlinked, Spares, first_row, last_row, pid_of}

@@ -9,7 +9,8 @@ ghost use Rattle.traces.specs.discipline.Fitting.{Fits};
 ghost use Rattle.traces.specs.discipline.Knowledge.{Knowledge, learn};
 ghost use Rattle.traces.specs.discipline.Recalled.{Recalled, WasHead};
 ghost use Rattle.change_machine.specs.Bounded.{IsApart, IsPidFrom, Recalls, Spends, few_steps, pid_taken, steps_left};
-ghost use Rattle.change_machine.specs.Changes.{Follows, IsMade, IsMadeAt, IsOfChange, HasNewState, IsSoundChange, IsSpellablePlan, IsTarget, FitsChange, KeepsSpare, MayChange, Shows, at, base_row, linked_number, placed_in, wanted};
+ghost use Rattle.change_machine.specs.Changes.{Follows, IsMade, IsMadeAt, IsOfChange, HasNewState, IsSoundChange, IsSpellablePlan, IsTarget, FitsChange};
+ghost use Rattle.change_machine.specs.Changes.{KeepsSpare, MayChange, Shows, at, base_row, linked_number, placed_in, wanted};
 ghost use Rattle.structure_changes.specs.Plans.{head_of, slot_of};
 ghost use Rattle.change_machine.specs.Moves.{after_ready, decided_by, first_state, moved, moved_by};
 ghost use Rattle.change_machine.specs.Outs.{TakesFresh, limbo_after};
@@ -137,17 +138,22 @@ impl Change {
     pub fn next(&mut self, spares: &mut Spares, told: Told) -> Option<End>
         requires sound { IsSoundChange self.old spares.old }
         requires told { FitsChange self.old spares.old (answer_of told) }
-        ensures follows { (actor : ℕ) (k : Knowledge) → Shows actor self.old spares.old k → Fits self.old.limits k (wanted self.old spares.old) (answer_of told) → Follows actor k (learn k (wanted self.old spares.old) (answer_of told)) self.old (answer_of told) self.new spares.new result }
-        ensures limbo { (actor : ℕ) (k : Knowledge) → Shows actor self.old spares.old k → Fits self.old.limits k (wanted self.old spares.old) (answer_of told) → (learn k (wanted self.old spares.old) (answer_of told)).limbo ≡ limbo_after self.old.plan result k }
-        ensures fresh { (actor : ℕ) (k : Knowledge) → Shows actor self.old spares.old k → Fits self.old.limits k (wanted self.old spares.old) (answer_of told) → TakesFresh self.old.limits k self.old.plan result }
+        ensures follows { (actor : ℕ) (k : Knowledge) → Shows actor self.old spares.old k → Fits self.old.limits k (wanted self.old spares.old) (answer_of told)
+            → Follows actor k (learn k (wanted self.old spares.old) (answer_of told)) self.old (answer_of told) self.new spares.new result }
+        ensures limbo { (actor : ℕ) (k : Knowledge) → Shows actor self.old spares.old k → Fits self.old.limits k (wanted self.old spares.old) (answer_of told)
+            → (learn k (wanted self.old spares.old) (answer_of told)).limbo ≡ limbo_after self.old.plan result k }
+        ensures fresh { (actor : ℕ) (k : Knowledge) → Shows actor self.old spares.old k → Fits self.old.limits k (wanted self.old spares.old) (answer_of told)
+            → TakesFresh self.old.limits k self.old.plan result }
         ensures sound { IfNone result (IsSoundChange self.new spares.new) }
         ensures made { IsMade self.new spares.new }
         ensures room { HaveRoom self.old.limits spares.new }
         ensures same { HasNewState self.old self.new }
         ensures pid { IsPidFrom spares.old.pid (pid_taken (wanted self.old spares.old) (answer_of told)) spares.new.pid }
         ensures spends { Spends self.old spares.old (answer_of told) self.new spares.new result }
-        ensures lowest { (kind : Kind) (word bits : ℕ) (whole : Bool) → self.old.state ≡ State.Taking (Taking.Bits kind word whole) → told ≡ Told.Number bits → 0 < bits → self.new.state ≡ State.Taking (Taking.Take kind (64 * word + trailing_zeros w64 bits) whole) }
-        ensures again { (kind : Kind) (number : ℕ) (whole : Bool) → self.old.state ≡ State.Taking (Taking.Take kind number whole) → told ≡ Told.Whether false → self.new.state ≡ State.Taking (Taking.Bits kind (number / 64) whole) }
+        ensures lowest { (kind : Kind) (word bits : ℕ) (whole : Bool) → self.old.state ≡ State.Taking (Taking.Bits kind word whole) → told ≡ Told.Number bits
+            → 0 < bits → self.new.state ≡ State.Taking (Taking.Take kind (64 * word + trailing_zeros w64 bits) whole) }
+        ensures again { (kind : Kind) (number : ℕ) (whole : Bool) → self.old.state ≡ State.Taking (Taking.Take kind number whole) → told ≡ Told.Whether false
+            → self.new.state ≡ State.Taking (Taking.Bits kind (number / 64) whole) }
     {
         let _ = &self.limits;
         self.move_on(spares, told)

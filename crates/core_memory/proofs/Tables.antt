@@ -1,5 +1,6 @@
 -- What writes make of the memory that a table has.
-use Rattle.std.proofs.Common.{◌≡◌, ◌≢◌, Option, Some, None, ◌<◌, ◌≤◌, ◌*◌, ◌/◌, ◌%◌, ◌^◌, ◌⊎◌, ℕ, zero, suc, max, List, length, set, get_or, Bool, true, false, eqb, eq-eqb, ne_eqb, inl, inr, refl, ap, arith, ◌∙◌, get_or-set_same, get_or-set_other}
+use Rattle.std.proofs.Common.{◌≡◌, ◌≢◌, Option, Some, None, ◌<◌, ◌≤◌, ◌*◌, ◌/◌, ◌%◌, ◌^◌, ◌⊎◌, ℕ, zero, suc, max, List, length, set, get_or, Bool, true, false}
+use Rattle.std.proofs.Common.{eqb, eq-eqb, ne_eqb, inl, inr, refl, ap, arith, ◌∙◌, get_or-set_same, get_or-set_other}
 use Rattle.std.specs.Prelude.{slice_index, if◌then◌else◌, bit_and, bit_or, not, ◌||◌, ◌&&◌, nat_le, nat_lt}
 use Rattle.std.specs.Int.{bit_at, bit_not, w64}
 use Rattle.std.proofs.lemmas.Bool.{cases_lt}

@@ -4,7 +4,8 @@ ghost use Rattle.std.specs.List.{flat_map};
 ghost use Rattle.byte_streams.specs.Output.{Prints};
 ghost use Rattle.tree_picture.specs.Colours.{colour_text};
 ghost use Rattle.tree_picture.specs.Document.{attribute_text, element_text, escaped, escaped_byte};
-ghost use Rattle.tree_picture.specs.Elements.{attribute, dashes, document_attributes, document_text, elements_of, line_element, mark_in, name_in, number, range_in, weight, rectangle_attributes, rectangle_element, text_element};
+ghost use Rattle.tree_picture.specs.Elements.{attribute, dashes, document_attributes, document_text, elements_of, line_element, mark_in, name_in, number};
+ghost use Rattle.tree_picture.specs.Elements.{range_in, weight, rectangle_attributes, rectangle_element, text_element};
 
 use byte_streams::Output;
 use itoa::Buffer;

@@ -1,5 +1,6 @@
 -- The first word with numbers that may be freed, and its bits, one entry after another.
-use Rattle.std.proofs.Common.{◌≡◌, ◌≢◌, ◌<◌, ◌+◌, ◌*◌, ◌/◌, ◌%◌, ◌^◌, ◌⊎◌, ℕ, Option, None, Some, List, length, get_or, take, Bool, true, false, eqb, eq-eqb, ne_eqb, refl, sym, ap, ◌∙◌, arith, rules, inl, inr}
+use Rattle.std.proofs.Common.{◌≡◌, ◌≢◌, ◌<◌, ◌+◌, ◌*◌, ◌/◌, ◌%◌, ◌^◌, ◌⊎◌, ℕ, Option, None, Some, List, length, get_or, take, Bool, true, false, eqb, eq-eqb}
+use Rattle.std.proofs.Common.{ne_eqb, refl, sym, ap, ◌∙◌, arith, rules, inl, inr}
 use Rattle.std.specs.Prelude.{bit_or, ◌||◌, ◌&&◌}
 use Rattle.std.specs.Int.{w64}
 use Rattle.std.proofs.lemmas.Bool.{cases_eq, cases_lt, or_cases, eqb-true}

@@ -48,7 +48,8 @@ fn inserted<R: Threads + Sync>(
 ) -> Option<Vec<Inserts>>
     requires own { AreSeatsOf tree.now seats.old.items }
     ensures own { AreSeatsOf tree.now seats.new.items }
-    ensures made { IfSome result (λ done. (n : ℕ) (work : Inserts) → slice_get done.items n ≡ Some work → (m : ℕ) × (seat : Seat) × (slice_get seats.new.items m ≡ Some seat) × ((reply : Reply) → work.told ≡ Some (Ok reply) → Contains (calls_in seat) (command.Insert work.key [], Some reply))) }
+    ensures made { IfSome result (λ done. (n : ℕ) (work : Inserts) → slice_get done.items n ≡ Some work
+        → (m : ℕ) × (seat : Seat) × (slice_get seats.new.items m ≡ Some seat) × ((reply : Reply) → work.told ≡ Some (Ok reply) → Contains (calls_in seat) (command.Insert work.key [], Some reply))) }
 {
     // what each work says that it comes to, the threads say of each
     match work_in_threads(rt, tree, seats, works) {

@@ -156,7 +156,8 @@ impl<R: Rows, A: Allocator> Actor<R, A> {
     pub fn go_on(&mut self, told: Told)
         requires told { IsToldActor self.old (answer_of told) }
         requires stays { wanted_by self.old.running ≢ Some Step.Leave }
-        ensures goes { (limits : LimitsSeen) (number : ℕ) (k : Knowledge) (r : Recalled) (going : IsGoing limits number k r self.old (answer_of told)) → ActsOn limits number k r self.old going.running.wanted (answer_of told) None self.new }
+        ensures goes { (limits : LimitsSeen) (number : ℕ) (k : Knowledge) (r : Recalled) (going : IsGoing limits number k r self.old (answer_of told))
+            → ActsOn limits number k r self.old going.running.wanted (answer_of told) None self.new }
         ensures command { running_command self.new ≡ running_command self.old }
     {
         self.operation.go_on(&mut self.hand, told);
@@ -168,7 +169,8 @@ impl<R: Rows, A: Allocator> Actor<R, A> {
     pub fn take_record(&mut self, found: RowAt<R>, rows: &R, pass: &mut R::Pass)
         requires asked { wanted_by self.old.running ≡ Some (Row found.row) }
         requires told { IsToldActorThere (R.has rows.now pass.old) self.old (Content found.content) }
-        ensures goes { (limits : LimitsSeen) (number : ℕ) (k : Knowledge) (r : Recalled) (going : IsGoing limits number k r self.old (Content found.content)) → ActsOn limits number k r self.old going.running.wanted (Content found.content) None self.new }
+        ensures goes { (limits : LimitsSeen) (number : ℕ) (k : Knowledge) (r : Recalled) (going : IsGoing limits number k r self.old (Content found.content))
+            → ActsOn limits number k r self.old going.running.wanted (Content found.content) None self.new }
         ensures command { running_command self.new ≡ running_command self.old }
         ensures same { pass.new ≡ pass.old }
     {
@@ -184,7 +186,8 @@ impl<R: Rows, A: Allocator> Actor<R, A> {
     pub fn leave(&mut self, reply: &mut Reply)
         requires told { IsToldActor self.old Done }
         requires leaves { wanted_by self.old.running ≡ Some Step.Leave }
-        ensures goes { (limits : LimitsSeen) (number : ℕ) (k : Knowledge) (r : Recalled) (going : IsGoing limits number k r self.old Done) → ActsOn limits number k r self.old going.running.wanted Done (Some reply.new) self.new }
+        ensures goes { (limits : LimitsSeen) (number : ℕ) (k : Knowledge) (r : Recalled) (going : IsGoing limits number k r self.old Done)
+            → ActsOn limits number k r self.old going.running.wanted Done (Some reply.new) self.new }
         ensures command { running_command self.new ≡ None }
     {
         self.is_running = false;

@@ -9,7 +9,8 @@ ghost use Rattle.op_machine.specs.machine.GoesLeft.{GoesLeft, first_read, first_
 ghost use Rattle.op_machine.specs.machine.Meeting.{before_base, before_slot, inserting, looking, reading_down, reading_left, writing_down, writing_left};
 ghost use Rattle.op_machine.specs.machine.RoundSteps.{StepsInRound};
 ghost use Rattle.op_machine.specs.machine.States.{State, Read, Write};
-ghost use Rattle.op_machine.specs.theorem.Examples.{small, lookup, insert_and_lookup, new_leaf, page_life, index_above, row_reuse, hurried_reuse, unnamed_read, two_puts, needless_base, nine_bases, taking_reader, claimed_insert, foreign_fill, many_takes, unmet_read};
+ghost use Rattle.op_machine.specs.theorem.Examples.{small, lookup, insert_and_lookup, new_leaf, page_life, index_above, row_reuse, hurried_reuse, unnamed_read};
+ghost use Rattle.op_machine.specs.theorem.Examples.{two_puts, needless_base, nine_bases, taking_reader, claimed_insert, foreign_fill, many_takes, unmet_read};
 ghost use Rattle.op_machine.specs.theorem.Changes.{HasFewChanges};
 ghost use Rattle.op_machine.specs.theorem.Direct.{IsDirect};
 ghost use Rattle.op_machine.specs.theorem.Faithful.{IsFaithful};

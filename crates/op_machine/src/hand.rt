@@ -70,7 +70,8 @@ impl<A: Allocator> Hand<A> {
     /// What a change has taken out of the tree, if it has won, comes into limbo.
     pub(crate) fn unlink(&mut self, end: End, then: &Then)
         requires due { (limits : LimitsSeen) × (actor : ℕ) × (k : Knowledge) × (after : Limbos) × AreKept limits actor self.old.limbo k.limbo × Unlinks limits k end then.now after }
-        ensures keeps { (limits : LimitsSeen) (actor : ℕ) (k : Knowledge) (after : Limbos) → AreKept limits actor self.old.limbo k.limbo → Unlinks limits k end then.now after → AreKept limits actor self.new.limbo after }
+        ensures keeps { (limits : LimitsSeen) (actor : ℕ) (k : Knowledge) (after : Limbos) → AreKept limits actor self.old.limbo k.limbo
+            → Unlinks limits k end then.now after → AreKept limits actor self.new.limbo after }
         ensures spares { self.new.spares ≡ self.old.spares }
     {
         chains_go_to_limbo();

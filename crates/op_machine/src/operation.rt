@@ -347,7 +347,9 @@ fn ended<R: Rows, A: Allocator>(
     requires told { IsToldChange (state_of places.old) hand.old (answer_of told) }
     requires changing { places.old.stand ≡ StateKind.Change }
     ensures makes { TurnsInto (state_of places.old) hand.old.spares (answer_of told) (state_of places.new) hand.new.spares (changed (ended_with places.old.then result)) }
-    ensures keeps { (task : TaskSeen) (k : Knowledge) (r : Recalled) → ShowsState task hand.old.spares k r (state_of places.old) → FitsLast task.limits k (wanted_at hand.old.spares (state_of places.old)) (answer_of told) → AreKept task.limits task.actor hand.old.limbo k.limbo → AreKept task.limits task.actor hand.new.limbo (learn_last k (wanted_at hand.old.spares (state_of places.old)) (answer_of told)).limbo }
+    ensures keeps { (task : TaskSeen) (k : Knowledge) (r : Recalled) → ShowsState task hand.old.spares k r (state_of places.old)
+        → FitsLast task.limits k (wanted_at hand.old.spares (state_of places.old)) (answer_of told) → AreKept task.limits task.actor hand.old.limbo k.limbo
+        → AreKept task.limits task.actor hand.new.limbo (learn_last k (wanted_at hand.old.spares (state_of places.old)) (answer_of told)).limbo }
     ensures only { places.new ≡ record places.old { change = places.new.change } }
 {
     match places.change_next(&mut hand.spares, told) {
@@ -383,7 +385,8 @@ fn sweeping<'a>(sweep: &Sweep) -> Step<&'a Record>
 fn swept<A: Allocator>(sweep: Sweep, limbo: &mut Limbo<A>, told: Told) -> Option<Sweep>
     requires sound { IsSoundSweep sweep limbo.old }
     requires told { IsToldSweepAlone sweep (answer_of told) }
-    ensures follows { (k : Knowledge) → ShowsSweep sweep limbo.old k → Fits sweep.limits k (sweep_wants sweep) (answer_of told) → FollowsSweep k (learn k (sweep_wants sweep) (answer_of told)) sweep result limbo.new }
+    ensures follows { (k : Knowledge) → ShowsSweep sweep limbo.old k → Fits sweep.limits k (sweep_wants sweep) (answer_of told)
+        → FollowsSweep k (learn k (sweep_wants sweep) (answer_of told)) sweep result limbo.new }
     ensures sound { IfSome result (λ next. IsSoundSweep next limbo.new) }
     ensures few { IfSome result (λ next. steps_of sweep.limits next.state < steps_of sweep.limits sweep.state) }
     ensures same { IfSome result (λ next. (next.limits ≡ sweep.limits) × (next.actor ≡ sweep.actor)) }

@@ -380,7 +380,9 @@ impl<R: Rows, A: Allocator> Places<R, A> {
         requires told { IsToldAt (state_of self.old) spares.old (answer_of told) }
         requires changing { self.old.stand ≡ StateKind.Change }
         ensures makes { TurnsInto (state_of self.old) spares.old (answer_of told) (state_of self.new) spares.new (changed (ended_with self.old.then result)) }
-        ensures unlinks { (task : TaskSeen) (k : Knowledge) (r : Recalled) → ShowsState task spares.old k r (state_of self.old) → FitsLast task.limits k (wanted_at spares.old (state_of self.old)) (answer_of told) → UnlinksAfter task.limits k (ended_with self.old.then result) (learn_last k (wanted_at spares.old (state_of self.old)) (answer_of told)).limbo }
+        ensures unlinks { (task : TaskSeen) (k : Knowledge) (r : Recalled) → ShowsState task spares.old k r (state_of self.old)
+            → FitsLast task.limits k (wanted_at spares.old (state_of self.old)) (answer_of told)
+            → UnlinksAfter task.limits k (ended_with self.old.then result) (learn_last k (wanted_at spares.old (state_of self.old)) (answer_of told)).limbo }
         ensures only { self.new ≡ record self.old { change = self.new.change } }
     {
         self.change.next(spares, told)

@@ -88,7 +88,8 @@ impl Task {
         requires read { IsReadChain (R.has rows.now pass.old) (chain_of (leaf_read is_beside places.old.reader)) }
         ensures looks { pass.new ≡ pass.old }
         ensures leaves { places.new ≡ record places.old { stand = StateKind.Leave; reply = places.new.reply; lacks = None } }
-        ensures may { (spares : Spares) (k : Knowledge) (head : ℕ) → StandsForReader self.now spares k head (leaf_read is_beside places.old.reader).chain → IsBetweenChanges self.now spares k × MayReply self.now.limits self.now.actor k places.new.reply }
+        ensures may { (spares : Spares) (k : Knowledge) (head : ℕ) → StandsForReader self.now spares k head (leaf_read is_beside places.old.reader).chain
+            → IsBetweenChanges self.now spares k × MayReply self.now.limits self.now.actor k places.new.reply }
         ensures answers { places.new.reply ≢ reply.Full }
     {
         if let Command::Page(from) = self.command() {

@@ -110,7 +110,8 @@ impl Task {
     /// The sweep with which a writer begins, if there is anything in limbo.
     pub(crate) fn sweep<A: Allocator>(&self, limbo: &mut Limbo<A>) -> Option<Sweep>
         requires lists { IsLimboOf self.now.limits limbo.old }
-        ensures shows { (k : Knowledge) → IsKeptOutside self.now.limits self.now.actor limbo.old k → MatchOption result (IsKeptOutside self.now.limits self.now.actor limbo.new k) (λ sweep. ShowsSweep sweep limbo.new k) }
+        ensures shows { (k : Knowledge) → IsKeptOutside self.now.limits self.now.actor limbo.old k
+            → MatchOption result (IsKeptOutside self.now.limits self.now.actor limbo.new k) (λ sweep. ShowsSweep sweep limbo.new k) }
         ensures sound { IfSome result (λ sweep. IsSoundSweep sweep limbo.new) }
         ensures same { IfSome result (λ sweep. (sweep.limits ≡ self.now.limits) × (sweep.actor ≡ self.now.actor)) }
         ensures few { IfSome result (λ sweep. steps_of self.now.limits sweep.state < most_steps self.now.limits + 1) }

@@ -44,7 +44,8 @@ impl Task {
         requires faced { (k : Knowledge) × (r : Recalled) × FacesWritten self.old spares.now k r (ended_write places.old.writer ended) × AreThere (R.has rows.now pass.old) k }
         ensures looks { pass.new ≡ pass.old }
         ensures stands { (k : Knowledge) (r : Recalled) → FacesWritten self.old spares.now k r (ended_write places.old.writer ended) → ShowsState self.new spares.now k r (state_of places.new) }
-        ensures few { (k : Knowledge) (r : Recalled) → FacesWritten self.old spares.now k r (ended_write places.old.writer ended) → with_errands self.old.limits self.new.errands (left_at self.old.limits r spares.now (state_of places.new)) ≤ with_errands self.old.limits self.old.errands (left_for self.old.limits (Outcome.Written (ended_write places.old.writer ended))) }
+        ensures few { (k : Knowledge) (r : Recalled) → FacesWritten self.old spares.now k r (ended_write places.old.writer ended)
+            → with_errands self.old.limits self.new.errands (left_at self.old.limits r spares.now (state_of places.new)) ≤ with_errands self.old.limits self.old.errands (left_for self.old.limits (Outcome.Written (ended_write places.old.writer ended))) }
         ensures asks { IsSome (wanted_at spares.now (state_of places.new)) }
         ensures same { IsSameTask self.old self.new }
         ensures have { HaveLimits self.new.limits places.new }
@@ -69,8 +70,10 @@ impl Task {
         requires have { HaveLimits self.old.limits places.old }
         requires faced { (k : Knowledge) × (r : Recalled) × IsAtLeafBelow self.old spares.now k r places.old.writer.round.parent places.old.writer.page × AreThere (R.has rows.now pass.old) k }
         ensures looks { pass.new ≡ pass.old }
-        ensures stands { (k : Knowledge) (r : Recalled) → IsAtLeafBelow self.old spares.now k r places.old.writer.round.parent places.old.writer.page → ShowsState self.new spares.now k r (state_of places.new) }
-        ensures few { (r : Recalled) → with_errands self.old.limits self.new.errands (left_at self.old.limits r spares.now (state_of places.new)) ≤ with_errands self.old.limits self.old.errands (few_changes self.old.limits + 1) }
+        ensures stands { (k : Knowledge) (r : Recalled) → IsAtLeafBelow self.old spares.now k r places.old.writer.round.parent places.old.writer.page
+            → ShowsState self.new spares.now k r (state_of places.new) }
+        ensures few { (r : Recalled)
+            → with_errands self.old.limits self.new.errands (left_at self.old.limits r spares.now (state_of places.new)) ≤ with_errands self.old.limits self.old.errands (few_changes self.old.limits + 1) }
         ensures asks { IsSome (wanted_at spares.now (state_of places.new)) }
         ensures same { IsSameTask self.old self.new }
         ensures errands { self.new.errands ≡ take (length self.old.errands - 1) self.old.errands }
@@ -97,7 +100,8 @@ impl Task {
         requires faced { (k : Knowledge) × (r : Recalled) × IsAtLeafBelow self.now spares.now k r places.old.writer.round.parent places.old.writer.page × AreThere (R.has rows.now pass.old) k }
         requires last { self.now.errands ≡ [] }
         ensures looks { pass.new ≡ pass.old }
-        ensures stands { (k : Knowledge) (r : Recalled) → IsAtLeafBelow self.now spares.now k r places.old.writer.round.parent places.old.writer.page → ShowsState self.now spares.now k r (state_of places.new) }
+        ensures stands { (k : Knowledge) (r : Recalled) → IsAtLeafBelow self.now spares.now k r places.old.writer.round.parent places.old.writer.page
+            → ShowsState self.now spares.now k r (state_of places.new) }
         ensures few { (r : Recalled) → left_at self.now.limits r spares.now (state_of places.new) ≤ few_changes self.now.limits + 1 }
         ensures asks { IsSome (wanted_at spares.now (state_of places.new)) }
         ensures have { HaveLimits self.now.limits places.new }
@@ -143,7 +147,8 @@ impl Task {
         requires faced { (k : Knowledge) × (r : Recalled) × IsAtLeaf self.now spares.now k r places.old.writer.page × AreThere (R.has rows.now pass.old) k }
         requires last { self.now.errands ≡ [] }
         ensures looks { pass.new ≡ pass.old }
-        ensures stands { (parent : Option Version) (k : Knowledge) (r : Recalled) → IsAtLeafBelow self.now spares.now k r parent places.old.writer.page → IsIdleFor self.now.command parent places.old.writer.page → ShowsState self.now spares.now k r (state_of places.new) }
+        ensures stands { (parent : Option Version) (k : Knowledge) (r : Recalled) → IsAtLeafBelow self.now spares.now k r parent places.old.writer.page
+            → IsIdleFor self.now.command parent places.old.writer.page → ShowsState self.now spares.now k r (state_of places.new) }
         ensures few { (r : Recalled) → left_at self.now.limits r spares.now (state_of places.new) ≤ few_changes self.now.limits + 1 }
         ensures asks { IsSome (wanted_at spares.now (state_of places.new)) }
         ensures have { HaveLimits self.now.limits places.new }
@@ -173,7 +178,8 @@ impl Task {
     fn begin_due<R: Rows, A: Allocator>(&self, spares: &Spares, places: &mut Places<R, A>)
         requires have { HaveLimits self.now.limits places.old }
         requires faced { (k : Knowledge) × (r : Recalled) × FacesWritten self.now spares.now k r (end.Due places.old.writer.plan places.old.writer.after) }
-        ensures stands { (k : Knowledge) (r : Recalled) → FacesWritten self.now spares.now k r (end.Due places.old.writer.plan places.old.writer.after) → ShowsState self.now spares.now k r (state_of places.new) }
+        ensures stands { (k : Knowledge) (r : Recalled) → FacesWritten self.now spares.now k r (end.Due places.old.writer.plan places.old.writer.after)
+            → ShowsState self.now spares.now k r (state_of places.new) }
         ensures few { (r : Recalled) → left_at self.now.limits r spares.now (state_of places.new) ≤ few_changes self.now.limits + 1 }
         ensures asks { IsSome (wanted_at spares.now (state_of places.new)) }
         ensures have { HaveLimits self.now.limits places.new }
@@ -191,7 +197,8 @@ impl Task {
     )
         requires have { HaveLimits self.old.limits places.old }
         ensures stands { (spares : SparesOf) (k : Knowledge) (r : Recalled) → FacesChanged self.old spares k end places.old.then → ShowsState self.new spares k r (state_of places.new) }
-        ensures few { (spares : SparesOf) (r : Recalled) → with_errands self.old.limits self.new.errands (left_at self.old.limits r spares (state_of places.new)) ≤ with_errands self.old.limits self.old.errands (left_for self.old.limits (Outcome.Changed end places.old.then)) }
+        ensures few { (spares : SparesOf) (r : Recalled)
+            → with_errands self.old.limits self.new.errands (left_at self.old.limits r spares (state_of places.new)) ≤ with_errands self.old.limits self.old.errands (left_for self.old.limits (Outcome.Changed end places.old.then)) }
         ensures asks { (spares : SparesOf) → IsSome (wanted_at spares (state_of places.new)) }
         ensures same { IsSameTask self.old self.new }
         ensures errands { self.new.errands ≡ errands_after end places.old.then self.old.errands }

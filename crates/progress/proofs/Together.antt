@@ -22,7 +22,8 @@ use Rattle.progress.specs.Unhindered.{RunsAreLockFree}
 use Rattle.progress.proofs.Begun.{LastBegin, actor_below, begins_here, command_next, last_begin, one_on}
 use Rattle.progress.proofs.Hindering.{happens, hinder, hinder_parts, is_change, paid_by_hinder}
 use Rattle.traces.proofs.Cuts.{get_take, take_past}
-use Rattle.progress.proofs.Tallies.{counted_range, counted_taken, listed, one_at_most, passes, passes_in, sum, sum_both, sum_less, sum_none, sum_one, sum_worth, tally, tally_grows, tally_none, tally_split}
+use Rattle.progress.proofs.Tallies.{counted_range, counted_taken, listed, one_at_most, passes, passes_in, sum, sum_both, sum_less, sum_none, sum_one, sum_worth}
+use Rattle.progress.proofs.Tallies.{tally, tally_grows, tally_none, tally_split}
 
 -- the entry begins an operation of the actor's
 abbrev begin_of : ℕ → Entry → Bool

@@ -14,7 +14,9 @@ use Rattle.round_model.specs.ReadLegs.{Leg, Down, Round, Past, IsPlain, above_of
 use Rattle.round_model.specs.ReadEnds.{ReadEnd, Again, Removed, Leaf, Beside}
 use Rattle.round_model.specs.Descents.{WayState, Root, Page, Finds, Shows as WayShows}
 use Rattle.round_model.specs.Visits.{Sight, Slot, Row, Empty, Whole}
-use Rattle.round_model.specs.ReadRounds.{BeginsToRead, CanMeetLeg, CanPass, EndsRead, HasChildren, IsAtLevel, IsAtMergedPage, IsLeftLeaf, VisitsToRead, MissesRead, ReadRound, SeeksKey, Shows, ShowsVisit, Spends, TreatsRead, at, goes_beyond, read_round_kept, wanted, read_way, way_on, reading}
+use Rattle.round_model.specs.ReadRounds.{BeginsToRead, CanMeetLeg, CanPass, EndsRead, HasChildren, IsAtLevel, IsAtMergedPage, IsLeftLeaf, VisitsToRead}
+use Rattle.round_model.specs.ReadRounds.{MissesRead, ReadRound, SeeksKey, Shows, ShowsVisit, Spends, TreatsRead, at, goes_beyond, read_round_kept, wanted}
+use Rattle.round_model.specs.ReadRounds.{read_way, way_on, reading}
 use Rattle.round_model.specs.Machines.{IsTold}
 use Rattle.round_model.specs.Versions.{IsInHand}
 use Rattle.round_model.specs.Rounds.{CanSee, Follows, Responds, Sees, machine}

@@ -26,8 +26,11 @@ use Rattle.round_model.specs.WriteEnds as end
 use Rattle.round_model.specs.Versions.{IsAlive, IsInHand}
 use Rattle.round_model.specs.Visits as page
 use Rattle.round_model.specs.Ways.{LeadsDown, LeadsRight, NamesAt, StaysLeft, reaches}
-use Rattle.round_model.specs.WriteRounds.{IsCleanEnd, IsUncutEnd, IsUnmergedEnd, IsLosingTerm, IsMergeEnd, IsMissing, IsUntermEnd, KeepsToWrite, SeeksLeaf, is_cutting, write_way, EndsWrite, IsBased, IsLeftOf, IsKept, IsLeafEnd, IsLong, IsRootEnd, IsTermEnd, VisitsToWrite, Shows, WriteRound, goes_left, IsTendEnd, IsDueBy}
-use Rattle.round_model.specs.WriteResponses.{EndsClean, EndsUncut, EndsUnmerged, EndsCut, EndsFine, EndsMerged, EndsSmall, EndsUnposted, EndsUnrooted, IsFine, IsHere, IsSplitFinished, TreatsWrite, EndsBy}
+use Rattle.round_model.specs.WriteRounds.{IsCleanEnd, IsUncutEnd, IsUnmergedEnd, IsLosingTerm, IsMergeEnd, IsMissing, IsUntermEnd, KeepsToWrite, SeeksLeaf}
+use Rattle.round_model.specs.WriteRounds.{is_cutting, write_way, EndsWrite, IsBased, IsLeftOf, IsKept, IsLeafEnd, IsLong, IsRootEnd, IsTermEnd, VisitsToWrite}
+use Rattle.round_model.specs.WriteRounds.{Shows, WriteRound, goes_left, IsTendEnd, IsDueBy}
+use Rattle.round_model.specs.WriteResponses.{EndsClean, EndsUncut, EndsUnmerged, EndsCut, EndsFine, EndsMerged, EndsSmall, EndsUnposted, EndsUnrooted, IsFine}
+use Rattle.round_model.specs.WriteResponses.{IsHere, IsSplitFinished, TreatsWrite, EndsBy}
 use Rattle.round_model.proofs.Keeping.{HasReached, LiesAbove, Passed, differs}
 use Rattle.round_model.proofs.Leading.{led_aside, termed}
 use Rattle.round_model.proofs.PageLaws.{covered, spans}

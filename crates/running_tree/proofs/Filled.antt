@@ -1,6 +1,7 @@
 -- A run in which actor 0 alone has operations, which upsert pairs whose keys ascend: each replied Set, and the log has these pairs.
 use Rattle.std.specs.Prelude.{◌≢◌, Option}
-use Rattle.std.proofs.Common.{◌≡◌, ◌<◌, ◌≤◌, ◌+◌, ◌-◌, ◌++◌, ◌⊎◌, inl, inr, ℕ, zero, suc, List, [], ◌∷◌, length, map, take, refl, sym, ap, subst, ◌∙◌, Bool, Some, None, arith, append_assoc, append-nil, length-append}
+use Rattle.std.proofs.Common.{◌≡◌, ◌<◌, ◌≤◌, ◌+◌, ◌-◌, ◌++◌, ◌⊎◌, inl, inr, ℕ, zero, suc, List, [], ◌∷◌, length, map, take, refl, sym, ap, subst, ◌∙◌, Bool}
+use Rattle.std.proofs.Common.{Some, None, arith, append_assoc, append-nil, length-append}
 use mathlib.Core.Logic.{dite}
 use native.Mathlib.Decide.{ℕ_discrete}
 use Rattle.bw_model.specs.declared.command.Command.{Command}

@@ -1,5 +1,6 @@
 -- What fields request for, as a function, is what the grammar says.
-use Rattle.std.proofs.Common.{◌≡◌, ℕ, ◌≤◌, ◌<◌, List, [], ◌∷◌, length, refl, sym, subst, ap, ◌∙◌, arith, ◌^◌, inl, inr, Option, Some, None, Result, Ok, Err, true, cond, ◌&&◌, nat_le, nat_lt, IfOk, codes, option_map}
+use Rattle.std.proofs.Common.{◌≡◌, ℕ, ◌≤◌, ◌<◌, List, [], ◌∷◌, length, refl, sym, subst, ap, ◌∙◌, arith, ◌^◌, inl, inr, Option, Some, None, Result, Ok, Err}
+use Rattle.std.proofs.Common.{true, cond, ◌&&◌, nat_le, nat_lt, IfOk, codes, option_map}
 use Rattle.std.specs.Option.{option_and_then}
 use Rattle.std.specs.Str.{bytes_eq}
 use Rattle.std.proofs.lemmas.Slice.Eq.{bytes_eq-Decides}
@@ -18,7 +19,8 @@ use Rattle.shell_lines.specs.Token.{Means, token_value}
 use Rattle.shell_lines.specs.Number.{number_of, capped, fitting}
 use Rattle.shell_lines.specs.Fields.{fields_of}
 use Rattle.shell_lines.specs.Request.{Says, SpellsRequest, SpellsNumber, SpellsCommand, IsAskedIn, IsShortRequest, word_of}
-use Rattle.shell_lines.specs.Reading.{key_in, pair_in, pair_said, swap_in, command_in, capped_number, begin_in, turn_by, turn_in, link_in, until_in, finish_in, mix_by, mix_in, list_in, woven_in, script_in, asked, GivesRequest}
+use Rattle.shell_lines.specs.Reading.{key_in, pair_in, pair_said, swap_in, command_in, capped_number, begin_in, turn_by, turn_in, link_in, until_in, finish_in}
+use Rattle.shell_lines.specs.Reading.{mix_by, mix_in, list_in, woven_in, script_in, asked, GivesRequest}
 use Rattle.shell_lines.proofs.Tokens.{chosen, some_is, value_means, means_value}
 
 pub map_some : {A B : Type 0} (f : A → B) (o : Option A) (y : B) → option_map f o ≡ Some y → (x : A) × (o ≡ Some x) × (f x ≡ y)

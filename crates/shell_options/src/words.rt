@@ -3,7 +3,9 @@
 ghost use Rattle.std.specs.Prelude.{◌≡◌, ◌↔◌, IfErr, IfOk, IfSome, IsOk, map, false};
 ghost use Rattle.std.specs.String.{string_bytes};
 ghost use Rattle.clap.specs.Words.{App, found_of, new_app, rows_of, rule_of, with_rule, with_subcommand};
-ghost use Rattle.shell_options.specs.Words.{flag_rule, number_rule, limits_rules, actors_app, draw_app, script_app, weave_app, race_app, bwtree_app, SpellsFlag, SpellsOr, HasActors, HasNumbers, IsApp, MakesApp, default_pids_of, default_rows_of, told_by, HasNoFault, IsSpelled, IsNamedBy, MayRefuse, MayOpen};
+ghost use Rattle.shell_options.specs.Words.{flag_rule, number_rule, limits_rules, actors_app, draw_app, script_app, weave_app, race_app, bwtree_app};
+ghost use Rattle.shell_options.specs.Words.{SpellsFlag, SpellsOr, HasActors, HasNumbers, IsApp, MakesApp, default_pids_of, default_rows_of, told_by};
+ghost use Rattle.shell_options.specs.Words.{HasNoFault, IsSpelled, IsNamedBy, MayRefuse, MayOpen};
 
 use clap::error::ErrorKind;
 use clap::{Arg, ArgAction, ArgMatches, Command, Error, value_parser};

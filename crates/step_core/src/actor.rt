@@ -72,7 +72,8 @@ pub(crate) fn go_on<A: Allocator>(
     requires wanted { wanted_by actor.old.running ≡ Some ready.step }
     requires answer { IsAnswer (memory_in memory.old) ready.step ready.answer }
     requires again { ready.again ≡ ready.step }
-    ensures goes { (limits : Limits) (k : Knowledge) (r : Recalled) → IsReady limits number k r (memory_in memory.old) actor.old → ActsOn limits number k r actor.old result.step result.answer None actor.new }
+    ensures goes { (limits : Limits) (k : Knowledge) (r : Recalled) → IsReady limits number k r (memory_in memory.old) actor.old
+        → ActsOn limits number k r actor.old result.step result.answer None actor.new }
     ensures limits { memory.new.limits ≡ memory.old.limits }
     ensures wanted { wanted_by actor.old.running ≡ Some result.step }
     ensures answer { IsAnswer (memory_in memory.old) result.step result.answer }
@@ -102,7 +103,8 @@ fn tell<A: Allocator>(
     requires knows { (limits : Limits) × (number : ℕ) × (k : Knowledge) × (r : Recalled) × IsReady limits number k r (memory_in memory.old) actor.old }
     requires wanted { wanted_by actor.old.running ≡ Some step.now }
     requires answer { IsAnswer (memory_in memory.old) step.now answer.now }
-    ensures goes { (limits : Limits) (number : ℕ) (k : Knowledge) (r : Recalled) → IsReady limits number k r (memory_in memory.old) actor.old → ActsOn limits number k r actor.old step.now answer.now None actor.new }
+    ensures goes { (limits : Limits) (number : ℕ) (k : Knowledge) (r : Recalled) → IsReady limits number k r (memory_in memory.old) actor.old
+        → ActsOn limits number k r actor.old step.now answer.now None actor.new }
     ensures command { running_command actor.new ≡ running_command actor.old }
     ensures same { memory.new ≡ memory.old }
 {
@@ -161,7 +163,8 @@ pub(crate) fn leave<A: Allocator>(
     requires knows { (limits : Limits) × (k : Knowledge) × (r : Recalled) × IsReady limits number k r (memory_in memory.old) actor.old }
     requires within { IsWithinAt memory.old number (wanted_by actor.old.running) }
     requires room { NeedsRoom actor.old → IsSome room }
-    ensures goes { (limits : Limits) (k : Knowledge) (r : Recalled) → IsReady limits number k r (memory_in memory.old) actor.old → ActsOn limits number k r actor.old Step.Leave Answer.Done (Some result) actor.new }
+    ensures goes { (limits : Limits) (k : Knowledge) (r : Recalled) → IsReady limits number k r (memory_in memory.old) actor.old
+        → ActsOn limits number k r actor.old Step.Leave Answer.Done (Some result) actor.new }
     ensures limits { memory.new.limits ≡ memory.old.limits }
     ensures memory { memory_in memory.new ≡ memory_after number Step.Leave (memory_in memory.old) }
     ensures command { running_command actor.new ≡ None }

@@ -5,7 +5,8 @@ ghost use Rattle.tree_law.specs.Changes.{IsPaidState, StepsPay};
 ghost use Rattle.tree_law.specs.Direct.{BeginsDirectly, StepsDirectly};
 ghost use Rattle.tree_law.specs.Own.{RowsAreApart};
 ghost use Rattle.tree_law.specs.State.{IsState};
-ghost use Rattle.tree_law.specs.TraceLaws.{AnswersFit, BeginsKeep, HeadsStand, RunsAreIndexed, RunsAreLinearized, RunsFreeByRule, RunsKeepPhases, StatesFreeByRule, StatesAreIndexed, StatesAreLinearized, StatesKeepPhases, Steps};
+ghost use Rattle.tree_law.specs.TraceLaws.{AnswersFit, BeginsKeep, HeadsStand, RunsAreIndexed, RunsAreLinearized, RunsFreeByRule, RunsKeepPhases};
+ghost use Rattle.tree_law.specs.TraceLaws.{StatesFreeByRule, StatesAreIndexed, StatesAreLinearized, StatesKeepPhases, Steps};
 
 use tree_law::{
     answers, begins, begins_directly, begins_paid, rows_are_apart, steps, steps_directly,

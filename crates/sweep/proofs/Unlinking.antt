@@ -1,5 +1,6 @@
 -- What is taken out of the tree comes into limbo.
-use Rattle.std.proofs.Common.{◌≡◌, ◌≢◌, ◌<◌, ◌≤◌, ◌++◌, inl, inr, ℕ, zero, suc, List, [], ◌∷◌, length, map, take, get_or, eqb, Option, Some, None, Bool, true, false, refl, sym, subst, ap, ◌∙◌, arith, IsTrue}
+use Rattle.std.proofs.Common.{◌≡◌, ◌≢◌, ◌<◌, ◌≤◌, ◌++◌, inl, inr, ℕ, zero, suc, List, [], ◌∷◌, length, map, take, get_or, eqb, Option, Some, None, Bool, true}
+use Rattle.std.proofs.Common.{false, refl, sym, subst, ap, ◌∙◌, arith, IsTrue}
 use Rattle.std.specs.Prelude.{◌||◌, if◌then◌else◌, MatchOption, unwrap_or}
 use Rattle.std.specs.List.{All, AllPairs, Contains, list_any}
 use Rattle.std.proofs.lemmas.Bool.{cases_Bool, cases_eq, eq-eqb, eqb-true, ne_eqb, or_right}

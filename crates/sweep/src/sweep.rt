@@ -100,7 +100,8 @@ impl Sweep {
         requires told { FitsSweep self.old (answer_of told) }
         ensures moves { Moves self.old.limits self.old.state limbo.old (answer_of told) (state_if result self.new.state) limbo.new }
         ensures same { HasNewState self.old self.new }
-        ensures follows { (k : Knowledge) → Shows self.old limbo.old k → Fits self.old.limits k (wanted self.old) (answer_of told) → LearnsOfLimbo k (learn k (wanted self.old) (answer_of told)) self.new limbo.new result }
+        ensures follows { (k : Knowledge) → Shows self.old limbo.old k → Fits self.old.limits k (wanted self.old) (answer_of told)
+            → LearnsOfLimbo k (learn k (wanted self.old) (answer_of told)) self.new limbo.new result }
         ensures sound { IsTrue result → IsSoundSweep self.new limbo.new }
         ensures lists { IsLimboOf self.old.limits limbo.new }
         ensures spends { Spends self.old.limits result self.old.state self.new.state }

@@ -17,7 +17,8 @@ use Rattle.deltas.specs.Memory.{Memory}
 use Rattle.traces.specs.declared.trace.Entry.{Entry}
 use Rattle.traces.specs.trace.Steps.{memory_after}
 use Rattle.traces.specs.trace.Trace.{memory_of}
-use Rattle.tree_words.specs.Changes.{HasWord, SetsBits, TellsNothing, changed_word, left_by, operation_of, told, word_after, words_after, SpellsParts, ChangesOneWord, OperationsLeaveWords, StepsChangeOneWord, StoresTellNothing, WordsStandApart, HasOwnWord}
+use Rattle.tree_words.specs.Changes.{HasWord, SetsBits, TellsNothing, changed_word, left_by, operation_of, told, word_after, words_after, SpellsParts}
+use Rattle.tree_words.specs.Changes.{ChangesOneWord, OperationsLeaveWords, StepsChangeOneWord, StoresTellNothing, WordsStandApart, HasOwnWord}
 use Rattle.tree_words.specs.declared.operations.Operation.{Operation}
 use Rattle.tree_words.specs.declared.operations.Operation.TheVariants as operation
 use Rattle.record_slots.specs.Layout.{row_size}

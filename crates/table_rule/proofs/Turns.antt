@@ -26,7 +26,9 @@ use Rattle.table_rule.specs.declared.view.Part.{Part}
 use Rattle.table_rule.specs.Running.{Each, ExtendsFor, StartsWith, KnowsPlaceable, IsSettled, IsSpelledRow, ReachFits, PartFits, BeginWithSteps, entry_actor, everywhere, Running}
 use Rattle.table_rule.specs.Views.{Mine, part, alone, seen_of, SitsAt}
 use Rattle.table_rule.specs.Steps.{with_step, IsLawfulStep, Took, Event}
-use Rattle.table_rule.proofs.Parts.{IsApart, Stands, actors_events, apart_ne, each_append, each_zip, extends_goes, goes_extends, events, others_events, with_events, memory_stepped, settled_back, spells_views, starts_on, starts_self, times_alone, times_of_one, everywhere_set, elsewhere, begins_on, begins_events}
+use Rattle.table_rule.proofs.Parts.{IsApart, Stands, actors_events, apart_ne, each_append, each_zip, extends_goes, goes_extends, events, others_events}
+use Rattle.table_rule.proofs.Parts.{with_events, memory_stepped, settled_back, spells_views, starts_on, starts_self, times_alone, times_of_one, everywhere_set}
+use Rattle.table_rule.proofs.Parts.{elsewhere, begins_on, begins_events}
 use Rattle.traces.proofs.OwnEntries.{extends_self, extends_on, knows_extends, knows_on}
 
 abbrev pub TableState : Type 0

@@ -17,7 +17,9 @@ use Rattle.deltas.specs.declared.record.Record.{Record}
 use Rattle.deltas.specs.declared.record.Record.TheVariants.{Base}
 use Rattle.deltas.specs.Applies.{Applies}
 use Rattle.deltas.specs.Spellable.{HasPid, IsPid, IsRow, IsSpellableLink, IsSpellablePage}
-use Rattle.traces.specs.chain.Examples.{leaf, split, split_leaf, merge, merged_leaf, put_k07, delete, remove, leaf_chain, index, index_page, term, hold, unterm, termed_page, held_page, untermed_page, index_chain, split_to_page_4, split_index, page_4, index_merge, merged_index, hold_again, long_index, put_over_removal, put_outside, base_over_base, first_held, marked_base, unnamed_split}
+use Rattle.traces.specs.chain.Examples.{leaf, split, split_leaf, merge, merged_leaf, put_k07, delete, remove, leaf_chain, index, index_page, term, hold, unterm}
+use Rattle.traces.specs.chain.Examples.{termed_page, held_page, untermed_page, index_chain, split_to_page_4, split_index, page_4, index_merge, merged_index}
+use Rattle.traces.specs.chain.Examples.{hold_again, long_index, put_over_removal, put_outside, base_over_base, first_held, marked_base, unnamed_split}
 use Rattle.traces.specs.chain.Fitted.{FitsOver, IsPageChain, Makes}
 use Rattle.traces.proofs.FittedLaws.{by_order, first_spellable, found_first, fits_over, Makes-base, Makes-next}
 

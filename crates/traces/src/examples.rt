@@ -4,7 +4,9 @@ ghost use Rattle.bw_model.specs.declared.step.Answer.TheVariants.{Number, Conten
 ghost use Rattle.bw_model.specs.declared.step.Step.TheVariants.{Slot, Row, Exchange, TakeRow, Leave};
 ghost use Rattle.base_page.specs.declared.item.Content.TheVariants.{Value, Child};
 ghost use Rattle.traces.specs.chain.Chains.{content_in, high_in, right_in, is_removed, covers};
-ghost use Rattle.traces.specs.chain.Examples.{put_leaf, deleted_leaf, split_leaf, removed_leaf, merged_leaf, leaf_chain, index_page, termed_page, held_page, untermed_page, index_chain, split_index, long_index, put_over_removal, put_outside, base_over_base, first_held, marked_base, unnamed_split, remove, one_held, four_held, index_of};
+ghost use Rattle.traces.specs.chain.Examples.{put_leaf, deleted_leaf, split_leaf, removed_leaf, merged_leaf, leaf_chain, index_page, termed_page, held_page};
+ghost use Rattle.traces.specs.chain.Examples.{untermed_page, index_chain, split_index, long_index, put_over_removal, put_outside, base_over_base, first_held};
+ghost use Rattle.traces.specs.chain.Examples.{marked_base, unnamed_split, remove, one_held, four_held, index_of};
 ghost use Rattle.traces.specs.chain.Fitted.{IsPageChain};
 ghost use Rattle.traces.specs.chain.HeldBack.{HoldsBack, begins_at, has_held_neighbour};
 ghost use Rattle.traces.specs.discipline.Recalled.{IsPaid, recall};

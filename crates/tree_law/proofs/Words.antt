@@ -57,7 +57,8 @@ pub use Rattle.traces.specs.discipline.Disciplined.{IsDisciplined, IsDisciplined
 pub use Rattle.traces.specs.chain.Fitted.{IsFitted, FitsOver, Makes}
 pub use Rattle.traces.specs.discipline.Fitting.{Fits}
 pub use Rattle.traces.specs.chain.HeldBack.{HoldsBack}
-pub use Rattle.traces.specs.discipline.Knowledge.{begun, knows, Knowledge, knows_after, finished, Ready, learn, learnt_next, nothing, Foreign, Empty, OwnPage, Taken, Other, Gone, Written, filled, rooted}
+pub use Rattle.traces.specs.discipline.Knowledge.{begun, knows, Knowledge, knows_after, finished, Ready, learn, learnt_next, nothing, Foreign, Empty, OwnPage}
+pub use Rattle.traces.specs.discipline.Knowledge.{Taken, Other, Gone, Written, filled, rooted}
 pub use Rattle.traces.specs.discipline.Knowledge.{OwnRow, emptied, exchanged, split_off, linked_over, forgotten, Unstamped, handed_page, is_on_walk, LimboMark, handed_over, Absent, Stamped, passed_by}
 pub use Rattle.traces.specs.discipline.Knowledge.{stamped, Readings, set_page, taken_out, next_seen, rebuilt, Limbos, updated, learn_head}
 pub use Rattle.traces.specs.discipline.Learnt.{ShowsRow}
@@ -78,7 +79,8 @@ pub use Rattle.op_machine.specs.theorem.Index.{IsLeftmost, IsRootLevel, Indexes,
 pub use Rattle.op_machine.specs.theorem.Linearized.{IsLinearized}
 pub use Rattle.op_machine.specs.theorem.Links.{link_without, link_of, Wins, Installs}
 pub use Rattle.op_machine.specs.theorem.Operations.{IsOperation, Operation, Finishes, IsOwnStep, TakesOwnStep}
-pub use Rattle.op_machine.specs.theorem.Phases.{indexed, free, IsInPhase, MovesPhase, removes, Phase, cleared, held, removed, merged, splits, merges, becomes_root, reuses, under_root, terms, holds, unterms}
+pub use Rattle.op_machine.specs.theorem.Phases.{indexed, free, IsInPhase, MovesPhase, removes, Phase, cleared, held, removed, merged, splits, merges}
+pub use Rattle.op_machine.specs.theorem.Phases.{becomes_root, reuses, under_root, terms, holds, unterms}
 pub use Rattle.op_machine.specs.theorem.Points.{log_at, log_of, IsPoint}
 pub use Rattle.op_machine.specs.theorem.Quiet.{HasMapOf, IsQuiet}
 pub use Rattle.op_machine.specs.theorem.Reuse.{UnlinksPid, UnlinksRow, HandsPid, HandsRow}

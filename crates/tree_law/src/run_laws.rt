@@ -1,6 +1,8 @@
 //! The law over runs: each of its parts is the contract of a function that does nothing.
 ghost use Rattle.tree_law.specs.State.{IsState};
-ghost use Rattle.tree_law.specs.TraceLaws.{AnswersFit, BeginsKeep, DisciplinedRuns, EntriesGrow, HeadsStand, LeavesHaveMap, LeavesStand, LevelsStand, RunsAreLinearized, StatesFreeByRule, StatesAreIndexed, StatesAreLinearized, KnowledgeIsOwn, Opens, RowsStand, StatesKeepPhases, Steps};
+ghost use Rattle.tree_law.specs.TraceLaws.{AnswersFit, BeginsKeep, DisciplinedRuns, EntriesGrow, HeadsStand, LeavesHaveMap, LeavesStand, LevelsStand};
+ghost use Rattle.tree_law.specs.TraceLaws.{RunsAreLinearized, StatesFreeByRule, StatesAreIndexed, StatesAreLinearized, KnowledgeIsOwn, Opens, RowsStand};
+ghost use Rattle.tree_law.specs.TraceLaws.{StatesKeepPhases, Steps};
 
 /// What one more entry makes of a trace.
 pub fn entries_grow()

@@ -8,7 +8,8 @@ use Rattle.base_page.specs.declared.item.Content.TheVariants.{Value, Child}
 use Rattle.base_page.specs.declared.item.Item.{Item}
 use Rattle.base_page.specs.Rules.{is_held}
 use Rattle.record_slots.specs.Layout.{first_form, held_mark, no_bound, text_size}
-use Rattle.record_slots.specs.Spelling.{packed, text_words, field_words, field_words_in, bound_words, bound_words_in, content_words, content_words_in, item_words, item_words_in, items_words, items_words_in}
+use Rattle.record_slots.specs.Spelling.{packed, text_words, field_words, field_words_in, bound_words, bound_words_in, content_words, content_words_in}
+use Rattle.record_slots.specs.Spelling.{item_words, item_words_in, items_words, items_words_in}
 use Rattle.record_slots.specs.Spells.{HasItemTexts, HasTextIn}
 use Rattle.widening.specs.FirstForm.{IsNarrow, first_longest}
 use Rattle.widening.specs.Spread.{spread_fields}

@@ -19,7 +19,8 @@ use Rattle.tree_law.proofs.shape.KeyOrder.{below_not, below_upto}
 use Rattle.progress.specs.RoundsIn.{IsGoalIn, KeepsItsPlace, IsLegIn, IsPlace, NamesPlaces, WasRemovedLeaf}
 use Rattle.progress.proofs.rounds.Measures.{left_less, left_more, left_over, left_within, under_all, under_less}
 use Rattle.progress.proofs.rounds.Pages.{On, Standing, chain_on, live, low_of, right, right_above, same_pid}
-use Rattle.progress.proofs.rounds.Places.{Few, below_plain, child_of, few_above, few_any, few_below, first, kept_here, leg_below, leg_level, most, names_above, names_here, right_level, right_plain, second}
+use Rattle.progress.proofs.rounds.Places.{Few, below_plain, child_of, few_above, few_any, few_below, first, kept_here, leg_below, leg_level, most, names_above}
+use Rattle.progress.proofs.rounds.Places.{names_here, right_level, right_plain, second}
 
 module _ (w : Standing) where
   -- A page stands at which a round is.

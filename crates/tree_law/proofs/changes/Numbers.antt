@@ -1,7 +1,9 @@
 -- Numbers that are taken and not in the tree: who has them, and what a step makes of them.
 use Rattle.tree_law.proofs.Words.{◌⊎◌, [], ap, refl, cond, Option, List, inl, ◌≢◌, length, ◌++◌, ◌≤◌, inr, suc, zero}
 use Rattle.tree_law.proofs.Words.{◌∷◌, ℕ, ◌≡◌, ◌∙◌, ◌<◌, arith, ◌+◌, true, cases_lt, All, All-weaker, count_by, eqb_tells, ◌==◌}
-use Rattle.tree_law.proofs.Words.{Limits, Command, Reply, Answer, Whether, StepOf, TakePid, TakeRow, Place, Exchange, Slot, Row, Epoch, Announce, PidBits, RowBits, Enter, Leave, ReusePids, ReuseRows, Number, Content, Record, memory_of, knows, Knowledge, learn, finished, begun, IsAnswer, May, Entry, Begin, Step}
+use Rattle.tree_law.proofs.Words.{Limits, Command, Reply, Answer, Whether, StepOf, TakePid, TakeRow, Place, Exchange, Slot, Row, Epoch, Announce, PidBits}
+use Rattle.tree_law.proofs.Words.{RowBits, Enter, Leave, ReusePids, ReuseRows, Number, Content, Record, memory_of, knows, Knowledge, learn, finished, begun}
+use Rattle.tree_law.proofs.Words.{IsAnswer, May, Entry, Begin, Step}
 use Rattle.tree_law.proofs.Words.{exchanged, emptied, OwnPage, Other, Empty, Ready, Gone, OwnRow, Written, put, shared, IsState, PageOwner, Keeps}
 use Rattle.bw_model.specs.declared.step.Link.TheVariants as link
 use Rattle.traces.specs.discipline.Discipline.{MayExchange}

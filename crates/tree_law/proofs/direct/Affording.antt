@@ -1,7 +1,9 @@
 -- A begin keeps a trace direct, and so does a step that its operation can afford.
 use Rattle.tree_law.proofs.Words.{false, ap, refl, Option, List, true, inl, ◌≢◌, length, ◌++◌, ◌≤◌, inr, ◌∷◌, subst, sym, ℕ, ◌≡◌, ◌∙◌, ◌<◌, ◌*◌, arith, Some, ◌==◌, eqb_tells, same_Some}
 use Rattle.tree_law.proofs.Words.{IsSome, Command, Reply, Limits, Answer, Whether, Content, Link, StepOf, Row, Exchange, replaced_at, Record, May, begun, knows, Knowledge, finished, Ready}
-use Rattle.tree_law.proofs.Words.{learn, recall, Recalled, blank, recalls, IsAnswer, memory_of, IsUseful, IsOfUse, IsReading, IsInPhase, cleared, Slot, Number, None, zero, suc, slice_get, Placed, Indexed, phase_of, slot_in, row_in, Entry, Begin, Step, is_step_of, Links, Operation, IsUpdateLink, Accounts}
+use Rattle.tree_law.proofs.Words.{learn, recall, Recalled, blank, recalls, IsAnswer, memory_of, IsUseful, IsOfUse, IsReading, IsInPhase, cleared, Slot, Number}
+use Rattle.tree_law.proofs.Words.{None, zero, suc, slice_get, Placed, Indexed, phase_of, slot_in, row_in, Entry, Begin, Step, is_step_of, Links, Operation}
+use Rattle.tree_law.proofs.Words.{IsUpdateLink, Accounts}
 use Rattle.tree_law.proofs.Words.{IsLast, Affords, IsDirectState, Recollects, Walks, StaysDirect, IsState, Opens, []}
 use Rattle.traces.specs.discipline.Recalled.{IsStepSpent, cause_worth}
 use Rattle.bw_model.specs.Replies.{is_writer}

@@ -1,6 +1,7 @@
 -- One row is linked over the chain of a page that was read, and pages go on.
 use Rattle.tree_law.proofs.Words.{false, ap, refl, Option, suc, None, List, inl, ◌≢◌, ◌≤◌, inr, ◌∷◌, sym, ℕ, ◌≡◌, ◌∙◌, arith, Some, IfSome, Update, ContentOf, next_row}
-use Rattle.tree_law.proofs.Words.{Record, content_in, right_in, low_in, is_removed, level_in, high_in, HasRead, Knowledge, finished, filled, linked_over, Reply, Foreign, OwnPage, Other, Gone, Written, Key}
+use Rattle.tree_law.proofs.Words.{Record, content_in, right_in, low_in, is_removed, level_in, high_in, HasRead, Knowledge, finished, filled, linked_over, Reply}
+use Rattle.tree_law.proofs.Words.{Foreign, OwnPage, Other, Gone, Written, Key}
 use Rattle.tree_law.proofs.Words.{Covers, Linked, Owners, Reached, Spare, OwnFits, LinkFits, PageFits, IsChain, OwnsPages, Nobody, Placed, PageOwner, Cleared, rank}
 use Rattle.tree_law.proofs.Words.{Merged, Stage, stage_removed, put, Shared, IsTree, spec, IsOff, Exact, KnowsBy, []}
 use Rattle.tree_law.proofs.shape.Puts.{by_equal, put_same, put_other, put_all}

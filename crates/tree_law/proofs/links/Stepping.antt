@@ -1,8 +1,10 @@
 -- Each allowed step with the memory's answer keeps the invariant.
 use Rattle.tree_law.proofs.Words.{false, ◌⊎◌, ap, refl, Option, suc, None, List, true, inl, inr, ◌∷◌, sym, ℕ, ◌≡◌, Bool, zero, ◌∙◌, Some, eqb, same_Some, IfSome, IsTrue, Update, set, unset}
 use Rattle.tree_law.proofs.Words.{Reply, Answer, Whether, Number, StepOf, ReuseRows, ReusePids, Leave, TakePid, Row, Place, TakeRow, Slot, Enter, Epoch, Exchange, Announce, Retire, Page, ContentOf}
-use Rattle.tree_law.proofs.Words.{Child, Memory, replaced_at, next_row, Record, Remove, RemoveOf, Base, Hold, Split, Merge, Term, Unterm, low_in, level_in, May, root_over, MayExchange, FitsOn, MayLink, MayRoot}
-use Rattle.tree_law.proofs.Words.{base_from, HasRead, update_record, MayPost, IsMet, MayUpdate, MayUnterm, MayHold, MayMerge, MaySplit, MayConsolidate, MayRemove, IsFitted, IsUnheld, Knowledge, finished, Ready}
+use Rattle.tree_law.proofs.Words.{Child, Memory, replaced_at, next_row, Record, Remove, RemoveOf, Base, Hold, Split, Merge, Term, Unterm, low_in, level_in, May}
+use Rattle.tree_law.proofs.Words.{root_over, MayExchange, FitsOn, MayLink, MayRoot}
+use Rattle.tree_law.proofs.Words.{base_from, HasRead, update_record, MayPost, IsMet, MayUpdate, MayUnterm, MayHold, MayMerge, MaySplit, MayConsolidate}
+use Rattle.tree_law.proofs.Words.{MayRemove, IsFitted, IsUnheld, Knowledge, finished, Ready}
 use Rattle.tree_law.proofs.Words.{learn, Empty, OwnPage, Gone, Written, filled, emptied, IsAnswer, memory_after, IsAdded, Key, put_key, IsReuse, IsMoved, Next, IsHomed, Linked, Owners, Spare}
 use Rattle.tree_law.proofs.Words.{PageFits, Placed, Indexed, PageOwner, Cleared, Keeps, Fresh, Removed, Held, Merged, Phased, LinkMoves, put, shared, slot_in, row_in, Shared, IsTree, []}
 use Rattle.tree_law.proofs.shape.{read_linked, chain_stands, by_equal, put_other, own_spare}

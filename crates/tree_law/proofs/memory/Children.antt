@@ -1,6 +1,7 @@
 -- The page that a term names, and the term that a removed page has.
 use Rattle.tree_law.proofs.Words.{false, true, [], ap, refl, suc, List, inl, inr, ◌≤◌, subst, sym, ℕ, ◌≡◌, Bool, ◌∙◌, ◌<◌, arith, Some, cases_lt, Contains, IsTrue, Limits, ContentOf, Child, Record}
-use Rattle.tree_law.proofs.Words.{content_in, covers, is_removed, low_in, LivePage, Entry, memory_of, IsFitted, Key, Covers, Placed, Indexed, Removed, Merged, Stage, mark, rank, stage_removed, shared, IsState, Off}
+use Rattle.tree_law.proofs.Words.{content_in, covers, is_removed, low_in, LivePage, Entry, memory_of, IsFitted, Key, Covers, Placed, Indexed, Removed, Merged}
+use Rattle.tree_law.proofs.Words.{Stage, mark, rank, stage_removed, shared, IsState, Off}
 use Rattle.base_page.proofs.PageLaws.{belongs}
 use Rattle.base_page.specs.Places.{IsGreatest}
 use Rattle.bw_model.specs.Bytes.{is_below}

@@ -1,5 +1,6 @@
 -- Of the terms of a removed page none is held.
-use Rattle.tree_law.proofs.Words.{false, true, ap, refl, List, ◌∷◌, [], subst, sym, ℕ, ◌≡◌, Bool, ◌∙◌, Contains, Limits, Record, Remove, RemoveOf, is_removed, LivePage, Entry, memory_of, IsChainFrom, IsFitted, IsUnheld, IsState}
+use Rattle.tree_law.proofs.Words.{false, true, ap, refl, List, ◌∷◌, [], subst, sym, ℕ, ◌≡◌, Bool, ◌∙◌, Contains, Limits, Record, Remove, RemoveOf, is_removed}
+use Rattle.tree_law.proofs.Words.{LivePage, Entry, memory_of, IsChainFrom, IsFitted, IsUnheld, IsState}
 use Rattle.deltas.specs.declared.record.Record.TheVariants as kind
 use Rattle.deltas.specs.Fits.{FitsOnPage}
 use Rattle.deltas.specs.Records.{next_row, removed_after}

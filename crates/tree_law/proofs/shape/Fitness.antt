@@ -1,6 +1,7 @@
 -- The chain of each linked row stays a page's chain, and a linked Remove over one of which no term is held.
 use Rattle.tree_law.proofs.Words.{◌⊎◌, refl, Option, None, List, inl, length, ◌≤◌, inr, ◌∷◌, subst, ℕ, ◌≡◌, arith, Some, All-from_recursion, IfSome, MatchOption, Limits, IsPage-from}
-use Rattle.tree_law.proofs.Words.{empty_leaf, IsRuled, Item, opening, next_row, IsSpellablePage, HasPid, Record, Base, IsChainFrom-unique, IsChainFrom, FitsOn, IsFitted, FitsOver, AreFitted, AreUnheld, IsAdded, IsUnheld, Remove, RemoveOf, sym, ◌∙◌, same_Some}
+use Rattle.tree_law.proofs.Words.{empty_leaf, IsRuled, Item, opening, next_row, IsSpellablePage, HasPid, Record, Base, IsChainFrom-unique, IsChainFrom, FitsOn}
+use Rattle.tree_law.proofs.Words.{IsFitted, FitsOver, AreFitted, AreUnheld, IsAdded, IsUnheld, Remove, RemoveOf, sym, ◌∙◌, same_Some}
 use Rattle.tree_law.proofs.Words.{Linked, Owners, IsChain, IsClosed, Shared, []}
 use Rattle.std.specs.List.Sorted.{IsStrictlySortedBy}
 use Rattle.traces.specs.chain.Fitted.{IsPageChain}
