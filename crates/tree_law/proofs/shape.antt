@@ -15,6 +15,7 @@ pub mod Own
 pub mod Puts
 pub mod Rows
 pub mod Sides
+pub mod Relinked
 pub mod Terms
 pub use Chains.{chain_unique, front_of}
 pub use Exactness.{is_indexed, below_top, root_indexed}
@@ -31,5 +32,6 @@ pub use Moments.{same_memory}
 pub use Own.{own_spare, own_base}
 pub use Puts.{none_if, false_if, by_equal, put_same, put_other, put_was, put_true, eqb_true, eqb_apart, decided, eqb_same, put_all}
 pub use Rows.{chain_linked, chain_was, next_linked, rows_kept}
-pub use Sides.{in_level_as, right_page, same_page, placed_level, one_chain, tree_kept, tree_merged, no_gap, level_kept, tree_relinked}
+pub use Sides.{one_chain}
+pub use Relinked.{in_level_as, right_page, same_page, placed_level, tree_kept, tree_merged, no_gap, level_kept, tree_relinked}
 pub use Terms.{exact_moved, exact_going, exact_root, exact_fresh, exact_same}

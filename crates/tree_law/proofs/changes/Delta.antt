@@ -19,7 +19,7 @@ use Rattle.tree_law.proofs.shape.Puts.{by_equal, put_other, put_same}
 use Rattle.tree_law.proofs.links.Keeping.{OnSide}
 use Rattle.tree_law.proofs.links.Relinking.{Found, found, place_of, placed_row}
 use Rattle.tree_law.proofs.shape.KeyOrder.{not_self}
-use Rattle.tree_law.proofs.shape.Sides.{placed_level}
+use Rattle.tree_law.proofs.shape.Relinked.{placed_level}
 use Rattle.tree_law.proofs.changes.Alive.{items_of, worth_kept, worth_least, worth_most}
 use Rattle.tree_law.proofs.changes.Bases.{base_page, in_range}
 use Rattle.tree_law.proofs.changes.Counting.{Has}

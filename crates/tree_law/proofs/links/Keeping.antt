@@ -9,7 +9,8 @@ use Rattle.tree_law.proofs.shape.KeyOrder.{covers_from}
 use Rattle.tree_law.proofs.shape.Puts.{by_equal}
 use Rattle.tree_law.proofs.shape.Chains.{chain_unique}
 use Rattle.tree_law.proofs.shape.Kept.{Kept, cleared_forward, reached_placed, placed_reached, chain_kept, knows_kept, owns_spared, pages_spared}
-use Rattle.tree_law.proofs.shape.Sides.{locate, in_level_as, right_page, tree_kept}
+use Rattle.tree_law.proofs.shape.Sides.{locate}
+use Rattle.tree_law.proofs.shape.Relinked.{in_level_as, right_page, tree_kept}
 use Rattle.tree_law.proofs.shape.Frames.{Change, kept_change, spared_change, change_none, knows_more, chain_stands}
 
 pub spec_leaf : (log : List Update) (index : ℕ → Key → Option ContentOf) (l : ℕ) → l ≡ 0 → (k : Key) → spec log index l k ≡ leaf_map log k

@@ -7,7 +7,7 @@ use Rattle.tree_law.proofs.Words.{Merged, Stage, stage_removed, put, Shared, IsT
 use Rattle.tree_law.proofs.shape.Puts.{by_equal, put_same, put_other, put_all}
 use Rattle.tree_law.proofs.shape.Chains.{chain_unique}
 use Rattle.tree_law.proofs.shape.Kept.{Kept, link_kept}
-use Rattle.tree_law.proofs.shape.Sides.{tree_relinked, placed_level}
+use Rattle.tree_law.proofs.shape.Relinked.{tree_relinked, placed_level}
 use Rattle.tree_law.proofs.shape.Frames.{row_own, row_same, PageChange, page_same, page_stage, page_link, page_clear, Change, kept_change, closed_kept, read_linked, chain_stands}
 use Rattle.tree_law.proofs.links.Keeping.{OnSide, put_tree, mine, mine_at, alive_place, off_still}
 

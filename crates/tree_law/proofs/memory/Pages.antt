@@ -7,7 +7,8 @@ use Rattle.tree_law.specs.LevelPages.{IsPageOn}
 use Rattle.tree_law.proofs.shape.KeyOrder.{covers_from, covers_to, empty_lowest}
 use Rattle.tree_law.proofs.shape.Leaves.{few as few_in, not_free}
 use Rattle.tree_law.proofs.shape.Mapping.{among, chain_of, covering, live}
-use Rattle.tree_law.proofs.shape.Sides.{one_chain, right_page, same_page}
+use Rattle.tree_law.proofs.shape.Sides.{one_chain}
+use Rattle.tree_law.proofs.shape.Relinked.{right_page, same_page}
 
 module _ (limits : Limits) (entries : List Entry) (state : IsState limits entries) where
   abbrev pub memory : Memory

@@ -6,7 +6,8 @@ use Rattle.tree_law.specs.Indexed.{HasTermAt, IsPageIn}
 use Rattle.tree_law.proofs.shape.KeyOrder.{empty_lowest, covers_from, covers_to}
 use Rattle.tree_law.proofs.links.Keeping.{on_or_merged}
 use Rattle.tree_law.proofs.shape.Mapping.{live, chain_at, chain_of, side_from, whole_from, among, covering}
-use Rattle.tree_law.proofs.shape.Sides.{locate, same_page}
+use Rattle.tree_law.proofs.shape.Sides.{locate}
+use Rattle.tree_law.proofs.shape.Relinked.{same_page}
 
 placed_low : (st st' : Stage) (l l' : ℕ) (s s' : Key) → Placed st l s ≡ Placed st' l' s' → s ≡ s'
 placed_low st st' l l' s s' e = cc

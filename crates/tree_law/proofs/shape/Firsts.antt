@@ -4,7 +4,7 @@ use Rattle.tree_law.proofs.Words.{Exchange, Memory, Record, Remove, Hold, Split,
 use Rattle.tree_law.proofs.Words.{Fresh, rank, Removed, Held, Merged, Stage, Phased, LinkMoves, Exchanged, put, shared, Shared, IsTree, [], nat_tests, eqb}
 use Rattle.tree_law.proofs.shape.Exactness.{is_indexed, below_top, root_indexed}
 use Rattle.tree_law.proofs.shape.Puts.{by_equal, put_same, put_other, decided, eqb_apart}
-use Rattle.tree_law.proofs.shape.Sides.{placed_level}
+use Rattle.tree_law.proofs.shape.Relinked.{placed_level}
 
 -- A page on a side chain is there afterwards, at its place, or was merged, and then nothing else was changed.
 abbrev Stays : (ℕ → PageOwner) → (ℕ → PageOwner) → ℕ → ℕ → Key → Type 0
