@@ -15,4 +15,5 @@ pub mod Progress
 pub mod Linearized
 pub mod Examples
 pub mod Unhindered
+pub mod ReadersEnd
 pub mod Updates

@@ -16,3 +16,8 @@ mod Together
 mod rounds
 mod RoundRuns
 mod SmallRuns
+mod ReaderPays
+mod ReaderRounds
+mod ReaderStates
+mod ReaderSteps
+mod ReaderOthers

@@ -3,5 +3,6 @@ pub mod RoundsIn
 pub mod RoundsEnd
 pub mod RoundExample
 pub mod ReadersAmong
+pub mod ReaderStates
 pub mod Readers
 pub mod Unhindered

@@ -12,19 +12,14 @@ use Rattle.traces.specs.trace.Trace.{memory_of}
 use Rattle.traces.specs.chain.SideChain.{LivePage}
 use Rattle.structure_changes.specs.Versions.{Version}
 use Rattle.round_model.specs.ReadRounds.{ReadRound, Shows}
-use Rattle.round_model.specs.Walks.{few_reads}
 use Rattle.op_machine.specs.machine.GoesLeft.{first_read, read_left_of}
 use Rattle.op_machine.specs.machine.Tasks.{Task}
+pub use Rattle.op_machine.specs.theorem.ReadersEnd.{one_walk}
 use Rattle.tree_law.specs.LevelPages.{IsPageOn}
 use Rattle.tree_law.specs.OneMemory.{HasWholeTree}
 use Rattle.tree_law.specs.State.{IsState}
 use Rattle.progress.specs.ReaderRuns.{EndsWithin, FindsEach}
 use Rattle.progress.specs.RoundsIn.{IsRoundIn, WasRemovedLeaf}
-
--- how many steps a reader's round takes at most: of each page once the slot and 13 records, and so many once more on each of 16
--- levels, for a removed page that the round then goes round
-abbrev pub one_walk : Limits → ℕ
-one_walk limits = few_reads limits + 14 * 16
 
 module _ {limits : Limits} {memory : Memory} (tree : HasWholeTree limits memory) where
   -- how many leaves are removed

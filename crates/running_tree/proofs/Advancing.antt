@@ -52,7 +52,7 @@ module _ (laws : HaveLaws) (limits : Limits) (a : ℕ) (seen : List Entry) (now 
 
   pub may_go : (asked ≡ Leave → ⊥) → IsLawfulStep IsLawfulRun limits a seen None asked None
   may_go other =
-      may_take laws limits a seen now h asked None (allowed limits a k r now asked w other) (useful limits a k r now asked w) (halved limits a k r now asked w) busy (due limits a k r now asked w)
+      may_take laws limits a seen now h asked None (allowed limits a k r now asked w other) (useful limits a k r now asked w) (halved limits a k r now asked w) e busy (due limits a k r now asked w)
 
   pub known_may : May a k asked
   known_may = may limits a k r now asked w
@@ -67,7 +67,7 @@ module _ (laws : HaveLaws) (limits : Limits) (a : ℕ) (seen : List Entry) (now 
   module _ (told : Answer Record) (reply : Option Reply) (later : List Entry) (new : Actor) (took : Took IsLawfulRun limits a seen None asked told reply later)
       (g : ActsOn limits a k r now asked told reply new) where
     pub seated_so : running_command new ≡ command_left reply (running_command now) → IsSeated limits a later new
-    seated_so runs = seated_then laws limits a seen now h asked reply g.allowed g.useful g.halved told later took new g runs busy
+    seated_so runs = seated_then laws limits a seen now h asked reply g.allowed g.useful g.halved told later took e new g runs busy
 
     pub advances_so : (table table' : TableId) → Advances (seat_of table limits a seen) reply (seat_of table' limits a later)
     advances_so table table' = record {
@@ -129,7 +129,7 @@ module _ (laws : HaveLaws) (limits : Limits) (a : ℕ) (seen : List Entry) (now 
     g = goes laws limits a seen now h busy Leave e Done reply new tt takes
 
     pub leave_may : IsLawfulStep IsLawfulRun limits a seen None Leave reply
-    leave_may = may_take laws limits a seen now h Leave reply g.allowed g.useful g.halved busy (due limits a (knows seen a) (recalls seen a) now Leave wl)
+    leave_may = may_take laws limits a seen now h Leave reply g.allowed g.useful g.halved e busy (due limits a (knows seen a) (recalls seen a) now Leave wl)
 
     module _ (told : Answer Record) (later : List Entry) (took : Took IsLawfulRun limits a seen None Leave told reply later) where
       gt : ActsOn limits a (knows seen a) (recalls seen a) now Leave told reply new

@@ -84,17 +84,20 @@ module _ (laws : HaveLaws) (limits : Limits) (a : ℕ) (seen : List Entry) (now 
       let known : begun (knows seen a) command ≡ knows (run ++ Begin a command ∷ []) a =
       sym (ap (λ (ks : ℕ → Knowledge). ks a) grows.known ∙ replaced_same a (begun (knows run a) command) (knows run) ∙ ap (λ q. begun q command) lasts.known) in
       let recalled : blank ≡ recalls (run ++ Begin a command ∷ []) a = sym (ap (λ (rs : ℕ → Recalled). rs a) grows.recalled ∙ replaced_same a blank (recalls run)) in
+      let later = laws.begins limits run a command legal.state there (lasts.command ∙ free) in
       record {
         lawful = record {
-          state = laws.begins limits run a command legal.state there (lasts.command ∙ free);
+          state = later;
           direct = direct.state;
-          paid = laws.begins_paid
-              limits run a command legal.paid there (lasts.command ∙ free);
+          paid = laws.begins_paid limits run a command legal.paid there (lasts.command ∙ free);
+          readers =
+              laws.readers.begins limits run a command legal.readers later direct.state.direct;
         };
         shows = subst (λ q. IsActorWith limits a q (recalls (run ++ Begin a command ∷ []) a) new.hand new.running) known
             (subst (λ q. IsActorWith limits a (begun (knows seen a) command) q new.hand new.running) recalled shows);
         runs = has ∙ sym (ap (λ (cs : ℕ → Option Command). cs a) grows.commands ∙ replaced_same a (Some command) (command_of run));
         pays = subst (λ q. Accounts limits (run ++ Begin a command ∷ []) a (steps_due q new.hand new.running)) recalled direct.account;
+        reads = laws.readers.begun limits run a command (begun (knows seen a) command) blank new shows (idle_outside limits a (knows seen a) (recalls seen a) now.hand now.running idle h.shows) has;
         lacks = lack_begun limits a run command new.lacks quiet;
       }
 

@@ -8,7 +8,7 @@ use Rattle.table_rule.specs.declared.view.Part.{Part}
 use Rattle.table_rule.specs.declared.view.Reach.TheVariants.{Idle}
 use Rattle.table_rule.specs.Running.{Each, ExtendsFor}
 use Rattle.table_rule.specs.Views.{HasPart, IsRefreshed, SitsAt, Mine, alone, first_part, other_parts, part, refreshed, seen_of}
-use Rattle.tree_law.specs.Own.{OwnLasts}
+use Rattle.running_tree.specs.SeatLaws.{SeatsLast}
 use Rattle.running_tree.specs.Runs.{IsLawfulRun, IsSeenRun}
 use Rattle.running_tree.specs.Seats.{IsSeat}
 use Rattle.running_tree.proofs.Meeting.{seat_extends}
@@ -55,5 +55,5 @@ module _ (limits : Limits) (a : ℕ) (one other joined : Mine) (at : SitsAt limi
     pub first_run : IsSeenRun limits (seen_of left)
     first_run = subst (IsSeenRun limits) (sym left_saw) saw_run
 
-    pub first_seat : OwnLasts → (actor : Actor) → IsSeat limits a one actor → IsSeat limits a left actor
+    pub first_seat : SeatsLast → (actor : Actor) → IsSeat limits a one actor → IsSeat limits a left actor
     first_seat own actor seat = seat_extends own limits a one left saw.run actor seat saw_run all_extend.0 left_at left_saw

@@ -13,26 +13,27 @@ use Rattle.table_rule.specs.declared.view.Reach.TheVariants.{Idle, Noted}
 use Rattle.table_rule.specs.Running.{BeginWithSteps, Each, ExtendsFor}
 use Rattle.table_rule.specs.Views.{HasPart, IsRefreshed, SitsAt, Mine, alone, first_part, other_parts, part, refreshed, seen_of}
 use Rattle.tree_law.specs.Direct.{Accounts}
-use Rattle.tree_law.specs.Own.{OwnLasts}
+use Rattle.running_tree.specs.SeatLaws.{SeatsLast}
 use Rattle.running_tree.specs.Runs.{IsLawfulRun, IsSeenRun, StartsWith}
 use Rattle.running_tree.specs.Seats.{IsSeat, IsSeated}
 use Rattle.running_tree.proofs.LackLaws.{lack_extends}
 
 -- what an actor keeps shows the same of a run that others have gone on with
-seated_extends : OwnLasts → (limits : Limits) (number : ℕ) (seen run : List Entry) (at : Actor) → IsSeated limits number seen at → IsLawfulRun limits run
+seated_extends : SeatsLast → (limits : Limits) (number : ℕ) (seen run : List Entry) (at : Actor) → IsSeated limits number seen at → IsLawfulRun limits run
     → Extends number seen run → IsSeated limits number run at
 seated_extends own limits number seen run at seated legal extends =
-    let lasts = own limits number seen run extends in
+    let lasts = own.own limits number seen run extends in
     record {
       lawful = legal;
       shows = subst (λ k. IsActor limits number k (recalls run number) at) (sym lasts.known) (subst (λ r. IsActor limits number (knows seen number) r at) (sym lasts.recalled) seated.shows);
       runs = seated.runs ∙ sym lasts.command;
       pays = subst (λ r. Accounts limits run number (steps_due r at.hand at.running)) (sym lasts.recalled) (lasts.affords (steps_due (recalls seen number) at.hand at.running) seated.pays);
+      reads = own.readers limits number seen run at extends legal.readers seated.shows seated.reads;
       lacks = lack_extends limits number seen run at.lacks extends lasts.known lasts.command seated.lacks;
     }
 
-pub seat_extends : OwnLasts → (limits : Limits) (number : ℕ) (me me' : Mine) (run : List Entry) (at : Actor) → IsSeat limits number me at → IsSeenRun limits run
-    → Extends number (seen_of me) run → SitsAt limits number Idle me' → seen_of me' ≡ run
+pub seat_extends : SeatsLast → (limits : Limits) (number : ℕ) (me me' : Mine) (run : List Entry) (at : Actor) → IsSeat limits number me at
+    → IsSeenRun limits run → Extends number (seen_of me) run → SitsAt limits number Idle me' → seen_of me' ≡ run
     → IsSeat limits number me' at
 seat_extends own limits number me me' run at seat is extends place saw = record {
   there = seat.there;
@@ -94,10 +95,10 @@ module _ (limits : Limits) (a b : ℕ) (reach : Reach) (one other joined : Mine)
     pub right_run : IsSeenRun limits (seen_of right)
     right_run = subst (IsSeenRun limits) (sym right_saw) saw_run
 
-    pub left_seat : OwnLasts → (actor : Actor) → IsSeat limits a one actor → IsSeat limits a left actor
+    pub left_seat : SeatsLast → (actor : Actor) → IsSeat limits a one actor → IsSeat limits a left actor
     left_seat own actor seat = seat_extends own limits a one left saw.run actor seat saw_run both_extend.0 left_at left_saw
 
-    pub right_seat : OwnLasts → (actor : Actor) → reach ≡ Idle → IsSeat limits b other actor → IsSeat limits b right actor
+    pub right_seat : SeatsLast → (actor : Actor) → reach ≡ Idle → IsSeat limits b other actor → IsSeat limits b right actor
     right_seat own actor is seat =
         seat_extends own limits b other right saw.run actor seat saw_run (subst (λ r. ExtendsFor r b (seen_of other) saw.run) is both_extend.1.0)
         (subst (λ r. SitsAt limits b r right) is right_at) right_saw

@@ -15,7 +15,7 @@ use Rattle.table_rule.specs.declared.view.Part.{Part}
 use Rattle.table_rule.specs.declared.view.Reach.TheVariants.{Idle}
 use Rattle.table_rule.specs.Running.{Running}
 use Rattle.table_rule.specs.Views.{Mine, alone, dealt, dealt_from, first_part, other_parts, refreshed, seen_of}
-use Rattle.tree_law.specs.Own.{OwnLasts}
+use Rattle.running_tree.specs.SeatLaws.{SeatsLast}
 use Rattle.tree_words.specs.Opening.{opening_words}
 use Rattle.running_tree.specs.Loaded.{AreAt, seat_at}
 use Rattle.running_tree.specs.Runs.{IsLawfulRun, IsSeenRun}
@@ -37,7 +37,7 @@ fresh_idle limits number me rest legal there is =
       there = there;
       place = refl;
       begins = tt;
-      seated = record { lawful = legal; shows = rest limits number blank; runs = refl; pays = λ operation last own. cc; lacks = record { told = refl; pending = λ busy. cc } };
+      seated = record { lawful = legal; shows = rest limits number blank; runs = refl; pays = λ operation last own. cc; reads = tt; lacks = record { told = refl; pending = λ busy. cc } };
     }
 
 pub fresh : (limits : Limits) (number : ℕ) (me : Mine) (actor : Actor) → IdleRest → IsLawfulRun limits [] → number < limits.actors
@@ -45,7 +45,7 @@ pub fresh : (limits : Limits) (number : ℕ) (me : Mine) (actor : Actor) → Idl
 fresh limits number me actor rest legal there is idle = subst (IsSeat limits number me) (sym idle) (fresh_idle limits number me rest legal there is)
 
 -- the same once it has seen steps of others
-pub fresh_then : OwnLasts → (limits : Limits) (number : ℕ) (run : List Entry) (me : Mine) (actor : Actor) → IdleRest → IsLawfulRun limits []
+pub fresh_then : SeatsLast → (limits : Limits) (number : ℕ) (run : List Entry) (me : Mine) (actor : Actor) → IdleRest → IsLawfulRun limits []
     → IsSeenRun limits run → Extends number [] run → number < limits.actors
     → me ≡ (alone limits number run Idle, []) → actor ≡ idle_actor limits → IsSeat limits number me actor
 fresh_then own limits number run me actor rest empty run_is extends there is idle =

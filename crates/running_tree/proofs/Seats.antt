@@ -34,7 +34,9 @@ use Rattle.op_machine.specs.machine.Tasks.{Task}
 use Rattle.op_machine.specs.machine.States.{State}
 use Rattle.op_machine.specs.machine.States as state
 use Rattle.table_rule.specs.Steps.{IsLawfulStep, Took, with_step}
+use Rattle.progress.specs.ReaderStates.{PaysReader}
 use Rattle.tree_law.specs.Direct.{Accounts, StaysDirect}
+use Rattle.tree_law.specs.State.{IsState}
 use Rattle.running_tree.specs.SeatLaws.{HaveLaws}
 use Rattle.running_tree.specs.Runs.{IsLawfulRun}
 use Rattle.running_tree.specs.LastReply.{KeepsLack}
@@ -143,12 +145,20 @@ module _ (laws : HaveLaws) (limits : Limits) (a : ℕ) (seen : List Entry) (now 
       (subst (λ q. IsStepSpent limits q asked told (steps_due (recalls seen a) now.hand now.running) rest) (sym lasts.recalled) spent)
       few
 
-  pub may_take : IsSome (command_of seen a) → 0 < steps_due (recalls seen a) now.hand now.running → IsLawfulStep IsLawfulRun limits a seen None asked reply
-  may_take busy some run told legal x is =
+  -- a reader is paid for, whatever the others have done
+  reads_on : (run : List Entry) → IsLawfulRun limits run → Extends a seen run → PaysReader limits run a now.running
+  reads_on run legal x = laws.readers.lasts limits a seen run now x legal.readers h.shows h.reads
+
+  pub may_take : wanted_by now.running ≡ Some asked → IsSome (command_of seen a) → 0 < steps_due (recalls seen a) now.hand now.running → IsLawfulStep IsLawfulRun limits a seen None asked reply
+  may_take asks busy some run told legal x is =
       let lasts = laws.own limits a seen run x in
+      let later : IsState limits (run ++ Step a asked told reply ∷ []) = laws.steps limits run a asked told reply legal.state
+      (subst IsSome (sym lasts.command) busy) (subst (λ q. IsAllowed limits a q asked reply) (sym lasts.known) allowed) is in
+      let direct = (stays run told 0 legal x is (inl some) (omega arith)).state in
       subst (IsLawfulRun limits) (without_begin run a asked told reply) (record {
-        state = laws.steps limits run a asked told reply legal.state (subst IsSome (sym lasts.command) busy) (subst (λ q. IsAllowed limits a q asked reply) (sym lasts.known) allowed) is;
-        direct = (stays run told 0 legal x is (inl some) (omega arith)).state;
+        state = later;
+        direct = direct;
+        readers = laws.readers.steps limits run a asked told reply now legal.readers (reads_on run legal x) asks later direct.direct;
         paid =
             laws.steps_paid limits run a asked told reply legal.paid (subst IsSome (sym lasts.command) busy)
             (subst (λ q. IsAllowed limits a q asked reply) (sym lasts.known) allowed) (subst (λ q. IsUseful q asked) (sym lasts.known) useful.useful)
@@ -186,9 +196,22 @@ module _ (laws : HaveLaws) (limits : Limits) (a : ℕ) (seen : List Entry) (now 
     replies_last given is = (subst (λ o. IfSome o (λ given. (asked ≡ Leave) × (told ≡ answer.Done))) is leaves).0
 
     -- what the seat keeps after it
-    pub seated_then : (new : Actor) → ActsOn limits a k (recalls seen a) now asked told reply new
+    -- a reader is paid for still
+    reads_then : wanted_by now.running ≡ Some asked → (new : Actor) → ActsOn limits a k (recalls seen a) now asked told reply new
+        → running_command new ≡ command_left reply (running_command now) → PaysReader limits later a new.running
+    reads_then asks new goes runs =
+        let lasts = laws.own limits a seen took.run took.extends in
+        let kept : IsLawfulRun limits (took.run ++ Step a asked told reply ∷ []) = subst (IsLawfulRun limits) grown took.kept in
+        let shown : IsActorWith limits a (knows took.run a) (recalls took.run a) now.hand now.running =
+        subst (λ q. IsActorWith limits a q (recalls took.run a) now.hand now.running) (sym lasts.known) (subst (λ q. IsActorWith limits a k q now.hand now.running) (sym lasts.recalled) h.shows) in
+        let acts : ActsOn limits a (knows took.run a) (recalls took.run a) now asked told reply new =
+        subst (λ q. ActsOn limits a q (recalls took.run a) now asked told reply new) (sym lasts.known) (subst (λ q. ActsOn limits a k q now asked told reply new) (sym lasts.recalled) goes) in
+        subst (λ run. PaysReader limits run a new.running) (sym grown)
+        (laws.readers.stepped limits took.run a asked told reply now new took.legal.state shown (reads_on took.run took.legal took.extends) asks kept.state kept.direct.direct acts runs)
+
+    pub seated_then : wanted_by now.running ≡ Some asked → (new : Actor) → ActsOn limits a k (recalls seen a) now asked told reply new
         → running_command new ≡ command_left reply (running_command now) → IsSome (command_of seen a) → IsSeated limits a later new
-    seated_then new goes runs busy = record {
+    seated_then asks new goes runs busy = record {
       lawful = took.kept;
       shows = subst (λ q. IsActorWith limits a q (recalls later a) new.hand new.running) (sym known_then)
           (subst (λ q. IsActorWith limits a (knows_then k asked told reply) q new.hand new.running) (sym recalled_then) goes.shows);
@@ -196,6 +219,7 @@ module _ (laws : HaveLaws) (limits : Limits) (a : ℕ) (seen : List Entry) (now 
       pays = subst (λ q. Accounts limits later a (steps_due q new.hand new.running)) (sym recalled_then)
           (subst (λ run. Accounts limits run a (steps_due (recall (recalls seen a) asked told) new.hand new.running)) (sym grown)
           (stays took.run told (steps_due (recall (recalls seen a) asked told) new.hand new.running) took.legal took.extends took.answered goes.spends goes.few).account);
+      reads = reads_then asks new goes runs;
       lacks = subst (λ run. KeepsLack limits a run new.lacks) (sym grown) (lack_stepped limits a seen took.run asked told reply now.lacks new.lacks took.extends busy h.lacks goes.lacks replies_last
           (ap (λ run. knows run a) (sym grown) ∙ known_then) (ap (λ run. command_of run a) (sym grown) ∙ command_then));
     }

@@ -1,4 +1,5 @@
 -- What the law of the tree gives a seat, of runs with steps of others that it has not seen.
+use Rattle.progress.specs.ReaderStates.{ReadersGoOn, ReadersStayPaid}
 use Rattle.tree_law.specs.Changes.{IsPaidState, StepsPay}
 use Rattle.tree_law.specs.Direct.{BeginsDirectly, StepsDirectly}
 use Rattle.tree_law.specs.Own.{OwnLasts, RowsAreApart}
@@ -18,3 +19,9 @@ pub record HaveLaws : Type 0 where
   pub steps : Steps
   pub steps_directly : StepsDirectly
   pub steps_paid : StepsPay
+  pub readers : ReadersGoOn
+
+-- What a seat keeps outlasts the entries of others.
+pub record SeatsLast : Type 0 where
+  pub own : OwnLasts
+  pub readers : ReadersStayPaid

@@ -9,7 +9,7 @@ ghost use Rattle.table_rule.specs.Running.{Each, ExtendsFor};
 ghost use Rattle.table_rule.specs.Views.{dealt, other_parts, refreshed};
 
 use crate::desk::Desk;
-use crate::lawful_runs::{TreeLaw, empty_run_is_lawful, runs_are_one_history};
+use crate::lawful_runs::{TreeLaw, empty_run_is_lawful, runs_are_one_history, seats_last};
 use crate::seat::BwSeat;
 use crate::tree::Tree;
 use atomic_table::Table;
@@ -18,7 +18,6 @@ use op_machine::{Actor, idle_actors_rest};
 use std::alloc::{AllocError, Allocator};
 use std::mem::replace;
 use table_rule::{TableSeat, cut, join, opening_keeps, refresh};
-use tree_law::own_lasts;
 use tree_words::opening_words;
 
 /// A tree with one leaf, the seat of its first actor, and one place in which all others stand.
@@ -65,7 +64,7 @@ pub(crate) fn gathered<A: Allocator>(
     ensures each { Each (λ part. ExtendsFor part.reach part.actor part.seen seat.new.seen) others.me.0 }
 {
     runs_are_one_history();
-    own_lasts();
+    seats_last();
     let words = &tree.table.shared;
     join(words, &mut seat.desk.place, others, &tree.limits);
     refresh(words, &mut seat.desk.place, &tree.limits);
@@ -86,7 +85,7 @@ pub(crate) fn dealt_out<A: Allocator + Copy>(
     requires each { Each (λ part. ExtendsFor part.reach part.actor part.seen first.seen) (other_parts (dealt tree.now.limits)) }
     ensures { IfOk result (λ seats. AreAt tree.now first.seen seats.items) }
 {
-    own_lasts();
+    seats_last();
     empty_run_is_lawful();
     idle_actors_rest();
     let limits = tree.limits;

@@ -1,12 +1,12 @@
 //! The law of the tree as that of the rule, and what it says of runs.
 ghost use Rattle.std.specs.Prelude.{List, []};
 ghost use Rattle.tree_limits.specs.declared.limits.Limits.{Limits};
-ghost use Rattle.running_tree.specs.SeatLaws.{HaveLaws};
+ghost use Rattle.running_tree.specs.SeatLaws.{HaveLaws, SeatsLast};
 ghost use Rattle.running_tree.specs.Runs.{IsLawfulRun, IsOneHistory, IsSeenRun};
 ghost use Rattle.traces.specs.declared.trace.Entry.{Entry};
 ghost use Rattle.table_rule.specs.Running.{KeepsRowsApart};
 
-use progress::{readers_read_at_once, runs_make_progress};
+use progress::{opens_with_readers, readers_go_on, readers_read_at_once, runs_make_progress};
 use table_rule::{Law, Words};
 use tree_law::{
     answers, begins, begins_directly, begins_paid, entries_grow, frees_by_rule, index_is_exact,
@@ -14,7 +14,7 @@ use tree_law::{
     steps_directly, steps_paid,
 };
 
-/// In each run of the tree each actor obeyed its discipline, by few steps and few changes.
+/// In each run of the tree each actor obeyed its discipline, by few steps and few changes, and each reader by few for each change.
 pub struct TreeLaw;
 
 impl Law for TreeLaw {
@@ -33,6 +33,7 @@ pub(crate) fn empty_run_is_lawful()
     opens();
     opens_directly();
     opens_paid();
+    opens_with_readers();
 }
 
 /// Lawful runs keep the rows of actors apart.
@@ -68,4 +69,13 @@ pub(crate) fn laws_of_runs()
     steps();
     steps_directly();
     steps_paid();
+    readers_go_on();
+}
+
+/// What a seat keeps outlasts the steps of others.
+pub(crate) fn seats_last()
+    ensures { SeatsLast }
+{
+    own_lasts();
+    readers_go_on();
 }

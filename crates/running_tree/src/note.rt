@@ -4,14 +4,13 @@ ghost use Rattle.running_tree.specs.Notes.{HasHeeded, IsNoteOf, note_of};
 ghost use Rattle.running_tree.specs.Runs.{IsOneHistory};
 ghost use Rattle.running_tree.specs.Trees.{IsSeatOf};
 
-use crate::lawful_runs::runs_are_one_history;
+use crate::lawful_runs::{runs_are_one_history, seats_last};
 use crate::seat::BwSeat;
 use crate::tree::Tree;
 use bw_model::Limits;
 use std::alloc::Allocator;
 use std::marker::Model;
 use table_rule::{TableSeat, cut, join, note, refresh};
-use tree_law::own_lasts;
 
 /// What a seat had seen when the note was made. It takes no memory, and goes from thread to thread.
 #[derive(Drop)]
@@ -52,7 +51,7 @@ impl<A: Allocator> Tree<A> {
         ensures history { IsOneHistory seat.new.limits seat.new.seen }
     {
         runs_are_one_history();
-        own_lasts();
+        seats_last();
         let words = &self.table.shared;
         join(words, &mut seat.desk.place, note.place, &self.limits);
         refresh(words, &mut seat.desk.place, &self.limits);

@@ -8,7 +8,7 @@ ghost use Rattle.running_tree.specs.Trees.{IsSeatOf};
 ghost use Rattle.change_machine.specs.Taking.{count_of};
 ghost use Rattle.table_rule.specs.Views.{IsOf};
 
-use crate::lawful_runs::TreeWords;
+use crate::lawful_runs::{TreeWords, seats_last};
 use crate::seat::BwSeat;
 use crate::tree::Tree;
 use bw_model::{Limits, Step};
@@ -70,7 +70,7 @@ impl<A: Allocator> BwSeat<A> {
         ensures watched { HasWatched kind word self.old self.new result }
         ensures few { result ≤ 64 }
     {
-        own_lasts();
+        seats_last();
         let step = bits(kind, word);
         watch(
             words,

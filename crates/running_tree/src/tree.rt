@@ -6,7 +6,7 @@ ghost use Rattle.running_tree.specs.Seats.{IsSame, unfinished_command};
 ghost use Rattle.running_tree.specs.Trees.{HaveMet, IsSeatOf};
 
 use crate::called::{Called, called_if};
-use crate::lawful_runs::{TreeLaw, runs_are_one_history};
+use crate::lawful_runs::{TreeLaw, runs_are_one_history, seats_last};
 use crate::seat::BwSeat;
 use atomic_table::Table;
 use bw_model::{Command, Limits, Reply};
@@ -14,7 +14,6 @@ use std::alloc::{Allocator, Global};
 use std::marker::Model;
 use std::mem::replace;
 use table_rule::{Rule, View, blank, cut, join, refresh};
-use tree_law::own_lasts;
 
 /// A tree that threads share by reference.
 #[derive(Drop)]
@@ -107,7 +106,7 @@ impl<A: Allocator> Tree<A> {
         ensures history_other { IsOneHistory other.new.limits other.new.seen }
     {
         runs_are_one_history();
-        own_lasts();
+        seats_last();
         let words = &self.table.shared;
         let others = replace(&mut other.desk.place, blank(words));
         join(words, &mut one.desk.place, others, &self.limits);

@@ -1,10 +1,11 @@
 -- What a turn makes of a core.
 use Rattle.std.proofs.Common.{◌≡◌, ◌≢◌, ◌<◌, inl, inr, ℕ, List, [], ◌∷◌, ◌++◌, length, Some, None, Option, Bool, true, false, set, get_or, ltb, refl, sym, ap, subst, ◌∙◌, append_assoc}
-use Rattle.std.specs.Prelude.{slice_get, is_some, nat_lt, if◌then◌else◌}
+use Rattle.std.specs.Prelude.{slice_get, is_some, nat_lt, if◌then◌else◌, ◌==◌}
 use Rattle.std.specs.Option.{option_map}
 use Rattle.std.proofs.lemmas.List.{append-nil}
 use Rattle.std.proofs.lemmas.Option.{same_Some, slice_get-map}
 use Rattle.std.proofs.lemmas.Bool.{lt-ltb, ltb-true}
+use Rattle.std.proofs.lemmas.Bool.Decides.{eqb_tells}
 use Rattle.bw_model.specs.declared.command.Command.{Command}
 use Rattle.bw_model.specs.declared.command.Reply.{Reply}
 use Rattle.tree_limits.specs.declared.limits.Limits.{Limits}
@@ -22,7 +23,7 @@ use Rattle.core_memory.specs.Tables.{CoreTable, memory_in}
 use Rattle.round_model.specs.Machines.{AreThere}
 use Rattle.traces.specs.trace.Trace.{command_of, commands_after, memory_of}
 use Rattle.traces.specs.discipline.Discipline.{IsAllowed, May}
-use Rattle.traces.specs.discipline.Disciplined.{IsDisciplinedFrom, MayStand}
+use Rattle.traces.specs.discipline.Disciplined.{IsDisciplinedFrom, MayStand, is_entry_of, own_entries}
 use Rattle.traces.specs.discipline.Knowledge.{Knowledge, begun, finished, knows, knows_after, learn, nothing}
 use Rattle.traces.specs.discipline.Useful.{IsUseful}
 use Rattle.op_machine.specs.theorem.Halves.{IsHalved}
@@ -32,10 +33,12 @@ use Rattle.tree_law.specs.Own.{RowsAreApart}
 use Rattle.tree_law.specs.State.{IsState}
 use Rattle.tree_law.specs.TraceLaws.{AnswersFit, BeginsKeep, Grows, Steps}
 use Rattle.traces.specs.discipline.Recalled.{Recalled, blank, recall, recalls, recalls_after}
-use Rattle.op_machine.specs.machine.Actors.{Actor, IsActor, IsActorShown, command_left, idle_actor, knows_then, running_command, wanted_by}
-use Rattle.op_machine.specs.machine.UnderWay.{steps_due}
+use Rattle.op_machine.specs.machine.Actors.{Actor, ActsOn, IsActor, IsActorShown, IsActorWith, command_at, command_left, idle_actor, knows_then, running_command, wanted_by}
+use Rattle.op_machine.specs.machine.Hands.{Hand}
+use Rattle.op_machine.specs.machine.UnderWay.{UnderWay, steps_due}
 use Rattle.step_core.specs.Actors.{IsReady, IsServedAt, IsWithinAt, wanted_in}
 use Rattle.step_core.proofs.Lawful.{Asks, asks, is_placed, read_stands, served_at, within_at}
+use Rattle.progress.specs.ReaderStates.{IsReadersState, PaysReader, ReadersGoOn}
 use Rattle.step_core.specs.Cores.{IsCore, Pays}
 use Rattle.step_core.specs.Turns.{Core, Demand, KeepsMore, LeavesAt, WantsMemory, busy_of, refused_by, refusal_of}
 use Rattle.step_core.proofs.Replaced.{get_is, set_cases, set_length, set_other}
@@ -90,6 +93,29 @@ pays_set limits actors entries entry i new grows each others stays a at e = elim
   | inr h ↦ rw (grows.recalled, others a h.0) (stays.others a (steps_due (recalls entries a) at.hand at.running) h.0 (each a at h.1))
 ]
 
+-- an entry of one actor is no other's
+none_own : (i a : ℕ) (entry : Entry) → is_entry_of a entry ≡ (a == i) → a ≢ i → own_entries a (entry ∷ []) ≡ []
+none_own i a entry is apart = ap (λ (b : Bool). if b then entry ∷ [] else []) (is ∙ elim (eqb_tells a i) [ inl same ↦ absurd (apart same.1) | inr other ↦ other.0 ])
+
+-- each reader is paid for after the longer trace too
+reads_set : ReadersGoOn → (limits : Limits) (actors : List Actor) (entries : List Entry) (entry : Entry) (i : ℕ) (new : Actor) → ((a : ℕ) → is_entry_of a entry ≡ (a == i))
+    → ((a : ℕ) (at : Actor) → slice_get actors a ≡ Some at → IsActor limits a (knows entries a) (recalls entries a) at)
+    → ((a : ℕ) (at : Actor) → slice_get actors a ≡ Some at → PaysReader limits entries a at.running)
+    → IsReadersState limits (entries ++ entry ∷ []) → PaysReader limits (entries ++ entry ∷ []) i new.running → (a : ℕ) (at : Actor)
+    → slice_get (set actors i new) a ≡ Some at → PaysReader limits (entries ++ entry ∷ []) a at.running
+reads_set laws limits actors entries entry i new of shows each readers own a at e = elim (set_cases actors i new a at e) [
+  | inl h ↦ rw (h.0, h.1) own
+  | inr h ↦ laws.lasts limits a entries (entries ++ entry ∷ []) at (entry ∷ [], refl, none_own i a entry (of a) h.0) readers (shows a at h.1) (each a at h.1)
+]
+
+-- an actor without an operation is outside
+outside : (limits : Limits) (a : ℕ) (k : Knowledge) (r : Recalled) (hand : Hand) (o : Option UnderWay) → IsActorWith limits a k r hand o → command_at o ≡ None → k.inside ≡ false
+outside limits a k r hand None shows idle = shows.spares.outside
+outside limits a k r hand (Some running) shows idle = cc
+
+pub idle_outside : (limits : Limits) (a : ℕ) (k : Knowledge) (r : Recalled) (at : Actor) → IsActor limits a k r at → running_command at ≡ None → k.inside ≡ false
+idle_outside limits a k r at shows idle = outside limits a k r at.hand at.running shows idle
+
 -- a trace in which each actor obeys its discipline, with one entry more
 stands_push : (limits : Limits) (before entries : List Entry) (last : Entry) → IsDisciplinedFrom limits before entries
     → MayStand limits (before ++ entries) last → IsDisciplinedFrom limits before (entries ++ last ∷ [])
@@ -101,11 +127,12 @@ module _ (limits : Limits) where
   pub core_opens : (table : CoreTable) (actors : List Actor) (entries : List Entry) → table.limits ≡ limits → memory_in table ≡ opening limits → length actors ≡ limits.actors
       → ((a : ℕ) (at : Actor) → slice_get actors a ≡ Some at → at ≡ idle_actor limits)
       → ((limits : Limits) (number : ℕ) (r : Recalled) → IsActor limits number nothing r (idle_actor limits)) → IsState limits [] → IsDirectState limits []
-      → IsPaidState limits [] → entries ≡ [] → IsCore limits table actors entries
-  core_opens table actors entries same has count each rest state direct paid none = rw none (record {
+      → IsPaidState limits [] → IsReadersState limits [] → entries ≡ [] → IsCore limits table actors entries
+  core_opens table actors entries same has count each rest state direct paid readers none = rw none (record {
     state = state;
     direct = direct;
     paid = paid;
+    readers = readers;
     disciplined = tt;
     same_limits = same;
     has = has;
@@ -113,6 +140,7 @@ module _ (limits : Limits) where
     each_shows = λ a at e. rw (each a at e) (rest limits a blank);
     each_running = λ a at e. rw (each a at e) refl;
     each_pays = λ a at e. rw (each a at e) (λ operation last own. cc);
+    each_reads = λ a at e. rw (each a at e) tt;
   })
 
   -- the actor of a turn that isn't refused
@@ -232,20 +260,23 @@ module _ (limits : Limits) where
       let (found, wanted) = core_wanted table actors entries i j old room core v is refusal same at in
       inr (wanted_by old.running, wanted, subst (λ c. KeepsMore c (wanted_by old.running)) (core.each_running i old found ∙ ap (λ (u : Core). command_of u.entries i) is) keeps)
 
-  pub core_begun : BeginsKeep IsState → BeginsKeep IsPaidState
+  pub core_begun : BeginsKeep IsState → BeginsKeep IsPaidState → ReadersGoOn
       → (table : CoreTable) (actors : List Actor) (entries entries' : List Entry) (i j : ℕ) (new : Actor) (command : Command)
       → IsCore limits table actors entries
       → (demand : Demand) (v : Core) → record { limits = limits; entries = entries; demand = demand } ≡ v → refusal_of v (turn.Begin i command) ≡ None → j ≡ i
-      → IsActor limits i (begun (knows entries i) command) blank new → running_command new ≡ Some command → Grows limits entries (Begin i command)
-      → StaysDirect limits entries (Begin i command) i (steps_due blank new.hand new.running)
+      → (knows entries i).inside ≡ false → IsActor limits i (begun (knows entries i) command) blank new → running_command new ≡ Some command
+      → Grows limits entries (Begin i command) → StaysDirect limits entries (Begin i command) i (steps_due blank new.hand new.running)
       → entries' ≡ entries ++ Begin i command ∷ [] → IsCore limits table (set actors j new) entries'
-  core_begun begins pays table actors entries entries' i j new command core demand v is refusal same shows runs grows stays grown =
+  core_begun begins pays reads table actors entries entries' i j new command core demand v is refusal same out shows runs grows stays grown =
       let goes : (i < limits.actors) × (command_of entries i ≡ None) = begin_goes (record { limits = limits; entries = entries; demand = demand }) i command
       (subst (λ u. refusal_of u (turn.Begin i command) ≡ None) (sym is) refusal) in
+      let later : IsState limits (entries ++ Begin i command ∷ []) = begins limits entries i command core.state goes.0 goes.1 in
+      let readers : IsReadersState limits (entries ++ Begin i command ∷ []) = reads.begins limits entries i command core.readers later stays.state.direct in
       rw (grown, same) (record {
-        state = begins limits entries i command core.state goes.0 goes.1;
+        state = later;
         direct = stays.state;
         paid = pays limits entries i command core.paid goes.0 goes.1;
+        readers = readers;
         disciplined = stands_push limits [] entries (Begin i command) core.disciplined (goes.0, goes.1);
         same_limits = core.same_limits;
         has = rw grows.memory core.has;
@@ -261,6 +292,9 @@ module _ (limits : Limits) where
             (λ a other. replaced_other i (Some command) (command_of entries) a other));
         each_pays = pays_set limits actors entries (Begin i command) i new grows core.each_pays (λ a other. replaced_other i blank (recalls entries) a other)
             (subst (λ r. StaysDirect limits entries (Begin i command) i (steps_due r new.hand new.running)) (sym (replaced_same i blank (recalls entries))) stays);
+        each_reads =
+            reads_set reads limits actors entries (Begin i command) i new (λ a. refl) core.each_shows core.each_reads readers
+            (reads.begun limits entries i command (begun (knows entries i) command) blank new shows out runs);
       })
 
   -- the commands after a step
@@ -285,31 +319,34 @@ module _ (limits : Limits) where
       → j < length actors → old ≡ get_or actors j old → Pays limits entries i old
   core_affords table actors entries i j old core same lt at = core.each_pays i old (get_is actors i old (rw (sym same) lt) (subst (λ k. old ≡ get_or actors k old) same at))
 
-  pub core_stepped : Steps → StepsPay
+  pub core_stepped : Steps → StepsPay → ReadersGoOn
       → (table table' : CoreTable) (actors : List Actor) (entries entries' : List Entry) (i j : ℕ) (old new : Actor) (step : StepOf Record) (answer : Answer Record) (reply : Option Reply)
       → IsCore limits table actors entries
-      → j ≡ i → j < length actors → old ≡ get_or actors j old → is_some (running_command old) ≡ true → IsAllowed limits i (knows entries i) step reply
-      → IsUseful (knows entries i) step → IsHalved (knows entries i) step
-      → IsActor limits i (knows_then (knows entries i) step answer reply) (recall (recalls entries i) step answer) new
+      → j ≡ i → j < length actors → old ≡ get_or actors j old → is_some (running_command old) ≡ true → wanted_by old.running ≡ Some step
+      → ActsOn limits i (knows entries i) (recalls entries i) old step answer reply new
       → running_command new ≡ command_left reply (running_command old) → Grows limits entries (Step i step answer reply)
       → StaysDirect limits entries (Step i step answer reply) i (steps_due (recall (recalls entries i) step answer) new.hand new.running)
       → table'.limits ≡ table.limits → IsAnswer (memory_of limits entries) step answer → memory_in table' ≡ memory_after i step (memory_in table)
       → entries' ≡ entries ++ Step i step answer reply ∷ [] → IsCore limits table' (set actors j new) entries'
-  core_stepped steps pays table table' actors entries entries' i j old new step answer reply core same lt at some allowed useful halved shows runs grows stays kept_limits answered kept grown =
+  core_stepped steps pays reads table table' actors entries entries' i j old new step answer reply core same lt at some wants acts runs grows stays kept_limits answered kept grown =
       let found : slice_get actors i ≡ Some old = get_is actors i old (rw (sym same) lt) (subst (λ k. old ≡ get_or actors k old) same at) in
       let going : is_some (command_of entries i) ≡ true = ap is_some (sym (core.each_running i old found)) ∙ some in
+      let later : IsState limits (entries ++ Step i step answer reply ∷ []) = steps limits entries i step answer reply core.state going acts.allowed answered in
+      let readers : IsReadersState limits (entries ++ Step i step answer reply ∷ []) = reads.steps limits entries i step answer reply old core.readers
+      (core.each_reads i old found) wants later stays.state.direct in
       rw (grown, same) (record {
-        state = steps limits entries i step answer reply core.state going allowed answered;
+        state = later;
         direct = stays.state;
-        paid = pays limits entries i step answer reply core.paid going allowed useful halved answered;
-        disciplined = stands_push limits [] entries (Step i step answer reply) core.disciplined (going, allowed, answered);
+        paid = pays limits entries i step answer reply core.paid going acts.allowed acts.useful.useful acts.halved answered;
+        readers = readers;
+        disciplined = stands_push limits [] entries (Step i step answer reply) core.disciplined (going, acts.allowed, answered);
         same_limits = kept_limits ∙ core.same_limits;
         has = rw grows.memory (kept ∙ ap (memory_after i step) core.has);
         count = set_length actors i new ∙ core.count;
         each_shows =
             rw (grows.known, grows.recalled) (shows_set limits actors i new (knows entries) (knows_after (knows entries) (Step i step answer reply))
             (recalls entries) (recalls_after (recalls entries) (Step i step answer reply)) core.each_shows
-            (rw (replaced_same i (finished (learn (knows entries i) step answer) reply) (knows entries), replaced_same i (recall (recalls entries i) step answer) (recalls entries)) shows)
+            (rw (replaced_same i (finished (learn (knows entries i) step answer) reply) (knows entries), replaced_same i (recall (recalls entries i) step answer) (recalls entries)) acts.shows)
             (λ a other. replaced_other i (finished (learn (knows entries i) step answer) reply) (knows entries) a other)
             (λ a other. replaced_other i (recall (recalls entries i) step answer) (recalls entries) a other));
         each_running = rw grows.commands (each_set actors i new (command_of entries) (commands_after (command_of entries) (Step i step answer reply)) core.each_running
@@ -319,4 +356,6 @@ module _ (limits : Limits) where
             pays_set limits actors entries (Step i step answer reply) i new grows core.each_pays (λ a other. replaced_other i (recall (recalls entries i) step answer) (recalls entries) a other)
             (subst (λ r. StaysDirect limits entries (Step i step answer reply) i (steps_due r new.hand new.running))
             (sym (replaced_same i (recall (recalls entries i) step answer) (recalls entries))) stays);
+        each_reads = reads_set reads limits actors entries (Step i step answer reply) i new (λ a. refl) core.each_shows core.each_reads readers
+            (reads.stepped limits entries i step answer reply old new core.state (core.each_shows i old found) (core.each_reads i old found) wants later stays.state.direct acts runs);
       })

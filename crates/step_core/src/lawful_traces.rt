@@ -1,4 +1,5 @@
 //! The law over runs, beside the code that comes under it, and what the core's turns rest on: laws of the crates below.
+ghost use Rattle.progress.specs.ReaderStates.{ReadersGoOn};
 ghost use Rattle.progress.specs.Readers.{ReadersReadAtOnce};
 ghost use Rattle.progress.specs.Unhindered.{LoneOperationsEnd, RunsAreLockFree, RunsAreUnhindered};
 ghost use Rattle.tree_law.specs.Changes.{IsPaidState, StepsPay};
@@ -8,6 +9,7 @@ ghost use Rattle.tree_law.specs.State.{IsState};
 ghost use Rattle.tree_law.specs.TraceLaws.{AnswersFit, BeginsKeep, HeadsStand, RunsAreIndexed, RunsAreLinearized, RunsFreeByRule, RunsKeepPhases};
 ghost use Rattle.tree_law.specs.TraceLaws.{StatesFreeByRule, StatesAreIndexed, StatesAreLinearized, StatesKeepPhases, Steps};
 
+use progress::readers_go_on;
 use tree_law::{
     answers, begins, begins_directly, begins_paid, rows_are_apart, steps, steps_directly,
     steps_paid,
@@ -28,18 +30,20 @@ pub fn disciplined_runs()
     tree_law::frees_by_rule();
 }
 
-/// A begin keeps the law of states, and those of few steps and few changes.
+/// A begin keeps the law of states, and those of few steps and few changes, and of readers.
 pub(crate) fn begins_keep_laws()
     ensures state { BeginsKeep IsState }
     ensures direct { BeginsDirectly }
     ensures paid { BeginsKeep IsPaidState }
+    ensures readers { ReadersGoOn }
 {
     begins();
     begins_directly();
     begins_paid();
+    readers_go_on();
 }
 
-/// What a step may count on, and that it keeps the law of states, and those of few steps and few changes.
+/// What a step may count on, and that it keeps the law of states, and those of few steps and few changes, and of readers.
 pub(crate) fn steps_keep_laws()
     ensures apart { RowsAreApart }
     ensures heads { HeadsStand }
@@ -47,12 +51,14 @@ pub(crate) fn steps_keep_laws()
     ensures state { Steps }
     ensures direct { StepsDirectly }
     ensures paid { StepsPay }
+    ensures readers { ReadersGoOn }
 {
     rows_are_apart();
     answers();
     steps();
     steps_directly();
     steps_paid();
+    readers_go_on();
 }
 
 /// What the tree's law says of states, of their readers, and of the progress of all operations.

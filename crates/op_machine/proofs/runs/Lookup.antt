@@ -43,6 +43,7 @@ use Rattle.op_machine.specs.theorem.Phases.{Phase, MovesAt, MovesPhase, KeepsPha
 use Rattle.op_machine.specs.theorem.Reuse.{IsFreedByRule}
 use Rattle.op_machine.specs.theorem.Examples.{small, opening_leaf, lookup}
 use Rattle.op_machine.specs.theorem.Linearized.{IsLinearized, IsOrderly}
+use Rattle.op_machine.specs.theorem.ReadersEnd.{ReadersEnd, one_memory}
 use Rattle.op_machine.specs.theorem.Unhindered.{EndsAlone, IsLockFree, IsUnhindered}
 use Rattle.op_machine.specs.theorem.Updates.{UpdatesAtLinks}
 use Rattle.op_machine.proofs.Listed.{EachAt-get, UpTo-at, passes_at, same_operation, stands_at}
@@ -231,9 +232,9 @@ few_steps : (operation : Operation) (n : ℕ) → IsOperation lookup operation �
 unfolding cause_worth
 few_steps operation n is h = rw (only operation is) (UpTo-at (λ k. steps_from lookup 0 0 k ≤ cause_worth small) 6 (lit≤ tt, (lit≤ tt, (lit≤ tt, (lit≤ tt, (lit≤ tt, (lit≤ tt, lit≤ tt)))))) n h)
 
-few_since : (operation : Operation) (m n : ℕ) → steps_from lookup operation.actor m n ≤ cause_worth small * (0 + 10)
-unfolding cause_worth
-few_since operation m n =
+-- no more steps than there are entries
+seven_since : (operation : Operation) (m n : ℕ) → steps_from lookup operation.actor m n ≤ 7
+seven_since operation m n =
     let counted : steps_from lookup operation.actor m n ≤ length (slice_range lookup m (suc n)) = count_by-le-length (is_step_of operation.actor) (slice_range lookup m (suc n)) in
     let taken : length (slice_range lookup m (suc n)) ≡ min (suc n - m) (length (drop m lookup)) = length-take (suc n - m) (drop m lookup) in
     let rest : length (drop m lookup) ≡ length lookup - m = length-drop m lookup in
@@ -242,6 +243,10 @@ few_since operation m n =
   where
     min_right : (a b : ℕ) → min a b ≤ b
     min_right a b = omega arith
+
+few_since : (operation : Operation) (m n : ℕ) → steps_from lookup operation.actor m n ≤ cause_worth small * (0 + 10)
+unfolding cause_worth
+few_since operation m n = let few = seven_since operation m n in omega (arith, few)
 
 is_direct : IsDirect small lookup
 unfolding only_looks
@@ -364,6 +369,22 @@ unhindered = record {
     tenfold_more : {m : ℕ} (worth : ℕ) → m ≤ worth * (0 + 10) → m ≤ worth * (0 + 64 + 11)
     tenfold_more worth h = omega arith
 
+readers_end : ReadersEnd small lookup
+readers_end = record {
+  few = λ operation n is reader own. ([], record { increasing = λ k h. absurd (omega arith); each = λ k d h. absurd (omega arith) }, enough (seven_since operation operation.start n));
+  since = λ operation m n is reader after le own. ([], record { increasing = λ k h. absurd (omega arith); each = λ k d h. absurd (omega arith) }, enough (seven_since operation m n));
+  alone = λ operation m n is reader after le own alone. as_many (seven_since operation m n);
+}
+  where
+    most : 7 ≤ one_memory small
+    most = lit≤ tt
+
+    enough : {m : ℕ} → m ≤ 7 → m ≤ one_memory small * (0 + 1) + 3
+    enough h = let some = most in omega (arith, h, some)
+
+    as_many : {m : ℕ} → m ≤ 7 → m ≤ one_memory small + 3
+    as_many h = let some = most in omega (arith, h, some)
+
 ends_alone : EndsAlone small lookup
 ends_alone = record {
   few = λ operation m n is after own alone none.
@@ -399,6 +420,7 @@ is_orderly = record {
   index = is_exact_index;
   direct = is_direct;
   few_changes = has_few_changes;
+  readers = readers_end;
   reads = reads_at_once;
   unhindered = unhindered;
   alone = ends_alone;

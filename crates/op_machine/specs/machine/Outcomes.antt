@@ -141,6 +141,11 @@ is_writing state = false
 abbrev pub has_machine : State → Bool
 has_machine state = is_reading state || is_writing state || is_changing state
 
+-- whether the announcement of the epoch was asked for
+abbrev pub is_entering : State → Bool
+is_entering (at.Enter epoch) = true
+is_entering state = false
+
 -- whether the last step was asked for
 abbrev pub is_leaving : State → Bool
 is_leaving (Leave reply lacks) = true

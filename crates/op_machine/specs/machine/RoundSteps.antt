@@ -1,5 +1,6 @@
 -- What an operation makes of an answer in a round: what the round makes of it, and what follows where the round ends.
-use Rattle.std.specs.Prelude.{◌≡◌, Option, None, Some, true, ⊤}
+use Rattle.std.specs.Prelude.{◌≡◌, Option, None, Some, true, false, ⊤}
+use Rattle.bw_model.specs.Replies.{is_writer}
 use Rattle.bw_model.specs.declared.step.Answer.{Answer}
 use Rattle.deltas.specs.declared.record.Record.{Record}
 use Rattle.round_model.specs.ReadEnds.{ReadEnd}
@@ -11,8 +12,8 @@ use Rattle.round_model.specs.WriteEnds as write_end
 use Rattle.round_model.specs.WriteResponses.{writing}
 use Rattle.round_model.specs.WriteRounds.{WriteRound}
 use Rattle.op_machine.specs.machine.GoesLeft.{first_read, first_write, read_left_of, write_left_of}
-use Rattle.op_machine.specs.machine.Outcomes.{is_leaving}
-use Rattle.op_machine.specs.machine.States.{State, Read, Write}
+use Rattle.op_machine.specs.machine.Outcomes.{is_entering, is_leaving}
+use Rattle.op_machine.specs.machine.States.{State, Epoch, Enter, Read, Write}
 use Rattle.op_machine.specs.machine.Tasks.{Task}
 
 -- After a reader's round has taken an answer, it goes on; or, by its end, a new one begins, one to the left of the removed leaf does, or the
@@ -46,8 +47,11 @@ pub record StepsWriting (task : Task) (round : WriteRound) (told : Answer Record
   pub responds : Responds writing round told next end
   pub goes : AfterWriting task next end new
 
--- The operation is in a round, and has made this of the answer: so a new round begins only for a reason that the round's end has.
+-- The operation is in a round, and has made this of the answer: so a new round begins only for a reason that the round's end has. Before its
+-- first round it reads the epoch, and then enters, each once; once it has entered, a reader begins that round.
 abbrev pub StepsInRound : Task → State → Answer Record → State → Type 0
+StepsInRound task Epoch told new = is_entering new ≡ true
+StepsInRound task (Enter epoch) told new = is_writer task.command ≡ false → new ≡ Read (first_read task)
 StepsInRound task (Read round) told new = StepsReading task round told new
 StepsInRound task (Write round) told new = StepsWriting task round told new
 StepsInRound task other told new = ⊤

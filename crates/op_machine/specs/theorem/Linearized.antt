@@ -15,6 +15,7 @@ use Rattle.op_machine.specs.theorem.Index.{IsExactIndex}
 use Rattle.op_machine.specs.theorem.Changes.{HasFewChanges}
 use Rattle.op_machine.specs.theorem.Direct.{IsDirect}
 use Rattle.op_machine.specs.theorem.Progress.{ReadsAtOnce}
+use Rattle.op_machine.specs.theorem.ReadersEnd.{ReadersEnd}
 use Rattle.op_machine.specs.theorem.Reuse.{IsFreedByRule}
 use Rattle.op_machine.specs.theorem.Unhindered.{EndsAlone, IsLockFree, IsUnhindered}
 
@@ -33,13 +34,14 @@ pub record IsLinearized (limits : Limits) (turns : List Turn) (entries : List En
   pub faithful : IsFaithful limits entries
 
 -- What stands beside it: the life of each page, the terms of each level, bounded steps, few changes, and the rule by which rows and PIDs are used
--- again. As long as no removal was ever placed: readers that take few steps whatever others do, what hinders a writer, that each operation ends
--- where it runs alone, and few steps of all together.
+-- again. A reader takes few steps for each change of the tree, and ends where it runs alone. As long as no removal was ever placed: readers that
+-- take few steps whatever others do, what hinders a writer, that each operation ends where it runs alone, and few steps of all together.
 pub record IsOrderly (limits : Limits) (entries : List Entry) : Type 0 where
   pub phases : KeepsPhases limits entries
   pub index : IsExactIndex limits entries
   pub direct : IsDirect limits entries
   pub few_changes : HasFewChanges limits entries
+  pub readers : ReadersEnd limits entries
   pub reads : ReadsAtOnce limits entries
   pub unhindered : IsUnhindered limits entries
   pub alone : EndsAlone limits entries

@@ -53,12 +53,12 @@ use Rattle.progress.proofs.rounds.Unchanged.{IsSame, same_next}
 use Rattle.progress.proofs.rounds.Visiting.{IsLeft}
 
 -- a read
-abbrev IsRead : StepOf Record → Type 0
+abbrev pub IsRead : StepOf Record → Type 0
 IsRead (Slot pid) = Unit {0}
 IsRead (Row row) = Unit {0}
 IsRead step = ⊥
 
-is_read : (state : WayState) → IsRead (way.wanted_at state)
+pub is_read : (state : WayState) → IsRead (way.wanted_at state)
 is_read Root = tt
 is_read (Page visit) = by_visit visit visit.state
   where
@@ -66,12 +66,12 @@ is_read (Page visit) = by_visit visit visit.state
     by_visit visit seen.Slot = tt
     by_visit visit (seen.Row head row) = tt
 
-others_no_step : (actor : ℕ) (entry : Entry) → IsOthers actor entry → is_step_of actor entry ≡ false
+pub others_no_step : (actor : ℕ) (entry : Entry) → IsOthers actor entry → is_step_of actor entry ≡ false
 others_no_step actor (Begin other command) others = refl
 others_no_step actor (Step other step answer reply) others = elim (eqb_tells other actor) [ inl same ↦ absurd (others same.1) | inr apart ↦ apart.0 ]
 
 -- a read changes nothing
-read_no_change : (memory : Memory) (actor : ℕ) (step : StepOf Record) (answer : Answer Record) → IsRead step → changes_tree memory (Step actor step answer None) ≡ false
+pub read_no_change : (memory : Memory) (actor : ℕ) (step : StepOf Record) (answer : Answer Record) → IsRead step → changes_tree memory (Step actor step answer None) ≡ false
 read_no_change memory actor (Slot pid) answer r = refl
 read_no_change memory actor (Row row) answer r = refl
 read_no_change memory actor step answer r = absurd r

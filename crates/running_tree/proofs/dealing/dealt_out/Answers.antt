@@ -42,7 +42,7 @@ invariant_of-push g c =
     let alone_is : c.cut-others.new.seat.me ≡ (alone c.tree.inside.limits c.loop-number.number c.args.first.seen Idle, []) = deals_one c.tree.inside.limits
     c.args.first.seen c.loop-number.number left c.loop-number.rest.me c.cut-others.new.seat.me c.loop-number-test.true all is c.cut-others.ensures.first
     in
-    fresh_then c.own_lasts.ensures c.tree.inside.limits c.loop-number.number c.args.first.seen c.replace-place.result.me c.in-Ok.actor
+    fresh_then c.seats_last.ensures c.tree.inside.limits c.loop-number.number c.args.first.seen c.replace-place.result.me c.in-Ok.actor
     c.idle_actors_rest.ensures (c.empty_run_is_lawful.ensures c.tree.inside.limits)
     (subst (IsSeenRun c.tree.inside.limits) seen
     (subst (λ (l : Limits). IsSeenRun l (seen_of c.first.inside.desk.place.me)) same (record { lawful = c.first.invariant.seated.lawful; begins = c.first.invariant.begins })))

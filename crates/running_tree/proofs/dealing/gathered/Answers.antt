@@ -25,7 +25,7 @@ invariant_of-seat g c =
     (λ (l : Limits). IsSeat l c.seat.inside.desk.number c.seat.inside.desk.place.me c.seat.inside.actor) same c.seat.invariant in
     subst (λ (l : Limits). IsSeat l c.seat.inside.desk.number c.cut.new.seat.me c.seat.inside.actor) (sym same)
     (first_seat c.tree.inside.limits c.seat.inside.desk.number c.seat.inside.desk.place.me c.args.others.me c.join.new.seat.me seat.place c.join.ensures.both
-    c.refresh.new.seat.me c.cut.new.seat.me c.cut.result.me c.refresh.ensures.saw c.cut.ensures.first c.cut.ensures.others c.own_lasts.ensures c.seat.inside.actor seat)
+    c.refresh.new.seat.me c.cut.new.seat.me c.cut.result.me c.refresh.ensures.saw c.cut.ensures.first c.cut.ensures.others c.seats_last.ensures c.seat.inside.actor seat)
 
 pub returns-clause-each : goal.returns-clause-each
 returns-clause-each g c =

@@ -11,6 +11,7 @@ returns c limits run seen =
         index = c.index_is_exact.ensures limits run state;
         direct = seen.lawful.direct.direct;
         few_changes = seen.lawful.paid.few;
+        readers = seen.lawful.readers.ends;
         reads = c.readers_read_at_once.ensures limits run state.run phases seen.lawful.direct.direct;
         unhindered = c.runs_make_progress.ensures.unhindered limits run state.run phases seen.lawful.direct.direct;
         alone = c.runs_make_progress.ensures.alone limits run state.run phases seen.lawful.direct.direct seen.lawful.paid.few;

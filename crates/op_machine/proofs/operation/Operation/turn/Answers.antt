@@ -18,4 +18,4 @@ returns-in-Enter g c =
     let begins = c.begin_round.ensures in
     rw (← c.self.view_is) (follows _ _ _ _ told _ _ entered _ refl _
     (comes_to c.self.inside.task c.self.inside.sweep (state_of places) (state_of c.begin_round.new.places) spares Entered (begins.stands spares) (begins.few spares) (begins.asks spares))
-    (rw is tt))
+    (rw is begins.reads))

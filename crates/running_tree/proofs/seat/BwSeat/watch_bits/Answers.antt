@@ -15,7 +15,7 @@ use Rattle.running_tree.proofs.seat.BwSeat.watch_bits.Goals as goal
 pub invariant_of-self : goal.invariant_of-self
 invariant_of-self g c =
     let watched = c.watch.ensures.watched in
-    seat_extends c.own_lasts.ensures c.self.inside.limits c.self.inside.desk.number c.self.inside.desk.place.me c.watch.new.seat.me (seen_of c.watch.new.seat.me) c.self.inside.actor c.self.invariant
+    seat_extends c.seats_last.ensures c.self.inside.limits c.self.inside.desk.number c.self.inside.desk.place.me c.watch.new.seat.me (seen_of c.watch.new.seat.me) c.self.inside.actor c.self.invariant
     record { lawful = watched.legal; begins = watched.begins } watched.extends c.watch.ensures.seat refl
 
 pub returns-clause-watched : goal.returns-clause-watched

@@ -30,7 +30,7 @@ invariant_of-seat g c =
     subst (λ (l : Limits). IsSeat l c.seat.inside.desk.number c.cut.new.seat.me c.seat.inside.actor) (sym same)
     (left_seat c.self.inside.limits c.seat.inside.desk.number c.note.invariant.0 Noted c.seat.inside.desk.place.me c.note.inside.place.me c.join.new.seat.me seat.place
     (subst (λ (l : Limits). SitsAt l c.note.invariant.0 Noted c.note.inside.place.me) same_note c.note.invariant.1) c.join.ensures.both
-    c.refresh.new.seat.me c.cut.new.seat.me c.cut.result.me c.refresh.ensures.saw c.cut.ensures.first c.cut.ensures.others c.own_lasts.ensures c.seat.inside.actor seat)
+    c.refresh.new.seat.me c.cut.new.seat.me c.cut.result.me c.refresh.ensures.saw c.cut.ensures.first c.cut.ensures.others c.seats_last.ensures c.seat.inside.actor seat)
 
 pub returns-clause-heeds : goal.returns-clause-heeds
 returns-clause-heeds g c =

@@ -37,7 +37,7 @@ invariant_of-one g c =
     subst (λ (l : Limits). IsSeat l c.one.inside.desk.number c.cut.new.seat.me c.one.inside.actor) (sym same)
     (left_seat c.self.inside.limits c.one.inside.desk.number c.other.inside.desk.number Idle c.one.inside.desk.place.me c.replace-others.result.me
     c.join.new.seat.me seat.place at_other c.join.ensures.both
-    c.refresh.new.seat.me c.cut.new.seat.me c.cut.result.me c.refresh.ensures.saw c.cut.ensures.first c.cut.ensures.others c.own_lasts.ensures c.one.inside.actor seat)
+    c.refresh.new.seat.me c.cut.new.seat.me c.cut.result.me c.refresh.ensures.saw c.cut.ensures.first c.cut.ensures.others c.seats_last.ensures c.one.inside.actor seat)
 
 pub invariant_of-other : goal.invariant_of-other
 invariant_of-other g c =
@@ -51,7 +51,7 @@ invariant_of-other g c =
     subst (λ (l : Limits). IsSeat l c.other.inside.desk.number c.cut.result.me c.other.inside.actor) (sym same_other)
     (right_seat c.self.inside.limits c.one.inside.desk.number c.other.inside.desk.number Idle c.one.inside.desk.place.me c.replace-others.result.me c.join.new.seat.me
     (subst (λ (l : Limits). SitsAt l c.one.inside.desk.number Idle c.one.inside.desk.place.me) same c.one.invariant.place) seat.place c.join.ensures.both
-    c.refresh.new.seat.me c.cut.new.seat.me c.cut.result.me c.refresh.ensures.saw c.cut.ensures.first c.cut.ensures.others c.own_lasts.ensures c.other.inside.actor refl seat)
+    c.refresh.new.seat.me c.cut.new.seat.me c.cut.result.me c.refresh.ensures.saw c.cut.ensures.first c.cut.ensures.others c.seats_last.ensures c.other.inside.actor refl seat)
 
 pub returns-clause-met : goal.returns-clause-met
 returns-clause-met g c =

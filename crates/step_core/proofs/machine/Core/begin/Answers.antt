@@ -2,7 +2,7 @@ use Rattle.std.proofs.Common.{ap, arith, refl, sym, subst}
 use Rattle.traces.specs.discipline.Knowledge.{knows}
 use Rattle.traces.specs.discipline.Recalled.{recalls}
 use Rattle.traces.specs.declared.trace.Entry.TheVariants.{Begin}
-use Rattle.step_core.proofs.Cored.{begin_goes, core_begins, core_begun, core_others}
+use Rattle.step_core.proofs.Cored.{begin_goes, core_begins, core_begun, core_others, idle_outside}
 use Rattle.step_core.specs.declared.event.RunError.TheVariants.{Memory}
 use Rattle.step_core.proofs.Reserving.{granted, refused}
 use Rattle.step_core.proofs.machine.Core.begin.Goals as goal
@@ -11,9 +11,9 @@ use Rattle.step_core.specs.Cores.{IsCore}
 pub invariant_of-self-2 : goal.invariant_of-self-2
 invariant_of-self-2 g c =
     let begins = core_begins _ _ _ _ _ _ _ c.args.command c.self.invariant _ _ c.self.view_is c.requires.goes c.from.ensures c.index_mut-place.ensures.value in
-    core_begun _ c.begins_keep_laws.ensures.state c.begins_keep_laws.ensures.paid _ _ _ _ _ _ _ c.args.command c.self.invariant _ _ c.self.view_is
-    c.requires.goes c.from.ensures (c.begin.ensures.shows _ _ begins.1) c.begin.ensures.command
-    (c.entries_grow.ensures _ c.self.inside.trace.items (Begin c.args.actor c.args.command))
+    core_begun _ c.begins_keep_laws.ensures.state c.begins_keep_laws.ensures.paid c.begins_keep_laws.ensures.readers _ _ _ _ _ _ _ c.args.command
+    c.self.invariant _ _ c.self.view_is c.requires.goes c.from.ensures (idle_outside _ _ _ _ _ begins.1 begins.2) (c.begin.ensures.shows _ _ begins.1)
+    c.begin.ensures.command (c.entries_grow.ensures _ c.self.inside.trace.items (Begin c.args.actor c.args.command))
     (c.begins_keep_laws.ensures.direct _ _ _ _ _ c.self.invariant.direct (let few = c.begin.ensures.bounded in omega arith)) (rw c.reserve.ensures.items at c.push_begin.ensures.items)
 
 pub returns-clause-ok : goal.returns-clause-ok

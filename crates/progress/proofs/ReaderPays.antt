@@ -1,0 +1,98 @@
+-- What changes of the tree pay for, after one entry more.
+use Rattle.std.proofs.Common.{◌≡◌, ◌≢◌, ◌<◌, ◌≤◌, ◌+◌, ◌*◌, ◌++◌, ℕ, suc, List, [], ◌∷◌, length, drop, Bool, true, false, cond, Option, None, Some, refl, sym, ap, ◌∙◌, arith}
+use Rattle.std.proofs.Math.Nat.{mul-suc}
+use Rattle.std.proofs.lemmas.List.{drop-append-le, drop_all}
+use Rattle.std.proofs.lemmas.List.Elements.{All-push, All-weaker}
+use Rattle.std.specs.List.{All, count_by}
+use Rattle.tree_limits.specs.declared.limits.Limits.{Limits}
+use Rattle.bw_model.specs.declared.step.Answer.TheVariants.{Whether}
+use Rattle.bw_model.specs.declared.step.Link.{Link}
+use Rattle.bw_model.specs.declared.step.Link.TheVariants as link
+use Rattle.bw_model.specs.declared.step.Step.TheVariants.{Exchange}
+use Rattle.deltas.specs.Memory.{Memory}
+use Rattle.traces.specs.declared.trace.Entry.{Entry}
+use Rattle.traces.specs.declared.trace.Entry.TheVariants.{Step}
+use Rattle.traces.specs.trace.Trace.{Happens, memory_of}
+use Rattle.traces.proofs.Pushes.{increasing_push, pushed_length}
+use Rattle.traces.proofs.TraceLaws.{Happens-kept, Happens-last}
+use Rattle.op_machine.specs.theorem.Direct.{is_step_of}
+use Rattle.op_machine.specs.theorem.Links.{link_of}
+use Rattle.op_machine.specs.theorem.Progress.{ChangesTree}
+use Rattle.op_machine.specs.theorem.ReadersEnd.{one_memory}
+use Rattle.tree_law.proofs.direct.Counting.{count_push}
+use Rattle.progress.specs.ReaderStates.{PaysFrom}
+use Rattle.progress.specs.ReadersAmong.{changes_tree, is_change}
+
+kind_of : (o : Option Link) → is_change o ≡ true → (kind : Link) × (o ≡ Some kind) × (kind ≢ link.Ready) × (kind ≢ link.Undo)
+kind_of None e = absurd (cc)
+kind_of (Some link.Ready) e = absurd (cc)
+kind_of (Some link.Undo) e = absurd (cc)
+kind_of (Some kind) e = (kind, refl, (λ f. cc f), (λ f. cc f))
+
+pub change_is : (memory : Memory) (entry : Entry) → changes_tree memory entry ≡ true → ChangesTree memory entry
+change_is memory (Step a (Exchange slot old new) (Whether true) r) e = let h = kind_of (link_of memory slot old new) e in (a, slot, old, new, h.0, ((r, refl), h.1), h.2, h.3)
+change_is memory entry e = absurd (cc)
+
+end_enough : (worth left steps : ℕ) → steps ≡ 0 → left ≤ worth + 3 → steps + left ≤ worth * (0 + 1) + 3
+end_enough worth left steps none few = omega (arith, none, few)
+
+kept_enough : (bound before own left rest steps : ℕ) → steps ≡ before + own → rest + own ≤ left → before + left ≤ bound → steps + rest ≤ bound
+kept_enough bound before own left rest steps same less paid = omega (arith, same, less, paid)
+
+change_enough : (worth changes more before own left rest steps : ℕ) → steps ≡ before + own → own ≡ 0 → more ≡ suc changes → rest ≤ left + worth
+    → before + left ≤ worth * (changes + 1) + 3 → steps + rest ≤ worth * (more + 1) + 3
+change_enough worth changes more before own left rest steps same none one less paid =
+    let place : more + 1 ≡ suc (changes + 1) = omega (arith, one) in
+    let grown : worth * (more + 1) ≡ worth * (changes + 1) + worth = ap (λ (n : ℕ). worth * n) place ∙ mul-suc worth (changes + 1) in
+    omega (arith, same, none, grown, less, paid)
+
+-- from the end of the trace on nothing is taken
+pub pays_end : (limits : Limits) (entries : List Entry) (actor m left : ℕ) → length entries ≤ m → left ≤ one_memory limits + 3 → PaysFrom limits entries actor m left
+pays_end limits entries actor m left past few = record {
+  changes = [];
+  increasing = λ j h. absurd (omega arith);
+  each = λ j d h. absurd (omega arith);
+  paid = end_enough (one_memory limits) left (count_by (is_step_of actor) (drop m entries)) (ap (count_by (is_step_of actor)) (drop_all m entries past)) few;
+}
+
+module _ (limits : Limits) (entries : List Entry) (last : Entry) (actor : ℕ) where
+  abbrev longer : List Entry
+  longer = entries ++ last ∷ []
+
+  counted : (m : ℕ) → m ≤ length entries → count_by (is_step_of actor) (drop m longer) ≡ count_by (is_step_of actor) (drop m entries) + cond (is_step_of actor last) 1 0
+  counted m within = ap (count_by (is_step_of actor)) (drop-append-le m entries (last ∷ []) within) ∙ count_push (is_step_of actor) (drop m entries) last
+
+  changes_kept : (m : ℕ) (changes : List ℕ) → All (λ place. (m ≤ place) × (place < length entries) × Happens limits entries place ChangesTree) changes
+      → All (λ place. (m ≤ place) × (place < length longer) × Happens limits longer place ChangesTree) changes
+  changes_kept m changes each =
+      All-weaker (λ place. (m ≤ place) × (place < length entries) × Happens limits entries place ChangesTree) (λ place. (m ≤ place) × (place < length longer) × Happens limits longer place ChangesTree)
+      (λ place h. let long : length longer ≡ suc (length entries) = pushed_length entries last in let below : place < length entries = h.1 in (h.0, omega arith, Happens-kept (last ∷ []) h.2))
+      changes each
+
+  -- as few are left, and the entry costs no more than was left
+  pub pays_kept : (m left rest : ℕ) → m ≤ length entries → rest + cond (is_step_of actor last) 1 0 ≤ left → PaysFrom limits entries actor m left → PaysFrom limits longer actor m rest
+  pays_kept m left rest within less h = record {
+    changes = h.changes;
+    increasing = h.increasing;
+    each = changes_kept m h.changes h.each;
+    paid =
+        kept_enough (one_memory limits * (length h.changes + 1) + 3) (count_by (is_step_of actor) (drop m entries)) (cond (is_step_of actor last) 1 0) left rest
+        (count_by (is_step_of actor) (drop m longer)) (counted m within) less h.paid;
+  }
+
+  -- the entry changes the tree, and isn't the actor's
+  pub pays_more : (m left rest : ℕ) → m ≤ length entries → ChangesTree (memory_of limits entries) last → is_step_of actor last ≡ false
+      → rest ≤ left + one_memory limits → PaysFrom limits entries actor m left → PaysFrom limits longer actor m rest
+  pays_more m left rest within change others less h = record {
+    changes = h.changes ++ length entries ∷ [];
+    increasing = increasing_push h.changes (length entries) h.increasing
+        (All-weaker (λ place. (m ≤ place) × (place < length entries) × Happens limits entries place ChangesTree) (λ place. place < length entries) (λ place g. g.1) h.changes h.each);
+    each =
+        let long : length longer ≡ suc (length entries) = pushed_length entries last in
+        All-push (λ place. (m ≤ place) × (place < length longer) × Happens limits longer place ChangesTree) h.changes (length entries)
+        (changes_kept m h.changes h.each) (within, omega arith, Happens-last limits entries last ChangesTree change);
+    paid =
+        change_enough (one_memory limits) (length h.changes) (length (h.changes ++ length entries ∷ [])) (count_by (is_step_of actor) (drop m entries))
+        (cond (is_step_of actor last) 1 0) left rest (count_by (is_step_of actor) (drop m longer))
+        (counted m within) (ap (λ (b : Bool). cond {A = ℕ} b 1 0) others) (pushed_length h.changes (length entries)) less h.paid;
+  }

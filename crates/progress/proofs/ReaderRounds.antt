@@ -1,0 +1,94 @@
+-- How many steps a reader's round has left, among moments that are to come.
+use Rattle.std.proofs.Common.{◌≡◌, ◌<◌, ◌≤◌, ◌+◌, ◌*◌, ◌++◌, ◌⊎◌, ℕ, List, [], ◌∷◌, length, take, true, false, cond, Option, None, Some, sym, ap, subst, ◌∙◌, inl, inr, arith}
+use Rattle.std.proofs.Math.Nat.{add-mul}
+use Rattle.std.specs.Prelude.{if◌then◌else◌}
+use Rattle.tree_limits.specs.declared.limits.Limits.{Limits}
+use Rattle.traces.specs.declared.trace.Entry.{Entry}
+use Rattle.traces.specs.trace.Run.{IsNext}
+use Rattle.traces.specs.trace.Trace.{memory_of}
+use Rattle.traces.proofs.Pushes.{slice_get-push, take-push_whole}
+use Rattle.round_model.specs.ReadEnds.{ReadEnd, Again, Removed, Leaf, Beside}
+use Rattle.round_model.specs.ReadRounds.{ReadRound}
+use Rattle.bw_model.specs.declared.step.Answer.{Answer}
+use Rattle.deltas.specs.declared.record.Record.{Record}
+use Rattle.op_machine.specs.machine.GoesLeft.{first_read}
+use Rattle.op_machine.specs.machine.Outcomes.{is_leaving, is_reading}
+use Rattle.op_machine.specs.machine.RoundSteps.{AfterReading, StepsReading}
+use Rattle.op_machine.specs.machine.States.{State, Read}
+use Rattle.op_machine.specs.machine.Tasks.{Task}
+use Rattle.op_machine.specs.theorem.Direct.{is_step_of}
+use Rattle.op_machine.specs.theorem.ReadersEnd.{one_memory}
+use Rattle.tree_law.specs.State.{IsState}
+use Rattle.progress.specs.ReaderStates.{PaysForRound, TakesFewer}
+use Rattle.progress.specs.ReadersAmong.{AreLawful, IsLawfulMoment, Moment, all_changes, changes_tree, own_steps}
+use Rattle.progress.proofs.ReaderPays.{pays_end}
+use Rattle.progress.proofs.rounds.Among.{readers_end_among_changes}
+use Rattle.progress.proofs.rounds.Counts.{many}
+use Rattle.progress.proofs.rounds.Ending.{many_is_count}
+
+abbrev pub moment_of : Entry → ReadRound → Moment
+moment_of entry round = record { entry = entry; round = round }
+
+-- the last entry of a state may stand after those before it
+pub next_of : (limits : Limits) (entries : List Entry) (entry : Entry) → IsState limits (entries ++ entry ∷ []) → IsNext limits entries entry
+next_of limits entries entry later = subst (λ (es : List Entry). IsNext limits es entry) (take-push_whole entries (entry ∷ [])) (later.run.each (length entries) entry (slice_get-push entries entry))
+
+some_few : (left worth : ℕ) → 0 < left + 0 * worth → 0 < left
+some_few left worth few = omega (arith, few)
+
+at_first : (steps changes worth : ℕ) → steps < (1 + changes) * worth → steps < worth + changes * worth
+at_first steps changes worth few = let product = add-mul 1 changes worth in omega (arith, few, product)
+
+moment_on : (own after all more changes left rest worth : ℕ) → all ≡ own + after → all < left + (more + changes) * worth → left + more * worth ≤ rest + own → after < rest + changes * worth
+moment_on own after all more changes left rest worth same few less = let product = add-mul more changes worth in omega (arith, same, few, less, product)
+
+module _ (limits : Limits) (actor : ℕ) (task : Task) where
+  -- in the memory of a state
+  pub few_fresh : (entries : List Entry) (round : ReadRound) → IsState limits entries → TakesFewer limits actor task entries round (one_memory limits)
+  few_fresh entries round state moments are =
+      at_first (own_steps actor moments) (all_changes limits entries moments) (one_memory limits) (readers_end_among_changes limits entries actor task round moments state are)
+
+  pub few_some : (entries : List Entry) (round : ReadRound) (left : ℕ) → TakesFewer limits actor task entries round left → 0 < left
+  few_some entries round left few = some_few left (one_memory limits) (few [] tt)
+
+  -- after one moment
+  pub few_on : (entries : List Entry) (round : ReadRound) (moment : Moment) (own more left rest : ℕ) → IsLawfulMoment limits actor task entries round moment
+      → cond {A = ℕ} (is_step_of actor moment.entry) 1 0 ≡ own
+      → ◌≡◌ {A = ℕ} (if changes_tree (memory_of limits entries) moment.entry then 1 else 0) more → left + more * one_memory limits ≤ rest + own
+      → TakesFewer limits actor task entries round left → TakesFewer limits actor task (entries ++ moment.entry ∷ []) moment.round rest
+  few_on entries round moment own more left rest is one changes less few moments are =
+      let all : own_steps actor (moment ∷ moments) ≡ own + own_steps actor moments =
+      sym (many_is_count (λ (m : Moment). is_step_of actor m.entry) (moment ∷ moments)) ∙ ap
+      (λ (n : ℕ). n + many (λ (m : Moment). is_step_of actor m.entry) moments) one ∙ ap (λ (n : ℕ). own + n)
+      (many_is_count (λ (m : Moment). is_step_of actor m.entry) moments) in
+      let whole : own_steps actor (moment ∷ moments) < left + (more + all_changes limits (entries ++ moment.entry ∷ []) moments) * one_memory limits =
+      subst (λ (n : ℕ). own_steps actor (moment ∷ moments) < left + (n + all_changes limits (entries ++ moment.entry ∷ []) moments) * one_memory limits) changes (few (moment ∷ moments) (is, are)) in
+      moment_on own (own_steps actor moments) (own_steps actor (moment ∷ moments)) more (all_changes limits (entries ++ moment.entry ∷ []) moments) left rest (one_memory limits) all whole less
+
+-- a round from the end of a state on
+pub round_fresh : (limits : Limits) (entries : List Entry) (task : Task) (round : ReadRound) (m : ℕ) → IsState limits entries → length entries ≤ m → PaysForRound limits entries task round m
+round_fresh limits entries task round m state past = record {
+  left = one_memory limits;
+  few = few_fresh limits task.actor task entries round state;
+  pays = pays_end limits entries task.actor m (one_memory limits + 1) past (omega arith);
+}
+
+-- after an answer the operation is in a round, or is to leave
+pub after_reads : (task : Task) (next : ReadRound) (end : Option ReadEnd) (new : State) → AfterReading task next end new → (is_reading new ≡ true) ⊎ (is_leaving new ≡ true)
+after_reads task next None new goes = inl (ap is_reading goes)
+after_reads task next (Some Again) new goes = inl (ap is_reading goes)
+after_reads task next (Some (Removed removed)) new goes = inl (ap is_reading goes)
+after_reads task next (Some (Leaf leaf)) new goes = inr goes
+after_reads task next (Some (Beside left removed)) new goes = inr goes
+
+-- what a round makes of an answer is the same for each task with its first round
+pub same_steps : (task other : Task) (round : ReadRound) (told : Answer Record) (new : State) → first_read task ≡ first_read other
+    → StepsReading task round told new → StepsReading other round told new
+same_steps task other round told new same steps = record { next = steps.next; end = steps.end; responds = steps.responds; same = steps.same; goes = by_end steps.end steps.goes }
+  where
+    by_end : (end : Option ReadEnd) → AfterReading task steps.next end new → AfterReading other steps.next end new
+    by_end None goes = goes
+    by_end (Some Again) goes = goes ∙ ap Read same
+    by_end (Some (Removed removed)) goes = goes
+    by_end (Some (Leaf leaf)) goes = goes
+    by_end (Some (Beside left removed)) goes = goes

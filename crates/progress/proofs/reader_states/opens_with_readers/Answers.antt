@@ -1,0 +1,5 @@
+use Rattle.progress.proofs.reader_states.opens_with_readers.Goals as goal
+use Rattle.progress.proofs.ReaderStates.{opens}
+
+pub returns : goal.returns
+returns c = opens
