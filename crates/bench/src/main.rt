@@ -6,12 +6,13 @@
 //! bytes where it is `short`, 64 where it is `long`. It prints how often that succeeded; bench/rows.sh times it.
 //!
 //! `bench WHAT SIZE THREADS OPERATIONS BYTES`: it opens a tree, a large one where SIZE is above 20,000, and inserts SIZE keys of so many
-//! bytes, 16 at least, by one seat; that is all where WHAT is `load` or `ascend`, which inserts them in ascending order. Where it is `reads`,
+//! bytes, 16 at least, by one seat. That is all where WHAT is `load`, or `ascend`, which inserts them in ascending order. Where it is `reads`,
 //! `half` or `scans`, each of so many threads then does so many operations on drawn keys: lookups, upserts and lookups by turns, or pages of
 //! 100 pairs. Where it is `steps` or `writes`, they do lookups or upserts, and count their steps. Where it is `window`, the tree has 256 PIDs
 //! and is empty; keys come at its end, and go at its front once there are SIZE. Where it is `rows` or `ways`, there is
 //! no tree: an operation loads the words of SIZE rows, drawn ones, or those of a way over five levels. It prints how many operations
-//! succeeded or steps were taken by what came last, and on standard error how many nanoseconds that took. bench/tree.sh, bench/large.sh and bench/windows.sh run it.
+//! succeeded or steps were taken by what came last, and on standard error how many nanoseconds that took. bench/tree.sh, bench/large.sh and
+//! bench/windows.sh run it.
 #![tactic(auto)]
 
 mod amounts;

@@ -1,6 +1,4 @@
-//! The examples of docs/GUIDE.md, as they stand there: tests alone.
-//!
-//! Each module is one block of that page, or is named there, as checks/copies looks.
+//! The examples of docs/GUIDE.md: tests alone. `swaps` stands there whole; each other module is named there, as checks/copies looks.
 //!
 //! Called by nobody. It uses a tree as a user would, by `workers`, `walks`, `map_laws`, `running_tree` and `bw_model`.
 #![tactic(auto)]

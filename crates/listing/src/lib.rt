@@ -3,8 +3,8 @@
 //! Look first at `add_pairs`, and at `page_of`: a memory of a core and one of words are read alike, as `RecordRows`. `logged_pairs` lists
 //! what a log of updates says; `pages_are_listed` is the law that both are one list.
 //!
-//! Called by `step_core` (a core's listing), `running_tree` (the pairs of a closed tree) and `tree_picture`. It knows of no operation that is under
-//! way: it reads a memory that stands still.
+//! Called by `step_core` (a core's listing), `running_tree` (the pairs of a closed tree) and `tree_picture`; `bw_shell` cites what a listing
+//! is (`IsListing`). It knows of no operation that is under way: it reads a memory that stands still.
 #![tactic(auto)]
 
 mod count;

@@ -5,8 +5,8 @@
 //! No function here does anything: each one's contract is proved of all runs, and a body that calls it has that at hand. A run is what a
 //! seat of `running_tree` has seen, and its calls are `calls_of` (running_tree, specs/Calls).
 //!
-//! Called by `seats` and by who embeds a tree; `walks` cites its lemmas. It knows what the theorem says of a run (`op_machine`,
-//! specs/theorem), and nothing of how a tree comes to that.
+//! Called by `seats`, `seat_threads` and `bw_tree_c`, and by who embeds a tree; `walks` cites its lemmas. It knows what the theorem says of a
+//! run (`op_machine`, specs/theorem), and nothing of how a tree comes to that.
 #![tactic(auto)]
 
 mod call_laws;

@@ -7,8 +7,8 @@
 //! ensures is said of the run that its seat has seen: one history of all actors' steps up to the seat's own last one (specs/Runs,
 //! specs/Calls).
 //!
-//! Called by `seats`, `workers` and `walks`, and by who embeds a tree (docs/GUIDE.md). docs/LOOKUP.md goes through one call. It knows no
-//! thread and no channel: who has a seat steps for its actor.
+//! Called by `seats`, `seat_threads`, `workers`, `walks`, `bw_tree_c` and `race`, and by who embeds a tree (docs/GUIDE.md); `map_laws` speaks of
+//! its runs. docs/LOOKUP.md goes through one call. It knows no thread and no channel: who has a seat steps for its actor.
 #![tactic(auto)]
 
 mod call_laws;

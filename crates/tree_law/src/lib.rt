@@ -2,9 +2,8 @@
 //! and what follows for the traces of actors that obey their discipline.
 //!
 //! Look first at `disciplined_runs` and at `IsState` (specs/State): a trace of steps that the discipline allows is linearized, kept by
-//! one call for each entry; its index is exact, rows are freed by the rule, few steps are taken where operations can afford theirs, and the tree is
-//! changed few times.
-//! Every function is a law and does nothing when it runs.
+//! one call for each entry. Its index is exact, and rows are freed by the rule. Few steps are taken where operations can afford theirs, and
+//! the tree is changed few times. Every function is a law and does nothing when it runs.
 //!
 //! Called by `step_core` and `running_tree`, which keep the invariant; `listing` and `tree_picture` use what it says of leaves and levels. It knows
 //! no operation, only the discipline; neither `op_machine`'s code nor any way through the tree is named here.
