@@ -1,6 +1,6 @@
 -- A reader is paid for whatever others do, and where it begins.
-use Rattle.std.proofs.Common.{◌≡◌, ◌≢◌, ◌<◌, ◌≤◌, ◌+◌, ◌*◌, ◌++◌, ℕ, suc, List, [], ◌∷◌, length, take, Bool, true, false, cond, Option, None, Some, refl, sym}
-use Rattle.std.proofs.Common.{ap, subst, ◌∙◌, inl, inr, arith, append_assoc, append-nil}
+use Rattle.std.proofs.Common.{◌≡◌, ◌<◌, ◌≤◌, ◌+◌, ◌*◌, ◌++◌, ℕ, List, [], ◌∷◌, length, take, Bool, true, false, cond, Option, None, Some, refl, sym, ap, subst}
+use Rattle.std.proofs.Common.{◌∙◌, inl, inr, arith, append_assoc, append-nil}
 use Rattle.std.specs.Prelude.{if◌then◌else◌, slice_get}
 use Rattle.std.proofs.lemmas.Bool.{cases_lt}
 use Rattle.std.proofs.lemmas.Option.{same_Some}
@@ -8,7 +8,6 @@ use Rattle.base_page.proofs.KeyLaws.{either}
 use Rattle.tree_limits.specs.declared.limits.Limits.{Limits}
 use Rattle.bw_model.specs.Replies.{is_writer}
 use Rattle.bw_model.specs.declared.command.Command.{Command}
-use Rattle.change_machine.specs.Spares.{Spares}
 use Rattle.traces.specs.declared.trace.Entry.{Entry}
 use Rattle.traces.specs.declared.trace.Entry.TheVariants.{Begin, Step}
 use Rattle.traces.specs.discipline.Disciplined.{is_entry_of, own_entries}
@@ -25,14 +24,13 @@ use Rattle.op_machine.specs.machine.Tasks.{Task}
 use Rattle.op_machine.specs.machine.UnderWay.{UnderWay}
 use Rattle.op_machine.specs.theorem.Direct.{IsDirect, is_step_of}
 use Rattle.op_machine.specs.theorem.ReadersEnd.{one_memory}
-use Rattle.tree_law.specs.State.{IsState, operation_from}
-use Rattle.tree_law.proofs.direct.Appended.{last_begun, last_cases}
+use Rattle.tree_law.specs.State.{IsState}
 use Rattle.tree_law.proofs.shape.Puts.{eqb_false}
 use Rattle.tree_law.proofs.trace.Others.{own_lasts}
 use Rattle.progress.specs.ReaderStates.{BegunArePaid, PaysAt, PaysForRound, PaysFrom, PaysReader, ReadersStayPaid, reader_task}
 use Rattle.progress.specs.ReadersAmong.{IsLawfulMoment, IsOthers, changes_tree}
 use Rattle.progress.proofs.ReaderPays.{change_is, pays_end, pays_kept, pays_more}
-use Rattle.progress.proofs.ReaderRounds.{few_on, moment_of, next_of, round_fresh}
+use Rattle.progress.proofs.ReaderRounds.{few_on, last_begun, last_cases, moment_of, next_of, round_fresh}
 use Rattle.progress.proofs.rounds.Among.{others_no_step}
 
 others : (actor : ℕ) (entry : Entry) → is_entry_of actor entry ≡ false → IsOthers actor entry
@@ -60,9 +58,9 @@ module _ (limits : Limits) (entries : List Entry) (entry : Entry) (state : IsSta
     | inr le ↦ let zeroth = none in pays_kept limits entries entry actor m left left le (omega (arith, zeroth)) (pays le)
   ]
 
-  round_on : (round : ReadRound) (spares : Spares) (old : Task) (r : Recalled) → ShowsState old spares (knows entries actor) r (Read round) → (m : ℕ)
+  round_on : (round : ReadRound) (hand : Hand) (old : Task) (r : Recalled) → ShowsState old hand.spares (knows entries actor) r (Read round) → (m : ℕ)
       → m ≤ length entries → PaysForRound limits entries task round m → PaysForRound limits longer task round m
-  round_on round spares old r shows m within pays = either (changes_tree (memory_of limits entries) entry) changed same
+  round_on round hand old r shows m within pays = either (changes_tree (memory_of limits entries) entry) changed same
     where
       lawful : IsLawfulMoment limits actor task entries round (moment_of entry round)
       lawful = record { next = next_of limits entries entry later; later = later; direct = direct; r = r; shows = shows.shows; goes = inr (record { others = others actor entry other; stays = refl }) }
@@ -96,18 +94,18 @@ module _ (limits : Limits) (entries : List Entry) (entry : Entry) (state : IsSta
         pays = let zeroth = none in pays_kept limits entries entry actor m (pays.left + 1) (pays.left + 1) within (omega (arith, zeroth)) pays.pays;
       }
 
-  stays_paid : (s : State) (spares : Spares) (old : Task) (r : Recalled) → ShowsState old spares (knows entries actor) r s
+  stays_paid : (s : State) (hand : Hand) (old : Task) (r : Recalled) → ShowsState old hand.spares (knows entries actor) r s
       → ((m : ℕ) → start < m → m ≤ length entries → PaysAt limits entries task m s) → (m : ℕ) → start < m → m ≤ length longer → PaysAt limits longer task m s
-  stays_paid Begun spares old r shows pays m after within = from_each (one_memory limits + 3) m within (omega arith) (pays m after)
-  stays_paid Epoch spares old r shows pays m after within = from_each (one_memory limits + 3) m within (omega arith) (pays m after)
-  stays_paid (Enter epoch) spares old r shows pays m after within = from_each (one_memory limits + 2) m within (omega arith) (pays m after)
-  stays_paid (Read round) spares old r shows pays m after within = elim (cases_lt (length entries) m) [
+  stays_paid Begun hand old r shows pays m after within = from_each (one_memory limits + 3) m within (omega arith) (pays m after)
+  stays_paid Epoch hand old r shows pays m after within = from_each (one_memory limits + 3) m within (omega arith) (pays m after)
+  stays_paid (Enter epoch) hand old r shows pays m after within = from_each (one_memory limits + 2) m within (omega arith) (pays m after)
+  stays_paid (Read round) hand old r shows pays m after within = elim (cases_lt (length entries) m) [
     | inl past ↦ let long = pushed_length entries entry in round_fresh limits longer task round m later (omega (arith, past, long))
-    | inr le ↦ round_on round spares old r shows m le (pays m after le)
+    | inr le ↦ round_on round hand old r shows m le (pays m after le)
   ]
-  stays_paid (Write round) spares old r shows pays m after within = absurd (pays (length entries) begun (omega arith))
-  stays_paid (Change now then) spares old r shows pays m after within = absurd (pays (length entries) begun (omega arith))
-  stays_paid (Leave reply lacks) spares old r shows pays m after within = from_each 1 m within (omega arith) (pays m after)
+  stays_paid (Write round) hand old r shows pays m after within = absurd (pays (length entries) begun (omega arith))
+  stays_paid (Change now next) hand old r shows pays m after within = absurd (pays (length entries) begun (omega arith))
+  stays_paid (Leave reply lacks) hand old r shows pays m after within = from_each 1 m within (omega arith) (pays m after)
 
 begins_nothing : (actor : ℕ) (entry : Entry) (command : Command) → is_entry_of actor entry ≡ false → entry ≡ Begin actor command → ⊥
 begins_nothing actor entry command other is =
@@ -118,11 +116,11 @@ one_other : (limits : Limits) (entries : List Entry) (entry : Entry) → IsState
     → IsDirect limits (entries ++ entry ∷ []) → (actor : ℕ) → is_entry_of actor entry ≡ false → (hand : Hand) (o : Option UnderWay)
     → IsActorWith limits actor (knows entries actor) (recalls entries actor) hand o → PaysReader limits entries actor o → PaysReader limits (entries ++ entry ∷ []) actor o
 one_other limits entries entry state later direct actor other hand None shows pays = tt
-one_other limits entries entry state later direct actor other hand (Some running) shows pays start m command latest reader after within = elim
-    (last_cases entries entry (operation_from start actor command) latest) [
+one_other limits entries entry state later direct actor other hand (Some running) shows pays = λ start m command latest reader after within. elim
+    (last_cases entries entry start actor command latest) [
       | inr begins ↦ absurd (begins_nothing actor entry command other begins.1)
       | inl before ↦
-          stays_paid limits entries entry state later direct actor start command other (slice_get_below entries start _ before.begun) running.op.state hand.spares
+          stays_paid limits entries entry state later direct actor start command other (slice_get_below entries start _ before.begun) running.op.state hand
           running.op.task (recalls entries actor) shows.goes.shows.stands
           (λ k low high. pays start k command before reader low high) m after within
     ]
@@ -161,27 +159,27 @@ stay_paid limits actor seen run at x kept shows pays =
 
 -- a reader that begins
 module _ (limits : Limits) (entries : List Entry) (actor : ℕ) (command : Command) (m : ℕ) (past : length entries ≤ m) where
-  at_begin : (s : State) (task : Task) (spares : Spares) (k : Knowledge) (r : Recalled) → ShowsState task spares k r s → k.inside ≡ false
+  at_begin : (s : State) (task : Task) (hand : Hand) (k : Knowledge) (r : Recalled) → ShowsState task hand.spares k r s → k.inside ≡ false
       → is_writer task.command ≡ false → PaysAt limits entries (reader_task limits actor command) m s
-  at_begin Begun task spares k r shows out reader = pays_end limits entries actor m (one_memory limits + 3) past (omega arith)
-  at_begin Epoch task spares k r shows out reader = pays_end limits entries actor m (one_memory limits + 3) past (omega arith)
-  at_begin (Enter epoch) task spares k r shows out reader = pays_end limits entries actor m (one_memory limits + 2) past (omega arith)
-  at_begin (Read round) task spares k r shows out reader = let both : true ≡ false = sym shows.seeks.inside ∙ out in absurd (cc both)
-  at_begin (Write round) task spares k r shows out reader = let both : true ≡ false = sym shows.writer ∙ reader in absurd (cc both)
-  at_begin (Change now then) task spares k r shows out reader = let both : true ≡ false = sym shows.writer ∙ reader in absurd (cc both)
-  at_begin (Leave reply lacks) task spares k r shows out reader = pays_end limits entries actor m 1 past (omega arith)
+  at_begin Begun task hand k r shows out reader = pays_end limits entries actor m (one_memory limits + 3) past (omega arith)
+  at_begin Epoch task hand k r shows out reader = pays_end limits entries actor m (one_memory limits + 3) past (omega arith)
+  at_begin (Enter epoch) task hand k r shows out reader = pays_end limits entries actor m (one_memory limits + 2) past (omega arith)
+  at_begin (Read round) task hand k r shows out reader = let both : true ≡ false = sym shows.seeks.inside ∙ out in absurd (cc both)
+  at_begin (Write round) task hand k r shows out reader = let both : true ≡ false = sym shows.writer ∙ reader in absurd (cc both)
+  at_begin (Change now next) task hand k r shows out reader = let both : true ≡ false = sym shows.writer ∙ reader in absurd (cc both)
+  at_begin (Leave reply lacks) task hand k r shows out reader = pays_end limits entries actor m 1 past (omega arith)
 
 pub begun_paid : BegunArePaid
 begun_paid limits entries actor command k r new shown out runs = by_running new.running shown runs
   where
     by_running : (o : Option UnderWay) → IsActorWith limits actor k r new.hand o → command_at o ≡ Some command → PaysReader limits (entries ++ Begin actor command ∷ []) actor o
     by_running None shows runs = tt
-    by_running (Some running) shows runs start m asked latest reader after within =
-        let first : start ≡ length entries = last_begun entries (Begin actor command) (operation_from start actor asked) command refl latest in
+    by_running (Some running) shows runs = λ start m asked latest reader after within.
+        let first : start ≡ length entries = last_begun entries start actor command asked latest in
         let long = pushed_length entries (Begin actor command) in
         let both : Some (Begin actor asked) ≡ Some (Begin actor command) = sym latest.begun ∙ ap (slice_get (entries ++ Begin actor command ∷ [])) first ∙
         slice_get-push entries (Begin actor command) in
         let same : asked ≡ command = cc in
         let mine : running.op.task.command ≡ asked = same_Some running.op.task.command command runs ∙ sym same in
-        at_begin limits (entries ++ Begin actor command ∷ []) actor asked m (omega (arith, first, long, after)) running.op.state running.op.task new.hand.spares
-        k r shows.goes.shows.stands out (ap is_writer mine ∙ reader)
+        at_begin limits (entries ++ Begin actor command ∷ []) actor asked m (omega (arith, first, long, after)) running.op.state running.op.task new.hand k r
+        shows.goes.shows.stands out (ap is_writer mine ∙ reader)

@@ -1,8 +1,9 @@
 -- What changes of the tree pay for, after one entry more.
-use Rattle.std.proofs.Common.{◌≡◌, ◌≢◌, ◌<◌, ◌≤◌, ◌+◌, ◌*◌, ◌++◌, ℕ, suc, List, [], ◌∷◌, length, drop, Bool, true, false, cond, Option, None, Some, refl, sym, ap, ◌∙◌, arith}
+use Rattle.std.proofs.Common.{◌≡◌, ◌≢◌, ◌<◌, ◌≤◌, ◌+◌, ◌*◌, ◌++◌, ℕ, suc, List, [], ◌∷◌, length, drop, Bool, true, false, cond, Option, None, Some, refl, ap, ◌∙◌, arith}
 use Rattle.std.proofs.Math.Nat.{mul-suc}
 use Rattle.std.proofs.lemmas.List.{drop-append-le, drop_all}
 use Rattle.std.proofs.lemmas.List.Elements.{All-push, All-weaker}
+use Rattle.std.proofs.lemmas.List.Sums.{fold-append}
 use Rattle.std.specs.List.{All, count_by}
 use Rattle.tree_limits.specs.declared.limits.Limits.{Limits}
 use Rattle.bw_model.specs.declared.step.Answer.TheVariants.{Whether}
@@ -19,7 +20,6 @@ use Rattle.op_machine.specs.theorem.Direct.{is_step_of}
 use Rattle.op_machine.specs.theorem.Links.{link_of}
 use Rattle.op_machine.specs.theorem.Progress.{ChangesTree}
 use Rattle.op_machine.specs.theorem.ReadersEnd.{one_memory}
-use Rattle.tree_law.proofs.direct.Counting.{count_push}
 use Rattle.progress.specs.ReaderStates.{PaysFrom}
 use Rattle.progress.specs.ReadersAmong.{changes_tree, is_change}
 
@@ -45,6 +45,9 @@ change_enough worth changes more before own left rest steps same none one less p
     let place : more + 1 ≡ suc (changes + 1) = omega (arith, one) in
     let grown : worth * (more + 1) ≡ worth * (changes + 1) + worth = ap (λ (n : ℕ). worth * n) place ∙ mul-suc worth (changes + 1) in
     omega (arith, same, none, grown, less, paid)
+
+pub count_push : {X : Type 0} (p : X → Bool) (xs : List X) (x : X) → count_by p (xs ++ x ∷ []) ≡ count_by p xs + cond (p x) 1 0
+count_push p xs x = fold-append _ _ xs (x ∷ [])
 
 -- from the end of the trace on nothing is taken
 pub pays_end : (limits : Limits) (entries : List Entry) (actor m left : ℕ) → length entries ≤ m → left ≤ one_memory limits + 3 → PaysFrom limits entries actor m left

@@ -1,12 +1,14 @@
 -- How many steps a reader's round has left, among moments that are to come.
-use Rattle.std.proofs.Common.{◌≡◌, ◌<◌, ◌≤◌, ◌+◌, ◌*◌, ◌++◌, ◌⊎◌, ℕ, List, [], ◌∷◌, length, take, true, false, cond, Option, None, Some, sym, ap, subst, ◌∙◌, inl, inr, arith}
+use Rattle.std.proofs.Common.{◌≡◌, ◌<◌, ◌≤◌, ◌+◌, ◌*◌, ◌++◌, ◌⊎◌, ℕ, List, [], ◌∷◌, length, true, cond, Option, None, Some, sym, ap, subst, ◌∙◌, inl, inr, arith}
 use Rattle.std.proofs.Math.Nat.{add-mul}
 use Rattle.std.specs.Prelude.{if◌then◌else◌}
 use Rattle.tree_limits.specs.declared.limits.Limits.{Limits}
+use Rattle.bw_model.specs.declared.command.Command.{Command}
 use Rattle.traces.specs.declared.trace.Entry.{Entry}
+use Rattle.traces.specs.declared.trace.Entry.TheVariants.{Begin}
 use Rattle.traces.specs.trace.Run.{IsNext}
 use Rattle.traces.specs.trace.Trace.{memory_of}
-use Rattle.traces.proofs.Pushes.{slice_get-push, take-push_whole}
+use Rattle.traces.proofs.Pushes.{slice_get-push, slice_get-push_cases, slice_get_below, slice_get_kept, take-push_whole}
 use Rattle.round_model.specs.ReadEnds.{ReadEnd, Again, Removed, Leaf, Beside}
 use Rattle.round_model.specs.ReadRounds.{ReadRound}
 use Rattle.bw_model.specs.declared.step.Answer.{Answer}
@@ -18,9 +20,10 @@ use Rattle.op_machine.specs.machine.States.{State, Read}
 use Rattle.op_machine.specs.machine.Tasks.{Task}
 use Rattle.op_machine.specs.theorem.Direct.{is_step_of}
 use Rattle.op_machine.specs.theorem.ReadersEnd.{one_memory}
-use Rattle.tree_law.specs.State.{IsState}
+use Rattle.tree_law.specs.Direct.{IsLast}
+use Rattle.tree_law.specs.State.{IsState, operation_from}
 use Rattle.progress.specs.ReaderStates.{PaysForRound, TakesFewer}
-use Rattle.progress.specs.ReadersAmong.{AreLawful, IsLawfulMoment, Moment, all_changes, changes_tree, own_steps}
+use Rattle.progress.specs.ReadersAmong.{IsLawfulMoment, Moment, all_changes, changes_tree, own_steps}
 use Rattle.progress.proofs.ReaderPays.{pays_end}
 use Rattle.progress.proofs.rounds.Among.{readers_end_among_changes}
 use Rattle.progress.proofs.rounds.Counts.{many}
@@ -28,6 +31,21 @@ use Rattle.progress.proofs.rounds.Ending.{many_is_count}
 
 abbrev pub moment_of : Entry → ReadRound → Moment
 moment_of entry round = record { entry = entry; round = round }
+
+-- the last operation was the last before the last entry, or that entry begins it
+pub last_cases : (entries : List Entry) (last : Entry) (start actor : ℕ) (command : Command) → IsLast (entries ++ last ∷ []) (operation_from start actor command)
+    → IsLast entries (operation_from start actor command) ⊎ ((start ≡ length entries) × (last ≡ Begin actor command))
+last_cases entries last start actor command latest = elim (slice_get-push_cases entries last start _ latest.begun) [
+  | inl before ↦ inl (record { begun = before; unended = λ later other low e. latest.unended later other low (slice_get_kept entries (last ∷ []) later _ e) })
+  | inr at ↦ inr (at.0, sym at.1)
+]
+
+-- where the actor begins one, it is the last
+pub last_begun : (entries : List Entry) (start actor : ℕ) (command asked : Command) → IsLast (entries ++ Begin actor command ∷ []) (operation_from start actor asked) → start ≡ length entries
+last_begun entries start actor command asked latest = elim (last_cases entries (Begin actor command) start actor asked latest) [
+  | inl before ↦ absurd (latest.unended (length entries) command (slice_get_below entries start _ before.begun) (slice_get-push entries (Begin actor command)))
+  | inr at ↦ at.0
+]
 
 -- the last entry of a state may stand after those before it
 pub next_of : (limits : Limits) (entries : List Entry) (entry : Entry) → IsState limits (entries ++ entry ∷ []) → IsNext limits entries entry

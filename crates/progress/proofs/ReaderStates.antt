@@ -1,13 +1,12 @@
 -- Readers have taken few steps still with one entry more.
-use Rattle.std.proofs.Common.{◌≡◌, ◌<◌, ◌≤◌, ◌+◌, ◌-◌, ◌*◌, ◌++◌, ℕ, zero, suc, List, [], ◌∷◌, length, drop, take, Bool, true, false, Option, None, Some, refl, sym, ap, subst, ◌∙◌, inl, inr, arith}
+use Rattle.std.proofs.Common.{◌≡◌, ◌<◌, ◌≤◌, ◌+◌, ◌-◌, ◌*◌, ◌++◌, ℕ, suc, List, [], ◌∷◌, length, drop, take, Bool, true, false, Option, None, Some, sym, ap, subst, ◌∙◌, inl, inr, arith}
 use Rattle.std.proofs.lemmas.Bool.{cases_lt}
-use Rattle.std.proofs.lemmas.List.{take_all, take_rest}
+use Rattle.std.proofs.lemmas.List.{drop-append-le, length-drop, take-append-le, take_all, take_rest}
 use Rattle.std.proofs.lemmas.List.Elements.{All-weaker}
-use Rattle.std.specs.List.{All, count_by}
+use Rattle.std.specs.List.{count_by}
 use Rattle.std.specs.Prelude.{slice_get, slice_range}
 use Rattle.tree_limits.specs.declared.limits.Limits.{Limits}
 use Rattle.bw_model.specs.Replies.{is_writer}
-use Rattle.bw_model.specs.declared.command.Command.{Command}
 use Rattle.bw_model.specs.declared.command.Reply.{Reply}
 use Rattle.bw_model.specs.declared.step.Answer.{Answer}
 use Rattle.bw_model.specs.declared.step.Answer.TheVariants.{Whether}
@@ -32,13 +31,17 @@ use Rattle.op_machine.specs.theorem.Unhindered.{RunsAlone}
 use Rattle.tree_law.specs.Direct.{IsLast}
 use Rattle.tree_law.specs.State.{IsState}
 use Rattle.tree_law.specs.TraceLaws.{Opens}
-use Rattle.tree_law.proofs.direct.Affording as affording
-use Rattle.tree_law.proofs.direct.Appended.{operation_before, takes_below, takes_cases}
-use Rattle.tree_law.proofs.direct.Counting.{range_kept}
-use Rattle.tree_law.proofs.trace.Beginning as beginning
+use Rattle.tree_law.proofs.trace.Owned.{operation_old, step_below, step_cases}
+use Rattle.tree_law.specs.Direct.{IsDirectState}
 use Rattle.progress.specs.ReaderStates.{BeginsKeepReaders, IsReadersState, PaysAt, PaysFrom, PaysReader, StepsKeepReaders, reader_task}
 use Rattle.progress.proofs.ReaderPays.{pays_kept}
 use Rattle.progress.proofs.Tallies.{counted_range, one_at_most, passes, passes_in, tally, tally_none, tally_split}
+
+-- a part of the shorter list is the same part of the longer one
+range_kept : {X : Type 0} (xs : List X) (x : X) (a b : ℕ) → a ≤ b → b ≤ length xs → slice_range (xs ++ x ∷ []) a b ≡ slice_range xs a b
+range_kept xs x a b le within =
+    let rest : length (drop a xs) ≡ length xs - a = length-drop a xs in
+    ap (take (b - a)) (drop-append-le a xs (x ∷ []) (omega arith)) ∙ take-append-le (b - a) (drop a xs) (x ∷ []) (omega arith)
 
 -- the changes since entry m pay for the steps until entry n
 abbrev Since : Limits → List Entry → ℕ → ℕ → ℕ → Type 0
@@ -133,7 +136,7 @@ module _ (limits : Limits) (entries : List Entry) (last : Entry) (kept : IsReade
   since_kept : (op : Operation) (m n : ℕ) → IsOperation entries op → is_writer op.command ≡ false → op.start < m → m ≤ n → IsOwnStep entries op n → Since limits longer op.actor m n
   since_kept op m n begun reader after le own =
       let h = kept.ends.since op m n begun reader after le own in
-      let below : n < length entries = takes_below entries last op n own.0 own.1 own.2 in (
+      let below : n < length entries = step_below entries last op n own in (
         h.0,
         record {
           increasing = h.1.increasing;
@@ -150,13 +153,13 @@ module _ (limits : Limits) (entries : List Entry) (last : Entry) (kept : IsReade
       → (left : ℕ) × PaysFrom limits longer op.actor m left) → IsReadersState limits longer
   grown paid = record {
     ends = all_since limits longer direct (λ op m n begun reader after le own.
-        let before : IsOperation entries op = operation_before entries last op n own.0 own.1 begun own.2 in
-        elim (takes_cases entries last op n own.0 own.1 own.2) [
-          | inl old ↦ since_kept op m n before reader after le (own.0, own.1, old)
+        let before : IsOperation entries op = operation_old entries last op n begun own in
+        elim (step_cases entries last op n own) [
+          | inl old ↦ since_kept op m n before reader after le old
           | inr at ↦
               let same : n ≡ length entries = at.0 in
               let long : length longer ≡ suc (length entries) = pushed_length entries last in
-              let h = paid op own.0 own.1 at.1.0 m (record { begun = before; unended = at.2 }) reader at.1.1 after (omega (arith, le, same)) in
+              let h = paid op at.1.0 at.1.1 at.1.2 m (record { begun = before; unended = at.2 }) reader at.1.3 after (omega (arith, le, same)) in
               since_last limits longer op.actor m n h.0 (omega (arith, same, long)) h.1
         ]);
     states = λ n. elim (cases_lt (length entries) n) [
@@ -179,15 +182,12 @@ some_left limits entries task m (Write round) pays = absurd pays
 some_left limits entries task m (Change now then) pays = absurd pays
 some_left limits entries task m (Leave reply lacks) pays = (1, omega arith, pays)
 
-pub opens : Opens IsReadersState
-opens limits = record {
-  ends = all_since limits [] direct (λ op m n begun reader after le own. absurd (let below = slice_get_below [] n _ own.2.1.entry in omega (arith, below)));
-  states = λ n. subst (IsState limits) (sym (take_all n [] (omega arith))) (beginning.opens limits);
-  directs = λ n. subst (IsDirect limits) (sym (take_all n [] (omega arith))) direct;
+pub opens : Opens IsState → Opens IsDirectState → Opens IsReadersState
+opens states directs limits = record {
+  ends = all_since limits [] (directs limits).direct (λ op m n begun reader after le own. absurd (let below = slice_get_below [] n _ own.2.1.entry in omega (arith, below)));
+  states = λ n. subst (IsState limits) (sym (take_all n [] (omega arith))) (states limits);
+  directs = λ n. subst (IsDirect limits) (sym (take_all n [] (omega arith))) (directs limits).direct;
 }
-  where
-    direct : IsDirect limits []
-    direct = (affording.opens limits).direct
 
 pub begins_keep : BeginsKeepReaders
 begins_keep limits entries actor command kept later direct = grown limits entries (Begin actor command) kept later direct (λ op s x reply m latest reader is after within. absurd (cc is))

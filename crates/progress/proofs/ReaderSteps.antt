@@ -1,6 +1,6 @@
 -- A reader is paid for after its own step.
-use Rattle.std.proofs.Common.{◌≡◌, ◌<◌, ◌≤◌, ◌+◌, ◌-◌, ◌*◌, ◌++◌, ◌⊎◌, ℕ, suc, List, [], ◌∷◌, length, Bool, true, false, cond, Option, None, Some, refl, sym, ap, subst, ◌∙◌, inl, inr, arith}
-use Rattle.std.specs.Prelude.{IfSome, IsSome, if◌then◌else◌, slice_get}
+use Rattle.std.proofs.Common.{◌≡◌, ◌<◌, ◌≤◌, ◌+◌, ◌-◌, ◌*◌, ◌++◌, ◌⊎◌, ℕ, List, [], ◌∷◌, length, Bool, true, false, cond, Option, None, Some, refl, sym, ap, subst, ◌∙◌, inl, inr, arith}
+use Rattle.std.specs.Prelude.{IsSome, if◌then◌else◌, slice_get}
 use Rattle.std.proofs.lemmas.Bool.{cases_lt}
 use Rattle.std.proofs.lemmas.Bool.Decides.{eqb_tells}
 use Rattle.std.proofs.lemmas.Option.{same_Some}
@@ -12,18 +12,17 @@ use Rattle.bw_model.specs.declared.step.Answer.{Answer}
 use Rattle.bw_model.specs.declared.step.Step.{Step as StepOf}
 use Rattle.bw_model.specs.declared.step.Step.TheVariants as step_of
 use Rattle.deltas.specs.declared.record.Record.{Record}
-use Rattle.change_machine.specs.Spares.{Spares}
 use Rattle.traces.specs.declared.trace.Entry.{Entry}
 use Rattle.traces.specs.declared.trace.Entry.TheVariants.{Begin, Step}
 use Rattle.traces.specs.discipline.Knowledge.{Knowledge, knows}
 use Rattle.traces.specs.discipline.Recalled.{Recalled, recalls}
-use Rattle.traces.specs.trace.Trace.{command_of, memory_of}
+use Rattle.traces.specs.trace.Trace.{memory_of}
 use Rattle.traces.proofs.Pushes.{pushed_length, slice_get_below}
 use Rattle.round_model.specs.ReadRounds.{ReadRound, wanted}
-use Rattle.op_machine.specs.machine.Actors.{ActsOn, IsActorWith, command_at, command_left, wanted_by}
+use Rattle.op_machine.specs.machine.Actors.{IsActorWith, command_at, command_left, wanted_by}
 use Rattle.op_machine.specs.machine.GoesLeft.{first_read}
 use Rattle.op_machine.specs.machine.Hands.{Hand}
-use Rattle.op_machine.specs.machine.Ops.{HoldsLimbo, asked_by}
+use Rattle.op_machine.specs.machine.Ops.{HoldsLimbo, Op, asked_by, wanted_of}
 use Rattle.op_machine.specs.machine.Outcomes.{is_entering, is_leaving, is_reading}
 use Rattle.op_machine.specs.machine.RoundSteps.{StepsInRound, StepsReading}
 use Rattle.op_machine.specs.machine.Shows.{ShowsState, wanted_at}
@@ -32,28 +31,25 @@ use Rattle.op_machine.specs.machine.Tasks.{Task}
 use Rattle.op_machine.specs.machine.UnderWay.{StepsAt, UnderWay}
 use Rattle.op_machine.specs.theorem.Direct.{IsDirect, is_step_of}
 use Rattle.op_machine.specs.theorem.ReadersEnd.{one_memory}
-use Rattle.epochs.specs.Limbo.{Limbo}
-use Rattle.sweep.specs.Sweeps.{Sweep}
 use Rattle.tree_law.specs.Direct.{IsLast}
 use Rattle.tree_law.specs.State.{IsState, operation_from}
-use Rattle.tree_law.proofs.direct.Appended.{last_cases}
 use Rattle.tree_law.proofs.trace.Owned.{same_start}
 use Rattle.progress.specs.ReaderStates.{PaysAt, PaysForRound, PaysFrom, PaysReader, StepsArePaid, reader_task}
 use Rattle.progress.specs.ReadersAmong.{IsLawfulMoment, changes_tree}
 use Rattle.progress.proofs.ReaderPays.{pays_end, pays_kept}
-use Rattle.progress.proofs.ReaderRounds.{after_reads, few_fresh, few_on, few_some, moment_of, next_of, round_fresh, same_steps}
+use Rattle.progress.proofs.ReaderRounds.{after_reads, few_fresh, few_on, few_some, last_cases, moment_of, next_of, round_fresh, same_steps}
 use Rattle.progress.proofs.Tallies.{one_at_most}
 use Rattle.progress.proofs.rounds.Among.{is_read, read_no_change}
 
 -- the command that an operation shows
-going : (task : Task) (spares : Spares) (k : Knowledge) (r : Recalled) (s : State) → ShowsState task spares k r s → k.asked.command ≡ Some task.command
-going task spares k r Begun h = h.asked.going
-going task spares k r Epoch h = h.asked.going
-going task spares k r (Enter epoch) h = h.0.asked.going
-going task spares k r (Read round) h = h.seeks.asked.going
-going task spares k r (Write round) h = h.seeks.asked.going
-going task spares k r (Change now then) h = h.asked.going
-going task spares k r (Leave reply lacks) h = h.0.going
+going : (task : Task) (hand : Hand) (k : Knowledge) (r : Recalled) (s : State) → ShowsState task hand.spares k r s → k.asked.command ≡ Some task.command
+going task hand k r Begun h = h.asked.going
+going task hand k r Epoch h = h.asked.going
+going task hand k r (Enter epoch) h = h.0.asked.going
+going task hand k r (Read round) h = h.seeks.asked.going
+going task hand k r (Write round) h = h.seeks.asked.going
+going task hand k r (Change now next) h = h.asked.going
+going task hand k r (Leave reply lacks) h = h.0.going
 
 -- it is the one that the actor's last operation was asked
 asked_last : (limits : Limits) (entries : List Entry) → IsState limits entries → (start actor : ℕ) (command shown : Command)
@@ -65,16 +61,21 @@ asked_last limits entries state start actor command shown latest shows =
     cc
 
 -- who isn't at the begin sweeps nothing
-no_sweep : (task : Task) (spares : Spares) (limbo : Limbo) (k : Knowledge) (sweep : Option Sweep) (s : State) (asked : StepOf Record) → (s ≡ Begun → ⊥)
-    → HoldsLimbo task s limbo k sweep → asked_by sweep (wanted_at spares s) ≡ Some asked → wanted_at spares s ≡ Some asked
-no_sweep task spares limbo k None s asked other holds is = is
-no_sweep task spares limbo k (Some sweep) s asked other holds is = absurd (other holds.first)
+no_sweep : (op : Op) (hand : Hand) (k : Knowledge) (asked : StepOf Record) → (op.state ≡ Begun → ⊥) → HoldsLimbo op.task op.state hand.limbo k op.sweep
+    → wanted_of op hand ≡ Some asked → wanted_at hand.spares op.state ≡ Some asked
+no_sweep op hand k asked other holds is = (elim (op.sweep) as
+    (λ o. HoldsLimbo op.task op.state hand.limbo k o → asked_by o (wanted_at hand.spares op.state) ≡ Some asked → wanted_at hand.spares op.state ≡ Some asked) [
+      | None ↦ λ h e. e
+      | Some sweep ↦ λ h e. absurd (other h.first)
+    ]) holds is
 
 -- at its begin a reader wants nothing
-no_begin : (task : Task) (spares : Spares) (limbo : Limbo) (k : Knowledge) (sweep : Option Sweep) (asked : StepOf Record) → is_writer task.command ≡ false
-    → HoldsLimbo task Begun limbo k sweep → asked_by sweep (wanted_at spares Begun) ≡ Some asked → ⊥
-no_begin task spares limbo k None asked reader holds is = cc is
-no_begin task spares limbo k (Some sweep) asked reader holds is = let both : true ≡ false = sym holds.writer ∙ reader in cc
+no_begin : (op : Op) (hand : Hand) (k : Knowledge) (asked : StepOf Record) → is_writer op.task.command ≡ false
+    → HoldsLimbo op.task op.state hand.limbo k op.sweep → wanted_of op hand ≡ Some asked → op.state ≡ Begun → ⊥
+no_begin op hand k asked reader holds is first = (elim (op.sweep) as (λ o. HoldsLimbo op.task op.state hand.limbo k o → asked_by o (wanted_at hand.spares op.state) ≡ Some asked → ⊥) [
+  | None ↦ λ h e. let none : None ≡ Some asked = ap (wanted_at hand.spares) (sym first) ∙ e in cc
+  | Some sweep ↦ λ h e. let both : true ≡ false = sym h.writer ∙ reader in cc
+]) holds is
 
 same_first : (limits : Limits) (actor : ℕ) (command : Command) (task : Task) → task.limits ≡ limits → task.command ≡ command → first_read task ≡ first_read (reader_task limits actor command)
 same_first limits actor command task same_limits same_command = rw (same_limits, same_command) refl
@@ -84,7 +85,7 @@ odd e = absurd (cc e)
 
 module _ (limits : Limits) (entries : List Entry) (actor : ℕ) (step : StepOf Record) (answer : Answer Record) (state : IsState limits entries)
     (later : IsState limits (entries ++ Step actor step answer None ∷ [])) (direct : IsDirect limits (entries ++ Step actor step answer None ∷ [])) (start : ℕ)
-    (command : Command) (old : Task) (spares : Spares)
+    (command : Command) (old : Task) (hand : Hand)
     (same_limits : old.limits ≡ limits) (same_command : old.command ≡ command) (reader : is_writer command ≡ false) (begun : start < length entries) where
   abbrev entry : Entry
   entry = Step actor step answer None
@@ -109,7 +110,7 @@ module _ (limits : Limits) (entries : List Entry) (actor : ℕ) (step : StepOf R
   ]
 
   -- a round goes on
-  round_on : (round next : ReadRound) (r : Recalled) → wanted round ≡ step → ShowsState old spares (knows entries actor) r (Read round)
+  round_on : (round next : ReadRound) (r : Recalled) → wanted round ≡ step → ShowsState old hand.spares (knows entries actor) r (Read round)
       → StepsReading old round answer (Read next) → (m : ℕ) → m ≤ length entries → PaysForRound limits entries task round m
       → PaysForRound limits longer task next m
   round_on round next r wants shows steps m within pays = record {
@@ -148,7 +149,7 @@ module _ (limits : Limits) (entries : List Entry) (actor : ℕ) (step : StepOf R
           (sym wants) ∙ read_no_change (memory_of limits entries) actor (wanted round) answer (is_read round.state))
 
   -- by what the round makes of the answer
-  from_round : (round : ReadRound) (r : Recalled) (t : State) → wanted round ≡ step → ShowsState old spares (knows entries actor) r (Read round)
+  from_round : (round : ReadRound) (r : Recalled) (t : State) → wanted round ≡ step → ShowsState old hand.spares (knows entries actor) r (Read round)
       → StepsReading old round answer t → (is_reading t ≡ true) ⊎ (is_leaving t ≡ true)
       → ((m : ℕ) → start < m → m ≤ length entries → PaysForRound limits entries task round m) → (m : ℕ) → start < m → m ≤ length longer → PaysAt limits longer task m t
   from_round round r (Read next) wants shows steps goes pays m after within = elim (cases_lt (length entries) m) [
@@ -167,7 +168,7 @@ module _ (limits : Limits) (entries : List Entry) (actor : ℕ) (step : StepOf R
   from_round round r Epoch wants shows steps goes pays m after within = elim goes [ inl e ↦ odd e | inr e ↦ odd e ]
   from_round round r (Enter epoch) wants shows steps goes pays m after within = elim goes [ inl e ↦ odd e | inr e ↦ odd e ]
   from_round round r (Write other) wants shows steps goes pays m after within = elim goes [ inl e ↦ odd e | inr e ↦ odd e ]
-  from_round round r (Change now then) wants shows steps goes pays m after within = elim goes [ inl e ↦ odd e | inr e ↦ odd e ]
+  from_round round r (Change now next) wants shows steps goes pays m after within = elim goes [ inl e ↦ odd e | inr e ↦ odd e ]
 
   -- before the first round
   from_epoch : (t : State) → is_entering t ≡ true → ((m : ℕ) → start < m → m ≤ length entries → PaysFrom limits entries actor m (one_memory limits + 3))
@@ -177,7 +178,7 @@ module _ (limits : Limits) (entries : List Entry) (actor : ℕ) (step : StepOf R
   from_epoch Epoch enters pays m after within = odd enters
   from_epoch (Read round) enters pays m after within = odd enters
   from_epoch (Write round) enters pays m after within = odd enters
-  from_epoch (Change now then) enters pays m after within = odd enters
+  from_epoch (Change now next) enters pays m after within = odd enters
   from_epoch (Leave reply lacks) enters pays m after within = odd enters
 
   from_enter : (t : State) → t ≡ Read (first_read old) → ((m : ℕ) → start < m → m ≤ length entries → PaysFrom limits entries actor m (one_memory limits + 2))
@@ -188,7 +189,7 @@ module _ (limits : Limits) (entries : List Entry) (actor : ℕ) (step : StepOf R
     pays = from_each (one_memory limits + 2) (one_memory limits + 1) m within (omega arith) (omega arith) (pays m after);
   })
 
-  pub from_state : (s t : State) (r : Recalled) → ShowsState old spares (knows entries actor) r s → wanted_at spares s ≡ Some step → (s ≡ Begun → ⊥)
+  pub from_state : (s t : State) (r : Recalled) → ShowsState old hand.spares (knows entries actor) r s → wanted_at hand.spares s ≡ Some step → (s ≡ Begun → ⊥)
       → (step ≡ step_of.Leave → ⊥) → StepsInRound old s answer t
       → ((m : ℕ) → start < m → m ≤ length entries → PaysAt limits entries task m s) → (m : ℕ) → start < m → m ≤ length longer → PaysAt limits longer task m t
   from_state Begun t r shows wants other stays steps pays m after within = absurd (other refl)
@@ -197,7 +198,7 @@ module _ (limits : Limits) (entries : List Entry) (actor : ℕ) (step : StepOf R
   from_state (Read round) t r shows wants other stays steps pays m after within =
       from_round round r t (same_Some (wanted round) step wants) shows steps (after_reads old steps.next steps.end t steps.goes) pays m after within
   from_state (Write round) t r shows wants other stays steps pays m after within = absurd (pays (length entries) begun (omega arith))
-  from_state (Change now then) t r shows wants other stays steps pays m after within = absurd (pays (length entries) begun (omega arith))
+  from_state (Change now next) t r shows wants other stays steps pays m after within = absurd (pays (length entries) begun (omega arith))
   from_state (Leave reply lacks) t r shows wants other stays steps pays m after within = absurd (stays (sym (same_Some step_of.Leave step wants)))
 
 pub steps_paid : StepsArePaid
@@ -212,25 +213,17 @@ steps_paid limits entries actor step answer reply old new state shown pays wants
     by_running None n given shows pays wants later direct steps ends command = absurd (cc wants)
     by_running (Some running) None given shows pays wants later direct steps ends command = tt
     by_running (Some running) (Some now) (Some given) shows pays wants later direct steps ends command = absurd (cc command)
-    by_running (Some running) (Some now) None shows pays wants later direct steps ends command start m asked latest reader after within =
-        elim (last_cases entries (Step actor step answer None) (operation_from start actor asked) latest) [
+    by_running (Some running) (Some now) None shows pays wants later direct steps ends command = λ start m asked latest reader after within.
+        elim (last_cases entries (Step actor step answer None) start actor asked latest) [
           | inr begins ↦ absurd (let e = begins.1 in cc e)
           | inl before ↦
               let goes = shows.goes in
               let same : running.op.task.command ≡ asked = asked_last limits entries state start actor asked running.op.task.command before
-              (going running.op.task old.hand.spares (knows entries actor) (recalls entries actor) running.op.state goes.shows.stands) in
-              let other : running.op.state ≡ Begun → ⊥ = λ first. at_begin running goes.shows.limbo goes.wanted (ap is_writer same ∙ reader) first in
-              let step_is : wanted_at old.hand.spares running.op.state ≡ Some step =
-              no_sweep running.op.task old.hand.spares old.hand.limbo (knows entries actor) running.op.sweep running.op.state step other goes.shows.limbo (goes.wanted ∙ wants) in
-              from_state limits entries actor step answer state later direct start asked running.op.task old.hand.spares shows.own_limits same reader (slice_get_below entries start _ before.begun)
+              (going running.op.task old.hand (knows entries actor) (recalls entries actor) running.op.state goes.shows.stands) in
+              let other : running.op.state ≡ Begun → ⊥ = no_begin running.op old.hand (knows entries actor) running.wanted (ap is_writer same ∙ reader) goes.shows.limbo goes.wanted in
+              let step_is : wanted_at old.hand.spares running.op.state ≡ Some step = no_sweep running.op old.hand (knows entries actor) step other goes.shows.limbo (goes.wanted ∙ wants) in
+              from_state limits entries actor step answer state later direct start asked running.op.task old.hand shows.own_limits same reader (slice_get_below entries start _ before.begun)
               running.op.state now.op.state (recalls entries actor) goes.shows.stands step_is other
               (λ leaves. let none : IsSome {T = Reply} None = ends leaves in cc) steps (λ k low high. pays start k asked before reader low high) m after
               within
         ]
-      where
-        at_begin : (running : UnderWay) → HoldsLimbo running.op.task running.op.state old.hand.limbo (knows entries actor) running.op.sweep
-            → asked_by running.op.sweep (wanted_at old.hand.spares running.op.state) ≡ Some running.wanted → is_writer running.op.task.command ≡ false
-            → running.op.state ≡ Begun → ⊥
-        at_begin running holds is reader first = no_begin running.op.task old.hand.spares old.hand.limbo (knows entries actor) running.op.sweep running.wanted reader
-            (subst (λ (s : State). HoldsLimbo running.op.task s old.hand.limbo (knows entries actor) running.op.sweep) first holds)
-            (subst (λ (s : State). asked_by running.op.sweep (wanted_at old.hand.spares s) ≡ Some running.wanted) first is)

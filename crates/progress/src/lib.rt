@@ -4,12 +4,13 @@
 //! and at `runs_make_progress`, which says then of all operations what hinders them, that each ends where it runs alone, and that all together take
 //! few steps. No function here does anything: each one's contract is proved of all traces, and a body that calls it has that at hand.
 //!
-//! Then look at `readers_end_among_changes`: beside removals, too, a reader takes few steps but for changes of the tree, since in one
-//! memory its rounds come to an end, wherever they stand (`readers_end_alone`, `rounds_end`).
+//! Then look at `readers_go_on`: beside removals, too, a reader takes few steps for each change of the tree. It carries along a run, entry by entry,
+//! what `readers_end_among_changes` says of the entries to come: in one memory a reader's rounds come to an end, wherever they stand
+//! (`readers_end_alone`, `rounds_end`).
 //!
-//! Called by `step_core` and `running_tree`, which say the first two of their runs; the others are there for who concludes them. It knows what
-//! the theorem says of a trace (`op_machine`, specs/theorem), and, for readers beside removals, the invariant of the law and what a reader's rounds
-//! make of an answer.
+//! Called by `step_core` and `running_tree`, which say the first three of their runs; the others are there for who concludes them. It knows what
+//! the theorem says of a trace (`op_machine`, specs/theorem), and, for readers beside removals, the invariant of the law, what an actor keeps, and
+//! what a reader's rounds make of an answer.
 #![tactic(auto)]
 
 mod examples;

@@ -130,7 +130,7 @@ impl<A: Allocator + Copy> Core<A> {
         stepped
     }
 
-    /// Takes the actor's next step, as `step_on` does, but without what follows from the law of the tree.
+    /// The same, of which no law is told.
     fn stepped(&mut self, actor: u8) -> Option<Option<Link>>
         ensures some { IfSome result (λ link. (refusal_of self.old (Turn.Step actor) ≡ None) × AddsTurn self.old (Turn.Step actor) (Event.Stepped link) self.new) }
         ensures none { result ≡ None → self.new ≡ self.old }
