@@ -12,8 +12,8 @@ import contextlib
 import ctypes
 import os
 import queue
-from collections.abc import Iterable, Iterator, MutableMapping
-from typing import NamedTuple, Optional, Union
+from collections.abc import ItemsView, Iterable, Iterator, MutableMapping, ValuesView
+from typing import Any, NamedTuple, Optional
 
 __all__ = ["Error", "Full", "Room", "Seat", "Swapped", "Tree", "MAX_LENGTH"]
 
@@ -36,6 +36,12 @@ _TEXTS = {
     _BAD_ORDER: "the keys don't ascend",
 }
 _STEPS = 1 << 16
+_NOTHING = object()
+
+
+def _plain(text: bytes) -> bytes:
+    """A key or a value as bytes that nobody changes; raises TypeError for what has no bytes."""
+    return text if type(text) is bytes else bytes(memoryview(text))
 
 
 class _Tree(ctypes.Structure):
@@ -56,6 +62,7 @@ class _Bytes(ctypes.Structure):
 
     @classmethod
     def of(cls, text: bytes) -> "_Bytes":
+        text = _plain(text)
         if len(text) > MAX_LENGTH:
             raise ValueError(_TEXTS[_TOO_LONG])
         return cls(len(text), (ctypes.c_uint8 * MAX_LENGTH)(*text))
@@ -77,8 +84,8 @@ assert [ctypes.sizeof(it) for it in (_Tree, _Limits, _Room, _Bytes, _Pair, _Page
 
 def _load() -> ctypes.CDLL:
     """The library, with the declarations of bwtree.h."""
-    built = os.path.join(os.path.dirname(os.path.abspath(__file__)), "..", "c", "out")
-    place = os.environ.get("BWTREE_LIB", built if os.path.isdir(built) else "libbwtree.so.0")
+    built = os.path.join(os.path.dirname(os.path.abspath(__file__)), "..", "c", "out", "libbwtree.so.0")
+    place = os.environ.get("BWTREE_LIB", built if os.path.isfile(built) else "libbwtree.so.0")
     library = ctypes.CDLL(os.path.join(place, "libbwtree.so.0") if os.path.isdir(place) else place)
     tree, seat, old, page = ctypes.POINTER(_Tree), ctypes.c_uint32, ctypes.POINTER(_Bytes), ctypes.POINTER(_Page)
     text, size, count = ctypes.c_char_p, ctypes.c_size_t, ctypes.c_uint64
@@ -105,6 +112,15 @@ def _load() -> ctypes.CDLL:
 
 
 _library = _load()
+_NO_PAIRS = (_Pair * 0)()
+
+
+def _resumed(handle: "ctypes._Pointer[_Tree]", seat: int, old: _Bytes, page: _Page) -> int:
+    """What a seat's unfinished operation came to, once it is done."""
+    while True:
+        status: int = _library.bwtree_raw_resume(handle, seat, _STEPS, ctypes.byref(old), ctypes.byref(page))
+        if status != _SPENT:
+            return status
 
 
 class Error(Exception):
@@ -150,15 +166,18 @@ class Tree:
 
     def __init__(self, seats: int = 4, keys: int = 1000, *, pids: Optional[int] = None, rows: Optional[int] = None, large: bool = False,
                  pairs: Iterable[tuple[bytes, bytes]] = ()):
+        if not all(0 <= limit < 1 << 64 for limit in (seats, keys, pids or 0, rows or 0)):
+            raise Error(_BAD_LIMITS)
         limits = _Limits(seats, pids or 0, rows or 0, 1, large)
         if pids is None and rows is None:
-            if not (0 <= seats < 1 << 64 and 0 <= keys < 1 << 64):
-                raise Error(_BAD_LIMITS)
             propose = _library.bwtree_raw_limits_for_many_keys if large else _library.bwtree_raw_limits_for_keys
             _must(propose(seats, keys, ctypes.byref(limits)))
         self._handle = _Tree()
         self._free: "queue.SimpleQueue[int]" = queue.SimpleQueue()
         self._seats = 0
+        # what a closing hands over, until it is told; there is less room than pairs where nothing is
+        self._pairs: "ctypes.Array[_Pair]" = _NO_PAIRS
+        self._count = ctypes.c_uint64(1)
         given = [_Pair(_Bytes.of(key), _Bytes.of(value)) for key, value in pairs]
         status = _library.bwtree_raw_open_from(ctypes.byref(limits), (_Pair * max(len(given), 1))(*given), len(given), ctypes.byref(self._handle))
         _must(_FULL if status == _SPENT else status)
@@ -190,26 +209,32 @@ class Tree:
             _must(_library.bwtree_raw_close(handle))
 
     def close_with_pairs(self) -> list[tuple[bytes, bytes]]:
-        """Closes the tree and frees it: its pairs, keys ascending. Raises Error where a seat is lent, the tree is closed, or memory is refused."""
+        """Closes the tree and frees it: its pairs, keys ascending. Raises Error where a seat is lent, the tree is closed, or memory is refused.
+        Where it is interrupted, as by Ctrl-C or want of memory, the pairs wait for the next such call."""
         with self._all_seats() as handle:
-            count, room = ctypes.c_uint64(), 0
-            while True:
-                pairs = (_Pair * max(room, 1))()
-                status = _library.bwtree_raw_close_pairs(handle, pairs, room, ctypes.byref(count))
+            while self._count.value > len(self._pairs):
+                room = self._count.value
+                self._pairs = (_Pair * room)()
+                self._count.value = room + 1
+                status = _library.bwtree_raw_close_pairs(handle, self._pairs, room, ctypes.byref(self._count))
                 if status != _NO_ROOM:
-                    break
-                room = count.value
-            _must(status)
-            return [(pair.key.taken(), pair.value.taken()) for pair in pairs[: count.value]]
+                    _must(status)
+            pairs = [(pair.key.taken(), pair.value.taken()) for pair in self._pairs[: self._count.value]]
+        self._pairs, self._count.value = _NO_PAIRS, 1
+        return pairs
 
     def __enter__(self) -> "Tree":
         return self
 
     def __exit__(self, *_: object) -> None:
-        self.close()
+        try:
+            self.close()
+        except Error as error:
+            if error.status != _CLOSED:
+                raise
 
     def __del__(self) -> None:
-        if getattr(self, "_seats", 0):
+        if hasattr(self, "_handle"):
             _library.bwtree_raw_close(ctypes.byref(self._handle))
 
 
@@ -227,25 +252,29 @@ class Seat(MutableMapping[bytes, bytes]):
 
     def _run(self, name: str, *texts: bytes) -> tuple[int, bytes]:
         """The status of an operation, and the value that goes with it, if one does."""
-        words: list[Union[bytes, int]] = []
-        for text in texts:
-            words += [bytes(text), len(text)]
-        handle, old = self._handle(), _Bytes()
+        words: list[object] = []
+        for text in map(_plain, texts):
+            words += [text, len(text)]
+        old = _Bytes()
         more = () if name == "tidy" else (ctypes.byref(old),)
-        status = getattr(_library, "bwtree_raw_" + name)(handle, self._number, *words, *more)
-        if status == _SPENT:
-            page = _Page()
-            while status == _SPENT:
-                status = _library.bwtree_raw_resume(handle, self._number, _STEPS, ctypes.byref(old), ctypes.byref(page))
-        return _must(status), old.taken()
+        return self._called(name, [*words, *more], old), old.taken()
+
+    def _called(self, name: str, words: list[object], old: _Bytes, page: Optional[_Page] = None) -> int:
+        """The status of an operation. It runs to its end, also where that is interrupted: none is left in the seat."""
+        handle = self._handle()
+        try:
+            status: int = getattr(_library, "bwtree_raw_" + name)(handle, self._number, *words)
+            if status == _SPENT:
+                status = _resumed(handle, self._number, old, _Page() if page is None else page)
+        except BaseException:
+            _resumed(handle, self._number, _Bytes(), _Page())
+            raise
+        return _must(status)
 
     def _page(self, start: bytes) -> tuple[list[tuple[bytes, bytes]], Optional[bytes]]:
         """The pairs of a page, and the key from which the next one goes on, if there is more."""
-        handle, page, old = self._handle(), _Page(), _Bytes()
-        status = _library.bwtree_raw_page(handle, self._number, bytes(start), len(start), ctypes.byref(page))
-        while status == _SPENT:
-            status = _library.bwtree_raw_resume(handle, self._number, _STEPS, ctypes.byref(old), ctypes.byref(page))
-        _must(status)
+        start, page = _plain(start), _Page()
+        self._called("page", [start, len(start), ctypes.byref(page)], _Bytes(), page)
         pairs = [(pair.key.taken(), pair.value.taken()) for pair in page.pairs[: page.count]]
         return pairs, page.next.taken() if page.more else None
 
@@ -263,7 +292,7 @@ class Seat(MutableMapping[bytes, bytes]):
             raise KeyError(key)
 
     def __contains__(self, key: object) -> bool:
-        return isinstance(key, (bytes, bytearray)) and self._run("get", bytes(key))[0] == _OK
+        return isinstance(key, (bytes, bytearray, memoryview)) and self._run("get", _plain(key))[0] == _OK
 
     def __iter__(self) -> Iterator[bytes]:
         return (key for key, _ in self.pairs())
@@ -271,6 +300,34 @@ class Seat(MutableMapping[bytes, bytes]):
     def __len__(self) -> int:
         """How many keys a walk over all of them meets."""
         return sum(1 for _ in self.pairs())
+
+    def items(self) -> ItemsView[bytes, bytes]:
+        return _Items(self)
+
+    def values(self) -> ValuesView[bytes]:
+        return _Values(self)
+
+    # Each of these is one operation on a key, whatever other threads do: the mapping's own are two.
+    def pop(self, key: bytes, default: Any = _NOTHING) -> Any:
+        old = self.delete(key)
+        if old is None and default is _NOTHING:
+            raise KeyError(key)
+        return default if old is None else old
+
+    def popitem(self) -> tuple[bytes, bytes]:
+        for key in self:
+            old = self.delete(key)
+            if old is not None:
+                return key, old
+        raise KeyError("the tree is empty")
+
+    def clear(self) -> None:
+        for key in self:
+            self.delete(key)
+
+    def setdefault(self, key: bytes, default: Any = None) -> Any:
+        old = self.get(key) if default is None else self.insert(key, default)
+        return _plain(default) if old is None else old
 
     def insert(self, key: bytes, value: bytes) -> Optional[bytes]:
         """Gives a key a value where it has none: the value that it has, if it has one."""
@@ -298,7 +355,7 @@ class Seat(MutableMapping[bytes, bytes]):
 
     def pairs(self, start: bytes = b"", stop: Optional[bytes] = None) -> Iterator[tuple[bytes, bytes]]:
         """The pairs from a key on, below another one, keys ascending. What is there throughout the walk is shown, and what never is there isn't."""
-        after: Optional[bytes] = start
+        after: Optional[bytes] = _plain(start)
         while after is not None:
             found, after = self._page(after)
             for key, value in found:
@@ -316,6 +373,8 @@ class Seat(MutableMapping[bytes, bytes]):
         """Gives the seat back to its tree."""
         tree, self._tree = self._tree, None
         if tree is not None:
+            # (an interrupt in the course of another one may have left an operation)
+            _resumed(ctypes.pointer(tree._handle), self._number, _Bytes(), _Page())
             tree._free.put(self._number)
 
     def __enter__(self) -> "Seat":
@@ -326,3 +385,25 @@ class Seat(MutableMapping[bytes, bytes]):
 
     def __del__(self) -> None:
         self.close()
+
+
+class _Items(ItemsView[bytes, bytes]):
+    """Pairs as a walk shows them: no key is looked up again."""
+
+    def __init__(self, seat: Seat):
+        super().__init__(seat)
+        self._seat = seat
+
+    def __iter__(self) -> Iterator[tuple[bytes, bytes]]:
+        return self._seat.pairs()
+
+
+class _Values(ValuesView[bytes]):
+    """Values as a walk shows them."""
+
+    def __init__(self, seat: Seat):
+        super().__init__(seat)
+        self._seat = seat
+
+    def __iter__(self) -> Iterator[bytes]:
+        return (value for _, value in self._seat.pairs())

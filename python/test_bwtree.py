@@ -1,9 +1,12 @@
 """Tests of bwtree.py: what a tree and its seats answer and raise, leases, and threads."""
 
+import array
+import gc
 import queue
 import threading
 import time
 import unittest
+import unittest.mock
 
 import bwtree
 
@@ -35,12 +38,33 @@ class Calls(unittest.TestCase):
         self.assertEqual(it.pop(b"k" * 64), b"v" * 64)
         self.assertGreater(it.room().free_rows, 0)
 
+    def as_a_mapping(self, it):
+        it.update({b"a": b"x", b"b": b"y"})
+        self.assertEqual((it.setdefault(b"a", b"z"), it.setdefault(b"a"), it.setdefault(b"c", bytearray(b"z"))), (b"x", b"x", b"z"))
+        self.assertEqual((list(it.values()), (b"a", b"x") in it.items(), memoryview(b"a") in it), ([b"x", b"y", b"z"], True, True))
+        self.assertEqual((it.pop(b"d", None), it.pop(b"c", None), it.popitem()), (None, b"z", (b"a", b"x")))
+        with self.assertRaises(KeyError):
+            it.pop(b"a")
+        it.clear()
+        self.assertEqual(len(it), 0)
+        with self.assertRaises(KeyError):
+            it.popitem()
+        # all bytes count of what has them in wider items, and nothing else is a key or a value
+        it[array.array("I", [1, 2])] = b""
+        self.assertEqual(it.pop((1).to_bytes(4, "little") + (2).to_bytes(4, "little")), b"")
+        for wrong in ("a", 5, [1], None):
+            for call in (lambda: it.get(wrong), lambda: it.insert(b"a", wrong), lambda: list(it.pairs(wrong)), lambda: bwtree.Tree(pairs=[(wrong, b"")])):
+                with self.assertRaises(TypeError):
+                    call()
+
     def test_answers(self):
         with bwtree.Tree(seats=2, keys=100) as tree, tree.seat() as seat, tree.seat() as other:
             self.answers(seat, other)
+            self.as_a_mapping(seat)
 
     def test_limits(self):
-        for limits in ({"seats": 17}, {"seats": 0}, {"keys": 10**30}, {"pids": 63, "rows": 64}, {"pids": 64}):
+        for limits in ({"seats": 17}, {"seats": 0}, {"keys": 10**30}, {"pids": 63, "rows": 64}, {"pids": 64},
+                       {"seats": 2**64 + 1, "pids": 64, "rows": 64}, {"pids": 2**64 + 64, "rows": 64}):
             with self.assertRaises(bwtree.Error) as raised:
                 bwtree.Tree(**limits)
             self.assertEqual((raised.exception.status, str(raised.exception)), (22, "a limit is outside its range"))
@@ -82,6 +106,37 @@ class Calls(unittest.TestCase):
             self.assertEqual(raised.exception.status, 16)
         self.assertEqual(bwtree.Tree(seats=1, keys=500, pairs=pairs).close_with_pairs(), pairs)
         self.assertEqual(bwtree.Tree(seats=1, keys=1).close_with_pairs(), [])
+        with bwtree.Tree(seats=1, keys=1) as tree:
+            self.assertEqual(tree.close_with_pairs(), [])
+
+    def test_interrupts(self):
+        """What the library did is not lost where the program is interrupted right behind it."""
+        answers = []
+
+        def interrupted(name, ends=True):
+            real = getattr(bwtree._library, name)
+
+            def call(*words):
+                answers.append(real(*words))
+                if ends:
+                    raise KeyboardInterrupt
+                return answers[-1]
+
+            return unittest.mock.patch.object(bwtree._library, name, call)
+
+        tree = bwtree.Tree(seats=1, keys=10, pairs=[(b"a", b"x"), (b"b", b"y")])
+        for _ in range(2):
+            with interrupted("bwtree_raw_close_pairs"), self.assertRaises(KeyboardInterrupt):
+                tree.close_with_pairs()
+        self.assertEqual((answers, tree.close_with_pairs()), ([7, 0], [(b"a", b"x"), (b"b", b"y")]))
+        with self.assertRaises(bwtree.Error):
+            tree.close_with_pairs()
+        answers.clear()
+        with interrupted("bwtree_raw_open_from"), interrupted("bwtree_raw_close", ends=False):
+            with self.assertRaises(KeyboardInterrupt):
+                bwtree.Tree(seats=1, keys=10)
+            gc.collect()
+        self.assertEqual(answers, [0, 0])
 
     def test_full(self):
         with bwtree.Tree(seats=1, pids=64, rows=64) as tree, tree.seat() as seat, self.assertRaises(bwtree.Full):
