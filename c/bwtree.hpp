@@ -38,11 +38,12 @@ struct swapped {
 
 namespace detail {
 
-// The handle, which stays where it is, and which of its seats are free, a bit each.
+// The handle, which stays where it is; which of its seats are free, a bit each; and what the closed tree has handed over, until it is told.
 struct shared {
     ::bwtree handle = {};
     std::atomic<uint32_t> free{0};
     uint32_t all = 0;
+    std::vector<bwtree_pair> left;
     ~shared() { bwtree_close(&handle); }
 };
 
@@ -147,10 +148,16 @@ private:
 
     // Resumes an operation until it is done, and throws what is no ordinary answer.
     uint32_t done(uint32_t status, bwtree_bytes &old, bwtree_page_pairs *page = nullptr) {
-        std::unique_ptr<bwtree_page_pairs> own;
-        if (status == BWTREE_SPENT && !page) own = std::make_unique<bwtree_page_pairs>(), page = own.get();
-        while (status == BWTREE_SPENT) status = bwtree_resume(handle(), number_, 1 << 16, &old, page);
+        if (status == BWTREE_SPENT) status = resumed(old, page);
         if (status >= BWTREE_FULL) throw error(status);
+        return status;
+    }
+    // Resumes an operation until it is done. It takes no memory, since for want of it the operation would stay in the seat.
+    uint32_t resumed(bwtree_bytes &old, bwtree_page_pairs *page) noexcept {
+        bwtree_page_pairs unused;
+        uint32_t status;
+        do status = bwtree_resume(handle(), number_, 1 << 16, &old, page ? page : &unused);
+        while (status == BWTREE_SPENT);
         return status;
     }
     // The value that goes with one of the statuses.
@@ -211,17 +218,23 @@ public:
         all_seats all(shared_);
         detail::must(bwtree_close(&all.shared->handle));
     }
-    // Closes the tree, and hands its pairs over, keys ascending. Throws as close() does; and error(BWTREE_NO_MEMORY), which leaves it open.
+    // Closes the tree, and hands its pairs over, keys ascending. Throws as close() does; error(BWTREE_NO_MEMORY), which leaves it open; and std::bad_alloc,
+    // from which on the pairs wait for the next such call.
     std::vector<std::pair<std::string, std::string>> close_with_pairs() {
         all_seats all(shared_);
-        std::vector<bwtree_pair> raw;
-        uint64_t count = 0;
-        uint32_t status;
-        while ((status = bwtree_close_pairs(&all.shared->handle, raw.data(), raw.size(), &count)) == BWTREE_NO_ROOM) raw.resize(size_t(count));
-        detail::must(status);
+        std::vector<bwtree_pair> &left = all.shared->left;
+        if (left.empty()) {
+            std::vector<bwtree_pair> raw;
+            uint64_t count = 0;
+            uint32_t status;
+            while ((status = bwtree_close_pairs(&all.shared->handle, raw.data(), raw.size(), &count)) == BWTREE_NO_ROOM) raw.resize(size_t(count));
+            detail::must(status);
+            left.swap(raw);
+        }
         std::vector<std::pair<std::string, std::string>> pairs;
-        pairs.reserve(raw.size());
-        for (const auto &[key, value] : raw) pairs.emplace_back(detail::text(key), detail::text(value));
+        pairs.reserve(left.size());
+        for (const auto &[key, value] : left) pairs.emplace_back(detail::text(key), detail::text(value));
+        std::vector<bwtree_pair>().swap(left);
         return pairs;
     }
 

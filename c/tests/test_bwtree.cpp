@@ -2,10 +2,34 @@
 #include "bwtree.hpp"
 #include <cstdio>
 #include <cstdlib>
+#include <new>
 #include <thread>
 #include <vector>
 
 #define CHECK(x) do { if (!(x)) { fprintf(stderr, "%s:%d: %s\n", __FILE__, __LINE__, #x); exit(1); } } while (0)
+
+// Where races are looked for, operator new is the sanitizer's own.
+#if defined(__SANITIZE_THREAD__)
+#define HAS_OWN_NEW 0
+#elif defined(__has_feature)
+#if __has_feature(thread_sanitizer)
+#define HAS_OWN_NEW 0
+#endif
+#endif
+
+#ifndef HAS_OWN_NEW
+#define HAS_OWN_NEW 1
+// How many growths of the program's own memory there are until one is refused; 0: none is.
+static long growths = 0;
+
+[[gnu::noinline]] void *operator new(size_t size) {
+    void *bytes = growths && --growths == 0 ? nullptr : malloc(size);
+    if (!bytes) throw std::bad_alloc();
+    return bytes;
+}
+[[gnu::noinline]] void operator delete(void *bytes) noexcept { free(bytes); }
+[[gnu::noinline]] void operator delete(void *bytes, size_t) noexcept { free(bytes); }
+#endif
 
 template <class Call> static uint32_t thrown(Call call) {
     try {
@@ -54,6 +78,28 @@ static void loads() {
     pairs[0].second = std::string(65, 'v');
     CHECK(thrown([&] { bw::tree::from(limits, pairs); }) == BWTREE_TOO_LONG);
 }
+
+#if HAS_OWN_NEW
+// Where the program has no memory for the pairs of a closed tree, they wait for the next call.
+static void refusals() {
+    const bwtree_limits limits = {1, 64, 256, 1, 0};
+    const std::vector<std::pair<std::string, std::string>> pairs = {{"a", std::string(60, 'x')}, {std::string(60, 'b'), "y"}};
+    long refused = 0;
+    for (bool is_told = false; !is_told;) {
+        auto tree = bw::tree::from(limits, pairs), moved = std::move(tree);
+        growths = ++refused;
+        try {
+            is_told = moved.close_with_pairs() == pairs;
+            growths = 0;
+            CHECK(is_told);
+        } catch (const std::bad_alloc &) {
+            CHECK(growths == 0 && moved.close_with_pairs() == pairs);
+        }
+        CHECK(thrown([&] { moved.close_with_pairs(); }) == BWTREE_CLOSED);
+    }
+    CHECK(refused > 4);
+}
+#endif
 
 static void leases() {
     auto tree = bw::tree::for_keys(1, 100);
@@ -112,6 +158,9 @@ static void threads() {
 int main() {
     answers();
     loads();
+#if HAS_OWN_NEW
+    refusals();
+#endif
     leases();
     threads();
     puts("passed");
