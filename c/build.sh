@@ -1,7 +1,7 @@
 #!/bin/sh
 # Packs what programs in other languages need, into c/out, from the proved archive, which c/archive makes where it isn't there.
 #   c/build.sh              libbwtree.a, libbwtree.so, bwtree.h, bwtree.hpp, bwtree.pc
-#   c/build.sh install DIR  copies them into DIR/lib, DIR/include, DIR/lib/pkgconfig, too
+#   c/build.sh install DIR  copies them into DIR/lib, DIR/include, DIR/lib/pkgconfig, too; where DESTDIR is set, below that folder
 # Where BWTREE_ARCHIVE names another archive with the same functions, that one is packed.
 set -eu
 case "$#,${1-}" in
@@ -12,7 +12,7 @@ top=$(CDPATH='' cd -- "$(dirname -- "$0")/.." && pwd)
 archive=${BWTREE_ARCHIVE:-$top/crates/bw_tree_c/out/libbw_tree_c.a}
 kit=$(dirname -- "$(dirname -- "$(readlink -f "$(command -v rt)")")")
 out=$top/c/out
-version=0.1.0
+version=$(sed -n 's/^#define BWTREE_VERSION "\([0-9.]*\)".*/\1/p' "$top/c/bwtree.h")
 compiler=${CC:-$(command -v cc || command -v clang || echo cc)}
 [ -n "${BWTREE_ARCHIVE:-}" ] || "$top/c/archive"
 mkdir -p "$out"
@@ -38,22 +38,27 @@ includedir=$3
 Name: bwtree
 Description: An ordered map in memory for many threads, proved linearizable
 Version: $version
-Libs: -L\${libdir} -lbwtree
+Libs: -L"\${libdir}" -lbwtree
 Libs.private: -lpthread
-Cflags: -I\${includedir}
+Cflags: -I"\${includedir}"
 PC
 }
 
-# Copies, since the gate takes no links in the repository.
-cp "$out/libbwtree.so.$version" "$out/libbwtree.so.0"
-cp "$out/libbwtree.so.$version" "$out/libbwtree.so"
-cp "$top/c/bwtree.h" "$top/c/bwtree.hpp" "$out/"
+# Copies, since the gate takes no links in the repository. What a program has open isn't written over: `install` takes the old file out of its folder first.
+install "$out/libbwtree.so.$version" "$out/libbwtree.so.0"
+install "$out/libbwtree.so.$version" "$out/libbwtree.so"
+install -m 644 "$top/c/bwtree.h" "$top/c/bwtree.hpp" "$out/"
 describe "$out" "\${prefix}" "\${prefix}" >"$out/bwtree.pc"
 [ "$#" -eq 2 ] || exit 0
-mkdir -p "$2/lib/pkgconfig" "$2/include"
-to=$(CDPATH='' cd -- "$2" && pwd)
-cp "$out/libbwtree.a" "$out/libbwtree.so.$version" "$to/lib/"
+case $2 in
+/*) prefix=$2 ;;
+*) prefix=$PWD/$2 ;;
+esac
+to=${DESTDIR-}$prefix
+mkdir -p "$to/lib/pkgconfig" "$to/include"
+install -m 644 "$out/libbwtree.a" "$to/lib/"
+install "$out/libbwtree.so.$version" "$to/lib/"
 ln -sf "libbwtree.so.$version" "$to/lib/libbwtree.so.0"
 ln -sf libbwtree.so.0 "$to/lib/libbwtree.so"
-cp "$out/bwtree.h" "$out/bwtree.hpp" "$to/include/"
-describe "$to" "\${prefix}/lib" "\${prefix}/include" >"$to/lib/pkgconfig/bwtree.pc"
+install -m 644 "$out/bwtree.h" "$out/bwtree.hpp" "$to/include/"
+describe "$prefix" "\${prefix}/lib" "\${prefix}/include" >"$to/lib/pkgconfig/bwtree.pc"

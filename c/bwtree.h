@@ -18,7 +18,8 @@
  *   - A handle's bytes are all zero before it is opened, and from then on only the library writes them. It is not copied: pass its address.
  *   - While bwtree_open or bwtree_open_from runs on a handle, no other call has that handle. Other threads get to know of an opened handle by a lock, a thread's
  *     start, or a sequentially consistent atomic. All other calls may share a handle, at any time.
- *   - Pointers point to what their types say. What a call writes (value, old, page, room, limits, pairs, count) no other call has meanwhile.
+ *   - Pointers point to what their types say. What a call writes (value, old, page, room, limits, pairs, count) no other call has meanwhile, and it lies
+ *     apart from all else that the call is given: where a walk goes on from page.next, that is copied first.
  *   - A thread that calls has 512 KB of stack.
  *   - The library calls malloc and free, when a tree is opened and closed, and never in another call. No call is made from a signal handler, nor,
  *     in a process with threads, from a child that was forked.
@@ -36,6 +37,7 @@
 extern "C" {
 #endif
 
+#define BWTREE_VERSION "0.1.0" /* what its numbers mean: CHANGELOG.md */
 #define BWTREE_MAX_LENGTH 64  /* bytes of a key or a value */
 #define BWTREE_MAX_SEATS 16   /* seats of a tree */
 #define BWTREE_PAGE_PAIRS 24  /* pairs of a page */
