@@ -18,8 +18,10 @@
 mod ffi;
 
 use ffi::*;
+use std::cell::Cell;
 use std::fmt;
 use std::iter::FusedIterator;
+use std::marker::PhantomData;
 use std::sync::atomic::{AtomicU32, Ordering::SeqCst};
 
 /// How many bytes a key or a value may have.
@@ -164,7 +166,7 @@ impl Tree {
         while free != 0 {
             let number = free.trailing_zeros();
             match self.free.compare_exchange_weak(free, free & !(1 << number), SeqCst, SeqCst) {
-                Ok(_) => return Some(Seat { tree: self, number }),
+                Ok(_) => return Some(Seat { tree: self, number, alone: PhantomData }),
                 Err(now) => free = now,
             }
         }
@@ -204,11 +206,12 @@ impl fmt::Debug for Tree {
     }
 }
 
-/// A seat of a tree, where one thread at a time calls it.
+/// A seat of a tree, where one thread at a time calls it: it is `Send`, and not `Sync`.
 #[derive(Debug)]
 pub struct Seat<'tree> {
     tree: &'tree Tree,
     number: u32,
+    alone: PhantomData<Cell<()>>,
 }
 
 impl Drop for Seat<'_> {

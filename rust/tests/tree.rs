@@ -1,4 +1,4 @@
-use bwtree::{Error, Limits, Seat, Swap, Tree};
+use bwtree::{Error, Limits, Pairs, Seat, Swap, Tree};
 
 #[test]
 fn calls_are_answered() {
@@ -133,8 +133,18 @@ fn threads_have_keys_of_their_own() {
 fn is_shared<T: Send + Sync>() {}
 fn is_sent<T: Send>() {}
 
+/// A type that is `Sync` has this in two manners, so that the test, which names neither, would not compile.
+trait IsNotShared<Kind> {
+    fn told() {}
+}
+struct Shared;
+impl<T: ?Sized> IsNotShared<()> for T {}
+impl<T: ?Sized + Sync> IsNotShared<Shared> for T {}
+
 #[test]
 fn types_cross_threads() {
     is_shared::<Tree>();
     is_sent::<Seat<'static>>();
+    is_sent::<Pairs<'static, 'static>>();
+    <Seat<'static> as IsNotShared<_>>::told();
 }
