@@ -270,6 +270,24 @@ static void closed_with_pairs(void) {
     CHECK(bwtree_open(&limits, &none) == BWTREE_OK && bwtree_close_pairs(&none, NULL, 0, &count) == BWTREE_OK && count == 0);
 }
 
+/* As many seats as there may be, of a small and of a large tree, each opening with a handle of its own: a closing goes a frame deeper for each seat. */
+static void most_seats(void) {
+    static bwtree trees[4];
+    static bwtree_pair all[BWTREE_MAX_SEATS];
+    bwtree_limits limits;
+    bwtree_bytes old;
+    for (int is_large = 0; is_large < 2; is_large++) {
+        bwtree *tree = &trees[2 * is_large], *later = tree + 1;
+        uint64_t count = 0;
+        CHECK((is_large ? bwtree_limits_for_many_keys : bwtree_limits_for_keys)(BWTREE_MAX_SEATS, 100, &limits) == BWTREE_OK);
+        CHECK(bwtree_open(&limits, tree) == BWTREE_OK && bwtree_is_idle(tree, BWTREE_MAX_SEATS) == BWTREE_NO_SEAT);
+        for (uint8_t seat = 0; seat < BWTREE_MAX_SEATS; seat++) CHECK(bwtree_insert(tree, seat, &seat, 1, "x", 1, &old) == BWTREE_OK);
+        CHECK(bwtree_close_pairs(tree, all, BWTREE_MAX_SEATS, &count) == BWTREE_OK && count == BWTREE_MAX_SEATS);
+        for (uint8_t seat = 0; seat < BWTREE_MAX_SEATS; seat++) CHECK(all[seat].key.length == 1 && all[seat].key.bytes[0] == seat && is(&all[seat].value, "x"));
+        CHECK(bwtree_open_from(&limits, all, count, later) == BWTREE_OK && bwtree_close(later) == BWTREE_OK);
+    }
+}
+
 static void full(void) {
     static bwtree tree;
     bwtree_limits limits = {1, 64, 64, 1, 0};
@@ -492,6 +510,7 @@ static void *all(void *unused) {
     answers();
     loads();
     closed_with_pairs();
+    most_seats();
     full();
     busy();
     closing();
