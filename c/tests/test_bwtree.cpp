@@ -2,6 +2,7 @@
 #include "bwtree.hpp"
 #include <cstdio>
 #include <cstdlib>
+#include <malloc.h>
 #include <new>
 #include <thread>
 #include <vector>
@@ -101,6 +102,32 @@ static void refusals() {
 }
 #endif
 
+// What malloc has given out, where it tells: a leak checker is to overlook what the library leaves.
+static size_t held() {
+#if defined(__GLIBC__) && (__GLIBC__ > 2 || __GLIBC_MINOR__ >= 33)
+    auto counts = mallinfo2();
+    return counts.uordblks + counts.hblkhd;
+#else
+    return 0;
+#endif
+}
+
+// Trees are freed, of a megabyte each: by the last of the object and its seats, by a move over them, by close(), and with their pairs.
+static void ends() {
+    const bwtree_limits limits = {2, 64, 256, 1, 0};
+    size_t before = held();
+    {
+        auto tree = bw::tree(limits);
+        auto seat = tree.lease();
+        seat.insert("a", "x");
+        tree = bw::tree(limits);
+        seat = tree.lease();
+        bw::tree(limits).close();
+        bw::tree(limits).close_with_pairs();
+    }
+    CHECK(held() < before + (size_t(1) << 18));
+}
+
 static void leases() {
     auto tree = bw::tree::for_keys(1, 100);
     {
@@ -158,6 +185,7 @@ static void threads() {
 int main() {
     answers();
     loads();
+    ends();
 #if HAS_OWN_NEW
     refusals();
 #endif
