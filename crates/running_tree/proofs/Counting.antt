@@ -1,5 +1,5 @@
 -- Free numbers that are counted by words of free bits.
-use Rattle.std.proofs.Common.{◌≡◌, ◌<◌, ◌+◌, ◌*◌, ◌/◌, ◌%◌, ◌^◌, ℕ, zero, suc, Bool, true, false, List, count_ones, ltb, refl, sym, ap, subst, arith, ◌∙◌}
+use Rattle.std.proofs.Common.{◌≡◌, ◌<◌, ◌≤◌, ◌+◌, ◌*◌, ◌/◌, ◌%◌, ◌^◌, ℕ, zero, suc, Bool, true, false, List, count_ones, ltb, refl, sym, ap, subst, arith, ◌∙◌}
 use Rattle.std.specs.Prelude.{if◌then◌else◌}
 use Rattle.std.specs.Int.{bit_at}
 use Rattle.std.proofs.lemmas.Nat.{ones-le}
@@ -19,6 +19,7 @@ use Rattle.bw_model.specs.declared.step.Answer.{Answer}
 use Rattle.bw_model.specs.declared.step.Answer.TheVariants.{Number}
 use Rattle.deltas.specs.declared.record.Record.{Record}
 use Rattle.running_tree.specs.Room.{HasCounted, HasSeenRoom, HasWatched, bits_step, free_among, how_many, is_free}
+use Rattle.change_machine.specs.Taking.{count_of}
 use Rattle.change_machine.specs.declared.taking.Kind.{Kind}
 use Rattle.change_machine.specs.declared.taking.Kind.TheVariants.{Pid, Row}
 use Rattle.running_tree.specs.declared.room.Room.{Room}
@@ -160,3 +161,11 @@ room_seen own old mid new room same same_on pids rows =
       extends = extends;
       command = ap (command_of new.seen) (same_on.actor ∙ same.actor) ∙ (own old.limits old.actor old.seen new.seen extends).command;
     }
+
+-- words of 64 are all that there are
+whole_words : (limits : Limits) (kind : Kind) → count_of limits kind % 64 ≡ 0
+whole_words limits Pid = limits.allowed.whole_pids
+whole_words limits Row = limits.allowed.whole_rows
+
+pub all_counted : (limits : Limits) (kind : Kind) (word all : ℕ) → all ≡ count_of limits kind → word ≤ all / 64 → all / 64 ≤ word → 64 * word ≡ count_of limits kind
+all_counted limits kind word all same below over = let whole = whole_words limits kind in omega (arith, same, below, over, whole)

@@ -21,3 +21,4 @@ mod Counting
 mod Holding
 mod LackLaws
 mod Standing
+mod OnWords

@@ -95,7 +95,9 @@ pays_set limits actors entries entry i new grows each others stays a at e = elim
 
 -- an entry of one actor is no other's
 none_own : (i a : ℕ) (entry : Entry) → is_entry_of a entry ≡ (a == i) → a ≢ i → own_entries a (entry ∷ []) ≡ []
-none_own i a entry is apart = ap (λ (b : Bool). if b then entry ∷ [] else []) (is ∙ elim (eqb_tells a i) [ inl same ↦ absurd (apart same.1) | inr other ↦ other.0 ])
+none_own i a entry is apart =
+    let other : (a == i) ≡ false = elim (eqb_tells a i) [ inl same ↦ absurd (apart same.1) | inr off ↦ off.0 ] in
+    ap (λ (b : Bool). if b then entry ∷ [] else []) (is ∙ other)
 
 -- each reader is paid for after the longer trace too
 reads_set : ReadersGoOn → (limits : Limits) (actors : List Actor) (entries : List Entry) (entry : Entry) (i : ℕ) (new : Actor) → ((a : ℕ) → is_entry_of a entry ≡ (a == i))

@@ -1,5 +1,9 @@
-use Rattle.std.proofs.Common.{arith}
-use Rattle.running_tree.proofs.Counting.{counted_none, watched_more}
+use Rattle.std.proofs.Common.{◌≡◌, ℕ, ap, arith, subst, ◌∙◌}
+use Rattle.tree_limits.specs.declared.limits.Limits.{Limits}
+use Rattle.change_machine.specs.Taking.{count_of}
+use Rattle.running_tree.specs.Room.{HasCounted}
+use Rattle.running_tree.specs.Seats.{Seat}
+use Rattle.running_tree.proofs.Counting.{all_counted, counted_none, watched_more}
 use Rattle.running_tree.proofs.Going.{same_on, same_self}
 use Rattle.running_tree.proofs.seat.BwSeat.count_free.Goals as goal
 
@@ -19,3 +23,10 @@ loop-word-preserved g c =
       counted = watched_more c.args.kind c.args.self.now c.loop-word.self c.watch_bits-count.new.self c.loop-word.word c.loop-word.count c.watch_bits-count.result v.same v.counted told.watched;
       few = omega (arith, v.few, told.few);
     }
+
+pub returns-clause-counted : goal.returns-clause-counted
+returns-clause-counted g c =
+    let limits : c.self.inside.limits ≡ c.args.self.now.limits = ap (λ (s : Seat). s.limits) c.self.view_is in
+    let all = all_counted c.args.self.now.limits c.args.kind c.loop-word.word c.limit_of-word-end.result
+    (c.limit_of-word-end.ensures ∙ ap (λ (l : Limits). count_of l c.args.kind) limits) c.loop-word.auto.word-end c.loop-word-test.false in
+    subst (λ (n : ℕ). HasCounted c.args.self.now.limits c.args.self.now.actor c.args.kind n c.args.self.now.seen c.loop-word.self.seen c.loop-word.count) all c.loop-word.invariant.counted
