@@ -5,10 +5,11 @@ use Rattle.std.specs.List.{AllByRecursion}
 use Rattle.std.specs.Ordering.{is_lt}
 use Rattle.std.specs.declared.cmp.Ordering.TheVariants.{Less}
 use Rattle.std.proofs.lemmas.List.{take-append-drop, get_or_read, length-append}
+use Rattle.std.proofs.lemmas.List.Elements.{All-take}
 use Rattle.bw_model.specs.Bytes.{key_cmp, is_below, is_in_range, is_under}
 use Rattle.base_page.specs.declared.item.Content.{Content}
 use Rattle.base_page.specs.declared.item.Item.{Item}
-use Rattle.base_page.specs.Pages.{Page, IsPage, AreItems, content_at}
+use Rattle.base_page.specs.Pages.{Page, IsPage, AreItems, IsOfLevel, content_at}
 use Rattle.base_page.specs.Places.{IsCut}
 use Rattle.base_page.proofs.KeyLaws.{below_from, below_reach, below-trans, by_order, either, and_left, and_right, and_both, not_true}
 use Rattle.base_page.proofs.ItemLaws.{all-weaker, AllBelow, AllBefore, Ascends-from, IsAscending-from, joined, lacks_below, lacks_above, append_lacks, append_front}
@@ -35,6 +36,15 @@ module _ (items : List Item) (key : List ℕ) (place : ℕ) (cut : IsCut items k
   content_at-drop = either (is_below q key)
       (λ yes. rw yes (rest_lacks yes))
       (λ no. rw no (sym (append_lacks (take place items) (drop place items) q (front_lacks no)) ∙ whole))
+
+-- the first items of a page make a page of the same range
+pub IsPage-take : (page : Page) → IsPage page → (place : ℕ) → IsPage (record page { items = take place page.items })
+IsPage-take page is place = record {
+  spans = is.spans;
+  ordered = AreItems-take page.items is.ordered place;
+  within = All-take (λ (item : Item). IsTrue (is_in_range page.low page.high item.key)) place page.items is.within;
+  kinds = All-take (λ (item : Item). IsOfLevel page.level item.content) place page.items is.kinds;
+}
 
 -- the two parts of a page
 module _ (page : Page) (is : IsPage page) (key : List ℕ) (place : ℕ) (cut : IsCut page.items key place) where

@@ -1,11 +1,12 @@
 //! A page: the items of a range of keys on one level.
-ghost use Rattle.std.specs.Prelude.{◌≡◌, option_copied, false};
+ghost use Rattle.std.specs.Prelude.{◌≡◌, ◌++◌, ◌∷◌, [], IsTrue, option_copied, false};
+ghost use Rattle.bw_model.specs.Bytes.{is_under};
 ghost use Rattle.base_page.specs.Pages.{empty_leaf, IsPage};
 
 mod edits;
 mod reads;
 
-use crate::Items;
+use crate::{Item, Items};
 use bw_model::Key;
 use std::alloc::AllocError;
 use std::marker::Model;
@@ -59,6 +60,27 @@ impl Page {
             removed: false,
             items,
         }
+    }
+
+    /// Becomes the page of a range, on a level, without items.
+    pub fn restart(&mut self, level: u8, low: Key, high: Option<Key>, right: Option<u32>)
+        requires { IsTrue (is_under low high) }
+        ensures { self.new ≡ record { level = level; low = low; high = high; right = right; removed = false; items = [] } }
+    {
+        self.level = level;
+        self.low = low;
+        self.high = high;
+        self.right = right;
+        self.removed = false;
+        self.items.truncate(0);
+    }
+
+    /// Adds an item, which is above those that stand.
+    pub fn push(&mut self, item: Item)
+        requires { IsPage (record self.old { items = self.old.items ++ item ∷ [] }) }
+        ensures { self.new ≡ record self.old { items = self.old.items ++ item ∷ [] } }
+    {
+        self.items.push(item);
     }
 
     /// The level: 0 for leaves, one more for each level above.

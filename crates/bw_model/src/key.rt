@@ -1,5 +1,5 @@
 //! Keys: short lists of bytes, in lexicographic order.
-ghost use Rattle.std.specs.Prelude.{◌≡◌, ◌≤◌, ◌↔◌, List, ℕ, [], length, IsOk, IfOk};
+ghost use Rattle.std.specs.Prelude.{◌≡◌, ◌≤◌, ◌↔◌, List, ℕ, [], length, take, IsOk, IfOk};
 ghost use Rattle.bw_model.specs.declared.short_bytes.TheConstants.{MAX_LENGTH};
 
 use crate::short_bytes::{MAX_LENGTH, ShortBytes, TooLong};
@@ -34,6 +34,17 @@ impl Key {
         Ok(Key {
             bytes: ShortBytes::from_slice(bytes)?,
         })
+    }
+
+    /// The first bytes of the array, so many.
+    #[inline]
+    pub fn first_of(bytes: &[u8; MAX_LENGTH], count: u8) -> Key
+        requires { count ≤ MAX_LENGTH }
+        ensures { result ≡ take count bytes.now }
+    {
+        Key {
+            bytes: ShortBytes::first_of(bytes, count),
+        }
     }
 
     /// The bytes.

@@ -1,5 +1,5 @@
 //! Short lists of bytes, which keys and values are made of.
-ghost use Rattle.std.specs.Prelude.{◌≡◌, ◌≤◌, ◌↔◌, [], length, Some, IsOk, IfOk, nat_eq, refl};
+ghost use Rattle.std.specs.Prelude.{◌≡◌, ◌≤◌, ◌↔◌, [], length, take, Some, IsOk, IfOk, nat_eq, refl};
 ghost use Rattle.std.specs.Ordering.{nat_cmp};
 ghost use Rattle.std.specs.Cmp.{partial_equiv_from_equiv};
 ghost use Rattle.std.specs.Cmp.Lexicographic.{pointwise, slice_cmp, nat_list_eq_equiv, nat_list_cmp_total, texts_po, texts_ties};
@@ -51,6 +51,18 @@ impl<const LENGTH: usize> ShortBytes<LENGTH> {
             bytes: padded,
             count: bytes.len() as u8,
         })
+    }
+
+    /// The first ones of the array, so many.
+    #[inline]
+    pub(crate) fn first_of(bytes: &[u8; LENGTH], count: u8) -> ShortBytes<LENGTH>
+        requires { count ≤ LENGTH }
+        ensures { result ≡ take count bytes.now }
+    {
+        ShortBytes {
+            bytes: *bytes,
+            count,
+        }
     }
 
     /// The bytes.

@@ -1,5 +1,5 @@
 //! Values: short lists of bytes.
-ghost use Rattle.std.specs.Prelude.{◌≡◌, ◌≤◌, ◌↔◌, List, ℕ, [], length, IsOk, IfOk};
+ghost use Rattle.std.specs.Prelude.{◌≡◌, ◌≤◌, ◌↔◌, List, ℕ, [], length, take, IsOk, IfOk};
 ghost use Rattle.bw_model.specs.declared.short_bytes.TheConstants.{MAX_LENGTH};
 
 use crate::short_bytes::{MAX_LENGTH, ShortBytes, TooLong};
@@ -34,6 +34,17 @@ impl Value {
         Ok(Value {
             bytes: ShortBytes::from_slice(bytes)?,
         })
+    }
+
+    /// The first bytes of the array, so many.
+    #[inline]
+    pub fn first_of(bytes: &[u8; MAX_LENGTH], count: u8) -> Value
+        requires { count ≤ MAX_LENGTH }
+        ensures { result ≡ take count bytes.now }
+    {
+        Value {
+            bytes: ShortBytes::first_of(bytes, count),
+        }
     }
 
     /// The bytes.

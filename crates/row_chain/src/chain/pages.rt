@@ -17,7 +17,7 @@ use row_search::{RowAt, Rows};
 use std::alloc::Allocator;
 
 impl<R: Rows, A: Allocator> Chain<R, A> {
-    /// The page that the chain makes: each delta, from the oldest on, changes the page under it where that lies.
+    /// The page that the chain makes.
     #[inline(never)]
     pub fn page(&self, rows: &R, pass: &mut R::Pass) -> Page
         requires read { IsReadChain (R.has rows.now pass.old) self.now }
@@ -25,14 +25,25 @@ impl<R: Rows, A: Allocator> Chain<R, A> {
         ensures makes { Makes self.now.records result }
         ensures ruled { IsRuled result }
     {
+        let mut page = Page::empty_leaf();
+        self.page_in(rows, pass, &mut page);
+        page
+    }
+
+    /// Makes the page the one that the chain makes, where it lies: the base, and then each delta, from the oldest on, over what is under it.
+    pub(super) fn page_in(&self, rows: &R, pass: &mut R::Pass, page: &mut Page)
+        requires read { IsReadChain (R.has rows.now pass.old) self.now }
+        ensures same { pass.new ≡ pass.old }
+        ensures makes { Makes self.now.records page.new }
+        ensures ruled { IsRuled page.new }
+    {
         self.was_read(rows, pass);
         self.keeps_rules();
         let records = self.as_read(rows, pass);
-        let mut page = self.base_page(rows, pass);
+        self.base_in(rows, pass, page);
         for place in (0..self.deltas()).rev() {
-            change(&mut page, &records[place], rows, pass);
+            change(page, &records[place], rows, pass);
         }
-        page
     }
 
     /// The page that may stand as a base in the chain's place.
@@ -50,15 +61,15 @@ impl<R: Rows, A: Allocator> Chain<R, A> {
         self.page(rows, pass)
     }
 
-    /// The base, decoded.
-    pub fn base_page(&self, rows: &R, pass: &mut R::Pass) -> Page
+    /// Makes the page that of the base.
+    fn base_in(&self, rows: &R, pass: &mut R::Pass, page: &mut Page)
         requires read { IsReadChain (R.has rows.now pass.old) self.now }
         ensures same { pass.new ≡ pass.old }
-        ensures base { (d : Record) (place : ℕ) → place + 1 ≡ length self.now.records → slice_index_or self.now.records place d ≡ Base result }
+        ensures base { (d : Record) (place : ℕ) → place + 1 ≡ length self.now.records → slice_index_or self.now.records place d ≡ Base page.new }
     {
         self.was_read(rows, pass);
         self.keeps_rules();
-        self.as_read(rows, pass)[self.deltas()].base(rows, pass)
+        self.as_read(rows, pass)[self.deltas()].base_in(rows, pass, page);
     }
 }
 

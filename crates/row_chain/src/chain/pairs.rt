@@ -8,7 +8,7 @@ ghost use Rattle.traces.specs.discipline.Discipline.{found, value_of};
 ghost use Rattle.row_chain.specs.Placed.{IsReadChain};
 
 use crate::Chain;
-use base_page::{Content, Item};
+use base_page::{Content, Item, Page};
 use bw_model::{Key, Pairs};
 use row_search::Rows;
 use std::alloc::Allocator;
@@ -21,7 +21,8 @@ impl<R: Rows, A: Allocator> Chain<R, A> {
         ensures same { pass.new ≡ pass.old }
         ensures pairs { ArePairsOf (found self.now.records) from.now (high_in self.now.records) pairs.new }
     {
-        let page = self.page(rows, pass);
+        let mut page = Page::empty_leaf();
+        self.page_in(rows, pass, &mut page);
         show_among(page.items().as_slice(), from, pairs);
     }
 }

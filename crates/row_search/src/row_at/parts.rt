@@ -1,13 +1,13 @@
 //! What a record has, decoded from where it lies.
-ghost use Rattle.std.specs.Prelude.{◌≡◌, ◌<◌, Some, length, option_map, slice_index_or};
+ghost use Rattle.std.specs.Prelude.{◌≡◌, ◌<◌, [], Some, length, option_map, slice_index_or};
 ghost use Rattle.base_page.specs.declared.item.Item.{Item};
-ghost use Rattle.base_page.specs.Pages.{value_in};
+ghost use Rattle.base_page.specs.Pages.{Page as PageSeen, value_in};
 ghost use Rattle.deltas.specs.declared.record.Record.TheVariants.{Base};
 ghost use Rattle.record_slots.specs.Parts.{items_of, row_of};
 ghost use Rattle.row_search.specs.Changes.{delete_of, put_of};
 
 use crate::{RowAt, Rows};
-use base_page::{Content, Item, Items, Page};
+use base_page::{Content, Item, Page};
 use bw_model::Key;
 use deltas::{Delete, Put};
 use record_slots::{HELD, key_in};
@@ -50,33 +50,34 @@ impl<R: Rows> RowAt<R> {
         self.word(rows, pass, 1) as u32
     }
 
-    /// The page of a base.
+    /// Makes the page that of a base, where it lies.
     #[inline(never)]
-    pub fn base(&self, rows: &R, pass: &mut R::Pass) -> Page
+    pub fn base_in(&self, rows: &R, pass: &mut R::Pass, page: &mut Page)
         requires read { R.has rows.now pass.old self.now.row self.now.content }
         requires base { (row_of self.now.content).kind ≡ 1 }
         ensures same { pass.new ≡ pass.old }
-        ensures page { Base result ≡ self.now.content }
+        ensures page { Base page.new ≡ self.now.content }
     {
         self.keeps_spelling();
         let low = self.first(rows, pass);
         let high = self.second(rows, pass);
         let right = self.right(rows, pass);
-        Page::new(self.level(), low, high, right, self.items(rows, pass))
+        page.restart(self.level(), low, high, right);
+        self.fill(rows, pass, page);
     }
 
-    /// Its items.
-    fn items(&self, rows: &R, pass: &mut R::Pass) -> Items
+    /// Adds its items to the page of its range.
+    fn fill(&self, rows: &R, pass: &mut R::Pass, page: &mut Page)
         requires read { R.has rows.now pass.old self.now.row self.now.content }
+        requires base { (row_of self.now.content).kind ≡ 1 }
+        requires empty { (is : PageSeen) → self.now.content ≡ Base is → page.old ≡ record is { items = [] } }
         ensures same { pass.new ≡ pass.old }
-        ensures items { result ≡ items_of self.now.content }
+        ensures page { Base page.new ≡ self.now.content }
     {
         self.keeps_spelling();
-        let mut items = Items::new();
         for place in 0..self.item_count() {
-            items.push(self.item(rows, pass, place));
+            page.push(self.item(rows, pass, place));
         }
-        items
     }
 
     /// The item at the place.

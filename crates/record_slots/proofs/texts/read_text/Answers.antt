@@ -3,12 +3,6 @@ use Rattle.record_slots.specs.Texts.{IsText, ends_there}
 use Rattle.record_slots.proofs.TextLaws.{is_text, no_text, many_bytes}
 use Rattle.record_slots.proofs.texts.read_text.Goals as goal
 
-pub returns-then-count-clause-many : goal.returns-then-count-clause-many
-returns-then-count-clause-many c ends =
-    let words = c.args.words.now in
-    let many : length c.read_bytes.new.bytes.items ≡ 8 * length words = ap length c.read_bytes.ensures.bytes ∙ many_bytes words in
-    omega (arith, many, c.requires.words, c.if-count.true)
-
 pub returns-then-count-clause-text : goal.returns-then-count-clause-text
 returns-then-count-clause-text c ends =
     let words = c.args.words.now in

@@ -1,6 +1,6 @@
 use Rattle.std.proofs.Common.{◌≡◌, drop}
 use Rattle.traces.specs.chain.Fitted.{Makes}
-use Rattle.row_chain.proofs.chain.Chain.page.Given as goal
+use Rattle.row_chain.proofs.chain.Chain.page_in.Given as goal
 
 abbrev pub invariant-loop-place : goal.invariant-loop-place
 invariant-loop-place g l = record {

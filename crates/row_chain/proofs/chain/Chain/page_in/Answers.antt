@@ -5,15 +5,15 @@ use Rattle.traces.specs.chain.Fitted.{Makes}
 use Rattle.traces.proofs.FittedLaws.{Makes-next, ruled}
 use Rattle.row_chain.proofs.Making.{base_makes, fits_above}
 use Rattle.row_chain.proofs.Standing.{content_there}
-use Rattle.row_chain.proofs.chain.Chain.page.Goals as goal
+use Rattle.row_chain.proofs.chain.Chain.page_in.Goals as goal
 
 pub loop-place-init : goal.loop-place-init
 loop-place-init g c =
-    let base = c.base_page-page.result in
+    let base = c.base_in.new.page in
     let place = c.deltas-place.result in
     record {
       same = refl;
-      makes = base_makes c.args.self.now.records place base c.keeps_rules.ensures.fitted (omega (arith, c.deltas-place.ensures)) (c.base_page-page.ensures.base
+      makes = base_makes c.args.self.now.records place base c.keeps_rules.ensures.fitted (omega (arith, c.deltas-place.ensures)) (c.base_in.ensures.base
           (Base base) place c.deltas-place.ensures);
     }
 

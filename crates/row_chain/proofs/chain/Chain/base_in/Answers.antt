@@ -3,10 +3,10 @@ use Rattle.deltas.specs.declared.record.Record.{Record}
 use Rattle.record_slots.specs.Parts.{row_of}
 use Rattle.row_chain.proofs.Making.{base_at}
 use Rattle.row_chain.proofs.Standing.{content_there}
-use Rattle.row_chain.proofs.chain.Chain.base_page.Goals as goal
+use Rattle.row_chain.proofs.chain.Chain.base_in.Goals as goal
 
-pub base-requires-clause-base : goal.base-requires-clause-base
-base-requires-clause-base g c =
+pub base_in-requires-clause-base : goal.base_in-requires-clause-base
+base_in-requires-clause-base g c =
     let chain = c.args.self.now.records in
     let place = c.deltas.result in
     let row = c.index-as_read-deltas.result in
