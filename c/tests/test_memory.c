@@ -117,6 +117,9 @@ int main(void) {
     CHECK(held > 8 * left && bwtree_close_pairs(&tree, all, 1, &count) == BWTREE_OK && held == 8 * left);
     CHECK(bwtree_open_from(&limits, &pair, 1, &tree) == BWTREE_OK && bwtree_close_pairs(&tree, all, 0, &count) == BWTREE_NO_ROOM);
     CHECK(held > 9 * left && bwtree_close(&tree) == BWTREE_OK && held == 9 * left);
+    /* of a closed tree no room is asked for */
+    growths = 0;
+    CHECK(bwtree_close_pairs(&tree, all, 1, &count) == BWTREE_CLOSED && growths == 0);
     printf("%ld growths of one opening refused, a closed tree leaves %lu bytes\n", of_one, (unsigned long)left);
     return 0;
 }

@@ -1,3 +1,4 @@
 pub mod Pages
 pub mod Places
 pub mod Rules
+pub mod Shown

@@ -5,6 +5,7 @@ ghost use Rattle.base_page.specs.Pages.{empty_leaf, IsPage};
 
 mod edits;
 mod reads;
+mod shows;
 
 use crate::{Item, Items};
 use bw_model::Key;

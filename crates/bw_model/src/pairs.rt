@@ -1,5 +1,5 @@
 //! The pairs of keys and values that a cursor page shows.
-ghost use Rattle.std.specs.Prelude.{◌≡◌, ◌++◌, ◌∷◌, ◌<◌, ◌≤◌, [], length};
+ghost use Rattle.std.specs.Prelude.{◌≡◌, ◌+◌, ◌++◌, ◌∷◌, ◌<◌, ◌≤◌, [], length, take};
 ghost use Rattle.bw_model.specs.declared.pairs.TheConstants.{MAX_PAIRS};
 
 use crate::{Key, Value};
@@ -52,21 +52,25 @@ impl Pairs {
         self.pairs.as_slice()
     }
 
-    /// No pairs from now on.
-    pub fn clear(&mut self)
-        ensures { self.new ≡ [] }
+    /// The pair at the place from now on; at the end it is added.
+    pub fn put(&mut self, place: usize, key: Key, value: Value)
+        requires place { place ≤ length self.old }
+        requires room { place < MAX_PAIRS }
+        ensures front { take (place + 1) self.new ≡ take place self.old ++ (key, value) ∷ [] }
+        ensures there { place < length self.new }
     {
-        self.pairs.clear();
+        if place < self.pairs.len() {
+            self.pairs[place] = (key, value);
+            return;
+        }
+        self.pairs.push((key, value));
     }
 
-    /// These pairs from now on, each copied to its place.
-    pub fn set(&mut self, pairs: &Pairs)
-        ensures { self.new ≡ pairs.now }
+    /// Keeps the pairs before the place.
+    pub fn truncate(&mut self, place: usize)
+        ensures { self.new ≡ take place self.old }
     {
-        self.clear();
-        for (key, value) in pairs.as_slice() {
-            self.pairs.push((key.copied(), value.copied()));
-        }
+        self.pairs.truncate(place);
     }
 
     /// The same pairs again, without memory.
@@ -74,7 +78,9 @@ impl Pairs {
         ensures { result ≡ self.now }
     {
         let mut pairs = Pairs::new();
-        pairs.set(self);
+        for (key, value) in self.as_slice() {
+            pairs.push(key.copied(), value.copied());
+        }
         pairs
     }
 }

@@ -10,6 +10,7 @@ use crate::handle::TreeHandle;
 use crate::left::{LeftPairs, leave_left, put_left, take_left};
 use crate::refusal::Refusal;
 use crate::shared::Shared;
+use crate::slot::are_home;
 use std::alloc::Global;
 
 /// Closes the tree, and hands its pairs over, in the order of their keys, if there is room for them; else they wait for the next such call.
@@ -54,12 +55,21 @@ impl Shared {
         if let Some(left) = take_left(&self.left)? {
             return Ok(left);
         }
-        match self.end(alloc) {
+        match self.end_at_home(alloc) {
             Ok(left) => Ok(left),
             Err(refusal) => {
                 leave_left(&self.left);
                 Err(refusal)
             }
         }
+    }
+
+    /// Ends the tree. All slots are looked at first, so that a closed tree, or one in use, asks for no room for pairs.
+    fn end_at_home(&self, alloc: Global) -> Result<LeftPairs, Refusal>
+        ensures ok { IfOk result (λ left. ArePairsLeft self.now.slots.items left.pairs.items) }
+        ensures refused { IfErr result IsHindrance }
+    {
+        are_home(self.slots.as_slice())?;
+        self.end(alloc)
     }
 }

@@ -143,6 +143,22 @@ pub(crate) fn close(slot: &Slot) {
     }
 }
 
+/// Looks whether all seats are in their slots; refused as a call that takes them would be.
+pub(crate) fn are_home(slots: &[Slot]) -> Result<(), Refusal>
+    ensures refused { IfErr result IsPassing }
+{
+    for slot in slots {
+        let word = slot.load();
+        if word == CLOSED {
+            return Err(Refusal::Closed);
+        }
+        if word != HOME {
+            return Err(Refusal::Busy);
+        }
+    }
+    Ok(())
+}
+
 /// Whether no slot has a seat any more.
 pub(crate) fn are_closed(slots: &[Slot]) -> bool {
     slots.iter().all(|slot| slot.load() == CLOSED)

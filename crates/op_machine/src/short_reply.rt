@@ -1,13 +1,15 @@
-//! What an operation is to answer: a cursor page's pairs have a place of their own, so that no other reply moves their room.
+//! What an operation is to answer: a cursor page's leaf has a place of its own, so that no other reply moves its room.
 ghost use Rattle.std.specs.Prelude.{◌≡◌, ℕ, List, [], option_copied};
 ghost use Rattle.bw_model.specs.Replies.{reply_of};
 ghost use Rattle.bw_model.specs.declared.command.Reply.TheVariants as replied;
 ghost use Rattle.bw_model.specs.Pairs.{ArePairsOf};
+ghost use Rattle.base_page.specs.Shown.{pairs_from};
 ghost use Rattle.traces.specs.chain.Chains.{high_in};
 ghost use Rattle.traces.specs.discipline.Discipline.{found};
 ghost use Rattle.row_chain.specs.Placed.{IsReadChain};
 ghost use Rattle.op_machine.specs.machine.ShortReplies.{reply_with};
 
+use base_page::Page;
 use bw_model::{Command, Key, Pairs, Reply, Value};
 use row_chain::Chain;
 use row_search::Rows;
@@ -145,13 +147,13 @@ impl ShortReply {
     }
 }
 
-/// The place of the reply with which an operation leaves: a cursor page, or any other.
+/// The place of the reply with which an operation leaves: a cursor page, which is the pairs of a leaf's page from a key on, or any other.
 #[derive(Drop)]
 pub(crate) struct ReplyPlace {
     is_page: bool,
     short: ShortReply,
-    pairs: Pairs,
-    next: Option<Key>,
+    from: Key,
+    leaf: Page,
 }
 
 impl Model for ReplyPlace {
@@ -160,7 +162,7 @@ impl Model for ReplyPlace {
 
     ghost Value = { Reply };
 
-    ghost view = { λ p. reply_in p.is_page p.short p.pairs p.next };
+    ghost view = { λ p. reply_in p.is_page p.short p.from p.leaf };
 }
 
 impl ReplyPlace {
@@ -171,8 +173,8 @@ impl ReplyPlace {
         ReplyPlace {
             is_page: false,
             short: ShortReply::bare(Which::None),
-            pairs: Pairs::new(),
-            next: None,
+            from: Key::default(),
+            leaf: Page::empty_leaf(),
         }
     }
 
@@ -197,8 +199,8 @@ impl ReplyPlace {
         ensures page { (pairs : List (List ℕ × List ℕ)) × ArePairsOf (found leaf.now.records) from.now (high_in leaf.now.records) pairs × (self.new ≡ replied.Page pairs (high_in leaf.now.records)) }
     {
         self.is_page = true;
-        leaf.show_pairs(rows, pass, from, &mut self.pairs);
-        self.next = leaf.high(rows, pass);
+        self.from = from.copied();
+        leaf.page_in(rows, pass, &mut self.leaf);
     }
 
     /// Tells the reply that is there in another place.
@@ -206,32 +208,34 @@ impl ReplyPlace {
         ensures { reply.new ≡ self.now }
     {
         if self.is_page {
-            tell_page(&self.pairs, &self.next, reply);
+            tell_page(&self.leaf, &self.from, reply);
             return;
         }
         self.short.tell(reply);
     }
 }
 
-/// Tells a cursor page: over the one that lies there, where one does.
-fn tell_page(pairs: &Pairs, next: &Option<Key>, reply: &mut Reply)
-    ensures { reply.new ≡ replied.Page pairs.now next.now }
+/// Tells the pairs of a leaf from a key on: over the cursor page that lies there, where one does.
+fn tell_page(leaf: &Page, from: &Key, reply: &mut Reply)
+    ensures { reply.new ≡ replied.Page (pairs_from from.now leaf.now.items) leaf.now.high }
 {
-    if let Reply::Page { items, next: after } = &mut *reply {
-        items.set(pairs);
-        *after = next.as_ref().map(Key::copied);
+    if let Reply::Page { items, next } = &mut *reply {
+        leaf.show_from(from, items);
+        *next = leaf.high().map(Key::copied);
         return;
     }
-    tell_page_anew(pairs, next, reply);
+    tell_page_anew(leaf, from, reply);
 }
 
 /// The same, whatever lies there. Not inlined: no other reply needs room for its pairs.
 #[inline(never)]
-fn tell_page_anew(pairs: &Pairs, next: &Option<Key>, reply: &mut Reply)
-    ensures { reply.new ≡ replied.Page pairs.now next.now }
+fn tell_page_anew(leaf: &Page, from: &Key, reply: &mut Reply)
+    ensures { reply.new ≡ replied.Page (pairs_from from.now leaf.now.items) leaf.now.high }
 {
+    let mut items = Pairs::new();
+    leaf.show_from(from, &mut items);
     *reply = Reply::Page {
-        items: pairs.copied(),
-        next: next.as_ref().map(Key::copied),
+        items,
+        next: leaf.high().map(Key::copied),
     };
 }

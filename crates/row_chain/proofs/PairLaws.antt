@@ -14,6 +14,7 @@ use Rattle.base_page.specs.declared.item.Content.{Content}
 use Rattle.base_page.specs.declared.item.Content.TheVariants.{Value, Child}
 use Rattle.base_page.specs.declared.item.Item.{Item}
 use Rattle.base_page.specs.Pages.{Page, IsAscending, IsPage, content_at}
+use Rattle.base_page.specs.Shown.{Pair, pairs_from, shown}
 use Rattle.base_page.proofs.ItemLaws.{Ascends, Ascends-from, lacks_above}
 use Rattle.base_page.proofs.KeyLaws.{and_both, and_left, and_right, itself, either, same}
 use Rattle.base_page.proofs.PageLaws.{belongs}
@@ -21,19 +22,6 @@ use Rattle.deltas.specs.declared.record.Record.{Record}
 use Rattle.traces.specs.chain.Chains.{high_in}
 use Rattle.traces.specs.discipline.Discipline.{found, value_of}
 use Rattle.traces.specs.chain.Fitted.{Makes}
-
-abbrev pub Pair : Type 0
-Pair = List ℕ × List ℕ
-
--- A value's pair before the others, unless its key is below.
-abbrev pub shown : Bool → List ℕ → Content → List Pair → List Pair
-shown below key (Value value) pairs = if below then pairs else ((key, value) ∷ pairs)
-shown below key (Child page held) pairs = pairs
-
--- the pairs of the items from the key on, in order
-abbrev pub among : List ℕ → List Item → List Pair
-among from [] = []
-among from (item ∷ items) = shown (is_below item.key from) item.key item.content (among from items)
 
 -- the keys ascend
 
@@ -43,9 +31,9 @@ all_shown P true key (Value value) pairs p h = h
 all_shown P false key (Value value) pairs p h = (p, h)
 all_shown P below key (Child page held) pairs p h = h
 
-all_among : (P : List ℕ → Type 0) (from : List ℕ) (items : List Item) → AllByRecursion (λ item. P item.key) items → AllByRecursion P (map (λ (pair : Pair). pair.0) (among from items))
+all_among : (P : List ℕ → Type 0) (from : List ℕ) (items : List Item) → AllByRecursion (λ item. P item.key) items → AllByRecursion P (map (λ (pair : Pair). pair.0) (pairs_from from items))
 all_among P from [] h = tt
-all_among P from (item ∷ items) h = all_shown P (is_below item.key from) item.key item.content (among from items) h.0 (all_among P from items h.1)
+all_among P from (item ∷ items) h = all_shown P (is_below item.key from) item.key item.content (pairs_from from items) h.0 (all_among P from items h.1)
 
 shown_ascends : (below : Bool) (key : List ℕ) (content : Content) (pairs : List Pair) → AllByRecursion (λ other. key_cmp key other ≡ Less) (map (λ (pair : Pair). pair.0) pairs)
     → IsStrictlySortedBy key_cmp (map (λ (pair : Pair). pair.0) pairs) → IsStrictlySortedBy key_cmp (map (λ (pair : Pair). pair.0) (shown below key content pairs))
@@ -54,11 +42,11 @@ shown_ascends true key (Value value) pairs above h = h
 shown_ascends false key (Value value) pairs above h = (above, h)
 shown_ascends below key (Child page held) pairs above h = h
 
-among_ascends : (from : List ℕ) (items : List Item) → Ascends items → IsStrictlySortedBy key_cmp (map (λ (pair : Pair). pair.0) (among from items))
+among_ascends : (from : List ℕ) (items : List Item) → Ascends items → IsStrictlySortedBy key_cmp (map (λ (pair : Pair). pair.0) (pairs_from from items))
 unfolding IsStrictlySortedBy
 among_ascends from [] h = tt
 among_ascends from (item ∷ items) h =
-    shown_ascends (is_below item.key from) item.key item.content (among from items) (all_among (λ other. key_cmp item.key other ≡ Less) from items h.0) (among_ascends from items h.1)
+    shown_ascends (is_below item.key from) item.key item.content (pairs_from from items) (all_among (λ other. key_cmp item.key other ≡ Less) from items h.0) (among_ascends from items h.1)
 
 -- what they have at a key
 
@@ -82,14 +70,14 @@ neither : (b : Bool) → ◌≡◌ {A = Option (List ℕ)} (if b then None else 
 neither true = refl
 neither false = refl
 
-among_has : (from : List ℕ) (items : List Item) → Ascends items → (q : List ℕ) → value_among q (among from items) ≡ (if not (is_below q from) then value_of (content_at items q) else None)
+among_has : (from : List ℕ) (items : List Item) → Ascends items → (q : List ℕ) → value_among q (pairs_from from items) ≡ (if not (is_below q from) then value_of (content_at items q) else None)
 among_has from [] h q = sym (neither (not (is_below q from)))
 among_has from (item ∷ items) h q = either (is_eq (key_cmp q item.key))
     (λ equal.
     let is : q ≡ item.key = same q item.key equal in
-    let past : value_among item.key (among from items) ≡ None = among_has from items h.1 item.key ∙ rw (lacks_above items item.key h.0) (neither (not (is_below item.key from))) in
-    rw (is, itself item.key) (shown_here (is_below item.key from) item.key item.content (among from items) past))
-    (λ other. rw other (shown_other (is_below item.key from) item.key item.content (among from items) q other ∙ among_has from items h.1 q))
+    let past : value_among item.key (pairs_from from items) ≡ None = among_has from items h.1 item.key ∙ rw (lacks_above items item.key h.0) (neither (not (is_below item.key from))) in
+    rw (is, itself item.key) (shown_here (is_below item.key from) item.key item.content (pairs_from from items) past))
+    (λ other. rw other (shown_other (is_below item.key from) item.key item.content (pairs_from from items) q other ∙ among_has from items h.1 q))
 
 there : (within : Bool) (value_at : Option (List ℕ)) (value : List ℕ) → (if within then value_at else None) ≡ Some value → IsTrue within × (value_at ≡ Some value)
 there true value_at value h = (refl, h)
@@ -99,7 +87,7 @@ inside : (within : Bool) (value_at : Option (List ℕ)) (value : List ℕ) → I
 inside true value_at value t h = h
 inside false value_at value t h = cc
 
-pub are_pairs : (from : List ℕ) (items : List Item) → IsAscending items → ArePairsOf (λ key. value_of (content_at items key)) from None (among from items)
+pub are_pairs : (from : List ℕ) (items : List Item) → IsAscending items → ArePairsOf (λ key. value_of (content_at items key)) from None (pairs_from from items)
 are_pairs from items ascending =
     let order = Ascends-from items ascending in
     let sorted = among_ascends from items order in
@@ -108,10 +96,10 @@ are_pairs from items ascending =
       exact = λ key value.
           let has = among_has from items order key in (
             (λ contains.
-                let is : value_among key (among from items) ≡ Some value = lookup-from_Contains (eq_by_cmp_equiv nat_list_cmp_total) key value
-                (among from items) (IsDistinct-from_sorted key_cmp (keys_of (among from items)) sorted) contains in
+                let is : value_among key (pairs_from from items) ≡ Some value = lookup-from_Contains (eq_by_cmp_equiv nat_list_cmp_total) key value
+                (pairs_from from items) (IsDistinct-from_sorted key_cmp (keys_of (pairs_from from items)) sorted) contains in
                 let h = there (not (is_below key from)) (value_of (content_at items key)) value (sym has ∙ is) in (and_both (not (is_below key from)) true h.0 refl, h.1)),
-            (λ h. Contains-from_lookup same key value (among from items)
+            (λ h. Contains-from_lookup same key value (pairs_from from items)
                 (has ∙ inside (not (is_below key from)) (value_of (content_at items key)) value (and_left (not (is_below key from)) true h.0) h.1)),
           );
     }

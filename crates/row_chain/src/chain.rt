@@ -9,7 +9,6 @@ ghost use Rattle.row_chain.specs.Placed.{IsReadChain, contents};
 
 mod count;
 mod pages;
-mod pairs;
 mod rows;
 mod search;
 mod walk;

@@ -1,5 +1,7 @@
 -- The reply with which an operation leaves, by its place.
-use Rattle.std.specs.Prelude.{Bool, ℕ, List, Option, false, true}
+use Rattle.std.specs.Prelude.{Bool, ℕ, List, false, true}
+use Rattle.base_page.specs.Pages.{Page}
+use Rattle.base_page.specs.Shown.{pairs_from}
 use Rattle.bw_model.specs.declared.command.Reply.{Reply}
 use Rattle.bw_model.specs.declared.command.Reply.TheVariants as reply
 use Rattle.op_machine.specs.declared.short_reply.Which.{Which}
@@ -20,7 +22,7 @@ reply_with which.Differs value = reply.Differs value
 reply_with which.Tidied value = reply.Tidied
 reply_with which.Full value = reply.Full
 
--- a cursor page, or the other reply
-abbrev pub reply_in : Bool → Reply → List (List ℕ × List ℕ) → Option (List ℕ) → Reply
-reply_in true short pairs next = reply.Page pairs next
-reply_in false short pairs next = short
+-- the cursor page of a leaf from the key on, or the other reply
+abbrev pub reply_in : Bool → Reply → List ℕ → Page → Reply
+reply_in true short from leaf = reply.Page (pairs_from from leaf.items) leaf.high
+reply_in false short from leaf = short

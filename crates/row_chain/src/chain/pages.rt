@@ -31,7 +31,7 @@ impl<R: Rows, A: Allocator> Chain<R, A> {
     }
 
     /// Makes the page the one that the chain makes, where it lies: the base, and then each delta, from the oldest on, over what is under it.
-    pub(super) fn page_in(&self, rows: &R, pass: &mut R::Pass, page: &mut Page)
+    pub fn page_in(&self, rows: &R, pass: &mut R::Pass, page: &mut Page)
         requires read { IsReadChain (R.has rows.now pass.old) self.now }
         ensures same { pass.new ≡ pass.old }
         ensures makes { Makes self.now.records page.new }
