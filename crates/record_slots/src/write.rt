@@ -1,5 +1,5 @@
 //! Records written as rows of words.
-ghost use Rattle.std.specs.Prelude.{◌≡◌, ◌≤◌, ◌+◌, ◌++◌, ◌*◌, ◌∷◌, [], IfSome, Some, drop, length, option_copied, replicate, slice_index};
+ghost use Rattle.std.specs.Prelude.{◌≡◌, ◌≤◌, ◌+◌, ◌-◌, ◌++◌, ◌*◌, ◌∷◌, [], IfSome, Some, drop, length, option_copied, replicate, slice_index};
 ghost use Rattle.std.specs.List.{All};
 ghost use Rattle.bw_model.specs.Bytes.{IsShort, longest};
 ghost use Rattle.deltas.specs.Spellable.{IsSpellable};
@@ -8,6 +8,7 @@ ghost use Rattle.record_slots.specs.Layout.{field_size, item_size, row_size, tex
 ghost use Rattle.record_slots.specs.Parts.{header_word};
 ghost use Rattle.record_slots.specs.Spelling.{bound_words, field_words, item_words, items_words, packed, row_words, text_words, words_of};
 ghost use Rattle.record_slots.specs.Spells.{HasShortTexts, IsShortItem, IsSpelling};
+ghost use Rattle.record_slots.specs.declared.layout.TheConstants.{ROW_WORDS};
 
 use crate::layout::{
     FORM, FORM_UNIT, HELD, ITEM_UNIT, LEVEL_UNIT, NO_BOUND, ROW_WORDS, TEXT_WORDS,
@@ -109,9 +110,17 @@ fn row_words(
     push_field(&mut words, key_bytes(first));
     push_bound(&mut words, second);
     push_items(&mut words, items);
-    let left = ROW_WORDS - words.len();
-    push_zeros(&mut words, left);
-    words.into_inner().unwrap()
+    filled(words.as_slice())
+}
+
+/// A row of these words, with zeros behind them.
+fn filled(words: &[u64]) -> [u64; ROW_WORDS]
+    requires { length words.now ≤ ROW_WORDS }
+    ensures { result ≡ words.now ++ replicate (ROW_WORDS - length words.now) 0 }
+{
+    let mut row = [0; ROW_WORDS];
+    row[..words.len()].copy_from_slice(words);
+    row
 }
 
 /// A row's first word.
@@ -220,7 +229,33 @@ fn push_text(words: &mut ArrayVec<u64, ROW_WORDS>, bytes: &[u8])
 }
 
 /// The eight bytes from a place on as one word, with zeros behind the last byte.
+#[inline]
 pub fn word_at(bytes: &[u8], from: usize) -> u64
+    requires { from ≤ longest }
+    ensures { result ≡ packed 8 (drop from bytes.now) }
+{
+    if from >= bytes.len() {
+        return 0;
+    }
+    if from + 8 <= bytes.len() {
+        return whole_word(&bytes[from..]);
+    }
+    last_word(bytes, from)
+}
+
+/// The first eight bytes as one word.
+#[inline]
+fn whole_word(bytes: &[u8]) -> u64
+    requires { 8 ≤ length bytes.now }
+    ensures { result ≡ packed 8 bytes.now }
+{
+    u64::from_be_bytes([
+        bytes[0], bytes[1], bytes[2], bytes[3], bytes[4], bytes[5], bytes[6], bytes[7],
+    ])
+}
+
+/// The bytes from a place on as one word, with zeros behind the last byte.
+fn last_word(bytes: &[u8], from: usize) -> u64
     requires { from ≤ longest }
     ensures { result ≡ packed 8 (drop from bytes.now) }
 {

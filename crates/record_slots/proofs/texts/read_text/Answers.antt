@@ -1,6 +1,6 @@
-use Rattle.std.proofs.Common.{◌≡◌, ◌*◌, true, length, take, sym, ap, subst, ◌∙◌, arith}
+use Rattle.std.proofs.Common.{◌≡◌, true, take, sym, subst, ◌∙◌, arith}
 use Rattle.record_slots.specs.Texts.{IsText, ends_there}
-use Rattle.record_slots.proofs.TextLaws.{is_text, no_text, many_bytes}
+use Rattle.record_slots.proofs.TextLaws.{is_text, no_text}
 use Rattle.record_slots.proofs.texts.read_text.Goals as goal
 
 pub returns-then-count-clause-text : goal.returns-then-count-clause-text

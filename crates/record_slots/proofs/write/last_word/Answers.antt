@@ -1,7 +1,7 @@
 use Rattle.std.proofs.Common.{◌≡◌, ◌<◌, ◌≤◌, ◌+◌, ◌-◌, ◌*◌, ◌^◌, ℕ, suc, List, get_or, drop, subst, ◌∙◌, arith}
 use Rattle.record_slots.specs.Spelling.{packed}
 use Rattle.record_slots.proofs.WordLaws.{packed_more, word_room, byte_more}
-use Rattle.record_slots.proofs.write.word_at.Goals as goal
+use Rattle.record_slots.proofs.write.last_word.Goals as goal
 
 pub overflow_mul-word : goal.overflow_mul-word
 overflow_mul-word c = let room = word_room c.loop-place.word (c.loop-place.place - c.args.from) (omega (arith, c.loop-place-test.true)) c.loop-place.invariant.fits in omega arith

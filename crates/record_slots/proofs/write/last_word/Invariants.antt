@@ -1,6 +1,6 @@
 use Rattle.std.proofs.Common.{◌≡◌, ◌<◌, ◌+◌, ◌-◌, ◌*◌, ◌^◌, drop}
 use Rattle.record_slots.specs.Spelling.{packed}
-use Rattle.record_slots.proofs.write.word_at.Given as goal
+use Rattle.record_slots.proofs.write.last_word.Given as goal
 
 abbrev pub invariant-loop-place : goal.invariant-loop-place
 invariant-loop-place l = record {
