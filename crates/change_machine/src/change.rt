@@ -76,27 +76,38 @@ impl Model for Change {
 }
 
 impl Change {
-    /// The change that links what is planned. It takes a number only where no spare one of the kind is left: a PID first, then rows.
-    pub fn new(limits: &Limits, spares: &Spares, plan: Plan) -> Change
-        requires target { IsTarget limits.now plan }
-        requires spells { IsSpellablePlan plan }
-        requires room { HaveRoom limits.now spares.now }
-        ensures shows { (actor : ℕ) (k : Knowledge) → MayChange actor k plan → KeepsSpare plan spares.now.pid → Rest k.own spares.now → Shows actor result spares.now k }
-        ensures sound { IsSoundChange result spares.now }
-        ensures made { IsMade result spares.now }
-        ensures limits { result.limits ≡ limits.now }
-        ensures plan { result.plan ≡ plan }
-        ensures recalls { (r : Recalled) → WasHead r (slot_of plan) (head_of plan) → IsApart plan spares.now.pid → Recalls result spares.now r }
-        ensures few { (after : ℕ) → steps_left after result spares.now ≤ few_steps limits.now }
-    {
-        let state = first_state(limits, &plan, spares);
-        let made = made_for(&plan, state, spares);
+    /// The place of a change, in which none has begun.
+    pub fn new(limits: &Limits) -> Change {
+        let plan = Plan::Install {
+            pid: 1,
+            head: 1,
+            content: Record::Remove(Remove { level: 0, next: 1 }),
+        };
         Change {
             limits: *limits,
             plan,
-            state,
-            made,
+            state: State::Link,
+            made: Record::Remove(Remove { level: 0, next: 0 }),
         }
+    }
+
+    /// Becomes the change that links what is planned. It takes a number only where no spare one of the kind is left: a PID first, then rows.
+    pub fn begin(&mut self, limits: &Limits, spares: &Spares, plan: Plan)
+        requires target { IsTarget limits.now plan }
+        requires spells { IsSpellablePlan plan }
+        requires room { HaveRoom limits.now spares.now }
+        ensures shows { (actor : ℕ) (k : Knowledge) → MayChange actor k plan → KeepsSpare plan spares.now.pid → Rest k.own spares.now → Shows actor self.new spares.now k }
+        ensures sound { IsSoundChange self.new spares.now }
+        ensures made { IsMade self.new spares.now }
+        ensures limits { self.new.limits ≡ limits.now }
+        ensures plan { self.new.plan ≡ plan }
+        ensures recalls { (r : Recalled) → WasHead r (slot_of plan) (head_of plan) → IsApart plan spares.now.pid → Recalls self.new spares.now r }
+        ensures few { (after : ℕ) → steps_left after self.new spares.now ≤ few_steps limits.now }
+    {
+        self.limits = *limits;
+        self.state = first_state(limits, &plan, spares);
+        self.plan = plan;
+        self.make(spares);
     }
 
     /// The step that the change wants next, with the record that is to be placed lent from where it lies.

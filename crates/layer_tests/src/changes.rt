@@ -148,7 +148,8 @@ fn drive(limits: &Limits, spares: &mut Spares, plan: Plan, world: World) -> (Log
 {
     let mut world = world;
     let mut log = ArrayString::new();
-    let mut change = Change::new(limits, spares, plan);
+    let mut change = Change::new(limits);
+    change.begin(limits, spares, plan);
     let mut end = None;
     for _ in 0..16 {
         let step = change.wanted(spares);

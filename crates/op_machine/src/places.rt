@@ -41,7 +41,7 @@ use crate::task::Task;
 use crate::then::Then;
 use bw_model::{Key, Limits, Reply, Step, Told};
 use change_machine::{Change, End, Kind, Spares};
-use deltas::{Record, Remove};
+use deltas::Record;
 use rounds::{Asked, ReadEndKind, ReadRound, WriteEndKind, WriteRound};
 use row_search::{RowAt, Rows};
 use std::alloc::{AllocError, Allocator, Global};
@@ -106,7 +106,7 @@ impl<R: Rows, A: Allocator + Copy> Places<R, A> {
             stand: StateKind::Begun,
             reader: ReadRound::<R, A>::new(alloc, limits)?,
             writer: WriteRound::<R, A>::new(alloc, limits)?,
-            change: no_change(limits),
+            change: Change::new(limits),
             then: Then::After(After::Round),
             reply: ReplyPlace::new(),
             lacks: None,
@@ -276,7 +276,7 @@ impl<R: Rows, A: Allocator> Places<R, A> {
         ensures reader { self.new.reader ≡ self.old.reader }
         ensures writer { self.new.writer ≡ self.old.writer }
     {
-        self.change = Change::new(task.limits(), spares, plan);
+        self.change.begin(task.limits(), spares, plan);
         self.then = then;
         self.stand = StateKind::Change;
     }
@@ -404,16 +404,6 @@ fn reading<'a>(asked: Asked) -> Step<&'a Record>
         Asked::Slot(pid) => Step::Slot(pid),
         Asked::Row(row) => Step::Row(row),
     }
-}
-
-/// What lies in the place of a change before there was one.
-fn no_change(limits: &Limits) -> Change {
-    let plan = Plan::Install {
-        pid: 1,
-        head: 1,
-        content: Record::Remove(Remove { level: 0, next: 1 }),
-    };
-    Change::new(limits, &Spares::new(), plan)
 }
 
 /// The leaf in the hand of a reader's round, or the removed one beside it.

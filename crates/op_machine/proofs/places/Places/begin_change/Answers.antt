@@ -6,7 +6,7 @@ use Rattle.op_machine.proofs.places.Places.begin_change.Goals as goal
 
 pub returns-clause-stands : goal.returns-clause-stands
 returns-clause-stands g c k r b =
-    let begun = c.new-self-inside.ensures in
+    let begun = c.begin.ensures in
     record {
       asked = b.seeks.asked;
       writer = b.writer;
@@ -21,8 +21,8 @@ returns-clause-stands g c k r b =
       recalls = begun.recalls r b.recalled (begins_apart k c.args.plan c.args.spares.now b.seeks.unread b.split);
     }
 
-pub new-self-inside-requires : goal.new-self-inside-requires
-new-self-inside-requires g c = record { target = rw c.limits.ensures c.requires.target; spells = c.requires.spells; room = rw c.limits.ensures c.requires.room }
+pub begin-requires : goal.begin-requires
+begin-requires g c = record { target = rw c.limits.ensures c.requires.target; spells = c.requires.spells; room = rw c.limits.ensures c.requires.room }
 
 pub returns-clause-few : goal.returns-clause-few
-returns-clause-few g c r = one_more _ _ (rw c.limits.ensures at (c.new-self-inside.ensures.few (one_round c.args.task.now.limits)))
+returns-clause-few g c r = one_more _ _ (rw c.limits.ensures at (c.begin.ensures.few (one_round c.args.task.now.limits)))

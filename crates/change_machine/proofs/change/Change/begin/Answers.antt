@@ -1,0 +1,77 @@
+use Rattle.std.proofs.Common.{◌≡◌, ◌≤◌, ℕ, Bool, true, false, is_some, length, ltb, ◌∙◌, sym, subst}
+use Rattle.std.specs.Prelude.{◌&&◌, if◌then◌else◌, not}
+use Rattle.tree_limits.specs.declared.limits.Limits.{Limits}
+use Rattle.change_machine.specs.Bounded.{Recalls, RecallsAt, few_steps, steps_left}
+use Rattle.change_machine.specs.Changes.{Change, IsSoundChange, Shows}
+use Rattle.change_machine.specs.Moves.{after_taking, first_state}
+use Rattle.change_machine.specs.Spares.{Spares}
+use Rattle.change_machine.specs.Taking.{begun_at}
+use Rattle.change_machine.specs.declared.change.State.{State}
+use Rattle.change_machine.specs.declared.change.State.TheVariants as state
+use Rattle.change_machine.specs.declared.taking.Kind.TheVariants.{Pid, Row}
+use Rattle.structure_changes.specs.Plans.{head_of, needs_pid, rows_needed, slot_of}
+use Rattle.structure_changes.specs.declared.plan.Plan.{Plan}
+use Rattle.structure_changes.specs.declared.plan.Plan.TheVariants.{Install, Split, Root, Unlink}
+use Rattle.traces.specs.discipline.Recalled.{Recalled, WasHead}
+use Rattle.change_machine.proofs.Making.{bare, bare_at}
+use Rattle.change_machine.proofs.Sound.{first_sound}
+use Rattle.change_machine.proofs.Spending.{few_first}
+use Rattle.change_machine.proofs.Taken.{shows_first}
+use Rattle.change_machine.proofs.change.Change.begin.Goals as goal
+
+-- by its limits, its plan and its state
+is_bare : (change : Change) (limits : Limits) (plan : Plan) (state : State) → change.limits ≡ limits → change.plan ≡ plan → change.state ≡ state → bare_at limits plan state ≡ bare change
+is_bare change limits plan state l p s = λ i. bare_at (sym l i) (sym p i) (sym s i)
+
+pub returns-clause-shows : goal.returns-clause-shows
+returns-clause-shows c actor k may keeps rest =
+    let limits = c.args.limits.now in
+    let plan = c.args.plan in
+    let spares = c.args.spares.now in
+    let is = is_bare c.make.new.self limits plan (first_state limits plan spares) c.make.ensures.same.limits c.make.ensures.same.plan (c.make.ensures.state ∙ c.first_state-self-inside.ensures) in
+    shows_bare_of actor c.make.new.self spares k (subst (λ change. Shows actor change spares k) is (shows_first actor limits k plan spares may keeps rest.are rest.unset))
+  where
+    shows_bare_of : (actor : ℕ) (change : Change) (spares : _) (k : _) → Shows actor (bare change) spares k → Shows actor change spares k
+    shows_bare_of actor change spares k h = record { may = h.may; keeps = h.keeps; are = h.are; stands = h.stands }
+
+pub returns-clause-sound : goal.returns-clause-sound
+returns-clause-sound c =
+    let limits = c.args.limits.now in
+    let plan = c.args.plan in
+    let spares = c.args.spares.now in
+    let is = is_bare c.make.new.self limits plan (first_state limits plan spares) c.make.ensures.same.limits c.make.ensures.same.plan (c.make.ensures.state ∙ c.first_state-self-inside.ensures) in
+    let begun : IsSoundChange (bare_at limits plan (first_state limits plan spares)) spares = record { room = c.requires.room; state = first_sound limits plan spares c.requires.target } in
+    let sound = subst (λ change. IsSoundChange change spares) is begun in
+    record { room = sound.room; state = sound.state }
+
+recalls_first : (limits : Limits) (r : Recalled) (plan : Plan) (spares : Spares) → WasHead r (slot_of plan) (head_of plan) → RecallsAt r plan (first_state limits plan spares)
+recalls_first limits r plan spares head = at_first (needs_pid plan && not (is_some spares.pid)) (ltb (length spares.rows) (rows_needed plan))
+  where
+    at_place : (other : Plan) → RecallsAt r plan (after_taking other)
+    at_place (Install pid row content) = head
+    at_place (Split pid split) = head
+    at_place (Root left root) = head
+    at_place (Unlink pid row unterm removal) = head
+
+    at_first : (pid row : Bool)
+        → RecallsAt r plan (if pid then state.Taking (begun_at limits Pid (head_of plan)) else if row then state.Taking (begun_at limits Row (head_of plan)) else after_taking plan)
+    at_first true row = head
+    at_first false true = head
+    at_first false false = at_place plan
+
+pub returns-clause-recalls : goal.returns-clause-recalls
+returns-clause-recalls c r head apart =
+    let plan = c.args.plan in
+    let spares = c.args.spares.now in
+    let is = is_bare c.make.new.self c.args.limits.now plan (first_state c.args.limits.now plan spares) c.make.ensures.same.limits c.make.ensures.same.plan
+    (c.make.ensures.state ∙ c.first_state-self-inside.ensures) in
+    let recalls = subst (λ change. Recalls change spares r) is (record { at = recalls_first c.args.limits.now r plan spares head; apart = apart }) in
+    record { at = recalls.at; apart = recalls.apart }
+
+pub returns-clause-few : goal.returns-clause-few
+returns-clause-few c after =
+    let limits = c.args.limits.now in
+    let plan = c.args.plan in
+    let spares = c.args.spares.now in
+    let is = is_bare c.make.new.self limits plan (first_state limits plan spares) c.make.ensures.same.limits c.make.ensures.same.plan (c.make.ensures.state ∙ c.first_state-self-inside.ensures) in
+    subst (λ (change : Change). steps_left after change spares ≤ few_steps limits) is (few_first limits after plan spares)
