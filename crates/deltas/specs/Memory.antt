@@ -1,5 +1,5 @@
 -- The memory that actors share.
-use Rattle.std.specs.Prelude.{ℕ, ◌==◌, nat_lt, nat_le, Bool, ◌&&◌, if◌then◌else◌, Option, None, Some}
+use Rattle.std.specs.Prelude.{ℕ, zero, suc, ◌+◌, ◌==◌, nat_lt, nat_le, Bool, ◌&&◌, if◌then◌else◌, Option, None, Some}
 use Rattle.tree_limits.specs.declared.limits.Limits.{Limits}
 use Rattle.base_page.specs.Pages.{empty_leaf}
 use Rattle.deltas.specs.declared.record.Record.{Record}
@@ -29,3 +29,8 @@ opening limits = record {
   epoch = limits.epoch;
   announced = λ actor. 0;
 }
+
+-- how many of the numbers below n are free
+abbrev pub how_many : (ℕ → Bool) → ℕ → ℕ
+how_many free zero = 0
+how_many free (suc n) = how_many free n + (if free n then 1 else 0)

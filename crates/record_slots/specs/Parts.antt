@@ -12,7 +12,7 @@ use Rattle.deltas.specs.declared.record.Record.{Record}
 use Rattle.deltas.specs.declared.record.Record.TheVariants.{Base, Put, Delete, Split, Term, Hold, Remove, Merge, Unterm}
 use Rattle.record_slots.specs.declared.row.Header.{Header}
 use Rattle.record_slots.specs.declared.row.Row.{Row}
-use Rattle.record_slots.specs.Layout.{count_unit, field_size, first_at, form_unit, item_size, items_at, level_unit, second_at, text_size, this_form}
+use Rattle.record_slots.specs.Layout.{count_unit, field_size, first_at, form_unit, item_size, items_at, level_unit, part_limit, second_at, text_size, this_form}
 use Rattle.record_slots.specs.Spelling.{field_words, bound_words, content_words, item_words, items_words, words_left}
 use Rattle.record_slots.specs.Spells.{HasShortTexts, IsShortContent, IsShortItem}
 
@@ -59,14 +59,14 @@ header_word kind level count = kind + level_unit * level + count_unit * count + 
 
 -- what stands in the first word
 pub record IsHeaderIn (word : ℕ) (header : Header) : Type 0 where
-  pub kind : header.kind < 256
+  pub kind : header.kind < part_limit
   pub level : header.level ≤ 15
   pub few : header.count ≤ 24
   pub are : header_word header.kind header.level header.count ≡ word
 
 -- The numbers are in their ranges, and the texts are short.
 pub record IsRowOfParts (row : Row) : Type 0 where
-  pub kind : row.kind < 256
+  pub kind : row.kind < part_limit
   pub level : row.level ≤ 15
   pub few : row.count ≤ 24
   pub next : row.next < 67108864

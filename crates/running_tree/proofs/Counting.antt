@@ -7,7 +7,7 @@ use Rattle.std.proofs.lemmas.Nat.Bits.{bit_at-suc, bit_at_lowest}
 use Rattle.std.proofs.Math.Nat.{pow-suc}
 use lib.Count.{ones_step}
 use Rattle.std.proofs.lemmas.Bool.{le-ltb, lt-ltb, ltb-true}
-use Rattle.deltas.specs.Memory.{Memory}
+use Rattle.deltas.specs.Memory.{Memory, how_many}
 use Rattle.tree_limits.specs.declared.limits.Limits.{Limits}
 use Rattle.traces.specs.declared.trace.Entry.{Entry}
 use Rattle.traces.specs.discipline.Disciplined.{Extends}
@@ -18,7 +18,7 @@ use Rattle.traces.proofs.OwnEntries.{extends_on, extends_self}
 use Rattle.bw_model.specs.declared.step.Answer.{Answer}
 use Rattle.bw_model.specs.declared.step.Answer.TheVariants.{Number}
 use Rattle.deltas.specs.declared.record.Record.{Record}
-use Rattle.running_tree.specs.Room.{HasCounted, HasSeenRoom, HasWatched, bits_step, free_among, how_many, is_free}
+use Rattle.running_tree.specs.Room.{HasCounted, HasSeenRoom, HasWatched, bits_step, free_among, is_free}
 use Rattle.change_machine.specs.Taking.{count_of}
 use Rattle.change_machine.specs.declared.taking.Kind.{Kind}
 use Rattle.change_machine.specs.declared.taking.Kind.TheVariants.{Pid, Row}

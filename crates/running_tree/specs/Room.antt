@@ -1,9 +1,9 @@
 -- How many numbers are free in a running tree, as the run that a seat has seen tells of them.
-use Rattle.std.specs.Prelude.{◌≡◌, ℕ, zero, suc, ◌+◌, ◌*◌, ◌/◌, Bool, if◌then◌else◌, List}
+use Rattle.std.specs.Prelude.{◌≡◌, ℕ, ◌+◌, ◌*◌, ◌/◌, Bool, List}
 use Rattle.bw_model.specs.declared.step.Step.{Step as StepOf}
 use Rattle.bw_model.specs.declared.step.Step.TheVariants.{PidBits, RowBits}
 use Rattle.deltas.specs.declared.record.Record.{Record}
-use Rattle.deltas.specs.Memory.{Memory}
+use Rattle.deltas.specs.Memory.{Memory, how_many}
 use Rattle.traces.specs.declared.trace.Entry.{Entry}
 use Rattle.traces.specs.discipline.Disciplined.{Extends}
 use Rattle.traces.specs.trace.Trace.{memory_of}
@@ -22,11 +22,6 @@ is_free Row memory = memory.free_rows
 abbrev pub bits_step : Kind → ℕ → StepOf Record
 bits_step Pid word = PidBits word
 bits_step Row word = RowBits word
-
--- how many of the numbers below n are free
-abbrev pub how_many : (ℕ → Bool) → ℕ → ℕ
-how_many free zero = 0
-how_many free (suc n) = how_many free n + (if free n then 1 else 0)
 
 -- Of the 64 numbers of a word, so many are free in the memory after the run that the seat has seen now. That run goes on from what it had seen
 -- by steps of others alone.

@@ -1,6 +1,5 @@
 pub mod Adding
 pub mod Colours
-pub mod Counts
 pub mod Document
 pub mod Elements
 pub mod Layout

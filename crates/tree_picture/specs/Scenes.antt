@@ -1,9 +1,8 @@
 -- What stands in a tree.
 use Rattle.std.specs.Prelude.{◌≡◌, ℕ, List}
 use Rattle.tree_limits.specs.declared.limits.Limits.{Limits}
-use Rattle.deltas.specs.Memory.{Memory}
+use Rattle.deltas.specs.Memory.{Memory, how_many}
 use Rattle.traces.specs.chain.SideChain.{LivePage}
-use Rattle.tree_picture.specs.Counts.{how_many}
 use Rattle.tree_picture.specs.Levels.{AreLevels}
 
 -- the PID in slot 0; the pages of each level from left to right, from the root's level down to the leaves; how many PIDs and rows

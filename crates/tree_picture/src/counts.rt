@@ -1,7 +1,7 @@
 //! How many PIDs and rows of a memory are free.
 ghost use Rattle.std.specs.Prelude.{◌≡◌};
 ghost use Rattle.core_memory.specs.Tables.{memory_in};
-ghost use Rattle.tree_picture.specs.Counts.{how_many};
+ghost use Rattle.deltas.specs.Memory.{how_many};
 
 use core_memory::CoreTable;
 use std::alloc::Allocator;

@@ -1,6 +1,6 @@
 use Rattle.std.proofs.Common.{◌≡◌, ◌≤◌}
 use Rattle.core_memory.specs.Tables.{memory_in}
-use Rattle.tree_picture.specs.Counts.{how_many}
+use Rattle.deltas.specs.Memory.{how_many}
 use Rattle.tree_picture.proofs.counts.free_rows.Given as goal
 
 abbrev pub invariant-loop-row : goal.invariant-loop-row

@@ -10,4 +10,4 @@ returns-clause-page g c =
     let from = c.args.from.now in
     let is = c.page_in.ensures.ruled.is_page in
     let pairs = pairs_from from leaf.items in
-    (pairs, (pairs_in c.args.leaf.now.records leaf from pairs c.page_in.ensures.makes is (are_pairs from leaf.items is.ordered.ascending), ap (replied.Page pairs) c.page_in.ensures.makes.high))
+    (pairs, pairs_in c.args.leaf.now.records leaf from pairs c.page_in.ensures.makes is (are_pairs from leaf.items is.ordered.ascending), ap (replied.Page pairs) c.page_in.ensures.makes.high)
