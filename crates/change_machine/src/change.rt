@@ -23,6 +23,7 @@ use crate::taking::{Found, Kind, Taking, went};
 use bw_model::{Limits, Step, Told};
 use deltas::{Record, Remove};
 use std::marker::Model;
+use std::mem;
 use structure_changes::Plan;
 
 /// How a change ended.
@@ -91,22 +92,23 @@ impl Change {
         }
     }
 
-    /// Becomes the change that links what is planned. It takes a number only where no spare one of the kind is left: a PID first, then rows.
-    pub fn begin(&mut self, limits: &Limits, spares: &Spares, plan: Plan)
-        requires target { IsTarget limits.now plan }
-        requires spells { IsSpellablePlan plan }
+    /// Becomes the change that links what is planned, and leaves another plan in the place of that one, which is not copied. It takes a
+    /// number only where no spare one of the kind is left: a PID first, then rows.
+    pub fn begin(&mut self, limits: &Limits, spares: &Spares, plan: &mut Plan)
+        requires target { IsTarget limits.now plan.old }
+        requires spells { IsSpellablePlan plan.old }
         requires room { HaveRoom limits.now spares.now }
-        ensures shows { (actor : ℕ) (k : Knowledge) → MayChange actor k plan → KeepsSpare plan spares.now.pid → Rest k.own spares.now → Shows actor self.new spares.now k }
+        ensures shows { (actor : ℕ) (k : Knowledge) → MayChange actor k plan.old → KeepsSpare plan.old spares.now.pid → Rest k.own spares.now → Shows actor self.new spares.now k }
         ensures sound { IsSoundChange self.new spares.now }
         ensures made { IsMade self.new spares.now }
         ensures limits { self.new.limits ≡ limits.now }
-        ensures plan { self.new.plan ≡ plan }
-        ensures recalls { (r : Recalled) → WasHead r (slot_of plan) (head_of plan) → IsApart plan spares.now.pid → Recalls self.new spares.now r }
+        ensures plan { self.new.plan ≡ plan.old }
+        ensures recalls { (r : Recalled) → WasHead r (slot_of plan.old) (head_of plan.old) → IsApart plan.old spares.now.pid → Recalls self.new spares.now r }
         ensures few { (after : ℕ) → steps_left after self.new spares.now ≤ few_steps limits.now }
     {
         self.limits = *limits;
-        self.state = first_state(limits, &plan, spares);
-        self.plan = plan;
+        self.state = first_state(limits, plan, spares);
+        mem::swap(&mut self.plan, plan);
         self.make(spares);
     }
 

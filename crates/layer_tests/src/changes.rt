@@ -140,7 +140,7 @@ fn show(log: &mut Log, step: &Step<&Record>) {
 }
 
 /// The steps of a change, and how it ended.
-fn drive(limits: &Limits, spares: &mut Spares, plan: Plan, world: World) -> (Log, Option<End>)
+fn drive(limits: &Limits, spares: &mut Spares, mut plan: Plan, world: World) -> (Log, Option<End>)
     requires target { IsTarget limits.now plan }
     requires spells { IsSpellablePlan plan }
     requires room { HaveRoom limits.now spares.old }
@@ -149,7 +149,7 @@ fn drive(limits: &Limits, spares: &mut Spares, plan: Plan, world: World) -> (Log
     let mut world = world;
     let mut log = ArrayString::new();
     let mut change = Change::new(limits);
-    change.begin(limits, spares, plan);
+    change.begin(limits, spares, &mut plan);
     let mut end = None;
     for _ in 0..16 {
         let step = change.wanted(spares);

@@ -256,21 +256,23 @@ impl<R: Rows, A: Allocator> Places<R, A> {
         self.stand = StateKind::Leave;
     }
 
-    /// The change that is due where the writer's round has ended with one, and what comes once it has won.
-    pub(crate) fn take_due(&mut self) -> (Plan, After)
-        ensures due { result ≡ (self.old.writer.plan, self.old.writer.after) }
+    /// Gives the change that is due, where the writer's round has ended with one, for the plan in another place, and tells what comes
+    /// once it has won.
+    pub(crate) fn take_due(&mut self, plan: &mut Plan) -> After
+        ensures plan { plan.new ≡ self.old.writer.plan }
+        ensures after { result ≡ self.old.writer.after }
         ensures only { self.new ≡ record self.old { writer = record self.old.writer { plan = self.new.writer.plan; after = self.new.writer.after } } }
     {
-        self.writer.take_due()
+        self.writer.take_due(plan)
     }
 
-    /// A change begins.
+    /// A change begins, and leaves another plan in the place of its own.
     #[inline(never)]
-    pub(crate) fn begin_change(&mut self, task: &Task, spares: &Spares, plan: Plan, then: Then)
-        requires target { IsTarget task.now.limits plan }
-        requires spells { IsSpellablePlan plan }
+    pub(crate) fn begin_change(&mut self, task: &Task, spares: &Spares, plan: &mut Plan, then: Then)
+        requires target { IsTarget task.now.limits plan.old }
+        requires spells { IsSpellablePlan plan.old }
         requires room { HaveRoom task.now.limits spares.now }
-        ensures stands { (k : Knowledge) (r : Recalled) → MayBegin task.now spares.now k r plan then → ShowsState task.now spares.now k r (state_of self.new) }
+        ensures stands { (k : Knowledge) (r : Recalled) → MayBegin task.now spares.now k r plan.old then → ShowsState task.now spares.now k r (state_of self.new) }
         ensures few { (r : Recalled) → left_at task.now.limits r spares.now (state_of self.new) ≤ few_changes task.now.limits + 1 }
         ensures asks { IsSome (wanted_at spares.now (state_of self.new)) }
         ensures reader { self.new.reader ≡ self.old.reader }

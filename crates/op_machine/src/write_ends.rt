@@ -108,7 +108,12 @@ impl Task {
     {
         plans_may_be_linked();
         match self.upkeep_at(places.writer(), rows, pass) {
-            Some(plan) => places.begin_change(self, spares, plan, Then::After(After::Round)),
+            Some(mut plan) => places.begin_change(
+                self,
+                spares,
+                &mut plan,
+                Then::After(After::Round),
+            ),
             None => self.execute_at_leaf(spares, places, rows, pass),
         }
     }
@@ -165,12 +170,12 @@ impl Task {
         if !self.command().changes(old.as_ref()) {
             return places.leave(reply);
         }
-        let plan = Plan::Install {
+        let mut plan = Plan::Install {
             pid: leaf.pid(),
             head: leaf.head(),
             content: self.update_over(leaf.head()),
         };
-        places.begin_change(self, spares, plan, Then::Reply(reply))
+        places.begin_change(self, spares, &mut plan, Then::Reply(reply))
     }
 
     /// A change begins that is due where the round ended.
@@ -185,8 +190,9 @@ impl Task {
         ensures have { HaveLimits self.now.limits places.new }
     {
         plans_may_be_linked();
-        let (plan, after) = places.take_due();
-        places.begin_change(self, spares, plan, Then::After(after))
+        let mut plan = Plan::default();
+        let after = places.take_due(&mut plan);
+        places.begin_change(self, spares, &mut plan, Then::After(after))
     }
 
     /// An update that won has its reply; any other change is followed by a new round, and one for which nothing was free by none.

@@ -21,7 +21,6 @@ ghost use Rattle.structure_changes.specs.Reads.{IsReadPage};
 
 mod due;
 
-use self::due::no_plan;
 use crate::course::{Course, WriteGoalKind};
 use crate::way::{child_on_way, right_on_way};
 use crate::{Asked, Descent, SightKind, WriteEndKind};
@@ -79,7 +78,7 @@ impl<R: Rows, A: Allocator + Copy> WriteRound<R, A> {
             floor: 0,
             course: Course::<R, A>::new(alloc)?,
             descent: Descent::<R, A>::new(alloc, limits)?,
-            plan: no_plan(),
+            plan: Plan::default(),
             after: After::Round,
         })
     }

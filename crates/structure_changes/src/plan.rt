@@ -37,6 +37,17 @@ pub enum Plan {
     },
 }
 
+impl Default for Plan {
+    /// What lies where no plan was made yet.
+    fn default() -> Self {
+        Plan::Install {
+            pid: 1,
+            head: 1,
+            content: Record::default(),
+        }
+    }
+}
+
 impl Plan {
     /// A record over the newest row of a page that was read.
     pub fn over<R: Rows, A: Allocator>(page: &PageInHand<R, A>, content: Record) -> Plan

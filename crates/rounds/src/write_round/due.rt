@@ -28,14 +28,15 @@ use structure_changes::{
 };
 
 impl<R: Rows, A: Allocator> WriteRound<R, A> {
-    /// The change that is due where the round has ended with one, and what comes once it has won.
-    pub fn take_due(&mut self) -> (Plan, After)
-        ensures due { result ≡ (self.old.plan, self.old.after) }
+    /// Gives the change that is due, where the round has ended with one, for the plan in another place, and tells what comes once it
+    /// has won. The two change places, and none is copied.
+    pub fn take_due(&mut self, plan: &mut Plan) -> After
+        ensures plan { plan.new ≡ self.old.plan }
+        ensures after { result ≡ self.old.after }
         ensures only { self.new ≡ record self.old { plan = self.new.plan; after = self.new.after } }
     {
-        let plan = mem::replace(&mut self.plan, no_plan());
-        let after = mem::replace(&mut self.after, After::Round);
-        (plan, after)
+        mem::swap(&mut self.plan, plan);
+        mem::replace(&mut self.after, After::Round)
     }
 
     /// The round ends with this change, which is due, and with what comes once it has won.
@@ -245,14 +246,5 @@ fn holds_term<R: Rows, A: Allocator>(
     match chain.content(rows, pass, key) {
         Some(Content::Child { page, held }) => page == pid && held,
         _ => false,
-    }
-}
-
-/// What stands in the place of a change before one was due.
-pub(super) fn no_plan() -> Plan {
-    Plan::Install {
-        pid: 1,
-        head: 1,
-        content: Record::default(),
     }
 }

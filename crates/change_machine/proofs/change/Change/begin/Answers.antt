@@ -26,9 +26,9 @@ is_bare change limits plan state l p s = λ i. bare_at (sym l i) (sym p i) (sym 
 pub returns-clause-shows : goal.returns-clause-shows
 returns-clause-shows c actor k may keeps rest =
     let limits = c.args.limits.now in
-    let plan = c.args.plan in
+    let plan = c.args.plan.now in
     let spares = c.args.spares.now in
-    let is = is_bare c.make.new.self limits plan (first_state limits plan spares) c.make.ensures.same.limits c.make.ensures.same.plan (c.make.ensures.state ∙ c.first_state-self-inside.ensures) in
+    let is = is_bare c.make.new.self limits plan (first_state limits plan spares) c.make.ensures.same.limits (c.make.ensures.same.plan ∙ c.swap.ensures.x_after) (c.make.ensures.state ∙ c.first_state-self-inside.ensures) in
     shows_bare_of actor c.make.new.self spares k (subst (λ change. Shows actor change spares k) is (shows_first actor limits k plan spares may keeps rest.are rest.unset))
   where
     shows_bare_of : (actor : ℕ) (change : Change) (spares : _) (k : _) → Shows actor (bare change) spares k → Shows actor change spares k
@@ -37,9 +37,9 @@ returns-clause-shows c actor k may keeps rest =
 pub returns-clause-sound : goal.returns-clause-sound
 returns-clause-sound c =
     let limits = c.args.limits.now in
-    let plan = c.args.plan in
+    let plan = c.args.plan.now in
     let spares = c.args.spares.now in
-    let is = is_bare c.make.new.self limits plan (first_state limits plan spares) c.make.ensures.same.limits c.make.ensures.same.plan (c.make.ensures.state ∙ c.first_state-self-inside.ensures) in
+    let is = is_bare c.make.new.self limits plan (first_state limits plan spares) c.make.ensures.same.limits (c.make.ensures.same.plan ∙ c.swap.ensures.x_after) (c.make.ensures.state ∙ c.first_state-self-inside.ensures) in
     let begun : IsSoundChange (bare_at limits plan (first_state limits plan spares)) spares = record { room = c.requires.room; state = first_sound limits plan spares c.requires.target } in
     let sound = subst (λ change. IsSoundChange change spares) is begun in
     record { room = sound.room; state = sound.state }
@@ -61,9 +61,9 @@ recalls_first limits r plan spares head = at_first (needs_pid plan && not (is_so
 
 pub returns-clause-recalls : goal.returns-clause-recalls
 returns-clause-recalls c r head apart =
-    let plan = c.args.plan in
+    let plan = c.args.plan.now in
     let spares = c.args.spares.now in
-    let is = is_bare c.make.new.self c.args.limits.now plan (first_state c.args.limits.now plan spares) c.make.ensures.same.limits c.make.ensures.same.plan
+    let is = is_bare c.make.new.self c.args.limits.now plan (first_state c.args.limits.now plan spares) c.make.ensures.same.limits (c.make.ensures.same.plan ∙ c.swap.ensures.x_after)
     (c.make.ensures.state ∙ c.first_state-self-inside.ensures) in
     let recalls = subst (λ change. Recalls change spares r) is (record { at = recalls_first c.args.limits.now r plan spares head; apart = apart }) in
     record { at = recalls.at; apart = recalls.apart }
@@ -71,7 +71,7 @@ returns-clause-recalls c r head apart =
 pub returns-clause-few : goal.returns-clause-few
 returns-clause-few c after =
     let limits = c.args.limits.now in
-    let plan = c.args.plan in
+    let plan = c.args.plan.now in
     let spares = c.args.spares.now in
-    let is = is_bare c.make.new.self limits plan (first_state limits plan spares) c.make.ensures.same.limits c.make.ensures.same.plan (c.make.ensures.state ∙ c.first_state-self-inside.ensures) in
+    let is = is_bare c.make.new.self limits plan (first_state limits plan spares) c.make.ensures.same.limits (c.make.ensures.same.plan ∙ c.swap.ensures.x_after) (c.make.ensures.state ∙ c.first_state-self-inside.ensures) in
     subst (λ (change : Change). steps_left after change spares ≤ few_steps limits) is (few_first limits after plan spares)

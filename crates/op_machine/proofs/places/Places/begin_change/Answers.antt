@@ -18,7 +18,7 @@ returns-clause-stands g c k r b =
       sound = begun.sound;
       made = begun.made;
       shows = begun.shows c.args.task.now.actor k b.may b.keeps b.seeks.spare.rest;
-      recalls = begun.recalls r b.recalled (begins_apart k c.args.plan c.args.spares.now b.seeks.unread b.split);
+      recalls = begun.recalls r b.recalled (begins_apart k c.args.plan.now c.args.spares.now b.seeks.unread b.split);
     }
 
 pub begin-requires : goal.begin-requires

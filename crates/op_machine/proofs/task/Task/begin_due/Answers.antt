@@ -25,10 +25,10 @@ begin_change-requires g c =
     let (k, r, h) = c.requires.faced in
     let writer = c.args.places.now.writer in
     let there = rw h.round_of.limits at (dues_there h.round k r h.ends.change writer.plan writer.after h.ends.planned h.ends.due) in
-    rw c.take_due-plan.ensures.due (record { target = there.0; spells = there.1; room = h.seeks.spare.room })
+    rw c.take_due-after.ensures.plan (record { target = there.0; spells = there.1; room = h.seeks.spare.room })
 
 pub returns-clause-stands : goal.returns-clause-stands
-returns-clause-stands g c k r h = c.begin_change.ensures.stands k r (rw c.take_due-plan.ensures.due (by_change h.ends.change h.ends.planned h.ends.due))
+returns-clause-stands g c k r h = c.begin_change.ensures.stands k r (rw (c.take_due-after.ensures.plan, c.take_due-after.ensures.after) (by_change h.ends.change h.ends.planned h.ends.due))
   where
     begins : (plan : Plan) (after : After) → MayLinkAs c.args.self.now.actor k plan → KeepsSpare plan c.args.spares.now.pid
         → Brings k c.args.self.now.command plan (then.After after) → IsUsefulPlan k plan → IsReadPlan k plan → WasHead r (slot_of plan) (head_of plan)
@@ -79,7 +79,7 @@ returns-clause-asks g c = c.begin_change.ensures.asks
 
 pub returns-clause-have : goal.returns-clause-have
 returns-clause-have g c = record {
-  reader = rw (c.begin_change.ensures.reader, c.take_due-plan.ensures.only) c.requires.have.reader;
+  reader = rw (c.begin_change.ensures.reader, c.take_due-after.ensures.only) c.requires.have.reader;
   writer = rw
-      (c.begin_change.ensures.writer, c.take_due-plan.ensures.only) c.requires.have.writer;
+      (c.begin_change.ensures.writer, c.take_due-after.ensures.only) c.requires.have.writer;
 }
