@@ -167,7 +167,8 @@ static inline uint32_t bwtree_close(const bwtree *tree) {
 
 /* Closes a tree on which nothing is under way, frees it, and hands all its pairs over, keys ascending, `count` of them: bwtree_open_from takes them. OK.
  * NO_ROOM: there is room for fewer than `count`, and none is written. The tree is closed to all other calls, and its pairs wait: for this call with more
- * room, or for bwtree_close. UNFINISHED, CLOSED, BUSY; NO_MEMORY, for a list of 24 pairs a page: nothing is done, and the tree stays open. */
+ * room, or for bwtree_close. UNFINISHED, CLOSED, BUSY; NO_MEMORY, for a list of 24 pairs a page, for which no closed tree asks: nothing is done, and the
+ * tree stays open. */
 static inline uint32_t bwtree_close_pairs(const bwtree *tree, bwtree_pair *pairs, size_t room, uint64_t *count) {
     bwtree_pair none;
     if (!tree || !count || (!pairs && room)) return BWTREE_NULL;

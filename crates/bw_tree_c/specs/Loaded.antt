@@ -9,7 +9,7 @@ use Rattle.running_tree.specs.declared.filling.TheConstants.{LOAD_BUDGET}
 use Rattle.running_tree.specs.Loaded.{AreLoaded, IsStopped, KeysAscend}
 use Rattle.running_tree.specs.Seats.{Seat}
 use Rattle.running_tree.specs.Trees.{Tree}
-use Rattle.bw_tree_c.specs.Shown.{ShowsLimits, shown}
+use Rattle.bw_tree_c.specs.Shown.{ShowsLimits, bytes_in}
 use Rattle.bw_tree_c.specs.declared.answers.TheConstants.{BAD_LIMITS, BAD_ORDER, FULL, NO_MEMORY, OK, OPEN, SPENT, TOO_LONG}
 use Rattle.bw_tree_c.specs.declared.bytes.Pair.{Pair}
 use Rattle.bw_tree_c.specs.declared.bytes.TreeLimits.{TreeLimits}
@@ -17,7 +17,7 @@ use Rattle.bw_tree_c.specs.declared.shared.Shared.{Shared}
 
 -- the pair that is given
 abbrev pub given_pair : Pair → List ℕ × List ℕ
-given_pair given = (shown given.key, shown given.value)
+given_pair given = (bytes_in given.key, bytes_in given.value)
 
 -- The key and the value have at most 64 bytes.
 abbrev pub IsShortPair : Pair → Type 0

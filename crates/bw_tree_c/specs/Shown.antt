@@ -10,8 +10,8 @@ use Rattle.bw_tree_c.specs.declared.bytes.Pair.{Pair}
 use Rattle.bw_tree_c.specs.declared.bytes.TreeLimits.{TreeLimits}
 
 -- the bytes that C may read
-abbrev pub shown : Bytes → List ℕ
-shown b = take b.length b.bytes
+abbrev pub bytes_in : Bytes → List ℕ
+bytes_in b = take b.length b.bytes
 
 -- The limits are shown.
 pub record ShowsLimits (limits : Limits) (shows : TreeLimits) : Type 0 where
@@ -33,7 +33,7 @@ ShowsRoom room shows = (shows.free_pids ≡ room.free_pids) × (shows.free_rows 
 
 -- The pair is shown.
 abbrev pub ShowsPair : List ℕ × List ℕ → Pair → Type 0
-ShowsPair pair at = (shown at.key ≡ pair.0) × (shown at.value ≡ pair.1)
+ShowsPair pair at = (bytes_in at.key ≡ pair.0) × (bytes_in at.value ≡ pair.1)
 
 -- The first pairs are shown, each at its place.
 abbrev pub ShowFirst : ℕ → List (List ℕ × List ℕ) → List Pair → Type 0
@@ -46,7 +46,7 @@ ShowsAllPairs pairs page = (page.count ≡ length pairs) × ShowFirst (length pa
 -- The key from which the next page goes on is shown, or that there is none.
 abbrev pub ShowsNext : Option (List ℕ) → Page → Type 0
 ShowsNext None page = page.more ≡ 0
-ShowsNext (Some key) page = (page.more ≡ 1) × (shown page.next ≡ key)
+ShowsNext (Some key) page = (page.more ≡ 1) × (bytes_in page.next ≡ key)
 
 abbrev pub ShowsWholePage : List (List ℕ × List ℕ) → Option (List ℕ) → Page → Type 0
 ShowsWholePage pairs next page = ShowsAllPairs pairs page × ShowsNext next page

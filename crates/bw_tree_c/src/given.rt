@@ -2,7 +2,7 @@
 ghost use Rattle.std.specs.Prelude.{◌≡◌, ◌<◌, ◌≤◌, ◌⊎◌, IfErr, IfOk, MatchOption, map};
 ghost use Rattle.bw_model.specs.declared.short_bytes.TheConstants.{MAX_LENGTH};
 ghost use Rattle.bw_tree_c.specs.Loaded.{AreShort, IsShortPair, given_pair};
-ghost use Rattle.bw_tree_c.specs.Shown.{shown};
+ghost use Rattle.bw_tree_c.specs.Shown.{bytes_in};
 
 use crate::answers::{NO_MEMORY, TOO_LONG};
 use crate::bytes::{Bytes, Pair};
@@ -12,7 +12,7 @@ use std::alloc::Global;
 impl Bytes {
     /// The bytes that count; none where they are more than there is room for.
     fn given(&self) -> Option<&[u8]>
-        ensures { MatchOption result (MAX_LENGTH < self.now.length) (λ bytes. (self.now.length ≤ MAX_LENGTH) × (bytes.now ≡ shown self.now)) }
+        ensures { MatchOption result (MAX_LENGTH < self.now.length) (λ bytes. (self.now.length ≤ MAX_LENGTH) × (bytes.now ≡ bytes_in self.now)) }
     {
         if self.length > 64 {
             return None;

@@ -6,7 +6,7 @@ use Rattle.bw_model.specs.declared.step.Answer.TheVariants as answer
 use Rattle.deltas.specs.declared.record.Record.{Record}
 use Rattle.traces.specs.discipline.Fitting.{Fits}
 use Rattle.traces.specs.discipline.Knowledge.{Knowledge, learn}
-use Rattle.change_machine.specs.Changes.{Change, Follows, HasNewState, IsSoundChange, IsTarget, Shows, linked_number, wanted, wanted_at}
+use Rattle.change_machine.specs.Changes.{Change, Follows, IsSameChange, IsSoundChange, IsTarget, Shows, linked_number, wanted, wanted_at}
 use Rattle.structure_changes.specs.Plans.{head_of, needs_pid, slot_of}
 use Rattle.change_machine.specs.Moves.{Moved, decided_by, moved, whether_in}
 use Rattle.change_machine.specs.Spares.{Spares}
@@ -54,7 +54,7 @@ module _ (actor : ℕ) (limits : Limits) (k : Knowledge) (plan : Plan) (spares :
 
 -- the same of a change that has gone on so
 module _ (old new : Change) (had has : Spares) (told : Answer Record) (end : Option End)
-    (is : moved old.limits old.plan had old.state told ≡ record { state = new.state; spares = has; end = end }) (same : HasNewState old new) where
+    (is : moved old.limits old.plan had old.state told ≡ record { state = new.state; spares = has; end = end }) (same : IsSameChange old new) where
   pub only_state : bare new ≡ bare (record old { state = new.state })
   only_state = λ i. bare_at (same.limits i) (same.plan i) new.state
 

@@ -13,7 +13,7 @@ use Rattle.bw_model.specs.declared.step.Answer.{Answer}
 use Rattle.deltas.specs.declared.record.Record.{Record}
 use Rattle.traces.specs.discipline.Fitting.{Fits, FitsWord}
 use Rattle.traces.specs.discipline.Knowledge.{Knowledge}
-use Rattle.change_machine.specs.Changes.{AreEnough, Change, IsNeededNext, HasNewState, IsSoundChange, IsSoundState, IsTarget, wanted, wanted_at}
+use Rattle.change_machine.specs.Changes.{AreEnough, Change, IsNeededNext, IsSameChange, IsSoundChange, IsSoundState, IsTarget, wanted, wanted_at}
 use Rattle.structure_changes.specs.Plans.{clears, head_of, needs_pid, rows_needed}
 use Rattle.change_machine.specs.Moves.{Moved, after_ready, after_taking, decided_by, first_state, moved, moved_by, unused, whether_in, with_number}
 use Rattle.change_machine.specs.Spares.{HaveRoom, Spares}
@@ -195,7 +195,7 @@ module _ (limits : Limits) (plan : Plan) where
   stays_at spares state.Clear told k fits room sound target = (room, tt)
 
 module _ (old new : Change) (had has : Spares) (told : Answer Record) (end : Option End)
-    (is : moved old.limits old.plan had old.state told ≡ record { state = new.state; spares = has; end = end }) (same : HasNewState old new) (k : Knowledge)
+    (is : moved old.limits old.plan had old.state told ≡ record { state = new.state; spares = has; end = end }) (same : IsSameChange old new) (k : Knowledge)
     (fits : Fits old.limits k (wanted old had) told) (sound : IsSoundChange old had) (target : IsTarget old.limits old.plan) where
   stays : HaveRoom old.limits has × IfNone end (IsSoundState old.limits old.plan has new.state)
   stays = subst (λ (now : Moved). StaysSound old.limits old.plan now) is (stays_at old.limits old.plan had old.state told k fits sound.room sound.state target)

@@ -13,7 +13,7 @@ use Rattle.traces.specs.discipline.Fitting.{Fits, FitsWord}
 use Rattle.traces.specs.discipline.Knowledge.{Knowledge}
 use Rattle.traces.specs.discipline.Recalled.{Recalled, WasFree, WasHead, recall}
 use Rattle.change_machine.specs.Bounded.{IsApart, RecallsAt, Spends, SpendsTo, few_steps, steps_left_at, numbers_missing, pid_taken, pids_missing}
-use Rattle.change_machine.specs.Changes.{AreEnough, Change, IsNeededNext, HasNewState, IsSoundChange, linked_number, wanted, wanted_at}
+use Rattle.change_machine.specs.Changes.{AreEnough, Change, IsNeededNext, IsSameChange, IsSoundChange, linked_number, wanted, wanted_at}
 use Rattle.structure_changes.specs.Plans.{clears, head_of, needs_pid, rows_needed, slot_of}
 use Rattle.change_machine.specs.Moves.{Moved, after_ready, after_taking, decided_by, first_state, moved, moved_by, unused, whether_in, with_number}
 use Rattle.change_machine.specs.Spares.{HaveRoom, Spares, pid_of}
@@ -298,7 +298,7 @@ module _ (limits : Limits) (plan : Plan) (spares : Spares) (after : ℕ) (r : Re
   spends_at state.Clear told k fits sound h far = inr (sound.state, omega arith)
 
 module _ (old new : Change) (had has : Spares) (told : Answer Record) (end : Option End)
-    (is : moved old.limits old.plan had old.state told ≡ record { state = new.state; spares = has; end = end }) (same : HasNewState old new) where
+    (is : moved old.limits old.plan had old.state told ≡ record { state = new.state; spares = has; end = end }) (same : IsSameChange old new) where
   pub spends : (k : Knowledge) → Fits old.limits k (wanted old had) told → IsSoundChange old had → Spends old had told new has end
   spends k fits sound = λ after r h far.
       let at_state = spends_at old.limits old.plan had after r h.apart old.state told k fits (sound_bare old had sound) h.at far in

@@ -258,6 +258,6 @@ Follows actor k now old told new has None = ChangesOn actor k now new has
 Follows actor k now old told new has (Some end) = ChangeIsOver k now old told has end
 
 -- Only the state has changed.
-pub record HasNewState (old new : Change) : Type 0 where
+pub record IsSameChange (old new : Change) : Type 0 where
   pub limits : new.limits ≡ old.limits
   pub plan : new.plan ≡ old.plan

@@ -9,7 +9,7 @@ ghost use Rattle.traces.specs.discipline.Fitting.{Fits};
 ghost use Rattle.traces.specs.discipline.Knowledge.{Knowledge, learn};
 ghost use Rattle.traces.specs.discipline.Recalled.{Recalled, WasHead};
 ghost use Rattle.change_machine.specs.Bounded.{IsApart, IsPidFrom, Recalls, Spends, few_steps, pid_taken, steps_left};
-ghost use Rattle.change_machine.specs.Changes.{Follows, IsMade, IsMadeAt, IsOfChange, HasNewState, IsSoundChange, IsSpellablePlan, IsTarget, FitsChange};
+ghost use Rattle.change_machine.specs.Changes.{Follows, IsMade, IsMadeAt, IsOfChange, IsSameChange, IsSoundChange, IsSpellablePlan, IsTarget, FitsChange};
 ghost use Rattle.change_machine.specs.Changes.{KeepsSpare, MayChange, Shows, at, base_row, linked_number, placed_in, wanted};
 ghost use Rattle.structure_changes.specs.Plans.{head_of, slot_of};
 ghost use Rattle.change_machine.specs.Moves.{after_ready, decided_by, first_state, moved, moved_by};
@@ -160,7 +160,7 @@ impl Change {
         ensures sound { IfNone result (IsSoundChange self.new spares.new) }
         ensures made { IsMade self.new spares.new }
         ensures room { HaveRoom self.old.limits spares.new }
-        ensures same { HasNewState self.old self.new }
+        ensures same { IsSameChange self.old self.new }
         ensures pid { IsPidFrom spares.old.pid (pid_taken (wanted self.old spares.old) (answer_of told)) spares.new.pid }
         ensures spends { Spends self.old spares.old (answer_of told) self.new spares.new result }
         ensures lowest { (kind : Kind) (word bits : ℕ) (whole : Bool) → self.old.state ≡ State.Taking (Taking.Bits kind word whole) → told ≡ Told.Number bits
@@ -177,7 +177,7 @@ impl Change {
         requires sound { IsSoundChange self.old spares.old }
         requires told { FitsChange self.old spares.old (answer_of told) }
         ensures moved { moved self.old.limits self.old.plan spares.old self.old.state (answer_of told) ≡ record { state = self.new.state; spares = spares.new; end = result } }
-        ensures same { HasNewState self.old self.new }
+        ensures same { IsSameChange self.old self.new }
         ensures made { IsMade self.new spares.new }
     {
         let end = self.follow(spares, told);
@@ -188,7 +188,7 @@ impl Change {
     /// Makes the record that is to be placed next, where the plan hasn't it as such.
     fn make(&mut self, spares: &Spares)
         ensures made { IsMade self.new spares.now }
-        ensures same { HasNewState self.old self.new }
+        ensures same { IsSameChange self.old self.new }
         ensures state { self.new.state ≡ self.old.state }
     {
         if let Plan::Install { .. } = &self.plan {
@@ -203,7 +203,7 @@ impl Change {
     #[inline(never)]
     fn make_now(&mut self, spares: &Spares)
         ensures made { IsMade self.new spares.now }
-        ensures same { HasNewState self.old self.new }
+        ensures same { IsSameChange self.old self.new }
         ensures state { self.new.state ≡ self.old.state }
     {
         self.made = made_for(&self.plan, self.state, spares);
@@ -214,7 +214,7 @@ impl Change {
         requires sound { IsSoundChange self.old spares.old }
         requires told { FitsChange self.old spares.old (answer_of told) }
         ensures moved { moved self.old.limits self.old.plan spares.old self.old.state (answer_of told) ≡ record { state = self.new.state; spares = spares.new; end = result } }
-        ensures same { HasNewState self.old self.new }
+        ensures same { IsSameChange self.old self.new }
     {
         match self.state {
             State::Taking(taking) => self.go_on_taking(spares, taking, told),
@@ -236,7 +236,7 @@ impl Change {
         requires sound { IsSoundChange self.old spares.old }
         requires told { FitsChange self.old spares.old (answer_of told) }
         ensures moved { moved_by self.old.limits self.old.plan spares.old self.old.state (found_after self.old.limits taking (answer_of told)) ≡ record { state = self.new.state; spares = spares.new; end = result } }
-        ensures same { HasNewState self.old self.new }
+        ensures same { IsSameChange self.old self.new }
     {
         match taking.next(&self.limits, told) {
             Found::Not(taking) => self.go(State::Taking(taking)),
@@ -263,7 +263,7 @@ impl Change {
     fn decide(&mut self, spares: &mut Spares, won: bool) -> Option<End>
         requires state { self.old.state ≡ State.Link }
         ensures decided { decided_by self.old.plan spares.old won ≡ record { state = self.new.state; spares = spares.new; end = result } }
-        ensures same { HasNewState self.old self.new }
+        ensures same { IsSameChange self.old self.new }
     {
         if won {
             spares.release(&self.plan);

@@ -150,7 +150,7 @@ module _ (task : Task) (had has : Spares) (k : Knowledge) (r : Recalled) (old ne
   unread : now.read ≡ k.read → IsUnreadPid has now
   unread same = rw same (unread_from k.read.heads had.pid (bound.pid_taken (change.wanted old had) told) has.pid h.unread (taken_unread task.limits k (change.wanted old had) told fits) pid)
 
-  pub change_on : change.HasNewState old new → change.IsSoundChange new has → change.IsMade new has → change.ChangesOn task.actor k now new has
+  pub change_on : change.IsSameChange old new → change.IsSoundChange new has → change.IsMade new has → change.ChangesOn task.actor k now new has
       → bound.Recalls new has then_recalled → IsInChange task has now then_recalled new then
   change_on same sound made goes recalls = record {
     asked = record { going = goes.like.command ∙ h.asked.going; unlinked = goes.like.linked_now ∙ h.asked.unlinked };

@@ -14,7 +14,7 @@ use Rattle.round_model.specs.Descents.{Descent, Finds, Page, Responds as Moves, 
 use Rattle.round_model.specs.ReadEnds.{ReadEnd}
 use Rattle.round_model.specs.ReadEnds as read_end
 use Rattle.round_model.specs.ReadLegs.{IsPlain, Leg, Round, above_of}
-use Rattle.round_model.specs.ReadRounds.{AsksTheSame, ReadRound, TreatsRead, reading}
+use Rattle.round_model.specs.ReadRounds.{ReadsForTheSame, ReadRound, TreatsRead, reading}
 use Rattle.round_model.specs.Rounds.{Sees}
 use Rattle.round_model.specs.Visits.{Row, Sight, Slot, Empty, Visit, VisitState, Whole}
 use Rattle.round_model.specs.WriteEnds.{DueChange, WriteEnd}
@@ -92,7 +92,7 @@ module _ (old : Descent) (told : Answer Record) (version : Version) (whole : Fin
 kept_and_gone : (b : Bool) → b ≡ true → b ≡ false → ⊥
 kept_and_gone b gone alive = let clash : true ≡ false = sym gone ∙ alive in cc
 
-module _ (task : Task) (old next : ReadRound) (removed : Version) (gone : is_removed removed.chain ≡ true) (same : AsksTheSame old next) (new : State) where
+module _ (task : Task) (old next : ReadRound) (removed : Version) (gone : is_removed removed.chain ≡ true) (same : ReadsForTheSame old next) (new : State) where
   abbrev stays : is_removed removed.chain ≡ false → TurnsLeft task old removed new
   stays alive = absurd (kept_and_gone (is_removed removed.chain) gone alive)
 

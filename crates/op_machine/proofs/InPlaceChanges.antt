@@ -31,7 +31,7 @@ module _ (old new : change.Change) (then : Then) (had has : Spares) (told : Answ
 
   -- it goes on, or has ended
   pub changes_into : (end : Option End) → Follows end → IfNone end (change.IsSoundChange new has) → change.IsMade new has → HaveRoom old.limits has
-      → change.HasNewState old new → bound.IsPidFrom had.pid (bound.pid_taken (change.wanted old had) told) has.pid → bound.Spends old had told new has end
+      → change.IsSameChange old new → bound.IsPidFrom had.pid (bound.pid_taken (change.wanted old had) told) has.pid → bound.Spends old had told new has end
       → TurnsInto (at.Change old then) had told (at.Change new then) has (changed (ended_with then end))
   changes_into None follows sound made room same pid spends = record {
     comes = λ task k r h fits.

@@ -31,7 +31,7 @@ use Rattle.op_machine.proofs.Reading.{reader_reads, seeks_still, writer_reads}
 
 module _ (task : Task) (spares : Spares) (k : Knowledge) (r : Recalled) (round new : read.ReadRound) (told : Answer Record)
     (h : IsInReadRound task spares k r round) (fits : Fits task.limits k (read.wanted round) told) where
-  pub read_on : read.AsksTheSame round new → Follows read.reading k r round told new None → IsInReadRound task spares (learn k (read.wanted round) told) (recall r (read.wanted round) told) new
+  pub read_on : read.ReadsForTheSame round new → Follows read.reading k r round told new None → IsInReadRound task spares (learn k (read.wanted round) told) (recall r (read.wanted round) told) new
   read_on same follows = record {
     seeks = seeks_still task spares k h.seeks task.limits (read.wanted round) told (reader_reads round k r h.shows) fits;
     reader = h.reader;
@@ -76,7 +76,7 @@ module _ (task : Task) (spares : Spares) (k : Knowledge) (r : Recalled) (round n
   read_left (read_end.Beside left removed) some = inl (omega (arith, some))
 
   -- whatever the round makes of the answer
-  pub read_comes : read.AsksTheSame round new → (result : Option ReadEnd) → Follows read.reading k r round told new result
+  pub read_comes : read.ReadsForTheSame round new → (result : Option ReadEnd) → Follows read.reading k r round told new result
       → Comes task k r (Some (read.wanted round)) told (at.Read new) spares (read_out result)
   read_comes same None follows = (read_on same follows, refl)
   read_comes same (Some end) ends = read_ended end ends
@@ -126,7 +126,7 @@ has_sought old new told (write_end.Due plan after) responds = tt
 
 module _ (task : Task) (spares : Spares) (k : Knowledge) (r : Recalled) (round new : write.WriteRound) (told : Answer Record)
     (h : IsInWriteRound task spares k r round) (fits : Fits task.limits k (write.wanted round) told) where
-  pub write_on : Responds response.writing round told new None → write.AsksTheSame round new → Follows response.writing k r round told new None
+  pub write_on : Responds response.writing round told new None → write.WritesForTheSame round new → Follows response.writing k r round told new None
       → IsInWriteRound task spares (learn k (write.wanted round) told) (recall r (write.wanted round) told) new
   write_on responds same follows = record {
     seeks = seeks_still task spares k h.seeks task.limits (write.wanted round) told (writer_reads round k r h.shows) fits;
@@ -180,7 +180,7 @@ module _ (task : Task) (spares : Spares) (k : Knowledge) (r : Recalled) (round n
   write_left (write_end.Leaf parent leaf) some = inl (omega (arith, some))
 
   -- whatever the round makes of the answer
-  pub write_comes : write.AsksTheSame round new → (result : Option WriteEnd) → Responds response.writing round told new result
+  pub write_comes : write.WritesForTheSame round new → (result : Option WriteEnd) → Responds response.writing round told new result
       → Follows response.writing k r round told new result → Comes task k r (Some (write.wanted round)) told (at.Write new) spares (written_out result)
   write_comes same None responds follows = (write_on responds same follows, refl)
   write_comes same (Some end) responds ends = write_end_kind end responds ends

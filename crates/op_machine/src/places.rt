@@ -33,7 +33,7 @@ ghost use Rattle.round_model.specs.WriteRounds as write;
 ghost use Rattle.rounds.specs.Descents.{asked_step};
 ghost use Rattle.rounds.specs.ReadRounds as reads;
 ghost use Rattle.rounds.specs.WriteRounds as writes;
-ghost use Rattle.rounds.specs.WriteRounds.{again_if};
+ghost use Rattle.rounds.specs.WriteRounds.{write_again_if};
 ghost use Rattle.structure_changes.specs.Reads.{IsReadPage, chain_of};
 
 use crate::short_reply::{ReplyPlace, ShortReply, Which};
@@ -323,7 +323,7 @@ impl<R: Rows, A: Allocator> Places<R, A> {
     /// The reader's round takes a number, and tells whether it has ended: a page that was named isn't there.
     pub(crate) fn read_number(&mut self, number: u64) -> bool
         requires told { IsTold (machine read.reading) self.old.reader.round (Number number) }
-        ensures { ReadsOn self.old (Number number) self.new (reads.again_if result) }
+        ensures { ReadsOn self.old (Number number) self.new (reads.read_again_if result) }
     {
         self.reader.told(number)
     }
@@ -346,7 +346,7 @@ impl<R: Rows, A: Allocator> Places<R, A> {
     /// The writer's round takes a number, and tells whether it has ended: a page that was named isn't there.
     pub(crate) fn write_number(&mut self, number: u64) -> bool
         requires told { IsTold (machine response.writing) self.old.writer.round (Number number) }
-        ensures { WritesOn self.old (Number number) self.new (again_if result) }
+        ensures { WritesOn self.old (Number number) self.new (write_again_if result) }
     {
         self.writer.told(number)
     }

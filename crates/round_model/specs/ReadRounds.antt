@@ -38,8 +38,8 @@ abbrev pub at : ReadRound → WayState → ReadRound
 at round state = record round { state = state }
 
 -- the round, gone to a page
-abbrev pub going_to : ℕ → ReadRound → ReadRound
-going_to pid round = at round (Page (page.to_page round.limits pid))
+abbrev pub reading_on_to : ℕ → ReadRound → ReadRound
+reading_on_to pid round = at round (Page (page.to_page round.limits pid))
 
 -- which low keys are on the way to the left of a removed page
 abbrev pub left_of : Version → List ℕ → Bool
@@ -165,7 +165,7 @@ pub record GoesRight (old : ReadRound) (version : Version) (new : ReadRound) : T
   pub alive : is_removed version.chain ≡ false
   pub next : ℕ
   pub leads : LeadsRight (read_way old.goal old.key) version.chain next
-  pub goes : new ≡ going_to next old
+  pub goes : new ≡ reading_on_to next old
 
 -- The page isn't removed, and the round goes down to the child of its greatest term on the way.
 pub record GoesDown (old : ReadRound) (version : Version) (new : ReadRound) : Type 0 where
@@ -175,7 +175,7 @@ pub record GoesDown (old : ReadRound) (version : Version) (new : ReadRound) : Ty
   pub index : 0 < level_in version.chain
   pub next : ℕ
   pub leads : LeadsDown (read_way old.goal old.key) version.chain next
-  pub goes : new ≡ going_to next (on (below version old.leg) old)
+  pub goes : new ≡ reading_on_to next (on (below version old.leg) old)
 
 -- The page isn't removed, and is the leaf where the way to the left of the removed page ends.
 pub record IsLeftLeaf (old : ReadRound) (version removed : Version) : Type 0 where
@@ -192,7 +192,7 @@ pub record GoesBeyond (old : ReadRound) (version : Version) (new : ReadRound) : 
   pub beside : right_in version.chain ≡ Some removed.pid
   pub next : ℕ
   pub leads : LeadsRight (reaches old.key) removed.chain next
-  pub goes : new ≡ going_to next (on (level_on old.leg) (toward Beyond old))
+  pub goes : new ≡ reading_on_to next (on (level_on old.leg) (toward Beyond old))
 
 -- At the leaf to the left of a page that has been merged, the round goes on to the leaf's own right.
 pub record GoesPast (old : ReadRound) (version : Version) (new : ReadRound) : Type 0 where
@@ -201,7 +201,7 @@ pub record GoesPast (old : ReadRound) (version : Version) (new : ReadRound) : Ty
   pub merged : right_in version.chain ≢ Some removed.pid
   pub next : ℕ
   pub leads : LeadsRight (reaches old.key) version.chain next
-  pub goes : new ≡ going_to next (on (level_on old.leg) (toward Beyond old))
+  pub goes : new ≡ reading_on_to next (on (level_on old.leg) (toward Beyond old))
 
 -- the round isn't on its way to the left of a page
 abbrev pub SeeksKey : ReadGoal → Type 0
@@ -248,7 +248,7 @@ pub record GoesRound (old : ReadRound) (version : Version) (new : ReadRound) : T
   pub is_above : above_of old.leg ≡ Some above
   pub next : ℕ
   pub leads : LeadsDown (left_of version) above.chain next
-  pub goes : new ≡ going_to next (on (Round version) old)
+  pub goes : new ≡ reading_on_to next (on (Round version) old)
 
 -- No page above has a term below the page.
 abbrev pub LacksLeft : Version → Leg → Type 0
@@ -276,7 +276,7 @@ pub record GoesNearer (old : ReadRound) (version : Version) (new : ReadRound) : 
   pub left : IsAtLevel old version removed
   pub next : ℕ
   pub leads : LeadsRight (left_of removed) version.chain next
-  pub goes : new ≡ going_to next old
+  pub goes : new ≡ reading_on_to next old
 
 -- The removed page is the page's right: the round goes on from what it read of it, to its right or down.
 pub record GoesThrough (old : ReadRound) (version : Version) (new : ReadRound) : Type 0 where
@@ -286,7 +286,7 @@ pub record GoesThrough (old : ReadRound) (version : Version) (new : ReadRound) :
   pub beside : right_in version.chain ≡ Some removed.pid
   pub next : ℕ
   pub leads : LeadsOn (read_way old.goal old.key) removed.chain next
-  pub goes : new ≡ going_to next (on (Past None) old)
+  pub goes : new ≡ reading_on_to next (on (Past None) old)
 
 -- The removed page has been merged into the page, or beside it.
 pub record IsAtMergedPage (old : ReadRound) (version removed : Version) : Type 0 where
@@ -300,7 +300,7 @@ pub record GoesRightMerged (old : ReadRound) (version : Version) (new : ReadRoun
   pub there : IsAtMergedPage old version removed
   pub next : ℕ
   pub leads : LeadsRight (read_way old.goal old.key) version.chain next
-  pub goes : new ≡ going_to next (on (Past None) old)
+  pub goes : new ≡ reading_on_to next (on (Past None) old)
 
 -- Or it goes down from the page, which is the page above from then on.
 pub record GoesDownMerged (old : ReadRound) (version : Version) (new : ReadRound) : Type 0 where
@@ -310,7 +310,7 @@ pub record GoesDownMerged (old : ReadRound) (version : Version) (new : ReadRound
   pub index : 0 < level_in version.chain
   pub next : ℕ
   pub leads : LeadsDown (read_way old.goal old.key) version.chain next
-  pub goes : new ≡ going_to next (on (Past (Some version)) old)
+  pub goes : new ≡ reading_on_to next (on (Past (Some version)) old)
 
 -- On the way round a removed page, the page is removed, or of another level.
 pub record IsOffLevel (old : ReadRound) (version : Version) : Type 0 where
@@ -410,6 +410,6 @@ Spends reserve kept r old told new (Some (Leaf leaf)) = read_round_kept kept old
 Spends reserve kept r old told new (Some (Beside left removed)) = kept < read_round_left reserve kept r old
 
 -- The limits and the key stay.
-pub record AsksTheSame (old new : ReadRound) : Type 0 where
+pub record ReadsForTheSame (old new : ReadRound) : Type 0 where
   pub limits : new.limits ≡ old.limits
   pub key : new.key ≡ old.key

@@ -24,7 +24,7 @@ use Rattle.round_model.specs.Ways.{LeadsDown, LeadsRight, StaysLeft}
 use Rattle.round_model.specs.Rounds.{Rounds}
 use Rattle.round_model.specs.WriteEnds.{DueChange, IsPlanned, WriteEnd}
 use Rattle.round_model.specs.WriteEnds as end
-use Rattle.round_model.specs.WriteRounds.{EndsWrite, IsLong, SeeksLeaf, Shows, WriteRound, at, beside, ends_at, going_to, write_way}
+use Rattle.round_model.specs.WriteRounds.{EndsWrite, IsLong, SeeksLeaf, Shows, WriteRound, at, beside, ends_at, writing_on_to, write_way}
 
 -- No change is due that finishes the split of the page's left page: the parent can't get the page's term, nor, where there is no
 -- parent, the two pages a root.
@@ -63,7 +63,7 @@ pub record GoesAside (old : WriteRound) (version : Version) (new : WriteRound) :
   pub finished : IsSplitFinished old.parent old.left version
   pub right : ℕ
   pub leads : LeadsRight (write_way old.goal old.key) version.chain right
-  pub goes : new ≡ going_to right (beside (Some version) old)
+  pub goes : new ≡ writing_on_to right (beside (Some version) old)
 
 -- Nothing is due at the page, nor of a small page's removal, and the round goes down to a child of it.
 pub record GoesBelow (old : WriteRound) (version : Version) (new : WriteRound) : Type 0 where
@@ -73,7 +73,7 @@ pub record GoesBelow (old : WriteRound) (version : Version) (new : WriteRound) :
   pub index : ends_at old.goal old.floor < level_in version.chain
   pub child : ℕ
   pub leads : LeadsDown (write_way old.goal old.key) version.chain child
-  pub goes : new ≡ going_to child (record old { parent = Some version; left = None })
+  pub goes : new ≡ writing_on_to child (record old { parent = Some version; left = None })
 
 -- The page has too many deltas.
 pub record EndsLong (old : WriteRound) (version page : Version) (base : PageOf) : Type 0 where
@@ -144,7 +144,7 @@ pub record EndsBelow (old : WriteRound) (version : Version) : Type 0 where
 
 -- the round, gone to read the removed page again
 abbrev pub going_back : WriteGoal → ℕ → WriteRound → WriteRound
-going_back goal pid round = going_to pid (record round { goal = goal; parent = None; left = None })
+going_back goal pid round = writing_on_to pid (record round { goal = goal; parent = None; left = None })
 
 -- The removed page is the leaf's right.
 pub record GoesToMerge (old : WriteRound) (version : Version) (new : WriteRound) : Type 0 where

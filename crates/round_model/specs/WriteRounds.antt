@@ -59,8 +59,8 @@ abbrev pub at : WriteRound → WayState → WriteRound
 at round state = record round { state = state }
 
 -- the round, gone to a page
-abbrev pub going_to : ℕ → WriteRound → WriteRound
-going_to pid round = at round (Page (page.to_page round.limits pid))
+abbrev pub writing_on_to : ℕ → WriteRound → WriteRound
+writing_on_to pid round = at round (Page (page.to_page round.limits pid))
 
 -- the round where a page to the left of the next one is kept, or none
 abbrev pub beside : Option Version → WriteRound → WriteRound
@@ -376,7 +376,7 @@ Spends reserve kept r old told new (Some end.Done) = kept < write_round_left res
 Spends reserve kept r old told new (Some other) = write_round_kept kept old.goal < write_round_left reserve kept r old
 
 -- So does the goal where it is the leaf of the key.
-pub record AsksTheSame (old new : WriteRound) : Type 0 where
+pub record WritesForTheSame (old new : WriteRound) : Type 0 where
   pub limits : new.limits ≡ old.limits
   pub key : new.key ≡ old.key
   pub due : new.due ≡ old.due

@@ -10,7 +10,7 @@ use Rattle.traces.specs.chain.Fitted.{IsFitted}
 use Rattle.structure_changes.specs.Versions.{Version}
 use Rattle.round_model.specs.ReadGoals.{ReadGoal}
 use Rattle.round_model.specs.ReadLegs.{Leg, Down, Round, Past, above_of}
-use Rattle.round_model.specs.ReadRounds.{CanGoRound, CanMeetLeg, CanTreatRead, IsAtLevel, IsAtMergedPage, LacksLeft, ReadRound, TreatsRead, going_to, left_of, on, read_way}
+use Rattle.round_model.specs.ReadRounds.{CanGoRound, CanMeetLeg, CanTreatRead, IsAtLevel, IsAtMergedPage, LacksLeft, ReadRound, TreatsRead, reading_on_to, left_of, on, read_way}
 use Rattle.round_model.specs.Walks.{IsReached}
 use Rattle.round_model.specs.Ways.{LeadsDown, LeadsOn, LeadsRight, StaysLeft}
 use Rattle.round_model.proofs.Passing.{before_on}
@@ -84,7 +84,7 @@ module _ (round : ReadRound) (version removed : Version) (can : CanTreatRead rou
     pub through_within : (0 < next) × (next < round.limits.pids)
     through_within = meets.names of_level.alive beside next (named next leads)
 
-    pub goes_through : (new : ReadRound) → new ≡ going_to next (on (Past None) round) → StaysLeft (left_of removed) version.chain → TreatsRead round version new None
+    pub goes_through : (new : ReadRound) → new ≡ reading_on_to next (on (Past None) round) → StaysLeft (left_of removed) version.chain → TreatsRead round version new None
     goes_through new goes stays = inr (inr (inr (inr (inr (inr (inl (record { removed = removed; left = left_is; stays = stays; beside = beside; next = next; leads = leads; goes = goes })))))))
 
   -- that one was merged
@@ -99,11 +99,11 @@ module _ (round : ReadRound) (version removed : Version) (can : CanTreatRead rou
     down_within_past next ends down = on_within round.limits (read_way round.goal round.key) version.chain next (can.reached.names of_level.alive) (inr (ends, index_of, down))
 
     pub goes_right_past : (next : ℕ) → LeadsRight (read_way round.goal round.key) version.chain next → (new : ReadRound)
-        → new ≡ going_to next (on (Past None) round) → TreatsRead round version new None
+        → new ≡ reading_on_to next (on (Past None) round) → TreatsRead round version new None
     goes_right_past next leads new goes = inr (inr (inr (inr (inr (inr (inr (inl (record { removed = removed; there = there; next = next; leads = leads; goes = goes }))))))))
 
     pub goes_down_past : (next : ℕ) → StaysLeft (read_way round.goal round.key) version.chain → LeadsDown (read_way round.goal round.key) version.chain next
-        → (new : ReadRound) → new ≡ going_to next (on (Past (Some version)) round)
+        → (new : ReadRound) → new ≡ reading_on_to next (on (Past (Some version)) round)
         → TreatsRead round version new None
     goes_down_past next ends leads new goes =
         inr (inr (inr (inr (inr (inr (inr (inr (record { removed = removed; there = there; ends = ends; index = index_of; next = next; leads = leads; goes = goes }))))))))

@@ -14,7 +14,7 @@ use Rattle.round_model.specs.ReadLegs as legs
 use Rattle.round_model.specs.ReadEnds as end
 use Rattle.round_model.specs.Visits as sight
 use Rattle.rounds.specs.Descents.{sight_of, placed_state, asked_step}
-use Rattle.rounds.specs.ReadRounds.{AreReadFor, again_if, ended_read, read_goal}
+use Rattle.rounds.specs.ReadRounds.{AreReadFor, read_again_if, ended_read, read_goal}
 use Rattle.rounds.specs.declared.asked.Asked.TheVariants as asked
 use Rattle.rounds.specs.declared.descents.WayStateKind.TheVariants.{Root, Slot, Row}
 use Rattle.rounds.specs.declared.descents.SightKind.TheVariants.{More, Empty, Whole}
@@ -77,5 +77,5 @@ module _ (limits : Limits) (one : Record) (round : reader.ReadRound) (first seco
     looks_at_removed are = are.leg
 
 -- an empty slot ends a round
-missing : again_if true ≡ Some end.Again
+missing : read_again_if true ≡ Some end.Again
 missing = refl

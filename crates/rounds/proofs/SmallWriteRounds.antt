@@ -10,7 +10,7 @@ use Rattle.round_model.specs.Courses as kept
 use Rattle.round_model.specs.WriteRounds as writer
 use Rattle.round_model.specs.WriteEnds as end
 use Rattle.rounds.specs.Courses.{write_goal, kept_if}
-use Rattle.rounds.specs.WriteRounds.{AreReadToWrite, PlacedWrite, again_if, ended_write}
+use Rattle.rounds.specs.WriteRounds.{AreReadToWrite, PlacedWrite, write_again_if, ended_write}
 use Rattle.rounds.specs.declared.course.WriteGoalKind.TheVariants as kind
 use Rattle.rounds.specs.declared.write_end_kind.WriteEndKind.TheVariants.{Removed, Due, Leaf}
 
@@ -59,5 +59,5 @@ module _ (round : writer.WriteRound) (first second third : Version) (plan : Plan
     looks_at_both are = are.goal
 
 -- an empty slot ends a round
-missing : again_if true ≡ Some end.Again
+missing : write_again_if true ≡ Some end.Again
 missing = refl

@@ -39,9 +39,9 @@ ended_read round Leaf = end.Leaf round.page
 ended_read round Beside = end.Beside round.page round.aside
 
 -- a page that was named isn't there, or the round reads on
-abbrev pub again_if : Bool → Option ReadEnd
-again_if false = None
-again_if true = Some end.Again
+abbrev pub read_again_if : Bool → Option ReadEnd
+read_again_if false = None
+read_again_if true = Some end.Again
 
 -- the page to whose left a round goes is there
 abbrev pub IsReadGoal : (ℕ → Record → Type 0) → ReadGoal → Type 0

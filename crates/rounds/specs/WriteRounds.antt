@@ -32,9 +32,9 @@ ended_write round Leaf = end.Leaf round.round.parent round.page
 ended_write round Done = end.Done
 
 -- a page that was named isn't there, or the round reads on
-abbrev pub again_if : Bool → Option WriteEnd
-again_if false = None
-again_if true = Some end.Again
+abbrev pub write_again_if : Bool → Option WriteEnd
+write_again_if false = None
+write_again_if true = Some end.Again
 
 -- by the goal: the pages that the round keeps to end with the removed one were read, and their records are there
 abbrev pub IsGoalRead : (ℕ → Record → Type 0) → WriteGoal → Type 0

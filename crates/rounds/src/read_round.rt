@@ -11,14 +11,14 @@ ghost use Rattle.traces.specs.discipline.Recalled.{Recalled};
 ghost use Rattle.structure_changes.specs.Reads.{IsReadPage};
 ghost use Rattle.round_model.specs.Machines.{IsTold, IsToldThere};
 ghost use Rattle.round_model.specs.ReadLegs.{Down, level_on};
-ghost use Rattle.round_model.specs.ReadRounds.{CanTreatRead, AsksTheSame, Shows, TreatsRead, going_to, on, read_way, reading, toward, wanted};
+ghost use Rattle.round_model.specs.ReadRounds.{CanTreatRead, ReadsForTheSame, Shows, TreatsRead, reading_on_to, on, read_way, reading, toward, wanted};
 ghost use Rattle.round_model.specs.Rounds.{Responds, machine};
 ghost use Rattle.round_model.specs.Visits.{ReadsWithin};
 ghost use Rattle.round_model.specs.Ways.{EndsHere, LeadsDown, LeadsRight, StaysLeft, precedes};
 ghost use Rattle.round_model.specs.Descents.{Root};
 ghost use Rattle.round_model.specs.ReadGoals as goal;
 ghost use Rattle.rounds.specs.Descents.{asked_step};
-ghost use Rattle.rounds.specs.ReadRounds.{AreReadFor, CanGoOn, again_if, ended_read};
+ghost use Rattle.rounds.specs.ReadRounds.{AreReadFor, CanGoOn, read_again_if, ended_read};
 
 mod detour;
 
@@ -158,8 +158,8 @@ impl<R: Rows, A: Allocator> ReadRound<R, A> {
     /// a new one begins.
     pub fn told(&mut self, number: u64) -> bool
         requires told { IsTold (machine reading) self.old.round (Number number) }
-        ensures responds { Responds reading self.old.round (Number number) self.new.round (again_if result) }
-        ensures same { AsksTheSame self.old.round self.new.round }
+        ensures responds { Responds reading self.old.round (Number number) self.new.round (read_again_if result) }
+        ensures same { ReadsForTheSame self.old.round self.new.round }
     {
         match self.descent.told(number) {
             SightKind::More => false,
@@ -178,7 +178,7 @@ impl<R: Rows, A: Allocator> ReadRound<R, A> {
         requires asked { wanted self.old.round ≡ Row found.row }
         requires told { IsToldThere (R.has rows.now pass.old) (machine reading) self.old.round (Content found.content) }
         ensures responds { Responds reading self.old.round (Content found.content) self.new.round (option_map (ended_read self.new) result) }
-        ensures same { AsksTheSame self.old.round self.new.round }
+        ensures same { ReadsForTheSame self.old.round self.new.round }
         ensures looks { pass.new ≡ pass.old }
     {
         match self.descent.take_record(found, rows, pass) {
@@ -193,7 +193,7 @@ impl<R: Rows, A: Allocator> ReadRound<R, A> {
         requires can { CanTreatRead self.old.round self.old.page }
         requires read { AreReadFor (R.has rows.now pass.old) self.old.round self.old.page }
         ensures treats { TreatsRead self.old.round self.old.page self.new.round (option_map (ended_read self.new) result) }
-        ensures same { AsksTheSame self.old.round self.new.round }
+        ensures same { ReadsForTheSame self.old.round self.new.round }
         ensures looks { pass.new ≡ pass.old }
     {
         if self.leg.is_round() {
@@ -211,7 +211,7 @@ impl<R: Rows, A: Allocator> ReadRound<R, A> {
         requires can { CanGoOn self.old.round self.old.page }
         requires read { AreReadFor (R.has rows.now pass.old) self.old.round self.old.page }
         ensures treats { TreatsRead self.old.round self.old.page self.new.round (option_map (ended_read self.new) result) }
-        ensures same { AsksTheSame self.old.round self.new.round }
+        ensures same { ReadsForTheSame self.old.round self.new.round }
         ensures looks { pass.new ≡ pass.old }
     {
         if let Some(right) = self.next_aside(rows, pass) {
@@ -259,7 +259,7 @@ impl<R: Rows, A: Allocator> ReadRound<R, A> {
         requires stays { StaysLeft (read_way self.old.round.goal self.old.round.key) self.old.page.chain }
         requires index { 0 < level_in self.old.page.chain }
         ensures treats { TreatsRead self.old.round self.old.page self.new.round None }
-        ensures same { AsksTheSame self.old.round self.new.round }
+        ensures same { ReadsForTheSame self.old.round self.new.round }
         ensures looks { pass.new ≡ pass.old }
     {
         let child = self.next_below(rows, pass);
@@ -303,7 +303,7 @@ impl<R: Rows, A: Allocator> ReadRound<R, A> {
         requires read { AreReadFor (R.has rows.now pass.old) self.old.round self.old.page }
         requires ends { EndsHere (read_way self.old.round.goal self.old.round.key) self.old.page.chain }
         ensures treats { TreatsRead self.old.round self.old.page self.new.round (option_map (ended_read self.new) result) }
-        ensures same { AsksTheSame self.old.round self.new.round }
+        ensures same { ReadsForTheSame self.old.round self.new.round }
         ensures looks { pass.new ≡ pass.old }
     {
         match self.goal {
@@ -320,7 +320,7 @@ impl<R: Rows, A: Allocator> ReadRound<R, A> {
         requires aside { IsReadPage (R.has rows.now pass.old) self.old.aside }
         requires ends { EndsHere (precedes (low_in self.old.aside.chain)) self.old.page.chain }
         ensures treats { TreatsRead (toward (goal.Left self.old.aside) self.old.round) self.old.page self.new.round (option_map (ended_read self.new) result) }
-        ensures same { AsksTheSame self.old.round self.new.round }
+        ensures same { ReadsForTheSame self.old.round self.new.round }
         ensures looks { pass.new ≡ pass.old }
     {
         if self.is_beside(rows, pass) {
@@ -351,7 +351,7 @@ impl<R: Rows, A: Allocator> ReadRound<R, A> {
     fn go_beyond(&mut self, right: u32) -> Option<ReadEndKind>
         requires some { 0 < right }
         requires below { right < self.old.round.limits.pids }
-        ensures goes { self.new ≡ record self.old { round = going_to right (on (level_on self.old.round.leg) (toward goal.Beyond self.old.round)) } }
+        ensures goes { self.new ≡ record self.old { round = reading_on_to right (on (level_on self.old.round.leg) (toward goal.Beyond self.old.round)) } }
         ensures none { result ≡ None }
     {
         self.goal = ReadGoalKind::Beyond;

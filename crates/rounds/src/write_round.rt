@@ -12,11 +12,11 @@ ghost use Rattle.round_model.specs.Machines.{IsTold, IsToldThere};
 ghost use Rattle.round_model.specs.Rounds.{Responds, machine};
 ghost use Rattle.round_model.specs.Visits.{ReadsWithin, reads_on};
 ghost use Rattle.round_model.specs.WriteResponses.{CanTreatWrite, IsFine, IsHere, IsIdleOnWay, IsAtLeft, IsSplitFinished, TreatsWrite, writing};
-ghost use Rattle.round_model.specs.WriteRounds.{AsksTheSame, SeeksLeaf, Shows, ends_at, goes_left, wanted, write_way};
+ghost use Rattle.round_model.specs.WriteRounds.{WritesForTheSame, SeeksLeaf, Shows, ends_at, goes_left, wanted, write_way};
 ghost use Rattle.round_model.specs.Ways.{LeadsDown, LeadsRight, StaysLeft};
 ghost use Rattle.round_model.specs.Descents.{Root};
 ghost use Rattle.rounds.specs.Descents.{asked_step};
-ghost use Rattle.rounds.specs.WriteRounds.{AreReadToWrite, again_if, ended_write};
+ghost use Rattle.rounds.specs.WriteRounds.{AreReadToWrite, write_again_if, ended_write};
 ghost use Rattle.structure_changes.specs.Reads.{IsReadPage};
 
 mod due;
@@ -148,8 +148,8 @@ impl<R: Rows, A: Allocator> WriteRound<R, A> {
     /// a new one begins.
     pub fn told(&mut self, number: u64) -> bool
         requires told { IsTold (machine writing) self.old.round (Number number) }
-        ensures responds { Responds writing self.old.round (Number number) self.new.round (again_if result) }
-        ensures same { AsksTheSame self.old.round self.new.round }
+        ensures responds { Responds writing self.old.round (Number number) self.new.round (write_again_if result) }
+        ensures same { WritesForTheSame self.old.round self.new.round }
     {
         match self.descent.told(number) {
             SightKind::More => false,
@@ -165,7 +165,7 @@ impl<R: Rows, A: Allocator> WriteRound<R, A> {
         requires on { reads_on (Content found.content) ≡ true }
         ensures looks { pass.new ≡ pass.old }
         ensures responds { Responds writing self.old.round (Content found.content) self.new.round None }
-        ensures same { AsksTheSame self.old.round self.new.round }
+        ensures same { WritesForTheSame self.old.round self.new.round }
     {
         self.descent.take_record(found, rows, pass);
     }
@@ -182,7 +182,7 @@ impl<R: Rows, A: Allocator> WriteRound<R, A> {
         requires told { IsToldThere (R.has rows.now pass.old) (machine writing) self.old.round (Content found.content) }
         ensures looks { pass.new ≡ pass.old }
         ensures responds { Responds writing self.old.round (Content found.content) self.new.round (option_map (ended_write self.new) result) }
-        ensures same { AsksTheSame self.old.round self.new.round }
+        ensures same { WritesForTheSame self.old.round self.new.round }
     {
         match self.descent.take_record(found, rows, pass) {
             SightKind::More => None,
@@ -197,7 +197,7 @@ impl<R: Rows, A: Allocator> WriteRound<R, A> {
         requires can { CanTreatWrite self.old.round self.old.page }
         ensures looks { pass.new ≡ pass.old }
         ensures treats { TreatsWrite self.old.round self.old.page self.new.round (option_map (ended_write self.new) result) }
-        ensures same { AsksTheSame self.old.round self.new.round }
+        ensures same { WritesForTheSame self.old.round self.new.round }
     {
         if self.course.seeks_leaf() {
             return self.meet(rows, pass);
@@ -229,7 +229,7 @@ impl<R: Rows, A: Allocator> WriteRound<R, A> {
         requires seeks { SeeksLeaf self.old.round.goal }
         ensures looks { pass.new ≡ pass.old }
         ensures treats { TreatsWrite self.old.round self.old.page self.new.round (option_map (ended_write self.new) result) }
-        ensures same { AsksTheSame self.old.round self.new.round }
+        ensures same { WritesForTheSame self.old.round self.new.round }
     {
         self.page().chain().was_read(rows, pass);
         if self.page().chain().is_removed() {
@@ -251,7 +251,7 @@ impl<R: Rows, A: Allocator> WriteRound<R, A> {
         requires left { self.old.round.left ≡ Some self.old.left }
         ensures looks { pass.new ≡ pass.old }
         ensures treats { TreatsWrite self.old.round self.old.page self.new.round (option_map (ended_write self.new) result) }
-        ensures same { AsksTheSame self.old.round self.new.round }
+        ensures same { WritesForTheSame self.old.round self.new.round }
     {
         match self.due_aside(rows, pass) {
             Some(plan) => Some(self.ends_due(plan, After::Round)),
@@ -268,7 +268,7 @@ impl<R: Rows, A: Allocator> WriteRound<R, A> {
         requires finished { IsSplitFinished self.old.round.parent self.old.round.left self.old.page }
         ensures looks { pass.new ≡ pass.old }
         ensures treats { TreatsWrite self.old.round self.old.page self.new.round (option_map (ended_write self.new) result) }
-        ensures same { AsksTheSame self.old.round self.new.round }
+        ensures same { WritesForTheSame self.old.round self.new.round }
     {
         match self.next_aside(rows, pass) {
             None => self.settle(rows, pass),
@@ -296,7 +296,7 @@ impl<R: Rows, A: Allocator> WriteRound<R, A> {
         requires here { IsHere self.old.round self.old.page }
         ensures looks { pass.new ≡ pass.old }
         ensures treats { TreatsWrite self.old.round self.old.page self.new.round (option_map (ended_write self.new) result) }
-        ensures same { AsksTheSame self.old.round self.new.round }
+        ensures same { WritesForTheSame self.old.round self.new.round }
     {
         if self.is_long(rows, pass) {
             return Some(self.end_long(rows, pass));
@@ -315,7 +315,7 @@ impl<R: Rows, A: Allocator> WriteRound<R, A> {
         requires fine { IsFine self.old.round.limits self.old.round.due self.old.page }
         ensures looks { pass.new ≡ pass.old }
         ensures treats { TreatsWrite self.old.round self.old.page self.new.round (option_map (ended_write self.new) result) }
-        ensures same { AsksTheSame self.old.round self.new.round }
+        ensures same { WritesForTheSame self.old.round self.new.round }
     {
         self.page().chain().was_read(rows, pass);
         let level = self.page().chain().level();
@@ -344,7 +344,7 @@ impl<R: Rows, A: Allocator> WriteRound<R, A> {
         requires tends { self.old.round.tends ≡ true }
         ensures looks { pass.new ≡ pass.old }
         ensures treats { TreatsWrite self.old.round self.old.page self.new.round (option_map (ended_write self.new) result) }
-        ensures same { AsksTheSame self.old.round self.new.round }
+        ensures same { WritesForTheSame self.old.round self.new.round }
     {
         match self.due_upkeep(rows, pass) {
             Some(upkeep) => Some(self.ends_due(upkeep, After::Round)),
@@ -365,7 +365,7 @@ impl<R: Rows, A: Allocator> WriteRound<R, A> {
         requires idle { IsIdleOnWay self.old.round self.old.page }
         ensures looks { pass.new ≡ pass.old }
         ensures treats { TreatsWrite self.old.round self.old.page self.new.round None }
-        ensures same { AsksTheSame self.old.round self.new.round }
+        ensures same { WritesForTheSame self.old.round self.new.round }
     {
         let child = self.next_below(rows, pass);
         self.course.go_below(&mut self.descent);
@@ -393,7 +393,7 @@ impl<R: Rows, A: Allocator> WriteRound<R, A> {
         requires level { level_in self.old.page.chain ≡ ends_at self.old.round.goal self.old.round.floor }
         ensures looks { pass.new ≡ pass.old }
         ensures treats { TreatsWrite self.old.round self.old.page self.new.round (option_map (ended_write self.new) result) }
-        ensures same { AsksTheSame self.old.round self.new.round }
+        ensures same { WritesForTheSame self.old.round self.new.round }
     {
         match self.course.removed() {
             Some(pid) => self.end_left(rows, pass, pid),
@@ -410,7 +410,7 @@ impl<R: Rows, A: Allocator> WriteRound<R, A> {
         requires left { IsAtLeft self.old.round self.old.page pid }
         ensures looks { pass.new ≡ pass.old }
         ensures treats { TreatsWrite self.old.round self.old.page self.new.round (option_map (ended_write self.new) result) }
-        ensures same { AsksTheSame self.old.round self.new.round }
+        ensures same { WritesForTheSame self.old.round self.new.round }
     {
         if self.page().chain().right(rows, pass) == Some(pid) {
             self.course.go_to_merge(&mut self.descent);

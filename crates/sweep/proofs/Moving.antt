@@ -24,7 +24,7 @@ use Rattle.sweep.specs.declared.sweep.State.TheVariants as state
 use Rattle.sweep.specs.Kept.{Agrees, AreKept, IsLimboOf}
 use Rattle.sweep.specs.declared.sweep.TheConstants.{MOST_COMPARED}
 use Rattle.sweep.specs.Moves.{BeginsSweep, Compares, Frees, Moves, Stamps, compared, has_unstamped, state_if}
-use Rattle.sweep.specs.Sweeps.{AreTold, LearnsOfLimbo, HasNewState, Shows, ShowsState, ShowsThen, Sweep, Told, other_at, wanted, wanted_at}
+use Rattle.sweep.specs.Sweeps.{AreTold, LearnsOfLimbo, IsSameSweep, Shows, ShowsState, ShowsThen, Sweep, Told, other_at, wanted, wanted_at}
 use Rattle.sweep.proofs.Agreeing.{announced_agrees, announced_told, compared_agrees, may_free, stamped_agrees, stamped_told}
 use Rattle.sweep.proofs.Stages.{first_stage, kept_stage, no_item, no_stage, passed_stage, restaged_stage}
 
@@ -212,7 +212,7 @@ shown_then : (goes : Bool) (limits : Limits) (actor : ℕ) (next : State) (limbo
 shown_then true limits actor next limbo k outside h = record { outside = outside; stands = h }
 shown_then false limits actor next limbo k outside h = record { outside = outside; kept = h }
 
-pub follows : (old new : Sweep) (limbo after : Limbo) (told : Answer Record) (goes : Bool) → old.actor < old.limits.actors → HasNewState old new
+pub follows : (old new : Sweep) (limbo after : Limbo) (told : Answer Record) (goes : Bool) → old.actor < old.limits.actors → IsSameSweep old new
     → Moves old.limits old.state limbo told (state_if goes new.state) after
     → (k : Knowledge) → Shows old limbo k → Fits old.limits k (wanted old) told → LearnsOfLimbo k (learn k (wanted old) told) new after goes
 follows old new limbo after told goes inside same moves k shows fits = record {

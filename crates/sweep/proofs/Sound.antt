@@ -23,7 +23,7 @@ use Rattle.sweep.specs.Bounded.{most_steps, reuses_left, steps_left}
 use Rattle.sweep.specs.Kept.{IsLimboOf}
 use Rattle.sweep.specs.declared.sweep.TheConstants.{MOST_COMPARED}
 use Rattle.sweep.specs.Moves.{BeginsSweep, Compares, Frees, IsEmpty, Moves, Stamps, compared, has_unstamped}
-use Rattle.sweep.specs.Sweeps.{ComesFirst, HasPlace, IsInOrder, HasNewState, IsSoundState, IsSoundSweep, Sweep}
+use Rattle.sweep.specs.Sweeps.{ComesFirst, HasPlace, IsInOrder, IsSameSweep, IsSoundState, IsSoundSweep, Sweep}
 use Rattle.sweep.proofs.Stages.{left_later, no_item}
 
 -- the numbers of the list are below its limit
@@ -210,7 +210,7 @@ module _ (limits : Limits) where
 
 -- a sweep that goes on
 pub goes_on : (old new : Sweep) (told : Answer Record) (limbo after : Limbo) → IsLimboList limbo.rows → IsLimboList limbo.pids
-    → IsSoundState old.limits old.state → IsSoundSweep old limbo → HasNewState old new → Moves old.limits old.state limbo told (Some new.state) after
+    → IsSoundState old.limits old.state → IsSoundSweep old limbo → IsSameSweep old new → Moves old.limits old.state limbo told (Some new.state) after
     → IsSoundState new.limits new.state × IsSoundSweep new after × (steps_left old.limits new.state < steps_left old.limits old.state)
 goes_on old new told limbo after rows pids sound swept same moves =
     let h = moves_follow old.limits old.state new.state told limbo after (whole old.limits limbo rows pids swept.lists) sound swept.order moves in

@@ -133,6 +133,6 @@ pub record LearnsOfLimbo (k now : Knowledge) (sweep : Sweep) (limbo : Limbo) (go
   pub shows : ShowsThen goes sweep limbo now
 
 -- Only the state has changed.
-pub record HasNewState (old new : Sweep) : Type 0 where
+pub record IsSameSweep (old new : Sweep) : Type 0 where
   pub limits : new.limits ≡ old.limits
   pub actor : new.actor ≡ old.actor

@@ -10,7 +10,7 @@ ghost use Rattle.traces.specs.trace.Within.{IsWithin};
 ghost use Rattle.sweep.specs.Bounded.{Spends, most_steps, steps_left};
 ghost use Rattle.sweep.specs.Kept.{IsLimboOf};
 ghost use Rattle.sweep.specs.Moves.{BeginsSweep, Compares, Frees, IsEmpty, Moves, Stamps, compared, state_if};
-ghost use Rattle.sweep.specs.Sweeps.{LearnsOfLimbo, IsOfSweep, HasNewState, IsSoundSweep, FitsSweep, IsKeptOutside, Shows, other_at, wanted};
+ghost use Rattle.sweep.specs.Sweeps.{LearnsOfLimbo, IsOfSweep, IsSameSweep, IsSoundSweep, FitsSweep, IsKeptOutside, Shows, other_at, wanted};
 
 use crate::announces::Announces;
 use bw_model::{Limits, Step, Told};
@@ -99,7 +99,7 @@ impl Sweep {
         requires sound { IsSoundSweep self.old limbo.old }
         requires told { FitsSweep self.old (answer_of told) }
         ensures moves { Moves self.old.limits self.old.state limbo.old (answer_of told) (state_if result self.new.state) limbo.new }
-        ensures same { HasNewState self.old self.new }
+        ensures same { IsSameSweep self.old self.new }
         ensures follows { (k : Knowledge) → Shows self.old limbo.old k → Fits self.old.limits k (wanted self.old) (answer_of told)
             → LearnsOfLimbo k (learn k (wanted self.old) (answer_of told)) self.new limbo.new result }
         ensures sound { IsTrue result → IsSoundSweep self.new limbo.new }
@@ -121,7 +121,7 @@ impl Sweep {
     fn move_on<A: Allocator>(&mut self, limbo: &mut Limbo<A>, told: Told) -> Option<State>
         requires told { FitsSweep self.old (answer_of told) }
         ensures moves { Moves self.old.limits self.old.state limbo.old (answer_of told) result limbo.new }
-        ensures same { HasNewState self.old self.new }
+        ensures same { IsSameSweep self.old self.new }
     {
         match mem::replace(&mut self.state, State::Epoch) {
             State::Epoch => stamp(&self.limits, limbo, told.number()),

@@ -75,13 +75,13 @@ left_round_of writer = record {
 -- The reader's round has taken the answer, and nothing else has changed.
 pub record ReadsOn (old : OpPlaces) (told : Answer Record) (new : OpPlaces) (result : Option ReadEnd) : Type 0 where
   pub responds : Responds read.reading old.reader.round told new.reader.round result
-  pub same : read.AsksTheSame old.reader.round new.reader.round
+  pub same : read.ReadsForTheSame old.reader.round new.reader.round
   pub only : new ≡ record old { reader = new.reader }
 
 -- The same of the writer's round.
 pub record WritesOn (old : OpPlaces) (told : Answer Record) (new : OpPlaces) (result : Option WriteEnd) : Type 0 where
   pub responds : Responds response.writing old.writer.round told new.writer.round result
-  pub same : write.AsksTheSame old.writer.round new.writer.round
+  pub same : write.WritesForTheSame old.writer.round new.writer.round
   pub only : new ≡ record old { writer = new.writer }
 
 -- the end of a change, with what comes then

@@ -5,7 +5,7 @@ use Rattle.bw_model.specs.declared.step.Answer.{Answer}
 use Rattle.deltas.specs.declared.record.Record.{Record}
 use Rattle.round_model.specs.ReadEnds.{ReadEnd}
 use Rattle.round_model.specs.ReadEnds as read_end
-use Rattle.round_model.specs.ReadRounds.{AsksTheSame, ReadRound, reading}
+use Rattle.round_model.specs.ReadRounds.{ReadsForTheSame, ReadRound, reading}
 use Rattle.round_model.specs.Rounds.{Responds}
 use Rattle.round_model.specs.WriteEnds.{WriteEnd}
 use Rattle.round_model.specs.WriteEnds as write_end
@@ -38,7 +38,7 @@ pub record StepsReading (task : Task) (round : ReadRound) (told : Answer Record)
   pub next : ReadRound
   pub end : Option ReadEnd
   pub responds : Responds reading round told next end
-  pub same : AsksTheSame round next
+  pub same : ReadsForTheSame round next
   pub goes : AfterReading task next end new
 
 pub record StepsWriting (task : Task) (round : WriteRound) (told : Answer Record) (new : State) : Type 0 where

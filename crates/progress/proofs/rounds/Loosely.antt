@@ -10,7 +10,7 @@ use Rattle.round_model.specs.Descents.{Page}
 use Rattle.round_model.specs.ReadEnds.{ReadEnd, Again, Removed, Leaf, Beside}
 use Rattle.round_model.specs.ReadGoals.{ReadGoal, Left, Beyond}
 use Rattle.round_model.specs.ReadLegs.{Leg, Round, Past, below, level_on}
-use Rattle.round_model.specs.ReadRounds.{IsLeftLeaf, ReadRound, TreatsRead, going_to, left_of, on, read_way, toward}
+use Rattle.round_model.specs.ReadRounds.{IsLeftLeaf, ReadRound, TreatsRead, reading_on_to, left_of, on, read_way, toward}
 use Rattle.round_model.specs.Visits.{to_page}
 use Rattle.round_model.specs.Ways.{LeadsDown, LeadsOn, LeadsRight, reaches}
 use Rattle.tree_law.specs.Keys.{IsBelow, Key}
@@ -43,7 +43,7 @@ module _ (w : Standing) where
     pub fewer : left < cost
     pub few : (page : LivePage) (level : ℕ) → page.pid ≡ pid → IsPageOn w.limits w.memory level page → Few w new.leg level page left
 
-  goes : (old new : ReadRound) (leg : Leg) (goal : ReadGoal) (next left cost : ℕ) → new ≡ going_to next (on leg (toward goal old)) → IsPlace w.tree next
+  goes : (old new : ReadRound) (leg : Leg) (goal : ReadGoal) (next left cost : ℕ) → new ≡ reading_on_to next (on leg (toward goal old)) → IsPlace w.tree next
       → IsLegIn w.tree leg → IsGoalIn w.tree goal → left < cost
       → ((page : LivePage) (level : ℕ) → page.pid ≡ next → IsPageOn w.limits w.memory level page → Few w leg level page left) → Moves new cost
   goes old new leg goal next left cost e place leg_is goal_is fewer few =
@@ -57,7 +57,7 @@ module _ (w : Standing) where
       let levels : level ≡ other_level = sym stands.level_is ∙ ap (λ (p : LivePage). level_in p.chain) same ∙ also.level_is in
       subst (λ (n : ℕ). Few w leg n other left) levels (subst (λ (p : LivePage). Few w leg level p left) same few)
 
-  goes_known : (old new : ReadRound) (leg : Leg) (goal : ReadGoal) (next left cost level : ℕ) (page : LivePage) → new ≡ going_to next (on leg (toward goal old))
+  goes_known : (old new : ReadRound) (leg : Leg) (goal : ReadGoal) (next left cost level : ℕ) (page : LivePage) → new ≡ reading_on_to next (on leg (toward goal old))
       → page.pid ≡ next → IsPageOn w.limits w.memory level page
       → ((is_removed page.chain ≡ true) ⊎ On w level page) → IsLegIn w.tree leg → IsGoalIn w.tree goal → left < cost → Few w leg level page left → Moves new cost
   goes_known old new leg goal next left cost level page e is_pid stands is leg_is goal_is fewer few =
@@ -75,7 +75,7 @@ module _ (w : Standing) where
   -- down from a page of a level
   down_from : (old new : ReadRound) (leg : Leg) (goal : ReadGoal) (way : Key → Bool) (level next cost : ℕ) (version : Version) → level_in version.chain ≡ level
       → 0 < level_in version.chain → On w level (live version) → LeadsDown way version.chain next
-      → under_all w level + under_all w level < cost → new ≡ going_to next (on leg (toward goal old)) → ((l : ℕ) → level ≡ suc l → IsLegIn w.tree leg)
+      → under_all w level + under_all w level < cost → new ≡ reading_on_to next (on leg (toward goal old)) → ((l : ℕ) → level ≡ suc l → IsLegIn w.tree leg)
       → IsGoalIn w.tree goal → ((l : ℕ) (page : LivePage) → level ≡ suc l → Few w leg l page (first w l (low_of page))) → Moves new cost
   down_from old new leg goal way zero next cost version is index on_level leads some e leg_is goal_is few = absurd (omega (arith, is, index))
   down_from old new leg goal way (suc level) next cost version is index on_level leads some e leg_is goal_is few =
@@ -112,7 +112,7 @@ module _ (w : Standing) where
     kept = subst (λ (g : Leg). IsLegIn w.tree g) leg l.leg_is
 
     onward : (new : ReadRound) (way : Key → Bool) (next : ℕ) (page other : LivePage) → On w height page → LeadsRight way page.chain next
-        → (IsBelow (low_in version.chain) (low_of page) ⊎ (low_of page ≡ low_in version.chain)) → new ≡ going_to next (on (Past None) old) → Moves new cost
+        → (IsBelow (low_in version.chain) (low_of page) ⊎ (low_of page ≡ low_in version.chain)) → new ≡ reading_on_to next (on (Past None) old) → Moves new cost
     onward new way next page other on_page leads after e =
         let q = right w way height next page on_page leads in
         let beyond : IsBelow (low_in version.chain) (low_of q.0) = elim after [
@@ -123,7 +123,7 @@ module _ (w : Standing) where
         let few = few_here in
         goes_known old new (Past None) old.goal next (second w height (low_of q.0)) cost height q.0 e q.1 (w.tree.each height q.0 q.2) (inr q.2) tt l.goal_is (omega (arith, less, few)) (omega arith)
 
-    nearer : (new : ReadRound) (next : ℕ) → LeadsRight (left_of removed) version.chain next → new ≡ going_to next old → Moves new cost
+    nearer : (new : ReadRound) (next : ℕ) → LeadsRight (left_of removed) version.chain next → new ≡ reading_on_to next old → Moves new cost
     nearer new next leads e =
         let q = right w (left_of removed) height next (live version) here leads in
         let less = left_less w height (live version) (low_of q.0) here q.4 in
@@ -135,7 +135,7 @@ module _ (w : Standing) where
     more_below = let more = left_more w height (live version) here in let few = few_here in omega (arith, more, few)
 
     through : (new : ReadRound) (next : ℕ) → right_in version.chain ≡ Some removed.pid → LeadsOn (read_way old.goal old.key) removed.chain next
-        → new ≡ going_to next (on (Past None) old) → Moves new cost
+        → new ≡ reading_on_to next (on (Past None) old) → Moves new cost
     through new next is_right leads e =
         let r = right_kept height (live version) (live removed) here kept is_right in
         elim leads [
@@ -145,7 +145,7 @@ module _ (w : Standing) where
         ]
 
     merged_down : (new : ReadRound) (next : ℕ) → 0 < level_in version.chain → LeadsDown (read_way old.goal old.key) version.chain next
-        → new ≡ going_to next (on (Past (Some version)) old) → Moves new cost
+        → new ≡ reading_on_to next (on (Past (Some version)) old) → Moves new cost
     merged_down new next index leads e =
         down_from old new (Past (Some version)) old.goal (read_way old.goal old.key) height next cost version same index here leads more_below e
         (λ n is. names_here w n (live version) (subst (λ (m : ℕ). On w m (live version)) is here)) l.goal_is (λ n page is. omega arith)
@@ -203,7 +203,7 @@ module _ (w : Standing) where
       way : Key → Bool
       way = read_way old.goal old.key
 
-      rounds : first w l.level (low_in version.chain) ≤ cost → (next : ℕ) → IsPlace w.tree next → new ≡ going_to next (on (Round version) old) → Moves new cost
+      rounds : first w l.level (low_in version.chain) ≤ cost → (next : ℕ) → IsPlace w.tree next → new ≡ reading_on_to next (on (Round version) old) → Moves new cost
       rounds few next place e = by_cost cost few
         where
           by_cost : (n : ℕ) → first w l.level (low_in version.chain) ≤ n → Moves new n
@@ -274,7 +274,7 @@ module _ (w : Standing) where
     ]
   ]
     where
-      comes : (leg : Leg) (goal : ReadGoal) (next : ℕ) → new ≡ going_to next (on leg (toward goal old)) → IsPlace w.tree next → IsLegIn w.tree leg → IsGoalIn w.tree goal → Moves new (suc (most w))
+      comes : (leg : Leg) (goal : ReadGoal) (next : ℕ) → new ≡ reading_on_to next (on leg (toward goal old)) → IsPlace w.tree next → IsLegIn w.tree leg → IsGoalIn w.tree goal → Moves new (suc (most w))
       comes leg goal next e place leg_is goal_is = goes old new leg goal next (most w) (suc (most w)) e place leg_is goal_is (omega arith) (λ page level is_pid stands. few_any w leg level page stands)
 
       leading : {way : Key → Bool} {chain : List Record} → NamesPlaces w.tree chain → (next : ℕ) → LeadsOn way chain next → IsPlace w.tree next

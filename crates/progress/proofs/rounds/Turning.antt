@@ -10,7 +10,7 @@ use Rattle.round_model.specs.Descents.{WayState, Page}
 use Rattle.round_model.specs.ReadEnds.{ReadEnd, Again, Removed, Leaf, Beside}
 use Rattle.round_model.specs.ReadGoals.{ReadGoal, Seek, Left, Beyond}
 use Rattle.round_model.specs.ReadLegs.{Leg, Down, Round, Past, IsPlain, above_of, below, level_on}
-use Rattle.round_model.specs.ReadRounds.{IsLeftLeaf, IsLost, IsOffLevel, LacksLeft, ReadRound, TreatsRead, going_to, left_of, on, read_way, toward}
+use Rattle.round_model.specs.ReadRounds.{IsLeftLeaf, IsLost, IsOffLevel, LacksLeft, ReadRound, TreatsRead, reading_on_to, left_of, on, read_way, toward}
 use Rattle.round_model.specs.Visits.{to_page}
 use Rattle.round_model.specs.Ways.{LeadsOn, LeadsRight, StaysLeft, reaches}
 use Rattle.tree_law.specs.Keys.{IsBelow, Key}
@@ -108,7 +108,7 @@ module _ (w : Standing) where
   onto (Past above) key page cost later plain o = o
   onto (Round removed) key page cost later plain o = absurd plain
 
-  gone : (old new : ReadRound) (leg : Leg) (goal : ReadGoal) (next cost later : ℕ) → new ≡ going_to next (on leg (toward goal old)) → (c : Comes w next cost (λ page left. At leg goal old.key page left later)) → Goes new old.key cost later
+  gone : (old new : ReadRound) (leg : Leg) (goal : ReadGoal) (next cost later : ℕ) → new ≡ reading_on_to next (on leg (toward goal old)) → (c : Comes w next cost (λ page left. At leg goal old.key page left later)) → Goes new old.key cost later
   gone old new leg goal next cost later e c = subst (λ (r : ReadRound). Goes r old.key cost later) (sym e) (record {
     page = c.page;
     level = c.level;
@@ -352,7 +352,7 @@ module _ (w : Standing) where
     one_removed : (other : Version) → Round removed ≡ Round other → other ≡ removed
     one_removed other e = cc
 
-    goes_on : (new : ReadRound) (above : Option Version) (next cost later : ℕ) → new ≡ going_to next (on (Past above) on_round) → Keeps goal key later → Comes w next cost (OnWay w (read_way goal key) above) → Goes new key cost later
+    goes_on : (new : ReadRound) (above : Option Version) (next cost later : ℕ) → new ≡ reading_on_to next (on (Past above) on_round) → Keeps goal key later → Comes w next cost (OnWay w (read_way goal key) above) → Goes new key cost later
     goes_on new above next cost later e k c = gone on_round new (Past above) goal next cost later e
         (turned next cost (OnWay w (read_way goal key) above) (λ page left. At (Past above) goal key page left later) (λ page left h. into (Past above) goal key page left later tt h k) c)
 

@@ -5,7 +5,7 @@ ghost use Rattle.std.specs.Option.{option_map};
 ghost use Rattle.traces.specs.chain.Chains.{is_removed, level_in, low_in, right_in};
 ghost use Rattle.structure_changes.specs.Reads.{IsReadPage};
 ghost use Rattle.round_model.specs.ReadLegs.{IsPlain, Round};
-ghost use Rattle.round_model.specs.ReadRounds.{CanTreatRead, AsksTheSame, LacksLeft, TreatsRead, left_of, read_way};
+ghost use Rattle.round_model.specs.ReadRounds.{CanTreatRead, ReadsForTheSame, LacksLeft, TreatsRead, left_of, read_way};
 ghost use Rattle.round_model.specs.Ways.{LeadsOn, LeadsRight, StaysLeft};
 ghost use Rattle.rounds.specs.ReadRounds.{AreReadFor, IsOnLevelOf, IsReadGoal, IsReadLeg, LeadsLeft, ended_read};
 
@@ -23,7 +23,7 @@ impl<R: Rows, A: Allocator> ReadRound<R, A> {
         requires plain { IsPlain self.old.round.leg }
         requires gone { is_removed self.old.page.chain ≡ true }
         ensures treats { TreatsRead self.old.round self.old.page self.new.round (option_map (ended_read self.new) result) }
-        ensures same { AsksTheSame self.old.round self.new.round }
+        ensures same { ReadsForTheSame self.old.round self.new.round }
         ensures looks { pass.new ≡ pass.old }
     {
         self.page().chain().was_read(rows, pass);
@@ -66,7 +66,7 @@ impl<R: Rows, A: Allocator> ReadRound<R, A> {
         requires read { AreReadFor (R.has rows.now pass.old) self.old.round self.old.page }
         requires round { self.old.round.leg ≡ Round self.old.met }
         ensures treats { TreatsRead self.old.round self.old.page self.new.round (option_map (ended_read self.new) result) }
-        ensures same { AsksTheSame self.old.round self.new.round }
+        ensures same { ReadsForTheSame self.old.round self.new.round }
         ensures looks { pass.new ≡ pass.old }
     {
         if !self.is_of_level(rows, pass) {
@@ -93,7 +93,7 @@ impl<R: Rows, A: Allocator> ReadRound<R, A> {
         requires stays { StaysLeft (left_of self.old.met) self.old.page.chain }
         requires beside { right_in self.old.page.chain ≡ Some self.old.met.pid }
         ensures treats { TreatsRead self.old.round self.old.page self.new.round None }
-        ensures same { AsksTheSame self.old.round self.new.round }
+        ensures same { ReadsForTheSame self.old.round self.new.round }
         ensures looks { pass.new ≡ pass.old }
     {
         let next = self.next_of_removed(rows, pass);
@@ -111,7 +111,7 @@ impl<R: Rows, A: Allocator> ReadRound<R, A> {
         requires stays { StaysLeft (left_of self.old.met) self.old.page.chain }
         requires merged { right_in self.old.page.chain ≢ Some self.old.met.pid }
         ensures treats { TreatsRead self.old.round self.old.page self.new.round None }
-        ensures same { AsksTheSame self.old.round self.new.round }
+        ensures same { ReadsForTheSame self.old.round self.new.round }
         ensures looks { pass.new ≡ pass.old }
     {
         match self.next_aside(rows, pass) {

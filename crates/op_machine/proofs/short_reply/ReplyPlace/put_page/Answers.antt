@@ -1,4 +1,3 @@
-use Rattle.std.proofs.Common.{ap}
 use Rattle.bw_model.specs.declared.command.Reply.TheVariants as replied
 use Rattle.base_page.specs.Shown.{pairs_from}
 use Rattle.row_chain.proofs.PairLaws.{are_pairs, pairs_in}
@@ -10,4 +9,4 @@ returns-clause-page g c =
     let from = c.args.from.now in
     let is = c.page_in.ensures.ruled.is_page in
     let pairs = pairs_from from leaf.items in
-    (pairs, pairs_in c.args.leaf.now.records leaf from pairs c.page_in.ensures.makes is (are_pairs from leaf.items is.ordered.ascending), ap (replied.Page pairs) c.page_in.ensures.makes.high)
+    (pairs, pairs_in c.args.leaf.now.records leaf from pairs c.page_in.ensures.makes is (are_pairs from leaf.items is.ordered.ascending), λ i. replied.Page (pairs_from (c.copied-self-inside.ensures i) leaf.items) (c.page_in.ensures.makes.high i))

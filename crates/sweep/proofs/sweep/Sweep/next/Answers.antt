@@ -1,7 +1,7 @@
 use Rattle.std.proofs.Common.{◌<◌, true, false}
 use Rattle.bw_model.specs.Answers.{answer_of}
 use Rattle.sweep.specs.Bounded.{steps_left}
-use Rattle.sweep.specs.Sweeps.{HasNewState, IsSoundState, IsSoundSweep, Sweep}
+use Rattle.sweep.specs.Sweeps.{IsSameSweep, IsSoundState, IsSoundSweep, Sweep}
 use Rattle.sweep.proofs.Moving.{follows}
 use Rattle.sweep.proofs.Sound.{goes_on}
 use Rattle.sweep.proofs.sweep.Sweep.next.Goals as goal
@@ -10,7 +10,7 @@ use Rattle.sweep.proofs.sweep.Sweep.next.Goals as goal
 abbrev next : (g : _) → goal.After-state-in-Some-1 g → Sweep
 next g c = record { limits = c.self-2.inside.limits; actor = c.self-2.inside.actor; state = c.in-Some.state }
 
-same : (g : _) (c : goal.After-state-in-Some-1 g) → HasNewState c.args.self.now (next g c)
+same : (g : _) (c : goal.After-state-in-Some-1 g) → IsSameSweep c.args.self.now (next g c)
 same g c = let is = rw (← c.self-2.view_is) at c.move_on.ensures.same in record { limits = is.limits; actor = is.actor }
 
 goes : (g : _) (c : goal.After-state-in-Some-1 g)
