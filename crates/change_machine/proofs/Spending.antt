@@ -127,7 +127,7 @@ few_first limits after plan spares =
     omega (arith, first, three)
 
 -- at its first state it recalls the slot that decides
-recalls_first : (limits : Limits) (r : Recalled) (plan : Plan) (spares : Spares) → WasHead r (slot_of plan) (head_of plan) → RecallsAt r plan (first_state limits plan spares)
+pub recalls_first : (limits : Limits) (r : Recalled) (plan : Plan) (spares : Spares) → WasHead r (slot_of plan) (head_of plan) → RecallsAt r plan (first_state limits plan spares)
 recalls_first limits r plan spares h = at_first (needs_pid plan && not (is_some spares.pid)) (ltb (length spares.rows) (rows_needed plan))
   where
     at_place : (other : Plan) → RecallsAt r plan (after_taking other)

@@ -1,21 +1,13 @@
-use Rattle.std.proofs.Common.{◌≡◌, ◌≤◌, ℕ, Bool, true, false, is_some, length, ltb, ◌∙◌, sym, subst}
-use Rattle.std.specs.Prelude.{◌&&◌, if◌then◌else◌, not}
+use Rattle.std.proofs.Common.{◌≡◌, ◌≤◌, ℕ, ◌∙◌, sym, subst}
 use Rattle.tree_limits.specs.declared.limits.Limits.{Limits}
-use Rattle.change_machine.specs.Bounded.{Recalls, RecallsAt, few_steps, steps_left}
+use Rattle.change_machine.specs.Bounded.{Recalls, few_steps, steps_left}
 use Rattle.change_machine.specs.Changes.{Change, IsSoundChange, Shows}
-use Rattle.change_machine.specs.Moves.{after_taking, first_state}
-use Rattle.change_machine.specs.Spares.{Spares}
-use Rattle.change_machine.specs.Taking.{begun_at}
+use Rattle.change_machine.specs.Moves.{first_state}
 use Rattle.change_machine.specs.declared.change.State.{State}
-use Rattle.change_machine.specs.declared.change.State.TheVariants as state
-use Rattle.change_machine.specs.declared.taking.Kind.TheVariants.{Pid, Row}
-use Rattle.structure_changes.specs.Plans.{head_of, needs_pid, rows_needed, slot_of}
 use Rattle.structure_changes.specs.declared.plan.Plan.{Plan}
-use Rattle.structure_changes.specs.declared.plan.Plan.TheVariants.{Install, Split, Root, Unlink}
-use Rattle.traces.specs.discipline.Recalled.{Recalled, WasHead}
 use Rattle.change_machine.proofs.Making.{bare, bare_at}
 use Rattle.change_machine.proofs.Sound.{first_sound}
-use Rattle.change_machine.proofs.Spending.{few_first}
+use Rattle.change_machine.proofs.Spending.{few_first, recalls_first}
 use Rattle.change_machine.proofs.Taken.{shows_first}
 use Rattle.change_machine.proofs.change.Change.begin.Goals as goal
 
@@ -43,21 +35,6 @@ returns-clause-sound c =
     let begun : IsSoundChange (bare_at limits plan (first_state limits plan spares)) spares = record { room = c.requires.room; state = first_sound limits plan spares c.requires.target } in
     let sound = subst (λ change. IsSoundChange change spares) is begun in
     record { room = sound.room; state = sound.state }
-
-recalls_first : (limits : Limits) (r : Recalled) (plan : Plan) (spares : Spares) → WasHead r (slot_of plan) (head_of plan) → RecallsAt r plan (first_state limits plan spares)
-recalls_first limits r plan spares head = at_first (needs_pid plan && not (is_some spares.pid)) (ltb (length spares.rows) (rows_needed plan))
-  where
-    at_place : (other : Plan) → RecallsAt r plan (after_taking other)
-    at_place (Install pid row content) = head
-    at_place (Split pid split) = head
-    at_place (Root left root) = head
-    at_place (Unlink pid row unterm removal) = head
-
-    at_first : (pid row : Bool)
-        → RecallsAt r plan (if pid then state.Taking (begun_at limits Pid (head_of plan)) else if row then state.Taking (begun_at limits Row (head_of plan)) else after_taking plan)
-    at_first true row = head
-    at_first false true = head
-    at_first false false = at_place plan
 
 pub returns-clause-recalls : goal.returns-clause-recalls
 returns-clause-recalls c r head apart =
