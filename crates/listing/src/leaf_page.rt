@@ -1,19 +1,15 @@
 //! A page of the leaves' pairs, from a key on.
-ghost use Rattle.std.specs.Prelude.{◌≡◌, ◌<◌, ◌≤◌, ◌⊎◌, IfSome, List, None, Some, length};
-ghost use Rattle.bw_model.specs.Pairs.{ArePairsOf};
-ghost use Rattle.bw_model.specs.declared.pairs.TheConstants.{MAX_PAIRS};
-ghost use Rattle.base_page.specs.Pages.{IsAscending, content_at};
+ghost use Rattle.std.specs.Prelude.{◌≡◌, ◌⊎◌, IfSome, List, None, Some};
 ghost use Rattle.base_page.specs.Rules.{IsRuled};
 ghost use Rattle.deltas.specs.Memory.{Memory};
 ghost use Rattle.deltas.specs.declared.record.Record.{Record};
 ghost use Rattle.listing.specs.Listed.{IsAmong, IsFoundAt, IsPageFrom, IsBeyondEnd, StandsAt};
 ghost use Rattle.traces.specs.chain.Chains.{low_in};
-ghost use Rattle.traces.specs.discipline.Discipline.{value_of};
 ghost use Rattle.tree_law.specs.Keys.{IsUnder, IsUpTo};
 ghost use Rattle.tree_law.specs.Leaves.{HasLeafPages};
 
 use crate::page::page_of;
-use base_page::{Content, Item, Page};
+use base_page::Page;
 use bw_model::{Key, Limits, Pairs};
 use deltas::RecordRows;
 
@@ -39,8 +35,10 @@ pub fn page_from<M: RecordRows>(limits: &Limits, rows: &M, near: u32, from: &Key
 {
     let leaf = leaf_with(limits, rows, near, from);
     let page = page_of(rows, leaf);
+    let mut pairs = Pairs::new();
+    page.show_from(from, &mut pairs);
     LeafPage {
-        pairs: pairs_among(page.items().as_slice(), from),
+        pairs,
         next: end_of(&page),
         leaf,
     }
@@ -99,21 +97,4 @@ fn end_of(page: &Page) -> Option<Key>
         Some(high) => Some(high.copied()),
         None => None,
     }
-}
-
-/// The pairs of the items from the key on.
-fn pairs_among(items: &[Item], from: &Key) -> Pairs
-    requires ascending { IsAscending items.now }
-    requires few { length items.now ≤ MAX_PAIRS }
-    ensures { ArePairsOf (λ key. value_of (content_at items.now key)) from.now None result }
-{
-    let mut pairs = Pairs::new();
-    for item in items {
-        if let Content::Value(value) = &item.content
-            && !item.key.cmp(from).is_lt()
-        {
-            pairs.push(item.key.copied(), value.copied());
-        }
-    }
-    pairs
 }
