@@ -206,14 +206,21 @@ func (tree *Tree) CloseWithPairs() (pairs []Pair, err error) {
 
 // Seat leases a seat, and waits for one where none is free. Release gives it back.
 func (tree *Tree) Seat() *Seat {
-	return &Seat{tree: tree, number: <-tree.free}
+	return tree.lease(<-tree.free)
+}
+
+// lease is a seat with this number. One that is dropped without Release goes back once the collector finds it.
+func (tree *Tree) lease(number uint32) *Seat {
+	seat := &Seat{tree: tree, number: number}
+	runtime.SetFinalizer(seat, (*Seat).Release)
+	return seat
 }
 
 // TrySeat leases a seat, or is nil where none is free.
 func (tree *Tree) TrySeat() *Seat {
 	select {
 	case number := <-tree.free:
-		return &Seat{tree: tree, number: number}
+		return tree.lease(number)
 	default:
 		return nil
 	}
@@ -255,7 +262,7 @@ func (seat *Seat) done(status C.uint32_t, old *C.bwtree_bytes) (C.uint32_t, erro
 		var page C.bwtree_page_pairs
 		status = C.bwtree_resume(seat.tree.handle, C.uint32_t(seat.number), steps, old, &page)
 	}
-	runtime.KeepAlive(seat.tree)
+	runtime.KeepAlive(seat)
 	return status, settled(status)
 }
 
@@ -334,7 +341,7 @@ func (seat *Seat) Page(from []byte) (pairs []Pair, next []byte, more bool, err e
 	for status == C.BWTREE_SPENT {
 		status = C.bwtree_resume(seat.tree.handle, C.uint32_t(seat.number), steps, &old, &page)
 	}
-	runtime.KeepAlive(seat.tree)
+	runtime.KeepAlive(seat)
 	if err := settled(status); err != nil {
 		return nil, nil, false, err
 	}
@@ -368,6 +375,6 @@ func (seat *Seat) Walk(from []byte, each func(key, value []byte) bool) error {
 func (seat *Seat) Room() (Room, error) {
 	var room C.bwtree_room
 	err := settled(C.bwtree_free_room(seat.tree.handle, C.uint32_t(seat.number), &room))
-	runtime.KeepAlive(seat.tree)
+	runtime.KeepAlive(seat)
 	return Room{uint64(room.free_pids), uint64(room.free_rows)}, err
 }

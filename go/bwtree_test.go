@@ -7,6 +7,7 @@ import (
 	"runtime"
 	"sync"
 	"testing"
+	"time"
 )
 
 func opened(t *testing.T, seats, keys uint64) *Tree {
@@ -92,6 +93,24 @@ func TestLeases(t *testing.T) {
 		t.Fatal(err)
 	}
 	if _, _, err := tree.Seat().Get(nil); !errors.Is(err, Closed) {
+		t.Fatal(err)
+	}
+}
+
+func TestDroppedSeats(t *testing.T) {
+	tree := opened(t, 1, 100)
+	tree.Seat()
+	seat := tree.TrySeat()
+	for i := 0; i < 1000 && seat == nil; i++ {
+		runtime.GC()
+		time.Sleep(time.Millisecond)
+		seat = tree.TrySeat()
+	}
+	if seat == nil {
+		t.Fatal("the seat doesn't come back")
+	}
+	seat.Release()
+	if err := tree.Close(); err != nil {
 		t.Fatal(err)
 	}
 }

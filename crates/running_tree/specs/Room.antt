@@ -1,5 +1,5 @@
 -- How many numbers are free in a running tree, as the run that a seat has seen tells of them.
-use Rattle.std.specs.Prelude.{◌≡◌, ℕ, ◌+◌, ◌*◌, ◌/◌, Bool, List}
+use Rattle.std.specs.Prelude.{◌≡◌, ℕ, suc, ◌+◌, ◌*◌, ◌/◌, Bool, List}
 use Rattle.bw_model.specs.declared.step.Step.{Step as StepOf}
 use Rattle.bw_model.specs.declared.step.Step.TheVariants.{PidBits, RowBits}
 use Rattle.deltas.specs.declared.record.Record.{Record}
