@@ -2,7 +2,7 @@
 # How many operations a second threads do on one running tree, each thread with a seat of its own: bench/tree.sh [OPERATIONS [BYTES]], so
 # many in each thread, with keys of 16 bytes or of so many. The tree has 20,000 keys with values of 8 bytes; lookups are of drawn keys, and
 # in the mix every second operation is an upsert of one. Beside it stands how many lookups bare loads of as many rows' words would allow, of the rows of ways over five levels and of
-# drawn rows, and the share of these limits that is reached. Opening and loading the tree is not counted. The program is proved and built first.
+# drawn rows, and loads of the words alone that a search looks at on such ways, and the share of these limits that is reached. Opening and loading the tree is not counted. The program is proved and built first.
 set -eu
 top=$(CDPATH='' cd -- "$(dirname -- "$0")/.." && pwd)
 operations=${1:-10000}
@@ -31,7 +31,8 @@ for threads in 1 2 4; do
     half=$(took "$all" half "$keys" "$threads" "$operations")
     ways=$(took "$all" ways "$rows" "$threads" "$operations")
     drawn=$(took "$all" rows "$rows" "$threads" "$operations")
-    echo "$threads $all $reads $half $ways $drawn" >>"$times"
+    looks=$(took "$all" looks "$rows" "$threads" "$operations")
+    echo "$threads $all $reads $half $ways $drawn $looks" >>"$times"
 done
 awk -v rows="$rows" '
     BEGIN { printf "a lookup reads %d rows\n", rows }
@@ -40,13 +41,14 @@ awk -v rows="$rows" '
         half = $2 / $4 * 1e9
         ways = $2 / $5 * 1e9
         drawn = $2 / $6 * 1e9
-        if (NR == 1) { one_reads = reads; one_half = half; one_ways = ways; one_drawn = drawn }
+        looks = $2 / $7 * 1e9
+        if (NR == 1) { one_reads = reads; one_half = half; one_ways = ways; one_drawn = drawn; one_looks = looks }
         printf "%d threads: %.0f lookups a second, %.0f operations of the mix; ", $1, reads, half
         printf "bare loads of ways allow %.0f lookups, %.1f %% of which are reached, ", ways, reads / ways * 100
-        printf "of drawn rows %.0f, %.1f %%\n", drawn, reads / drawn * 100
+        printf "of drawn rows %.0f, %.1f %%, looks at such ways %.0f, %.1f %%\n", drawn, reads / drawn * 100, looks, reads / looks * 100
     }
     END {
-        printf "4 threads against 1: lookups %.2f, mix %.2f, bare loads of ways %.2f, of drawn rows %.2f\n", \
-            reads / one_reads, half / one_half, ways / one_ways, drawn / one_drawn
+        printf "4 threads against 1: lookups %.2f, mix %.2f, bare loads of ways %.2f, of drawn rows %.2f, looks %.2f\n", \
+            reads / one_reads, half / one_half, ways / one_ways, drawn / one_drawn, looks / one_looks
     }
 ' "$times"

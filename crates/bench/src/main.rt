@@ -9,8 +9,9 @@
 //! bytes, 16 at least, by one seat. That is all where WHAT is `load`, or `ascend`, which inserts them in ascending order. Where it is `reads`,
 //! `half` or `scans`, each of so many threads then does so many operations on drawn keys: lookups, upserts and lookups by turns, or pages of
 //! 100 pairs. Where it is `steps` or `writes`, they do lookups or upserts, and count their steps. Where it is `window`, the tree has 256 PIDs
-//! and is empty; keys come at its end, and go at its front once there are SIZE. Where it is `rows` or `ways`, there is
-//! no tree: an operation loads the words of SIZE rows, drawn ones, or those of a way over five levels. It prints how many operations
+//! and is empty; keys come at its end, and go at its front once there are SIZE. Where it is `rows`, `ways` or
+//! `looks`, there is no tree: an operation loads the words of SIZE rows, drawn ones, or those of a way over five levels, or of these the words
+//! that a search looks at. It prints how many operations
 //! succeeded or steps were taken by what came last, and on standard error how many nanoseconds that took. bench/tree.sh, bench/large.sh and
 //! bench/windows.sh run it.
 #![tactic(auto)]
@@ -22,6 +23,7 @@ mod trees;
 mod worker;
 
 use amounts::{Done, Scale};
+use rows::Loads;
 use std::alloc::Global;
 use std::thread::Threads;
 use std::time::Clock;
@@ -59,7 +61,7 @@ fn work<R: Threads + Clock + Sync>(
 ) -> Option<Done> {
     match What::named(what) {
         Some(what) => trees::run(rt, alloc, what, scale),
-        None => rows::run(rt, alloc, matches!(what, "ways"), scale),
+        None => rows::run(rt, alloc, Loads::named(what), scale),
     }
 }
 
