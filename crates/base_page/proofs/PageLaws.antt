@@ -8,7 +8,7 @@ use Rattle.bw_model.specs.Bytes.{key_cmp, is_in_range, is_under}
 use Rattle.base_page.specs.declared.item.Content.{Content}
 use Rattle.base_page.specs.declared.item.Content.TheVariants.{Value, Child}
 use Rattle.base_page.specs.declared.item.Item.{Item}
-use Rattle.base_page.specs.Pages.{Page, IsPage, AreItems, IsOfLevel, child_in, content_at, held}
+use Rattle.base_page.specs.Pages.{Page, IsPage, AreItems, IsOfLevel, child_in, content_at, content_held}
 use Rattle.base_page.proofs.KeyLaws.{either, same}
 use Rattle.base_page.proofs.ItemLaws.{all-both, all-weaker, Ascends-from, of_content, all_contents}
 
@@ -55,12 +55,12 @@ module _ (page : Page) (is : IsPage page) (items : List Item) (are : AreItems it
 
 -- a page is as it was where nothing was to be held
 pub held_none : (items : List Item) (key : List ℕ) → child_in (content_at items key) ≡ None → (q : List ℕ)
-    → content_at items q ≡ (if is_eq (key_cmp q key) then held (content_at items key) else content_at items q)
+    → content_at items q ≡ (if is_eq (key_cmp q key) then content_held (content_at items key) else content_at items q)
 held_none items key h q = either (is_eq (key_cmp q key))
     (λ yes. rw (yes, same q key yes) (sym (not_child (content_at items key) h)))
     (λ no. rw no refl)
   where
-    not_child : (r : Option Content) → child_in r ≡ None → held r ≡ r
+    not_child : (r : Option Content) → child_in r ≡ None → content_held r ≡ r
     not_child None h = refl
     not_child (Some (Value value)) h = refl
     not_child (Some (Child child mark)) h = cc

@@ -34,10 +34,10 @@ child_in (Some (Child page held)) = Some page
 child_in None = None
 
 -- the same content, held where it is a child
-abbrev pub held : Option Content → Option Content
-held (Some (Value value)) = Some (Value value)
-held (Some (Child page mark)) = Some (Child page true)
-held None = None
+abbrev pub content_held : Option Content → Option Content
+content_held (Some (Value value)) = Some (Value value)
+content_held (Some (Child page mark)) = Some (Child page true)
+content_held None = None
 
 -- each item's key is below those after it
 abbrev pub IsAscending : List Item → Type 0

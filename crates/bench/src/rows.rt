@@ -131,7 +131,7 @@ fn way(words: &Words, rows: u32, number: u32) -> u64
 }
 
 /// What a search looks at for a key in so many rows on such a way, folded into one: a slot, a base and three deltas by turns. Which slot
-/// and row come next waits for what was found.
+/// and row come next waits for what was found in the row before: a delta says which row is under it.
 fn looks(words: &Words, rows: u32, number: u32) -> u64
     requires { words.now.table_id.words ≡ ROWS * ROW_WORDS }
 {
@@ -143,7 +143,9 @@ fn looks(words: &Words, rows: u32, number: u32) -> u64
             found ^= slot(words, number.wrapping_add(found));
             found = place_in(words, row_on_way(record, number.wrapping_add(found)), key);
         } else {
-            folded ^= first_of(words, row_on_way(record, number.wrapping_add(found)));
+            let row = row_on_way(record, number.wrapping_add(found));
+            folded ^= first_of(words, row);
+            found ^= next_of(words, row);
         }
     }
     folded
@@ -195,6 +197,14 @@ fn upper(words: &Words, row: usize, from: usize, count: usize, key: u64) -> usiz
         return from + count;
     }
     from
+}
+
+/// The row under a delta, in place of which stands 0.
+fn next_of(words: &Words, row: usize) -> u32
+    requires range { row < ROWS }
+    requires words { words.now.table_id.words ≡ ROWS * ROW_WORDS }
+{
+    (words.peek(row * ROW_WORDS + 1) % 2) as u32
 }
 
 /// A delta's first word, and of its key the length and the first word; folded into one.

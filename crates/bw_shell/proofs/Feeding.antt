@@ -7,7 +7,7 @@ use Rattle.std.proofs.lemmas.Grind.{flat_map-append}
 use Rattle.std.specs.List.{AllByRecursion, flat_map}
 use Rattle.shell_lines.specs.declared.request.Language.{Language}
 use Rattle.bw_shell.specs.Turns.{Trace}
-use Rattle.bw_shell.specs.Lines.{lines_of, HasNoFeed, ended}
+use Rattle.bw_shell.specs.Lines.{lines_of, HasNoFeed, with_newline}
 use Rattle.bw_shell.specs.declared.refusal.Refusal.TheVariants.{Malformed}
 use Rattle.bw_shell.specs.declared.refusal.RefusedLine.{RefusedLine}
 use Rattle.bw_shell.specs.Transcript.{Transcript}
@@ -25,12 +25,12 @@ line_front : (x : List ℕ) (rest : List ℕ) → HasNoFeed x → lines_of (x ++
 line_front [] rest h = refl
 line_front (b ∷ bs) rest h = rw (ne_eqb b 10 h.0, line_front bs rest h.1) refl
 
-pub lines_whole : (lines : List (List ℕ)) (rest : List ℕ) → AllByRecursion HasNoFeed lines → lines_of (flat_map ended lines ++ rest) ≡ lines ++ lines_of rest
+pub lines_whole : (lines : List (List ℕ)) (rest : List ℕ) → AllByRecursion HasNoFeed lines → lines_of (flat_map with_newline lines ++ rest) ≡ lines ++ lines_of rest
 lines_whole [] rest h = refl
 lines_whole (x ∷ xs) rest h =
-    let e : flat_map ended (x ∷ xs) ++ rest ≡ x ++ 10 ∷ (flat_map ended xs ++ rest)
-    = append_assoc (x ++ 10 ∷ []) (flat_map ended xs) rest ∙ append_assoc x (10 ∷ []) (flat_map ended xs ++ rest) in
-    ap lines_of e ∙ line_front x (flat_map ended xs ++ rest) h.0 ∙ ap (λ (l : List (List ℕ)). x ∷ l) (lines_whole xs rest h.1)
+    let e : flat_map with_newline (x ∷ xs) ++ rest ≡ x ++ 10 ∷ (flat_map with_newline xs ++ rest)
+    = append_assoc (x ++ 10 ∷ []) (flat_map with_newline xs) rest ∙ append_assoc x (10 ∷ []) (flat_map with_newline xs ++ rest) in
+    ap lines_of e ∙ line_front x (flat_map with_newline xs ++ rest) h.0 ∙ ap (λ (l : List (List ℕ)). x ∷ l) (lines_whole xs rest h.1)
 
 -- what has no LF is a front of one line
 line_open : (b : ℕ) (bs rest : List ℕ) → HasNoFeed (b ∷ bs) → (first : List ℕ) × (others : List (List ℕ)) × (lines_of ((b ∷ bs) ++ rest) ≡ ((b ∷ bs) ++ first) ∷ others)
@@ -118,10 +118,10 @@ weaves_then n m p bs n' m' q t cs n'' m'' q' u v w = record {
   lines = v.lines ++ w.lines;
   splits = record {
     whole =
-        sym (append_assoc p bs cs) ∙ ap (λ (l : List ℕ). l ++ cs) v.splits.whole ∙ append_assoc (flat_map ended v.lines) q cs
-        ∙ ap (λ (l : List ℕ). flat_map ended v.lines ++ l) w.splits.whole
-        ∙ sym (append_assoc (flat_map ended v.lines) (flat_map ended w.lines) q')
-        ∙ ap (λ (l : List ℕ). l ++ q') (sym (flat_map-append ended v.lines w.lines));
+        sym (append_assoc p bs cs) ∙ ap (λ (l : List ℕ). l ++ cs) v.splits.whole ∙ append_assoc (flat_map with_newline v.lines) q cs
+        ∙ ap (λ (l : List ℕ). flat_map with_newline v.lines ++ l) w.splits.whole
+        ∙ sym (append_assoc (flat_map with_newline v.lines) (flat_map with_newline w.lines) q')
+        ∙ ap (λ (l : List ℕ). l ++ q') (sym (flat_map-append with_newline v.lines w.lines));
     each = all_then HasNoFeed v.lines w.lines v.splits.each w.splits.each;
     open_end = w.splits.open_end;
   };
@@ -133,9 +133,9 @@ pub weaves_stops : {language : Language} (n : ℕ) (m : Trace) (p bs : List ℕ)
     → Weaves language n m p bs n' m' q t → StopsAmong language n' m' q tail m'' u r → StopsAmong language n m p (bs ++ tail) m'' (t ++ u) r
 weaves_stops n m p bs n' m' q t tail m'' u r v s rest =
     let end = s rest in
-    let e : (p ++ (bs ++ tail)) ++ rest ≡ flat_map ended v.lines ++ ((q ++ tail) ++ rest)
-    = ap (λ (l : List ℕ). l ++ rest) (sym (append_assoc p bs tail) ∙ ap (λ (l : List ℕ). l ++ tail) v.splits.whole ∙ append_assoc (flat_map ended v.lines) q tail)
-    ∙ append_assoc (flat_map ended v.lines) (q ++ tail) rest in (
+    let e : (p ++ (bs ++ tail)) ++ rest ≡ flat_map with_newline v.lines ++ ((q ++ tail) ++ rest)
+    = ap (λ (l : List ℕ). l ++ rest) (sym (append_assoc p bs tail) ∙ ap (λ (l : List ℕ). l ++ tail) v.splits.whole ∙ append_assoc (flat_map with_newline v.lines) q tail)
+    ∙ append_assoc (flat_map with_newline v.lines) (q ++ tail) rest in (
       v.lines ++ end.0,
       end.1,
       ap lines_of e ∙ lines_whole v.lines ((q ++ tail) ++ rest) v.splits.each ∙ ap (λ (l : List (List ℕ)). v.lines ++ l) end.2 ∙ sym (append_assoc v.lines end.0 end.1),

@@ -11,7 +11,7 @@ use Rattle.step_core.specs.declared.event.RunError.TheVariants.{Memory}
 use Rattle.step_core.specs.declared.event.Event.{Event}
 use Rattle.bw_shell.specs.declared.refusal.Refusal.TheVariants.{NoActor, Unfinished, NoOperation}
 use Rattle.bw_shell.specs.Refusal.{refusal_by}
-use Rattle.bw_shell.specs.Turns.{seen, refusal_in, Refuses}
+use Rattle.bw_shell.specs.Turns.{trace_of, refusal_in, Refuses}
 
 begin_is : (n actor : ℕ) (command : Command) (b c : Bool) → cond b (cond c (Some Unfinished) None) (Some NoActor) ≡ option_map refusal_by (refused_by n (Begin actor command) (cond b (Some c) None))
 begin_is n actor command true true = refl
@@ -24,19 +24,19 @@ step_is n actor true false = refl
 step_is n actor false c = refl
 
 -- both look for the same
-pub refusal_is : (core : Core) (turn : Turn) → refusal_in (seen core) turn ≡ option_map refusal_by (core_refusal_of core turn)
+pub refusal_is : (core : Core) (turn : Turn) → refusal_in (trace_of core) turn ≡ option_map refusal_by (core_refusal_of core turn)
 refusal_is core (Begin actor command) = begin_is (length core.entries) actor command (nat_lt actor core.limits.actors) (is_some (command_of core.entries actor))
 refusal_is core (Step actor) = step_is (length core.entries) actor (nat_lt actor core.limits.actors) (is_some (command_of core.entries actor))
 
 pub refused_turn : (core : Core) (turn : Turn) (error : RunError)
     → ((e : RunError) → core_refusal_of core turn ≡ Some e → (let found : Result Event RunError = Err error in let wanted : Result Event RunError = Err e in found ≡ wanted))
     → (core_refusal_of core turn ≡ None → error ≡ Memory (length core.entries))
-    → Refuses (seen core) turn (refusal_by error)
+    → Refuses (trace_of core) turn (refusal_by error)
 refused_turn core turn error refused memory = at (core_refusal_of core turn) refl
   where
     err_is : (e : RunError) → (let found : Result Event RunError = Err error in let wanted : Result Event RunError = Err e in found ≡ wanted) → error ≡ e
     err_is e h = cc h
 
-    at : (o : Option RunError) → core_refusal_of core turn ≡ o → Refuses (seen core) turn (refusal_by error)
+    at : (o : Option RunError) → core_refusal_of core turn ≡ o → Refuses (trace_of core) turn (refusal_by error)
     at None is = inr (refusal_is core turn ∙ ap (option_map refusal_by) is, ap refusal_by (memory is))
     at (Some e) is = inl (refusal_is core turn ∙ ap (option_map refusal_by) is ∙ ap (λ x. Some (refusal_by x)) (sym (err_is e (refused e is))))

@@ -13,7 +13,7 @@ use Rattle.bw_shell.specs.declared.turns.Progress.TheVariants.{GoesOn, Linked, D
 use Rattle.bw_shell.specs.declared.refusal.Refusal.{Refusal}
 use Rattle.bw_shell.specs.Refusal.{refusal_by}
 use Rattle.bw_shell.specs.Transcript.{IsUnderWay, StepTold, StepsOn, ToldAs, TurnsTold}
-use Rattle.bw_shell.specs.Turns.{Refuses, TakesTurn, Trace, seen}
+use Rattle.bw_shell.specs.Turns.{Refuses, TakesTurn, Trace, trace_of}
 use Rattle.bw_shell.proofs.Refusals.{refusal_is, refused_turn}
 
 -- what a step of the core told
@@ -22,7 +22,7 @@ TurnTold before actor (Ok event) after = TakesTurn before (Step actor) event aft
 TurnTold before actor (Err error) after = Refuses before (Step actor) (refusal_by error) × (after ≡ before)
 
 -- a step that was taken, and that no refusal kept
-pub stepped : (old new : Core) (actor : ℕ) (event : Event) → core_refusal_of old (Step actor) ≡ None → AddsTurn old (Step actor) event new → TakesTurn (seen old) (Step actor) event (seen new)
+pub stepped : (old new : Core) (actor : ℕ) (event : Event) → core_refusal_of old (Step actor) ≡ None → AddsTurn old (Step actor) event new → TakesTurn (trace_of old) (Step actor) event (trace_of new)
 stepped old new actor event free adds = record {
   free = refusal_is old (Step actor) ∙ ap (option_map refusal_by) free;
   entry = adds.added;
@@ -34,13 +34,13 @@ stepped old new actor event free adds = record {
 
 pub turn_told : (old new : Core) (actor : ℕ) (told : Result Event RunError) → ((e : RunError) → core_refusal_of old (Step actor) ≡ Some e → told ≡ Err e)
     → (core_refusal_of old (Step actor) ≡ None → IfErr told (λ error. (error ≡ Memory (length old.entries)) × WantsMemory old (Step actor)))
-    → IfOk told (λ event. AddsTurn old (Step actor) event new) → OnErr told (new ≡ old) → TurnTold (seen old) actor told (seen new)
+    → IfOk told (λ event. AddsTurn old (Step actor) event new) → OnErr told (new ≡ old) → TurnTold (trace_of old) actor told (trace_of new)
 turn_told old new actor (Ok event) refused memory ok err = stepped old new actor event (none (core_refusal_of old (Step actor)) refl) ok
   where
     none : (o : Option RunError) → core_refusal_of old (Step actor) ≡ o → core_refusal_of old (Step actor) ≡ None
     none None is = is
     none (Some e) is = let never = refused e is in cc never
-turn_told old new actor (Err error) refused memory ok err = (refused_turn old (Step actor) error refused (λ h. (memory h).0), ap seen err)
+turn_told old new actor (Err error) refused memory ok err = (refused_turn old (Step actor) error refused (λ h. (memory h).0), ap trace_of err)
 
 -- one step, and what it comes to
 pub step_told : (until : Option Link) (before : Trace) (actor : ℕ) (told : Result Event RunError) (after : Trace) (result : Result Progress Refusal)

@@ -5,32 +5,32 @@ use Rattle.bw_model.specs.declared.command.Reply.{Reply}
 use Rattle.bw_model.specs.declared.command.Reply.TheVariants.{Value, None as NoValue, Inserted, Exists, Set, Replaced, Deleted, Absent, Swapped, Differs, Page, Tidied, Full}
 use Rattle.bw_shell.specs.declared.turns.Progress.{Progress}
 use Rattle.bw_shell.specs.declared.turns.Progress.TheVariants.{GoesOn, Linked, Done}
-use Rattle.shell_lines.specs.Token.{printed}
+use Rattle.shell_lines.specs.Token.{as_token}
 use Rattle.bw_shell.specs.declared.refusal.Refusal.{Refusal}
 use Rattle.bw_shell.specs.declared.refusal.RefusedLine.{RefusedLine}
 use Rattle.bw_shell.specs.Refusal.{code_of}
 
 -- a pair, as it stands in a cursor page
 abbrev pub item_text : List ℕ × List ℕ → List ℕ
-item_text pair = codes " " ++ printed pair.0 ++ codes " " ++ printed pair.1
+item_text pair = codes " " ++ as_token pair.0 ++ codes " " ++ as_token pair.1
 
 -- from which key the next cursor page goes on, or that there is none
 abbrev pub next_text : Option (List ℕ) → List ℕ
 next_text None = codes " end\n"
-next_text (Some key) = codes " next " ++ printed key ++ codes "\n"
+next_text (Some key) = codes " next " ++ as_token key ++ codes "\n"
 
 -- a reply, as it stands behind its actor
 abbrev pub reply_text : Reply → List ℕ
-reply_text (Value v) = codes " value " ++ printed v ++ codes "\n"
+reply_text (Value v) = codes " value " ++ as_token v ++ codes "\n"
 reply_text NoValue = codes " none\n"
 reply_text Inserted = codes " inserted\n"
-reply_text (Exists v) = codes " exists " ++ printed v ++ codes "\n"
+reply_text (Exists v) = codes " exists " ++ as_token v ++ codes "\n"
 reply_text Set = codes " set\n"
-reply_text (Replaced v) = codes " replaced " ++ printed v ++ codes "\n"
-reply_text (Deleted v) = codes " deleted " ++ printed v ++ codes "\n"
+reply_text (Replaced v) = codes " replaced " ++ as_token v ++ codes "\n"
+reply_text (Deleted v) = codes " deleted " ++ as_token v ++ codes "\n"
 reply_text Absent = codes " absent\n"
 reply_text Swapped = codes " swapped\n"
-reply_text (Differs v) = codes " differs " ++ printed v ++ codes "\n"
+reply_text (Differs v) = codes " differs " ++ as_token v ++ codes "\n"
 reply_text (Page items next) = codes " page " ++ decimal (length items) ++ flat_map item_text items ++ next_text next
 reply_text Tidied = codes " tidied\n"
 reply_text Full = codes " full\n"
@@ -48,7 +48,7 @@ finished_text actor Linked = []
 finished_text actor (Done reply) = decimal actor ++ reply_text reply
 
 abbrev pub pair_text : List ℕ × List ℕ → List ℕ
-pair_text pair = printed pair.0 ++ codes " " ++ printed pair.1 ++ codes "\n"
+pair_text pair = as_token pair.0 ++ codes " " ++ as_token pair.1 ++ codes "\n"
 
 abbrev pub listing_text : List (List ℕ × List ℕ) → List ℕ
 listing_text pairs = codes "pairs " ++ decimal (length pairs) ++ codes "\n" ++ flat_map pair_text pairs

@@ -16,8 +16,8 @@ pub record Trace : Type 0 where
   pub limits : Limits
   pub entries : List Entry
 
-abbrev pub seen : Core → Trace
-seen core = record { limits = core.limits; entries = core.entries }
+abbrev pub trace_of : Core → Trace
+trace_of core = record { limits = core.limits; entries = core.entries }
 
 abbrev pub opening_trace : Limits → Trace
 opening_trace limits = record { limits = limits; entries = [] }

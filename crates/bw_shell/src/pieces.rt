@@ -3,7 +3,7 @@
 ghost use Rattle.std.specs.Prelude.{◌≡◌, ◌+◌, ◌≤◌, ◌<◌, ◌^◌, length, false, None};
 ghost use Rattle.arrayvec.specs.ArrayVec.{array_vec_len};
 ghost use Rattle.bw_shell.specs.Lines.{HasNoFeed};
-ghost use Rattle.bw_shell.specs.Turns.{seen};
+ghost use Rattle.bw_shell.specs.Turns.{trace_of};
 ghost use Rattle.bw_shell.specs.Weave.{Feeds};
 
 use crate::refusal::{Refusal, RefusedLine};
@@ -34,8 +34,8 @@ pub fn feed<O: Output>(
     requires part { HasNoFeed weaver.old.part.items }
     requires short { array_vec_len weaver.old.part ≤ 1024 }
     requires count { weaver.old.number + length bytes.now < 2 ^ 64 }
-    ensures fed { Feeds language weaver.old.number (seen weaver.old.core) weaver.old.part.items bytes.now
-        weaver.new.number (seen weaver.new.core) weaver.new.part.items (O.state out.old) (O.state out.new) result }
+    ensures fed { Feeds language weaver.old.number (trace_of weaver.old.core) weaver.old.part.items bytes.now
+        weaver.new.number (trace_of weaver.new.core) weaver.new.part.items (O.state out.old) (O.state out.new) result }
     ensures short { result ≡ None → array_vec_len weaver.new.part ≤ 1024 }
     ensures count { weaver.new.number ≤ weaver.old.number + length bytes.now }
 {

@@ -1,7 +1,7 @@
 //! One line.
 
 ghost use Rattle.shell_lines.specs.Request.{until_done};
-ghost use Rattle.bw_shell.specs.Turns.{seen};
+ghost use Rattle.bw_shell.specs.Turns.{trace_of};
 ghost use Rattle.bw_shell.specs.Weave.{AskedRuns, RequestRuns, DrawRuns, LineRuns};
 
 use crate::refusal::{Refusal, RefusedLine};
@@ -18,7 +18,7 @@ const MANY: u64 = 100_000;
 
 // So many turns of an actor, fewer if it is done.
 fn run_turn<O: Output>(core: &mut Core, actor: u64, count: u64, out: &mut O) -> Result<(), Refusal>
-    ensures { RequestRuns (seen core.old) (Request.Turn actor count) (seen core.new) (O.state out.old) (O.state out.new) result }
+    ensures { RequestRuns (trace_of core.old) (Request.Turn actor count) (trace_of core.new) (O.state out.old) (O.state out.new) result }
 {
     match steps(core, actor, None, count) {
         Ok(progress) => {
@@ -36,7 +36,7 @@ fn run_until<O: Output>(
     link: Option<Link>,
     out: &mut O,
 ) -> Result<(), Refusal>
-    ensures { RequestRuns (seen core.old) (until_done actor link) (seen core.new) (O.state out.old) (O.state out.new) result }
+    ensures { RequestRuns (trace_of core.old) (until_done actor link) (trace_of core.new) (O.state out.old) (O.state out.new) result }
 {
     match steps(core, actor, link, MANY) {
         Ok(progress) => {
@@ -49,7 +49,7 @@ fn run_until<O: Output>(
 
 // One turn of an actor that was drawn, if it has an operation.
 fn run_drawn<O: Output>(core: &mut Core, actor: u8, out: &mut O) -> Result<(), Refusal>
-    ensures { DrawRuns (seen core.old) actor (seen core.new) (O.state out.old) (O.state out.new) result }
+    ensures { DrawRuns (trace_of core.old) actor (trace_of core.new) (O.state out.old) (O.state out.new) result }
 {
     if !core.is_busy(actor) {
         return Ok(());
@@ -66,7 +66,7 @@ fn run_drawn<O: Output>(core: &mut Core, actor: u8, out: &mut O) -> Result<(), R
 
 // So many draws of the seed's schedule.
 fn run_mix<O: Output>(core: &mut Core, seed: u64, count: u64, out: &mut O) -> Result<(), Refusal>
-    ensures { RequestRuns (seen core.old) (Request.Mix seed count) (seen core.new) (O.state out.old) (O.state out.new) result }
+    ensures { RequestRuns (trace_of core.old) (Request.Mix seed count) (trace_of core.new) (O.state out.old) (O.state out.new) result }
 {
     let mut schedule = schedule_over(core, seed);
     for _draw in 0..count {
@@ -81,7 +81,7 @@ fn run_mix<O: Output>(core: &mut Core, seed: u64, count: u64, out: &mut O) -> Re
 
 // A command of a script, which actor 0 runs to its end.
 fn run_command<O: Output>(core: &mut Core, command: Command, out: &mut O) -> Result<(), Refusal>
-    ensures { RequestRuns (seen core.old) (Request.Run command) (seen core.new) (O.state out.old) (O.state out.new) result }
+    ensures { RequestRuns (trace_of core.old) (Request.Run command) (trace_of core.new) (O.state out.old) (O.state out.new) result }
 {
     match begin(core, 0, command) {
         Ok(()) => run_until(core, 0, None, out),
@@ -90,7 +90,7 @@ fn run_command<O: Output>(core: &mut Core, command: Command, out: &mut O) -> Res
 }
 
 fn run_list<O: Output>(alloc: Global, core: &mut Core, out: &mut O) -> Result<(), Refusal>
-    ensures { RequestRuns (seen core.old) Request.List (seen core.new) (O.state out.old) (O.state out.new) result }
+    ensures { RequestRuns (trace_of core.old) Request.List (trace_of core.new) (O.state out.old) (O.state out.new) result }
 {
     match pairs_of(alloc, core) {
         Ok(pairs) => {
@@ -107,7 +107,7 @@ fn run_request<O: Output>(
     request: Request,
     out: &mut O,
 ) -> Result<(), Refusal>
-    ensures { RequestRuns (seen core.old) request (seen core.new) (O.state out.old) (O.state out.new) result }
+    ensures { RequestRuns (trace_of core.old) request (trace_of core.new) (O.state out.old) (O.state out.new) result }
 {
     match request {
         Request::Begin(actor, command) => begin(core, actor, command),
@@ -128,7 +128,7 @@ fn run_asked<O: Output>(
     line: &[u8],
     out: &mut O,
 ) -> Result<(), Refusal>
-    ensures { AskedRuns language (seen core.old) line.now (seen core.new) (O.state out.old) (O.state out.new) result }
+    ensures { AskedRuns language (trace_of core.old) line.now (trace_of core.new) (O.state out.old) (O.state out.new) result }
 {
     match parse(language, line) {
         Ok(request) => run_request(alloc, core, request, out),
@@ -146,7 +146,7 @@ pub fn run_line<O: Output>(
     line: &[u8],
     out: &mut O,
 ) -> Option<RefusedLine>
-    ensures { LineRuns language number (seen core.old) line.now (seen core.new) (O.state out.old) (O.state out.new) result }
+    ensures { LineRuns language number (trace_of core.old) line.now (trace_of core.new) (O.state out.old) (O.state out.new) result }
 {
     if line.is_empty() {
         return None;

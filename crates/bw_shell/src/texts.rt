@@ -4,7 +4,7 @@ ghost use Rattle.std.specs.Prelude.{◌+◌, ◌<◌, ◌≤◌, ◌++◌, ◌�
 ghost use Rattle.std.specs.List.{flat_map};
 ghost use Rattle.bw_model.specs.Bytes.{longest};
 ghost use Rattle.hex.specs.Hex.{encode_lower};
-ghost use Rattle.shell_lines.specs.Token.{printed};
+ghost use Rattle.shell_lines.specs.Token.{as_token};
 ghost use Rattle.byte_streams.specs.Output.{Prints};
 ghost use Rattle.bw_shell.specs.Text.{item_text, next_text, reply_text, turned_text, finished_text, pair_text, listing_text, refused_text, last_line, lone_refusal_text};
 
@@ -42,7 +42,7 @@ fn show_digits<O: Output>(out: &mut O, bytes: &[u8])
 /// A token for the bytes.
 pub fn show_token<O: Output>(out: &mut O, bytes: &[u8])
     requires { length bytes.now ≤ longest }
-    ensures { Prints (O.state out.old) (O.state out.new) (printed bytes.now) }
+    ensures { Prints (O.state out.old) (O.state out.new) (as_token bytes.now) }
 {
     if is_word(bytes) {
         out.show(bytes)
@@ -53,7 +53,7 @@ pub fn show_token<O: Output>(out: &mut O, bytes: &[u8])
 
 // A word, and a value behind it.
 fn show_with<O: Output>(out: &mut O, word: &[u8], value: &Value)
-    ensures { Prints (O.state out.old) (O.state out.new) (word.now ++ printed value.now ++ codes "\n") }
+    ensures { Prints (O.state out.old) (O.state out.new) (word.now ++ as_token value.now ++ codes "\n") }
 {
     out.show(word);
     show_token(out, value.as_slice());
@@ -89,7 +89,7 @@ fn show_next<O: Output>(out: &mut O, next: Option<&Key>)
 }
 
 fn show_key<O: Output>(out: &mut O, key: &Key)
-    ensures { Prints (O.state out.old) (O.state out.new) (codes " next " ++ printed key.now ++ codes "\n") }
+    ensures { Prints (O.state out.old) (O.state out.new) (codes " next " ++ as_token key.now ++ codes "\n") }
 {
     out.show(b" next ");
     show_token(out, key.as_slice());

@@ -3,7 +3,7 @@
 ghost use Rattle.std.specs.Prelude.{◌≡◌, IfErr, IfOk, MatchBool, Ok, OnOk};
 ghost use Rattle.bw_model.specs.Schedules.{schedule_of};
 ghost use Rattle.listing.specs.Listed.{IsListing};
-ghost use Rattle.bw_shell.specs.Turns.{seen, IsOneMap, TakesTurn, Refuses};
+ghost use Rattle.bw_shell.specs.Turns.{trace_of, IsOneMap, TakesTurn, Refuses};
 ghost use Rattle.bw_shell.specs.Transcript.{ComesTo, IsUnderWay, StepTold, ToldAs, TurnsTold};
 
 use crate::refusal::Refusal;
@@ -25,9 +25,9 @@ pub enum Progress {
 
 /// Begins an operation of an actor.
 pub fn begin(core: &mut Core, actor: u64, command: Command) -> Result<(), Refusal>
-    ensures ok { OnOk result (TakesTurn (seen core.old) (Turn.Begin actor command) Event.Began (seen core.new)) }
-    ensures refused { IfErr result (λ refusal. Refuses (seen core.old) (Turn.Begin actor command) refusal) }
-    ensures unchanged { IfErr result (λ _. seen core.new ≡ seen core.old) }
+    ensures ok { OnOk result (TakesTurn (trace_of core.old) (Turn.Begin actor command) Event.Began (trace_of core.new)) }
+    ensures refused { IfErr result (λ refusal. Refuses (trace_of core.old) (Turn.Begin actor command) refusal) }
+    ensures unchanged { IfErr result (λ _. trace_of core.new ≡ trace_of core.old) }
 {
     let Ok(actor) = u8::try_from(actor) else {
         return Err(Refusal::NoActor);
@@ -89,7 +89,7 @@ fn goes_on(told: &Result<Event, RunError>, until: Option<Link>) -> bool
 // The number of the actor that is to take a step.
 fn actor_of(core: &Core, actor: u64) -> Result<u8, Refusal>
     ensures ok { IfOk result (λ number. number ≡ actor) }
-    ensures refused { IfErr result (λ refusal. Refuses (seen core.now) (Turn.Step actor) refusal) }
+    ensures refused { IfErr result (λ refusal. Refuses (trace_of core.now) (Turn.Step actor) refusal) }
 {
     let _ = core;
     match u8::try_from(actor) {
@@ -100,7 +100,7 @@ fn actor_of(core: &Core, actor: u64) -> Result<u8, Refusal>
 
 /// One step of an actor. It stops at an exchange that won with the link, if one is given.
 pub fn step(core: &mut Core, actor: u64, until: Option<Link>) -> Result<Progress, Refusal>
-    ensures { StepTold until (seen core.old) actor result (seen core.new) }
+    ensures { StepTold until (trace_of core.old) actor result (trace_of core.new) }
 {
     let number = actor_of(core, actor)?;
     let told = core.turn(Turn::Step(number));
@@ -114,7 +114,7 @@ pub fn steps(
     until: Option<Link>,
     limit: u64,
 ) -> Result<Progress, Refusal>
-    ensures { TurnsTold until (seen core.old) actor limit result (seen core.new) }
+    ensures { TurnsTold until (trace_of core.old) actor limit result (trace_of core.new) }
 {
     for _turn in 0..limit {
         let number = actor_of(core, actor)?;
@@ -138,7 +138,7 @@ pub fn steps(
 /// All pairs that stand.
 pub fn pairs_of(alloc: Global, core: &Core) -> Result<Vec<(Key, Value)>, Refusal>
     ensures pairs { IfOk result (λ pairs. IsListing core.now.limits core.now.entries pairs.items) }
-    ensures linearized { IsOneMap (seen core.now) }
+    ensures linearized { IsOneMap (trace_of core.now) }
     ensures refused { IfErr result (λ refusal. refusal ≡ Refusal.Memory) }
 {
     core.linearized();

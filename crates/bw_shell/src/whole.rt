@@ -1,7 +1,7 @@
 //! A whole run.
 
 ghost use Rattle.std.specs.Prelude.{◌≡◌, ◌≤◌, ◌^◌, ◌⊎◌, ◌↔◌, [], false, IfSome, None};
-ghost use Rattle.bw_shell.specs.Turns.{opening_trace, seen};
+ghost use Rattle.bw_shell.specs.Turns.{opening_trace, trace_of};
 ghost use Rattle.bw_shell.specs.Weave.{HasRun, IsWholeRun};
 
 use crate::pieces::{Weaver, feed};
@@ -28,8 +28,8 @@ fn run<I: Input, O: Output>(
     requires bounded { I.reads_left input.old ≤ 2 ^ 31 }
     requires first { weaver.old.number ≡ 1 }
     requires empty { weaver.old.part.items ≡ [] }
-    ensures { HasRun language (seen weaver.old.core) (I.remaining input.old) (I.remaining input.new) (I.failed input.new)
-        (O.state out.old) (O.state out.new) (seen weaver.new.core) result }
+    ensures { HasRun language (trace_of weaver.old.core) (I.remaining input.old) (I.remaining input.new) (I.failed input.new)
+        (O.state out.old) (O.state out.new) (trace_of weaver.new.core) result }
 {
     let mut bytes = [0u8; 4096];
     'reads: loop {
@@ -81,7 +81,7 @@ pub fn weave_core<I: Input, O: Output>(
     requires bounded { I.reads_left input.old ≤ 2 ^ 31 }
     requires sound_out { (O.state out.old).failed ≡ false }
     ensures ran { IfSome result (λ woven. HasRun Language.Weave (opening_trace limits) (I.remaining input.old) (I.remaining input.new) (I.failed input.new)
-        (O.state out.old) (O.state out.new) (seen woven.core) woven.refused) }
+        (O.state out.old) (O.state out.new) (trace_of woven.core) woven.refused) }
     ensures none { result ≡ None → (input.new ≡ input.old) × (out.new ≡ out.old) }
 {
     let Ok(core) = Core::open(alloc, limits) else {

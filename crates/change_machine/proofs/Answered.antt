@@ -6,9 +6,9 @@ use Rattle.bw_model.specs.declared.step.Answer.TheVariants as answer
 use Rattle.deltas.specs.declared.record.Record.{Record}
 use Rattle.traces.specs.discipline.Fitting.{Fits}
 use Rattle.traces.specs.discipline.Knowledge.{Knowledge, learn}
-use Rattle.change_machine.specs.Changes.{Change, Follows, IsSameChange, IsSoundChange, IsTarget, Shows, linked_number, wanted, wanted_at}
+use Rattle.change_machine.specs.Changes.{Change, Follows, IsSameChange, IsSoundChange, IsTarget, Shows, linked_number, wanted_step, wanted_at}
 use Rattle.structure_changes.specs.Plans.{head_of, needs_pid, slot_of}
-use Rattle.change_machine.specs.Moves.{Moved, decided_by, moved, whether_in}
+use Rattle.change_machine.specs.Moves.{Moved, decided_by, next_move, whether_in}
 use Rattle.change_machine.specs.Spares.{Spares}
 use Rattle.change_machine.specs.declared.change.End.{End}
 use Rattle.change_machine.specs.declared.change.State.{State}
@@ -41,7 +41,7 @@ module _ (actor : ℕ) (limits : Limits) (k : Knowledge) (plan : Plan) (spares :
       lost false is = rw is (lost_bare actor limits k plan spares sound.room sound.state h.may h.keeps h.are is h.stands.0)
 
   follows_at : (state : State) (told : Answer Record) → IsSoundChange (change state) spares → IsTarget limits plan → Shows actor (change state) spares k
-      → Fits limits k (wanted_at plan spares state) told → FollowsTo state told (moved limits plan spares state told)
+      → Fits limits k (wanted_at plan spares state) told → FollowsTo state told (next_move limits plan spares state told)
   follows_at (state.Taking taking) told sound target h fits = finds actor limits k plan spares h.may h.keeps h.are h.stands.0 taking told sound.state.1 h.stands.1 fits
   follows_at state.Base told sound target h fits = base_placed actor limits k plan spares sound.room sound.state.0 h.may h.keeps h.are told sound.state.1 h.stands
   follows_at state.Ready told sound target h fits = slot_set actor limits k plan spares sound.room sound.state.0 h.may h.keeps h.are told sound.state.1 h.stands.0 h.stands.1 fits
@@ -54,13 +54,13 @@ module _ (actor : ℕ) (limits : Limits) (k : Knowledge) (plan : Plan) (spares :
 
 -- the same of a change that has gone on so
 module _ (old new : Change) (had has : Spares) (told : Answer Record) (end : Option End)
-    (is : moved old.limits old.plan had old.state told ≡ record { state = new.state; spares = has; end = end }) (same : IsSameChange old new) where
+    (is : next_move old.limits old.plan had old.state told ≡ record { state = new.state; spares = has; end = end }) (same : IsSameChange old new) where
   pub only_state : bare new ≡ bare (record old { state = new.state })
   only_state = λ i. bare_at (same.limits i) (same.plan i) new.state
 
   pub follows : (actor : ℕ) (k : Knowledge) → IsSoundChange old had → IsTarget old.limits old.plan → Shows actor old had k
-      → Fits old.limits k (wanted old had) told → Follows actor k (learn k (wanted old had) told) old told new has end
+      → Fits old.limits k (wanted_step old had) told → Follows actor k (learn k (wanted_step old had) told) old told new has end
   follows actor k sound target h fits =
       let at_state = follows_at actor old.limits k old.plan had old.state told (sound_bare old had sound) target (shows_bare actor old had k h) fits in
-      follows_bare actor k (learn k (wanted old had) told) old told new has end
-      (rw only_state (subst (λ (now : Moved). Follows actor k (learn k (wanted old had) told) (bare old) told (bare_at old.limits old.plan now.state) now.spares now.end) is at_state))
+      follows_bare actor k (learn k (wanted_step old had) told) old told new has end
+      (rw only_state (subst (λ (now : Moved). Follows actor k (learn k (wanted_step old had) told) (bare old) told (bare_at old.limits old.plan now.state) now.spares now.end) is at_state))

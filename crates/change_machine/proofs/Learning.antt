@@ -9,7 +9,7 @@ use Rattle.deltas.specs.declared.record.Record.TheVariants as kind
 use Rattle.deltas.specs.declared.record.Split.{Split}
 use Rattle.traces.specs.discipline.Discipline.{MayExchange, MayLink}
 use Rattle.traces.specs.discipline.Fitting.{AreOutOfLimbo, Fits, ReadsRemoved}
-use Rattle.traces.specs.discipline.Knowledge.{Absent, Knowledge, OwnPage, OwnRow, Foreign, Taken, Written, Other, Empty, Ready, Gone, cleared, exchanged, handed_page, linked_over, set_page}
+use Rattle.traces.specs.discipline.Knowledge.{Absent, Knowledge, OwnPage, OwnRow, Foreign, Taken, Written, Other, Empty, Ready, Gone, after_clear, after_exchange, handed_page, linked_over, set_page}
 use Rattle.change_machine.specs.Moves.{whether_in}
 use Rattle.change_machine.specs.Spares.{AreUnset, IsUnlinked}
 
@@ -21,26 +21,26 @@ empty_page (Ready row) h bare = absurd (bare row refl)
 empty_page Gone h bare = absurd h
 
 module _ (k : Knowledge) where
-  pub ready_learnt : (page row : ℕ) → 0 < page → 0 < row → k.own.pages page ≡ Empty → exchanged page 0 row k ≡ set_page page (Ready row) k
+  pub ready_learnt : (page row : ℕ) → 0 < page → 0 < row → k.own.pages page ≡ Empty → after_exchange page 0 row k ≡ set_page page (Ready row) k
   ready_learnt zero row p r e = absurd (omega (arith, p))
   ready_learnt (suc page) zero p r e = absurd (omega (arith, r))
   ready_learnt (suc page) (suc row) p r e = rw e refl
 
-  pub undone_learnt : (page row : ℕ) → 0 < page → k.own.pages page ≡ Ready row → exchanged page row 0 k ≡ set_page page Empty k
+  pub undone_learnt : (page row : ℕ) → 0 < page → k.own.pages page ≡ Ready row → after_exchange page row 0 k ≡ set_page page Empty k
   undone_learnt zero row p e = absurd (omega (arith, p))
   undone_learnt (suc page) row p e = rw e refl
 
-  pub cleared_learnt : (page row : ℕ) → 0 < page → k.own.pages page ≡ Gone → exchanged page row 0 k ≡ cleared page row k
+  pub cleared_learnt : (page row : ℕ) → 0 < page → k.own.pages page ≡ Gone → after_exchange page row 0 k ≡ after_clear page row k
   cleared_learnt zero row p e = absurd (omega (arith, p))
   cleared_learnt (suc page) row p e = rw e refl
 
   pub over_learnt : (page old row : ℕ) (content : Record) → 0 < page → 0 < row → k.own.pages page ≡ Other → k.own.rows row ≡ Written content
-      → exchanged page old row k ≡ linked_over (Written content) old row k
+      → after_exchange page old row k ≡ linked_over (Written content) old row k
   over_learnt zero old row content p r e w = absurd (omega (arith, p))
   over_learnt (suc page) old zero content p r e w = absurd (omega (arith, r))
   over_learnt (suc page) old (suc row) content p r e w = rw (e, w) refl
 
-  pub rooted_learnt : (old new base : ℕ) → k.own.pages new ≡ Ready base → exchanged 0 old new k ≡ handed_page new Other base k
+  pub rooted_learnt : (old new base : ℕ) → k.own.pages new ≡ Ready base → after_exchange 0 old new k ≡ handed_page new Other base k
   rooted_learnt old new base e = rw e refl
 
   module _ (limits : Limits) where

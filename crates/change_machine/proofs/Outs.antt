@@ -7,11 +7,11 @@ use Rattle.bw_model.specs.declared.step.Step.TheVariants as step
 use Rattle.deltas.specs.declared.record.Record.{Record}
 use Rattle.deltas.specs.declared.record.Record.TheVariants as kind
 use Rattle.traces.specs.discipline.Fitting.{Fits}
-use Rattle.traces.specs.discipline.Knowledge.{Knowledge, OwnPage, Other, Empty, Ready, Gone, Written, exchanged, learn, linked_over, split_off}
+use Rattle.traces.specs.discipline.Knowledge.{Knowledge, OwnPage, Other, Empty, Ready, Gone, Written, after_exchange, learn, linked_over, split_off}
 use Rattle.structure_changes.specs.Splits.{split_to}
-use Rattle.change_machine.specs.Changes.{Change, IsPlaced, IsSoundChange, IsTarget, Shows, StandsReady, linked_number, wanted, wanted_at}
+use Rattle.change_machine.specs.Changes.{Change, IsPlaced, IsSoundChange, IsTarget, Shows, StandsReady, linked_number, wanted_step, wanted_at}
 use Rattle.structure_changes.specs.Plans.{clears, head_of, slot_of}
-use Rattle.change_machine.specs.Moves.{Moved, moved, moved_by, whether_in}
+use Rattle.change_machine.specs.Moves.{Moved, next_move, moved_by, whether_in}
 use Rattle.change_machine.specs.Outs.{IsFreshOver, TakesFresh, limbo_after, limbo_over}
 use Rattle.change_machine.specs.Spares.{Spares, last_row, pid_of}
 use Rattle.change_machine.specs.Taking.{found_after, wanted_number}
@@ -92,7 +92,7 @@ module _ (k : Knowledge) where
 
     -- a record was linked over a page's newest row
     linked_outs : (page old new : ℕ) (content : Record) → 0 < page → 0 < old → 0 < new → k.own.rows new ≡ Written content → Fits limits k (step.Exchange page old new) (answer.Whether true)
-        → (exchanged page old new k).limbo ≡ limbo_over content old k
+        → (after_exchange page old new k).limbo ≡ limbo_over content old k
     linked_outs page old new content p o n placed fits = rw (over_learnt k page old new content p n (over_other k limits page old new p o n fits) placed) (linked_limbo content old new)
 
     module _ (plan : Plan) (spares : Spares) where
@@ -103,7 +103,7 @@ module _ (k : Knowledge) where
 
       -- what a change takes out where it goes on so
       abbrev pub TakesOutTo : State → Answer Record → Type 0
-      TakesOutTo state told = TakesOut limits k (learn k (wanted_at plan spares state) told) plan (moved limits plan spares state told).end
+      TakesOutTo state told = TakesOut limits k (learn k (wanted_at plan spares state) told) plan (next_move limits plan spares state told).end
 
 -- the exchange that decides won
 won_outs : (k : Knowledge) (limits : Limits) (plan : Plan) (spares : Spares) → 0 < last_row spares → IsTarget limits plan → StandsReady plan spares k.own
@@ -170,9 +170,9 @@ module _ (actor : ℕ) (limits : Limits) (k : Knowledge) (spares : Spares) where
 
 -- the same of a change that has gone on so
 module _ (old new : Change) (had has : Spares) (told : Answer Record) (end : Option End)
-    (is : moved old.limits old.plan had old.state told ≡ record { state = new.state; spares = has; end = end }) where
-  pub outs : (actor : ℕ) (k : Knowledge) → IsSoundChange old had → IsTarget old.limits old.plan → Shows actor old had k → Fits old.limits k (wanted old had) told
-      → TakesOut old.limits k (learn k (wanted old had) told) old.plan end
+    (is : next_move old.limits old.plan had old.state told ≡ record { state = new.state; spares = has; end = end }) where
+  pub outs : (actor : ℕ) (k : Knowledge) → IsSoundChange old had → IsTarget old.limits old.plan → Shows actor old had k → Fits old.limits k (wanted_step old had) told
+      → TakesOut old.limits k (learn k (wanted_step old had) told) old.plan end
   outs actor k sound target h fits =
-      subst (λ (now : Moved). TakesOut old.limits k (learn k (wanted old had) told) old.plan now.end) is
+      subst (λ (now : Moved). TakesOut old.limits k (learn k (wanted_step old had) told) old.plan now.end) is
       (outs_at actor old.limits k had old.plan old.state told (sound_bare old had sound) target (shows_bare actor old had k h) fits)

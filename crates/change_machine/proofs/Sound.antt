@@ -13,9 +13,9 @@ use Rattle.bw_model.specs.declared.step.Answer.{Answer}
 use Rattle.deltas.specs.declared.record.Record.{Record}
 use Rattle.traces.specs.discipline.Fitting.{Fits, FitsWord}
 use Rattle.traces.specs.discipline.Knowledge.{Knowledge}
-use Rattle.change_machine.specs.Changes.{AreEnough, Change, IsNeededNext, IsSameChange, IsSoundChange, IsSoundState, IsTarget, wanted, wanted_at}
+use Rattle.change_machine.specs.Changes.{AreEnough, Change, IsNeededNext, IsSameChange, IsSoundChange, IsSoundState, IsTarget, wanted_step, wanted_at}
 use Rattle.structure_changes.specs.Plans.{clears, head_of, needs_pid, rows_needed}
-use Rattle.change_machine.specs.Moves.{Moved, after_ready, after_taking, decided_by, first_state, moved, moved_by, unused, whether_in, with_number}
+use Rattle.change_machine.specs.Moves.{Moved, after_ready, after_taking, decided_by, first_state, next_move, moved_by, spares_left, whether_in, with_number}
 use Rattle.change_machine.specs.Spares.{HaveRoom, Spares}
 use Rattle.change_machine.specs.Taking.{IsSoundFound, IsSoundTaking, begun_at, count_of, first_word, found_after, kind_of, wanted_number}
 use Rattle.change_machine.specs.declared.change.End.{End}
@@ -116,7 +116,7 @@ module _ (limits : Limits) (plan : Plan) where
   }
 
   -- what is left where a change has won
-  room_unused : (spares : Spares) → HaveRoom limits spares → HaveRoom limits (unused plan spares)
+  room_unused : (spares : Spares) → HaveRoom limits spares → HaveRoom limits (spares_left plan spares)
   room_unused spares room = record {
     pid = pid_kept (needs_pid plan);
     rows = All-take (λ row. row < limits.rows) (length spares.rows - rows_needed plan) spares.rows room.rows;
@@ -172,7 +172,7 @@ module _ (limits : Limits) (plan : Plan) where
   after_ready_sound spares (Unlink pid head unterm removal) is target enough needs = cc
 
   stays_at : (spares : Spares) (state : State) (told : Answer Record) (k : Knowledge) → Fits limits k (wanted_at plan spares state) told
-      → HaveRoom limits spares → IsSoundState limits plan spares state → IsTarget limits plan → StaysSound (moved limits plan spares state told)
+      → HaveRoom limits spares → IsSoundState limits plan spares state → IsTarget limits plan → StaysSound (next_move limits plan spares state told)
   stays_at spares (state.Taking taking) told k fits room sound target =
       found_stays spares (state.Taking taking) (found_after limits taking told) room (kind_of taking) sound.1 target (found_sound limits k taking told fits sound.0) (found_of limits taking told)
   stays_at spares state.Base told k fits room sound target = (room, sound)
@@ -195,8 +195,8 @@ module _ (limits : Limits) (plan : Plan) where
   stays_at spares state.Clear told k fits room sound target = (room, tt)
 
 module _ (old new : Change) (had has : Spares) (told : Answer Record) (end : Option End)
-    (is : moved old.limits old.plan had old.state told ≡ record { state = new.state; spares = has; end = end }) (same : IsSameChange old new) (k : Knowledge)
-    (fits : Fits old.limits k (wanted old had) told) (sound : IsSoundChange old had) (target : IsTarget old.limits old.plan) where
+    (is : next_move old.limits old.plan had old.state told ≡ record { state = new.state; spares = has; end = end }) (same : IsSameChange old new) (k : Knowledge)
+    (fits : Fits old.limits k (wanted_step old had) told) (sound : IsSoundChange old had) (target : IsTarget old.limits old.plan) where
   stays : HaveRoom old.limits has × IfNone end (IsSoundState old.limits old.plan has new.state)
   stays = subst (λ (now : Moved). StaysSound old.limits old.plan now) is (stays_at old.limits old.plan had old.state told k fits sound.room sound.state target)
 

@@ -6,8 +6,8 @@ use Rattle.bw_model.specs.declared.step.Answer.{Answer}
 use Rattle.bw_model.specs.declared.step.Answer.TheVariants.{Number, Whether}
 use Rattle.deltas.specs.declared.record.Record.{Record}
 use Rattle.change_machine.specs.Bounded.{IsPidFrom, pid_taken}
-use Rattle.change_machine.specs.Changes.{Change, wanted, wanted_at}
-use Rattle.change_machine.specs.Moves.{Moved, decided_by, moved, moved_by, whether_in}
+use Rattle.change_machine.specs.Changes.{Change, wanted_step, wanted_at}
+use Rattle.change_machine.specs.Moves.{Moved, decided_by, next_move, moved_by, whether_in}
 use Rattle.change_machine.specs.Spares.{Spares}
 use Rattle.change_machine.specs.Taking.{count_of, found_after, wanted_number}
 use Rattle.change_machine.specs.declared.change.State.{State}
@@ -61,7 +61,7 @@ by_deciding (Root left root) spares taken false = same_pid spares.pid taken
 by_deciding (Unlink pid head unterm removal) spares taken false = same_pid spares.pid taken
 
 by_state : (limits : Limits) (plan : Plan) (spares : Spares) (at : State) (told : Answer Record)
-    → IsPidFrom spares.pid (pid_taken (wanted_at plan spares at) told) (moved limits plan spares at told).spares.pid
+    → IsPidFrom spares.pid (pid_taken (wanted_at plan spares at) told) (next_move limits plan spares at told).spares.pid
 by_state limits plan spares (state.Taking taking) told =
     by_found limits plan spares (state.Taking taking) (pid_taken (wanted_number taking) told) (found_after limits taking told) (is_taken limits taking told)
 by_state limits plan spares state.Base told = same_pid spares.pid _
@@ -72,6 +72,6 @@ by_state limits plan spares state.Undo told = same_pid spares.pid _
 by_state limits plan spares state.Clear told = same_pid spares.pid _
 
 -- what a change's next step makes of the spare PID
-pub pid_from : (old : Change) (spares : Spares) (told : Answer Record) (now : Moved) → moved old.limits old.plan spares old.state told ≡ now
-    → IsPidFrom spares.pid (pid_taken (wanted old spares) told) now.spares.pid
-pid_from old spares told now is = subst (λ (m : Moved). IsPidFrom spares.pid (pid_taken (wanted old spares) told) m.spares.pid) is (by_state old.limits old.plan spares old.state told)
+pub pid_from : (old : Change) (spares : Spares) (told : Answer Record) (now : Moved) → next_move old.limits old.plan spares old.state told ≡ now
+    → IsPidFrom spares.pid (pid_taken (wanted_step old spares) told) now.spares.pid
+pid_from old spares told now is = subst (λ (m : Moved). IsPidFrom spares.pid (pid_taken (wanted_step old spares) told) m.spares.pid) is (by_state old.limits old.plan spares old.state told)

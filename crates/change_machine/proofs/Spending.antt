@@ -13,9 +13,9 @@ use Rattle.traces.specs.discipline.Fitting.{Fits, FitsWord}
 use Rattle.traces.specs.discipline.Knowledge.{Knowledge}
 use Rattle.traces.specs.discipline.Recalled.{Recalled, WasFree, WasHead, recall}
 use Rattle.change_machine.specs.Bounded.{IsApart, RecallsAt, Spends, SpendsTo, few_steps, steps_left_at, numbers_missing, pid_taken, pids_missing}
-use Rattle.change_machine.specs.Changes.{AreEnough, Change, IsNeededNext, IsSameChange, IsSoundChange, linked_number, wanted, wanted_at}
+use Rattle.change_machine.specs.Changes.{AreEnough, Change, IsNeededNext, IsSameChange, IsSoundChange, linked_number, wanted_step, wanted_at}
 use Rattle.structure_changes.specs.Plans.{clears, head_of, needs_pid, rows_needed, slot_of}
-use Rattle.change_machine.specs.Moves.{Moved, after_ready, after_taking, decided_by, first_state, moved, moved_by, unused, whether_in, with_number}
+use Rattle.change_machine.specs.Moves.{Moved, after_ready, after_taking, decided_by, first_state, next_move, moved_by, spares_left, whether_in, with_number}
 use Rattle.change_machine.specs.Spares.{HaveRoom, Spares, pid_of}
 use Rattle.change_machine.specs.Taking.{IsSoundTaking, begun_at, count_of, first_word, found_after, kind_of, most_reads, most_words, recalled_words, wanted_number}
 use Rattle.change_machine.specs.declared.change.End.{End}
@@ -279,7 +279,7 @@ module _ (limits : Limits) (plan : Plan) (spares : Spares) (after : ℕ) (r : Re
   decided true h = won (clears plan) refl
     where
       won : (clearing : Bool) → clears plan ≡ clearing → SpendsSo state.Link (answer.Whether true) (decided_by plan spares true)
-      won true is = rw is (record { at = tt; apart = clears_apart plan (unused plan spares).pid is }, inr (h, omega arith))
+      won true is = rw is (record { at = tt; apart = clears_apart plan (spares_left plan spares).pid is }, inr (h, omega arith))
       won false is = rw is (inl h)
   decided false h = lost (needs_pid plan) refl
     where
@@ -288,7 +288,7 @@ module _ (limits : Limits) (plan : Plan) (spares : Spares) (after : ℕ) (r : Re
       lost false is = rw is (inl h)
 
   spends_at : (state : State) (told : Answer Record) (k : Knowledge) → Fits limits k (wanted_at plan spares state) told → IsSoundChange (change state) spares
-      → RecallsAt r plan state → IsApart plan (pid_taken (wanted_at plan spares state) told) → SpendsSo state told (moved limits plan spares state told)
+      → RecallsAt r plan state → IsApart plan (pid_taken (wanted_at plan spares state) told) → SpendsSo state told (next_move limits plan spares state told)
   spends_at (state.Taking taking) told k fits sound h far = takes taking told k fits sound.state.0 sound.state.1 h far
   spends_at state.Base told k fits sound h far = (record { at = h; apart = apart }, inl (omega arith))
   spends_at state.Ready told k fits sound h far = set sound.state.0 sound.state.1 sound.room told h
@@ -298,8 +298,8 @@ module _ (limits : Limits) (plan : Plan) (spares : Spares) (after : ℕ) (r : Re
   spends_at state.Clear told k fits sound h far = inr (sound.state, omega arith)
 
 module _ (old new : Change) (had has : Spares) (told : Answer Record) (end : Option End)
-    (is : moved old.limits old.plan had old.state told ≡ record { state = new.state; spares = has; end = end }) (same : IsSameChange old new) where
-  pub spends : (k : Knowledge) → Fits old.limits k (wanted old had) told → IsSoundChange old had → Spends old had told new has end
+    (is : next_move old.limits old.plan had old.state told ≡ record { state = new.state; spares = has; end = end }) (same : IsSameChange old new) where
+  pub spends : (k : Knowledge) → Fits old.limits k (wanted_step old had) told → IsSoundChange old had → Spends old had told new has end
   spends k fits sound = λ after r h far.
       let at_state = spends_at old.limits old.plan had after r h.apart old.state told k fits (sound_bare old had sound) h.at far in
       spends_bare after r old had told new has end

@@ -13,7 +13,7 @@ use Rattle.traces.specs.discipline.Knowledge.{Belongings, Knowledge, OwnPage, Fo
 use Rattle.structure_changes.specs.Splits.{split_to}
 use Rattle.change_machine.specs.Changes.{AreEnough, Follows, ChangesOn, KeepsSparePage, ChangeIsOver, IsPlaced, StandsReady, IsTarget, KeepsSpare, MayChange, linked_number, wanted_at}
 use Rattle.structure_changes.specs.Plans.{head_of, slot_of}
-use Rattle.change_machine.specs.Moves.{Moved, decided_by, unused}
+use Rattle.change_machine.specs.Moves.{Moved, decided_by, spares_left}
 use Rattle.change_machine.specs.Spares.{AreTheSpares, AreUnset, HaveRoom, Spares, first_row, last_row, pid_of}
 use Rattle.change_machine.specs.declared.change.End.TheVariants as end
 use Rattle.change_machine.specs.declared.change.State.TheVariants as state
@@ -55,7 +55,7 @@ module _ (actor : ℕ) (limits : Limits) (k : Knowledge) (spares : Spares) (room
   over_row : (pid head : ℕ) (content : Record) → 1 ≤ length spares.rows → IsTarget limits (Install pid head content) → KeepsSparePage content spares.pid
       → MayExchange actor k pid head (last_row spares) → AreUnset k.own → k.own.rows (last_row spares) ≡ Written content
       → ChangeIsOver k (linked_over (Written content) head (last_row spares) k) (bare_at limits (Install pid head content) state.Link) (answer.Whether true)
-      (unused (Install pid head content) spares) end.Won
+      (spares_left (Install pid head content) spares) end.Won
   over_row pid head content some target kept may bare placed = by_content content kept placed
     where
       front : List ℕ
@@ -66,7 +66,7 @@ module _ (actor : ℕ) (limits : Limits) (k : Knowledge) (spares : Spares) (room
 
       by_content : (content : Record) → KeepsSparePage content spares.pid → k.own.rows (last_row spares) ≡ Written content
           → ChangeIsOver k (linked_over (Written content) head (last_row spares) k) (bare_at limits (Install pid head content) state.Link) (answer.Whether true)
-          (unused (Install pid head content) spares) end.Won
+          (spares_left (Install pid head content) spares) end.Won
       by_content (kind.Base base) kept placed = record
           { like = record { inside = refl; read = refl; command = refl; linked_now = refl }; rest = record { are = linked; unset = bare }; decided = (refl, refl) }
       by_content (kind.Put put) kept placed = record
@@ -97,7 +97,7 @@ module _ (actor : ℕ) (limits : Limits) (k : Knowledge) (spares : Spares) (room
   -- a term is out, and its page is to be cleared
   term_out : (pid head : ℕ) (unterm : Unterm) (removal : ℕ) → 1 ≤ length spares.rows → MayChange actor k (Unlink pid head unterm removal)
       → KeepsSparePage (kind.Unterm unterm) spares.pid → AreUnset k.own
-      → ChangesOn actor k (handed_page unterm.child Gone (last_row spares) k) (bare_at limits (Unlink pid head unterm removal) state.Clear) (unused (Unlink pid head unterm removal) spares)
+      → ChangesOn actor k (handed_page unterm.child Gone (last_row spares) k) (bare_at limits (Unlink pid head unterm removal) state.Clear) (spares_left (Unlink pid head unterm removal) spares)
   term_out pid head unterm removal some may kept bare =
       let front = take (length spares.rows - 1) spares.rows in
       let linked = last_linked k.own spares are (last_row spares) front (rows_last spares.rows some room.few) in

@@ -14,7 +14,7 @@ use Rattle.change_machine.specs.declared.change.State.TheVariants.{Taking, Base,
 use Rattle.structure_changes.specs.declared.plan.Plan.{Plan}
 use Rattle.structure_changes.specs.declared.plan.Plan.TheVariants.{Split}
 use Rattle.change_machine.specs.declared.taking.Taking.TheVariants.{Take}
-use Rattle.change_machine.specs.Changes.{Change, wanted}
+use Rattle.change_machine.specs.Changes.{Change, wanted_step}
 use Rattle.structure_changes.specs.Plans.{clears, head_of, needs_pid, rows_needed, slot_of}
 use Rattle.change_machine.specs.Spares.{Spares}
 use Rattle.change_machine.specs.Taking.{most_reads, number_left, recalled_words}
@@ -80,10 +80,10 @@ IsPidFrom old taken (Some pid) = (old ≡ Some pid) ⊎ (taken ≡ Some pid)
 -- paid, or what has to be left is left: a page is cleared by what its exchange that decides has paid.
 abbrev pub SpendsTo : ℕ → Recalled → Change → Spares → Answer Record → Change → Spares → Option End → Type 0
 SpendsTo after r old had told new has None =
-    Recalls new has (recall r (wanted old had) told) × IsSpentWith (worth old.limits after) r (wanted old had) told (steps_left after old had) (steps_left after new has)
-SpendsTo after r old had told new has (Some Won) = IsPaid r (wanted old had) told ⊎ ((clears old.plan ≡ true) × (after < steps_left after old had))
-SpendsTo after r old had told new has (Some Lost) = IsPaid r (wanted old had) told ⊎ (after < steps_left after old had)
+    Recalls new has (recall r (wanted_step old had) told) × IsSpentWith (worth old.limits after) r (wanted_step old had) told (steps_left after old had) (steps_left after new has)
+SpendsTo after r old had told new has (Some Won) = IsPaid r (wanted_step old had) told ⊎ ((clears old.plan ≡ true) × (after < steps_left after old had))
+SpendsTo after r old had told new has (Some Lost) = IsPaid r (wanted_step old had) told ⊎ (after < steps_left after old had)
 SpendsTo after r old had told new has (Some (Full kind)) = 0 < steps_left after old had
 
 abbrev pub Spends : Change → Spares → Answer Record → Change → Spares → Option End → Type 0
-Spends old had told new has end = (after : ℕ) (r : Recalled) → Recalls old had r → IsApart old.plan (pid_taken (wanted old had) told) → SpendsTo after r old had told new has end
+Spends old had told new has end = (after : ℕ) (r : Recalled) → Recalls old had r → IsApart old.plan (pid_taken (wanted_step old had) told) → SpendsTo after r old had told new has end

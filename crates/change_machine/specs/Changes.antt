@@ -75,8 +75,8 @@ wanted_at plan spares Link = step.Exchange (slot_of plan) (head_of plan) (linked
 wanted_at plan spares Undo = step.Exchange (pid_of spares) (base_row plan spares) 0
 wanted_at plan spares Clear = step.Exchange (cleared_page plan) (cleared_row plan) 0
 
-abbrev pub wanted : Change → Spares → StepOf Record
-wanted change spares = wanted_at change.plan spares change.state
+abbrev pub wanted_step : Change → Spares → StepOf Record
+wanted_step change spares = wanted_at change.plan spares change.state
 
 -- A change reads words of free bits, takes numbers, places records and exchanges slots, and does nothing else.
 abbrev pub IsOfChange : StepOf Record → Type 0
@@ -212,7 +212,7 @@ pub record Shows (actor : ℕ) (change : Change) (spares : Spares) (k : Knowledg
 -- Something is known that the answer to the step wanted last fits.
 pub record FitsChange (change : Change) (spares : Spares) (told : Answer Record) : Type 0 where
   pub k : Knowledge
-  pub fits : Fits change.limits k (wanted change spares) told
+  pub fits : Fits change.limits k (wanted_step change spares) told
 
 -- The change goes on: nothing else is known than before, but of own rows, own pages and words of free bits.
 pub record ChangesOn (actor : ℕ) (k now : Knowledge) (change : Change) (spares : Spares) : Type 0 where

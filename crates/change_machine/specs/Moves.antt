@@ -49,8 +49,8 @@ with_number Pid pid spares = record spares { pid = Some pid }
 with_number Row row spares = record spares { rows = spares.rows ++ row ∷ [] }
 
 -- What is linked is spare no more: the PID of a new page, and the last rows.
-abbrev pub unused : Plan → Spares → Spares
-unused plan spares = record { pid = if needs_pid plan then None else spares.pid; rows = take (length spares.rows - rows_needed plan) spares.rows }
+abbrev pub spares_left : Plan → Spares → Spares
+spares_left plan spares = record { pid = if needs_pid plan then None else spares.pid; rows = take (length spares.rows - rows_needed plan) spares.rows }
 
 -- after a taking
 abbrev pub moved_by : Limits → Plan → Spares → State → Found → Moved
@@ -60,18 +60,18 @@ moved_by limits plan spares state (Full kind) = record { state = state; spares =
 
 -- after the exchange that decides: a page whose term is out is cleared; a new page that is not linked is emptied again
 abbrev pub decided_by : Plan → Spares → Bool → Moved
-decided_by plan spares true = if clears plan then record { state = Clear; spares = unused plan spares; end = None } else record { state = Link; spares = unused plan spares; end = Some end.Won }
+decided_by plan spares true = if clears plan then record { state = Clear; spares = spares_left plan spares; end = None } else record { state = Link; spares = spares_left plan spares; end = Some end.Won }
 decided_by plan spares false = if needs_pid plan then record { state = Undo; spares = spares; end = None } else record { state = Link; spares = spares; end = Some end.Lost }
 
 abbrev pub whether_in : Answer Record → Bool
 whether_in (Whether whether) = whether
 whether_in told = false
 
-abbrev pub moved : Limits → Plan → Spares → State → Answer Record → Moved
-moved limits plan spares (Taking taking) told = moved_by limits plan spares (Taking taking) (found_after limits taking told)
-moved limits plan spares Base told = record { state = Ready; spares = spares; end = None }
-moved limits plan spares Ready told = record { state = after_ready plan; spares = spares; end = None }
-moved limits plan spares Place told = record { state = Link; spares = spares; end = None }
-moved limits plan spares Link told = decided_by plan spares (whether_in told)
-moved limits plan spares Undo told = record { state = Undo; spares = spares; end = Some end.Lost }
-moved limits plan spares Clear told = record { state = Clear; spares = spares; end = Some end.Won }
+abbrev pub next_move : Limits → Plan → Spares → State → Answer Record → Moved
+next_move limits plan spares (Taking taking) told = moved_by limits plan spares (Taking taking) (found_after limits taking told)
+next_move limits plan spares Base told = record { state = Ready; spares = spares; end = None }
+next_move limits plan spares Ready told = record { state = after_ready plan; spares = spares; end = None }
+next_move limits plan spares Place told = record { state = Link; spares = spares; end = None }
+next_move limits plan spares Link told = decided_by plan spares (whether_in told)
+next_move limits plan spares Undo told = record { state = Undo; spares = spares; end = Some end.Lost }
+next_move limits plan spares Clear told = record { state = Clear; spares = spares; end = Some end.Won }

@@ -2,7 +2,7 @@
 ghost use Rattle.std.specs.Prelude.{◌≡◌, ◌<◌, ◌≤◌, ◌*◌, ◌+◌, ◌/◌, ℕ, Bool, false, None, Some, IfNone};
 ghost use Rattle.std.specs.Int.{trailing_zeros, w64};
 ghost use Rattle.bw_model.specs.Answers.{answer_of};
-ghost use Rattle.bw_model.specs.Lent.{lent};
+ghost use Rattle.bw_model.specs.Lent.{step_of_loan};
 ghost use Rattle.tree_limits.specs.declared.limits.Limits.{Limits as LimitsSeen};
 ghost use Rattle.traces.specs.discipline.Discipline.{May, MayFree};
 ghost use Rattle.traces.specs.discipline.Fitting.{Fits};
@@ -10,9 +10,9 @@ ghost use Rattle.traces.specs.discipline.Knowledge.{Knowledge, learn};
 ghost use Rattle.traces.specs.discipline.Recalled.{Recalled, WasHead};
 ghost use Rattle.change_machine.specs.Bounded.{IsApart, IsPidFrom, Recalls, Spends, few_steps, pid_taken, steps_left};
 ghost use Rattle.change_machine.specs.Changes.{Follows, IsMade, IsMadeAt, IsOfChange, IsSameChange, IsSoundChange, IsSpellablePlan, IsTarget, FitsChange};
-ghost use Rattle.change_machine.specs.Changes.{KeepsSpare, MayChange, Shows, at, base_row, linked_number, placed_in, wanted};
+ghost use Rattle.change_machine.specs.Changes.{KeepsSpare, MayChange, Shows, at, base_row, linked_number, placed_in, wanted_step};
 ghost use Rattle.structure_changes.specs.Plans.{head_of, slot_of};
-ghost use Rattle.change_machine.specs.Moves.{after_ready, decided_by, first_state, moved, moved_by};
+ghost use Rattle.change_machine.specs.Moves.{after_ready, decided_by, first_state, next_move, moved_by};
 ghost use Rattle.change_machine.specs.Outs.{TakesFresh, limbo_after};
 ghost use Rattle.change_machine.specs.Spares.{HaveRoom, Rest};
 ghost use Rattle.change_machine.specs.Taking.{found_after};
@@ -116,11 +116,11 @@ impl Change {
     pub fn wanted(&self, spares: &Spares) -> Step<&Record>
         requires sound { IsSoundChange self.now spares.now }
         requires made { IsMade self.now spares.now }
-        ensures wanted { lent result ≡ wanted self.now spares.now }
-        ensures within { IsWithin self.now.limits (lent result) }
-        ensures may { (actor : ℕ) (k : Knowledge) → Shows actor self.now spares.now k → May actor k (lent result) }
-        ensures only { IsOfChange (lent result) }
-        ensures frees { (limits : LimitsSeen) (actor : ℕ) (k : Knowledge) → MayFree limits actor k (lent result) }
+        ensures wanted { step_of_loan result ≡ wanted_step self.now spares.now }
+        ensures within { IsWithin self.now.limits (step_of_loan result) }
+        ensures may { (actor : ℕ) (k : Knowledge) → Shows actor self.now spares.now k → May actor k (step_of_loan result) }
+        ensures only { IsOfChange (step_of_loan result) }
+        ensures frees { (limits : LimitsSeen) (actor : ℕ) (k : Knowledge) → MayFree limits actor k (step_of_loan result) }
     {
         match self.state {
             State::Taking(taking) => taking.wanted(),
@@ -151,17 +151,17 @@ impl Change {
     pub fn next(&mut self, spares: &mut Spares, told: Told) -> Option<End>
         requires sound { IsSoundChange self.old spares.old }
         requires told { FitsChange self.old spares.old (answer_of told) }
-        ensures follows { (actor : ℕ) (k : Knowledge) → Shows actor self.old spares.old k → Fits self.old.limits k (wanted self.old spares.old) (answer_of told)
-            → Follows actor k (learn k (wanted self.old spares.old) (answer_of told)) self.old (answer_of told) self.new spares.new result }
-        ensures limbo { (actor : ℕ) (k : Knowledge) → Shows actor self.old spares.old k → Fits self.old.limits k (wanted self.old spares.old) (answer_of told)
-            → (learn k (wanted self.old spares.old) (answer_of told)).limbo ≡ limbo_after self.old.plan result k }
-        ensures fresh { (actor : ℕ) (k : Knowledge) → Shows actor self.old spares.old k → Fits self.old.limits k (wanted self.old spares.old) (answer_of told)
+        ensures follows { (actor : ℕ) (k : Knowledge) → Shows actor self.old spares.old k → Fits self.old.limits k (wanted_step self.old spares.old) (answer_of told)
+            → Follows actor k (learn k (wanted_step self.old spares.old) (answer_of told)) self.old (answer_of told) self.new spares.new result }
+        ensures limbo { (actor : ℕ) (k : Knowledge) → Shows actor self.old spares.old k → Fits self.old.limits k (wanted_step self.old spares.old) (answer_of told)
+            → (learn k (wanted_step self.old spares.old) (answer_of told)).limbo ≡ limbo_after self.old.plan result k }
+        ensures fresh { (actor : ℕ) (k : Knowledge) → Shows actor self.old spares.old k → Fits self.old.limits k (wanted_step self.old spares.old) (answer_of told)
             → TakesFresh self.old.limits k self.old.plan result }
         ensures sound { IfNone result (IsSoundChange self.new spares.new) }
         ensures made { IsMade self.new spares.new }
         ensures room { HaveRoom self.old.limits spares.new }
         ensures same { IsSameChange self.old self.new }
-        ensures pid { IsPidFrom spares.old.pid (pid_taken (wanted self.old spares.old) (answer_of told)) spares.new.pid }
+        ensures pid { IsPidFrom spares.old.pid (pid_taken (wanted_step self.old spares.old) (answer_of told)) spares.new.pid }
         ensures spends { Spends self.old spares.old (answer_of told) self.new spares.new result }
         ensures lowest { (kind : Kind) (word bits : ℕ) (whole : Bool) → self.old.state ≡ State.Taking (Taking.Bits kind word whole) → told ≡ Told.Number bits
             → 0 < bits → self.new.state ≡ State.Taking (Taking.Take kind (64 * word + trailing_zeros w64 bits) whole) }
@@ -176,7 +176,7 @@ impl Change {
     fn move_on(&mut self, spares: &mut Spares, told: Told) -> Option<End>
         requires sound { IsSoundChange self.old spares.old }
         requires told { FitsChange self.old spares.old (answer_of told) }
-        ensures moved { moved self.old.limits self.old.plan spares.old self.old.state (answer_of told) ≡ record { state = self.new.state; spares = spares.new; end = result } }
+        ensures moved { next_move self.old.limits self.old.plan spares.old self.old.state (answer_of told) ≡ record { state = self.new.state; spares = spares.new; end = result } }
         ensures same { IsSameChange self.old self.new }
         ensures made { IsMade self.new spares.new }
     {
@@ -213,7 +213,7 @@ impl Change {
     fn follow(&mut self, spares: &mut Spares, told: Told) -> Option<End>
         requires sound { IsSoundChange self.old spares.old }
         requires told { FitsChange self.old spares.old (answer_of told) }
-        ensures moved { moved self.old.limits self.old.plan spares.old self.old.state (answer_of told) ≡ record { state = self.new.state; spares = spares.new; end = result } }
+        ensures moved { next_move self.old.limits self.old.plan spares.old self.old.state (answer_of told) ≡ record { state = self.new.state; spares = spares.new; end = result } }
         ensures same { IsSameChange self.old self.new }
     {
         match self.state {

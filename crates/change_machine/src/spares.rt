@@ -1,7 +1,7 @@
 //! What an actor has taken and not linked.
 ghost use Rattle.std.specs.Prelude.{◌≡◌, ◌<◌, [], None, length, get_or};
 ghost use Rattle.change_machine.specs.declared.spares.TheConstants.{MAX_SPARES};
-ghost use Rattle.change_machine.specs.Moves.{unused, with_number};
+ghost use Rattle.change_machine.specs.Moves.{spares_left, with_number};
 ghost use Rattle.change_machine.specs.Spares.{first_row, last_row, pid_of};
 
 use crate::taking::Kind;
@@ -92,7 +92,7 @@ impl Spares {
 
     /// What is in the tree is spare no more: the PID, or not, and so many of the last rows.
     pub(crate) fn release(&mut self, plan: &Plan)
-        ensures { self.new ≡ unused plan.now self.old }
+        ensures { self.new ≡ spares_left plan.now self.old }
     {
         if plan.needs_pid() {
             self.pid = None;

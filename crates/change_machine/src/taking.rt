@@ -1,7 +1,7 @@
 //! The taking of one free number: it reads words of free bits, and takes the lowest free number of the first word that has one.
 ghost use Rattle.std.specs.Prelude.{◌≡◌, ◌<◌, ◌*◌};
 ghost use Rattle.bw_model.specs.Answers.{answer_of};
-ghost use Rattle.bw_model.specs.Lent.{lent};
+ghost use Rattle.bw_model.specs.Lent.{step_of_loan};
 ghost use Rattle.bw_model.specs.declared.step.Answer.TheVariants.{Number};
 ghost use Rattle.traces.specs.discipline.Fitting.{FitsWord};
 ghost use Rattle.change_machine.specs.Taking.{FitsTaking, IsSoundFound, IsSoundTaking, TellsWhether, begun_at, count_of, first_word, found_after, wanted_number};
@@ -74,7 +74,7 @@ impl Taking {
 
     /// The step that the taking wants next.
     pub(crate) fn wanted<'a>(self) -> Step<&'a Record>
-        ensures { lent result ≡ wanted_number self }
+        ensures { step_of_loan result ≡ wanted_number self }
     {
         match self {
             Taking::Bits { kind, word, .. } => match kind {

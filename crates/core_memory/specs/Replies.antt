@@ -6,20 +6,20 @@ use Rattle.core_memory.specs.declared.replies.Replied.{Replied}
 use Rattle.core_memory.specs.declared.replies.Replied.TheVariants.{Value, None, Inserted, Exists, Set, Replaced, Deleted, Absent, Swapped, Differs, Page, Tidied, Full}
 
 -- the reply that was kept
-abbrev pub unboxed : Replied (List (List ℕ × List ℕ)) → Reply
-unboxed (Value value) = reply.Value value
-unboxed None = reply.None
-unboxed Inserted = reply.Inserted
-unboxed (Exists value) = reply.Exists value
-unboxed Set = reply.Set
-unboxed (Replaced value) = reply.Replaced value
-unboxed (Deleted value) = reply.Deleted value
-unboxed Absent = reply.Absent
-unboxed Swapped = reply.Swapped
-unboxed (Differs value) = reply.Differs value
-unboxed (Page items next) = reply.Page items next
-unboxed Tidied = reply.Tidied
-unboxed Full = reply.Full
+abbrev pub reply_in_box : Replied (List (List ℕ × List ℕ)) → Reply
+reply_in_box (Value value) = reply.Value value
+reply_in_box None = reply.None
+reply_in_box Inserted = reply.Inserted
+reply_in_box (Exists value) = reply.Exists value
+reply_in_box Set = reply.Set
+reply_in_box (Replaced value) = reply.Replaced value
+reply_in_box (Deleted value) = reply.Deleted value
+reply_in_box Absent = reply.Absent
+reply_in_box Swapped = reply.Swapped
+reply_in_box (Differs value) = reply.Differs value
+reply_in_box (Page items next) = reply.Page items next
+reply_in_box Tidied = reply.Tidied
+reply_in_box Full = reply.Full
 
 -- the reply is a cursor page
 abbrev pub ShowsPairs : Reply → Type 0

@@ -73,11 +73,11 @@ pub struct BoxedReply<A: Allocator = Global> {
 
 impl<A: Allocator> Model for BoxedReply<A> {
     ghost use Rattle.bw_model.specs.declared.command.Reply.{Reply};
-    ghost use Rattle.core_memory.specs.Replies.{unboxed};
+    ghost use Rattle.core_memory.specs.Replies.{reply_in_box};
 
     ghost Value = { Reply };
 
-    ghost view = { λ r. unboxed r.replied };
+    ghost view = { λ r. reply_in_box r.replied };
 }
 
 impl<A: Allocator> BoxedReply<A> {

@@ -1,6 +1,6 @@
 //! Steps and answers whose records are shared.
 ghost use Rattle.std.specs.Prelude.{◌≡◌, IfOk, OnErr};
-ghost use Rattle.bw_model.specs.Lent.{lent};
+ghost use Rattle.bw_model.specs.Lent.{step_of_loan};
 ghost use Rattle.traces.specs.trace.Steps.{MovesRecord};
 ghost use Rattle.core_memory.specs.Shared.{PlacesSpellable};
 
@@ -37,9 +37,9 @@ pub fn shared_step<A: Allocator + Copy>(
     alloc: A,
     step: &Step<&Record>,
 ) -> Result<Step<SharedRecord<A>>, AllocError>
-    requires { PlacesSpellable (lent step.now) }
-    ensures ok { IfOk result (λ shared. shared ≡ lent step.now) }
-    ensures err { OnErr result (MovesRecord (lent step.now)) }
+    requires { PlacesSpellable (step_of_loan step.now) }
+    ensures ok { IfOk result (λ shared. shared ≡ step_of_loan step.now) }
+    ensures err { OnErr result (MovesRecord (step_of_loan step.now)) }
 {
     Ok(match step {
         Step::Slot(pid) => Step::Slot(*pid),

@@ -3,7 +3,7 @@ ghost use Rattle.std.specs.Prelude.{◌≡◌, ◌+◌, ◌++◌, ◌∷◌, [],
 ghost use Rattle.std.specs.List.{flat_map};
 ghost use Rattle.byte_streams.specs.Output.{Prints};
 ghost use Rattle.tree_picture.specs.Colours.{colour_text};
-ghost use Rattle.tree_picture.specs.Document.{attribute_text, element_text, escaped, escaped_byte};
+ghost use Rattle.tree_picture.specs.Document.{attribute_text, element_text, escape, escaped_byte};
 ghost use Rattle.tree_picture.specs.Elements.{attribute, dashes, document_attributes, document_text, elements_of, line_element, mark_in, name_in, number};
 ghost use Rattle.tree_picture.specs.Elements.{range_in, weight, rectangle_attributes, rectangle_element, text_element};
 
@@ -43,7 +43,7 @@ fn show_byte<O: Output>(out: &mut O, byte: &u8)
 
 /// What stands for bytes.
 fn show_escaped<O: Output>(out: &mut O, bytes: &[u8])
-    ensures { Prints (O.state out.old) (O.state out.new) (escaped bytes.now) }
+    ensures { Prints (O.state out.old) (O.state out.new) (escape bytes.now) }
 {
     for byte in bytes {
         show_byte(out, byte);
@@ -91,7 +91,7 @@ fn show_rectangle<O: Output>(out: &mut O, rectangle: &Rectangle)
 
 /// The digits of a PID.
 fn show_digits<O: Output>(out: &mut O, pid: u32)
-    ensures { Prints (O.state out.old) (O.state out.new) (escaped (decimal pid)) }
+    ensures { Prints (O.state out.old) (O.state out.new) (escape (decimal pid)) }
 {
     let mut buffer = Buffer::new();
     show_escaped(out, buffer.format(pid).as_bytes());

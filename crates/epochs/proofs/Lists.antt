@@ -12,7 +12,7 @@ use Rattle.std.proofs.lemmas.Map.Made.{IsDistinct-from_AllPairs}
 use Rattle.std.proofs.lemmas.Map.Steps.{length-le_from_distinct_below}
 use Rattle.epochs.specs.declared.entry.Entry.{Entry}
 use Rattle.epochs.specs.declared.entry.Stage.TheVariants.{Unstamped}
-use Rattle.epochs.specs.Limbo.{IsLimboList, IsNew, LimboList, added}
+use Rattle.epochs.specs.Limbo.{IsLimboList, IsNew, LimboList, with_entry}
 
 abbrev AreApart : Entry → Entry → Type 0
 AreApart one other = one.number ≢ other.number
@@ -50,7 +50,7 @@ apart list number new i d lt equal = absurd (differ (sym new.out ∙ list_any_at
     itself : (n : ℕ) → eqb n n ≡ true
     itself n = grind arith
 
-pub added_is_list : (list : LimboList) (number : ℕ) → IsLimboList list → IsNew list number → IsLimboList (added number list)
+pub added_is_list : (list : LimboList) (number : ℕ) → IsLimboList list → IsNew list number → IsLimboList (with_entry number list)
 added_is_list list number is new = record {
   small = is.small;
   once = once;
@@ -106,5 +106,5 @@ few list is =
 
 pub has_room : (list : LimboList) (number : ℕ) → IsLimboList list → IsNew list number → length list.entries < list.limit
 has_room list number is new =
-    let more : length (added number list).entries ≤ list.limit = few (added number list) (added_is_list list number is new) in
+    let more : length (with_entry number list).entries ≤ list.limit = few (with_entry number list) (added_is_list list number is new) in
     omega (arith, length-append list.entries (record { number = number; stage = Unstamped } ∷ []), more)

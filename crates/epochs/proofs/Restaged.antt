@@ -9,7 +9,7 @@ use Rattle.std.proofs.lemmas.List.Folds.{map_fixed}
 use Rattle.epochs.specs.declared.entry.Entry.{Entry}
 use Rattle.epochs.specs.declared.entry.Stage.{Stage}
 use Rattle.epochs.specs.declared.entry.Stage.TheVariants.{Unstamped, Stamped, Passed}
-use Rattle.epochs.specs.Limbo.{compared_with, first_restaged, is_passed, is_unstamped, restaged, stamped_by}
+use Rattle.epochs.specs.Limbo.{compared_with, first_restaged, is_passed, is_unstamped, with_stages, stamped_by}
 use Rattle.epochs.specs.Queue.{AreLastUnstamped, AreStamped, IsKeptList, Queue}
 use Rattle.epochs.specs.Reclamation.{may_be_freed}
 use Rattle.epochs.proofs.Lists.{renewed_is_list}
@@ -19,27 +19,27 @@ with_stage stage_after entry = record entry { stage = stage_after entry.stage }
 
 -- ---- each entry of a list whose first ones were restaged
 module _ (stage_after : Stage → Stage) (most : ℕ) (entries : List Entry) (few : most ≤ length entries) where
-  front_long : length (restaged stage_after (take most entries)) ≡ most
+  front_long : length (with_stages stage_after (take most entries)) ≡ most
   front_long = length-map (take most entries) (with_stage stage_after) ∙ length-take-le most entries few
 
   pub first_long : length (first_restaged most stage_after entries) ≡ length entries
   first_long =
-      let both = length-append (restaged stage_after (take most entries)) (drop most entries) in
+      let both = length-append (with_stages stage_after (take most entries)) (drop most entries) in
       let front = front_long in
       let back = length-drop most entries in
       omega (arith, both, front, back, few)
 
   pub at_front : (i : ℕ) (d : Entry) → i < most → get_or (first_restaged most stage_after entries) i d ≡ with_stage stage_after (get_or entries i d)
   at_front i d lt =
-      let within : i < length (restaged stage_after (take most entries)) = rw front_long lt in
+      let within : i < length (with_stages stage_after (take most entries)) = rw front_long lt in
       let short : i < length (take most entries) = rw (length-take-le most entries few) lt in
-      get_or_append_left (restaged stage_after (take most entries)) (drop most entries) d i within ∙ get_or-map (with_stage stage_after) (take most entries) i d
+      get_or_append_left (with_stages stage_after (take most entries)) (drop most entries) d i within ∙ get_or-map (with_stage stage_after) (take most entries) i d
       d short ∙ ap (with_stage stage_after) (get_or-take most entries i d lt)
 
   pub at_back : (i : ℕ) (d : Entry) → most ≤ i → get_or (first_restaged most stage_after entries) i d ≡ get_or entries i d
   at_back i d le =
       let place : most + (i - most) ≡ i = omega (arith, le) in
-      get_or-append_right (restaged stage_after (take most entries)) (drop most entries) most i d front_long le ∙ get_or-drop most entries (i - most) d ∙ ap (λ k. get_or entries k d) place
+      get_or-append_right (with_stages stage_after (take most entries)) (drop most entries) most i d front_long le ∙ get_or-drop most entries (i - most) d ∙ ap (λ k. get_or entries k d) place
 
   -- what no other stage changes stays
   pub stays : {X : Type 0} (P : Entry → X) → ((entry : Entry) → P (with_stage stage_after entry) ≡ P entry) → (i : ℕ) (d : Entry)
@@ -49,8 +49,8 @@ module _ (stage_after : Stage → Stage) (most : ℕ) (entries : List Entry) (fe
     | inr le ↦ ap P (at_back i d le)
   ]
 
-pub all_first : (stage_after : Stage → Stage) (entries : List Entry) (most : ℕ) → length entries ≤ most → first_restaged most stage_after entries ≡ restaged stage_after entries
-all_first stage_after entries most all = rw (take_all most entries all, drop_all most entries all) (append-nil (restaged stage_after entries))
+pub all_first : (stage_after : Stage → Stage) (entries : List Entry) (most : ℕ) → length entries ≤ most → first_restaged most stage_after entries ≡ with_stages stage_after entries
+all_first stage_after entries most all = rw (take_all most entries all, drop_all most entries all) (append-nil (with_stages stage_after entries))
 
 -- one entry more has its new stage
 pub restaged_next : (stage_after : Stage → Stage) (before queue after : Queue) (place : ℕ) (stage : Stage) (d : Entry) → place < length before.entries
@@ -86,7 +86,7 @@ stamped_passed epoch (Passed stamp) = refl
 -- what has a stamp keeps it
 pub first_stamped : (epoch from : ℕ) (entries : List Entry) → from ≤ length entries → AreStamped (take from entries) → first_restaged from (stamped_by epoch) entries ≡ entries
 first_stamped epoch from entries few stamped =
-    let same : restaged (stamped_by epoch) (take from entries) ≡ take from entries = map_fixed (with_stage (stamped_by epoch)) (take from entries)
+    let same : with_stages (stamped_by epoch) (take from entries) ≡ take from entries = map_fixed (with_stage (stamped_by epoch)) (take from entries)
     (λ i d lt. ap (λ (stage : Stage). record (get_or (take from entries) i d) { stage = stage }) (keeps_stamp epoch (get_or (take from entries) i d).stage (stamped i d lt)))
     in
     rw same (take-append-drop from entries)
@@ -115,16 +115,16 @@ compared_unstamped announces (Stamped stamp) = elim (may_be_freed stamp announce
 compared_unstamped announces (Passed stamp) = elim (may_be_freed stamp announces) as (λ b. is_unstamped (if b then Passed stamp else Stamped stamp) ≡ false) [ true ↦ refl | false ↦ refl ]
 
 -- ---- a list stays one
-pub stamped_kept : (limit compared epoch : ℕ) (queue : Queue) → IsKeptList limit compared queue → IsKeptList limit compared (record queue { entries = restaged (stamped_by epoch) queue.entries })
+pub stamped_kept : (limit compared epoch : ℕ) (queue : Queue) → IsKeptList limit compared queue → IsKeptList limit compared (record queue { entries = with_stages (stamped_by epoch) queue.entries })
 stamped_kept limit compared epoch queue kept = record {
-  list = renewed_is_list (record { limit = limit; entries = queue.entries }) (restaged stage queue.entries) long (λ i d lt. ap (λ (entry : Entry). entry.number) (at i d lt)) kept.list;
+  list = renewed_is_list (record { limit = limit; entries = queue.entries }) (with_stages stage queue.entries) long (λ i d lt. ap (λ (entry : Entry). entry.number) (at i d lt)) kept.list;
   room = kept.room;
   front = rw long kept.front;
   others = λ i d lt.
-      let short : i < length (drop compared queue.entries) = (let a = length-drop compared (restaged stage queue.entries) in let b = length-drop compared
+      let short : i < length (drop compared queue.entries) = (let a = length-drop compared (with_stages stage queue.entries) in let b = length-drop compared
       queue.entries in omega (arith, a, b, lt, long)) in
       let within : compared + i < length queue.entries = (let b = length-drop compared queue.entries in omega (arith, b, short)) in
-      ap (λ (entry : Entry). is_passed entry.stage) (get_or-drop compared (restaged stage queue.entries) i d ∙ at (compared + i) d within) ∙ stamped_passed
+      ap (λ (entry : Entry). is_passed entry.stage) (get_or-drop compared (with_stages stage queue.entries) i d ∙ at (compared + i) d within) ∙ stamped_passed
       epoch (get_or queue.entries (compared + i) d).stage ∙ ap (λ (entry : Entry). is_passed entry.stage) (sym (get_or-drop compared queue.entries i d)) ∙
       kept.others i d short;
   last = λ i j d before within.
@@ -135,10 +135,10 @@ stamped_kept limit compared epoch queue kept = record {
     stage : Stage → Stage
     stage = stamped_by epoch
 
-    long : length (restaged stage queue.entries) ≡ length queue.entries
+    long : length (with_stages stage queue.entries) ≡ length queue.entries
     long = length-map queue.entries (with_stage stage)
 
-    at : (i : ℕ) (d : Entry) → i < length queue.entries → get_or (restaged stage queue.entries) i d ≡ with_stage stage (get_or queue.entries i d)
+    at : (i : ℕ) (d : Entry) → i < length queue.entries → get_or (with_stages stage queue.entries) i d ≡ with_stage stage (get_or queue.entries i d)
     at i d lt = get_or-map (with_stage stage) queue.entries i d d lt
 
 pub compared_kept : (limit compared most now : ℕ) (announces : List ℕ) (queue : Queue) → most ≤ length queue.entries → most ≤ now → compared ≤ now

@@ -40,18 +40,18 @@ compared_with announces (Stamped stamp) = if may_be_freed stamp announces then P
 compared_with announces (Passed stamp) = if may_be_freed stamp announces then Passed stamp else Stamped stamp
 
 -- The number of each entry stays, and its stage becomes this.
-abbrev pub restaged : (Stage → Stage) → List Entry → List Entry
-restaged stage_after entries = map {A = Entry} (λ entry. record entry { stage = stage_after entry.stage }) entries
+abbrev pub with_stages : (Stage → Stage) → List Entry → List Entry
+with_stages stage_after entries = map {A = Entry} (λ entry. record entry { stage = stage_after entry.stage }) entries
 
 -- Of the first entries alone, so many at most.
 abbrev pub first_restaged : ℕ → (Stage → Stage) → List Entry → List Entry
-first_restaged most stage_after entries = restaged stage_after (take most entries) ++ drop most entries
+first_restaged most stage_after entries = with_stages stage_after (take most entries) ++ drop most entries
 
 -- all entries of both lists
 abbrev pub all_restaged : (Stage → Stage) → Limbo → Limbo
 all_restaged stage_after limbo = record {
-  rows = record limbo.rows { entries = restaged stage_after limbo.rows.entries };
-  pids = record limbo.pids { entries = restaged stage_after limbo.pids.entries };
+  rows = record limbo.rows { entries = with_stages stage_after limbo.rows.entries };
+  pids = record limbo.pids { entries = with_stages stage_after limbo.pids.entries };
 }
 
 -- the first entries of each list
@@ -73,13 +73,13 @@ abbrev pub stage_of : LimboList → ℕ → Option Stage
 stage_of list number = stage_in list.entries number
 
 -- the list with one number more, without a stamp
-abbrev pub added : ℕ → LimboList → LimboList
-added number list = record list { entries = list.entries ++ (record { number = number; stage = Unstamped } ∷ []) }
+abbrev pub with_entry : ℕ → LimboList → LimboList
+with_entry number list = record list { entries = list.entries ++ (record { number = number; stage = Unstamped } ∷ []) }
 
 -- the limbo with one item more
 abbrev pub with_item : Item → Limbo → Limbo
-with_item (Row row) limbo = record limbo { rows = added row limbo.rows }
-with_item (Pid pid) limbo = record limbo { pids = added pid limbo.pids }
+with_item (Row row) limbo = record limbo { rows = with_entry row limbo.rows }
+with_item (Pid pid) limbo = record limbo { pids = with_entry pid limbo.pids }
 
 -- a number below the limit that isn't in the list
 pub record IsNew (list : LimboList) (number : ℕ) : Type 0 where

@@ -1,7 +1,7 @@
 //! The limbo list of one kind of numbers.
 ghost use Rattle.std.specs.Prelude.{◌≡◌, ◌≤◌, ◌↔◌, [], IfOk, IsTrue, MatchOption};
 ghost use Rattle.std.specs.List.{list_any};
-ghost use Rattle.epochs.specs.Limbo.{IsLimboList, IsNew, added, compared_with, first_restaged, is_in, is_unstamped, restaged, stamped_by};
+ghost use Rattle.epochs.specs.Limbo.{IsLimboList, IsNew, with_entry, compared_with, first_restaged, is_in, is_unstamped, with_stages, stamped_by};
 ghost use Rattle.epochs.specs.Words.{HandsNothingOn, HandsOn};
 
 use crate::queue::Queue;
@@ -61,7 +61,7 @@ impl<A: Allocator> LimboList<A> {
     /// Adds a number, without a stamp.
     pub(crate) fn add(&mut self, number: u32)
         requires { IsNew self.old number }
-        ensures { self.new ≡ added number self.old }
+        ensures { self.new ≡ with_entry number self.old }
     {
         self.entries.push(Entry {
             number,
@@ -71,7 +71,7 @@ impl<A: Allocator> LimboList<A> {
 
     /// Gives the stamp to all numbers that have none.
     pub(crate) fn stamp(&mut self, epoch: u64)
-        ensures { self.new ≡ record self.old { entries = restaged (stamped_by epoch) self.old.entries } }
+        ensures { self.new ≡ record self.old { entries = with_stages (stamped_by epoch) self.old.entries } }
     {
         let from = first_unstamped(self.entries.as_slice());
         stamp_from(&mut self.entries, from, epoch);
@@ -79,7 +79,7 @@ impl<A: Allocator> LimboList<A> {
 
     /// Finds out which numbers may be freed.
     pub(crate) fn compare(&mut self, announces: &[u64])
-        ensures { self.new ≡ record self.old { entries = restaged (compared_with announces.now) self.old.entries } }
+        ensures { self.new ≡ record self.old { entries = with_stages (compared_with announces.now) self.old.entries } }
     {
         let all = self.entries.as_slice().len();
         compare_first(&mut self.entries, all, announces);

@@ -1,6 +1,6 @@
 //! Other stages for the entries of a limbo list.
 ghost use Rattle.std.specs.Prelude.{◌≡◌, ◌≤◌, length, take};
-ghost use Rattle.epochs.specs.Limbo.{compared_with, first_restaged, restaged, stamped_by};
+ghost use Rattle.epochs.specs.Limbo.{compared_with, first_restaged, with_stages, stamped_by};
 ghost use Rattle.epochs.specs.Queue.{AreLastUnstamped, AreStamped};
 
 use crate::Entry;
@@ -25,7 +25,7 @@ pub(crate) fn first_unstamped(entries: &[Entry]) -> usize
 pub(crate) fn stamp_from<A: Allocator>(queue: &mut Queue<A>, from: usize, epoch: u64)
     requires within { from ≤ length queue.old.entries }
     requires stamped { AreStamped (take from queue.old.entries) }
-    ensures { queue.new ≡ record queue.old { entries = restaged (stamped_by epoch) queue.old.entries } }
+    ensures { queue.new ≡ record queue.old { entries = with_stages (stamped_by epoch) queue.old.entries } }
 {
     for place in from..queue.as_slice().len() {
         let stage = queue.as_slice()[place].stage.stamped_by(epoch);

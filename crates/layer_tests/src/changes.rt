@@ -1,7 +1,7 @@
 //! Changes step by step, over a memory in which a few numbers are free.
 ghost use Rattle.std.specs.Prelude.{◌≡◌, ◌<◌, ◌≤◌, ◌%◌, ◌∷◌, []};
 ghost use Rattle.bw_model.specs.Answers.{answer_of};
-ghost use Rattle.bw_model.specs.Lent.{lent};
+ghost use Rattle.bw_model.specs.Lent.{step_of_loan};
 ghost use Rattle.traces.specs.discipline.Fitting.{Fits, FitsWord};
 ghost use Rattle.traces.specs.discipline.Knowledge.{nothing};
 ghost use Rattle.change_machine.specs.Changes.{IsOfChange, IsSpellablePlan, IsTarget};
@@ -93,9 +93,9 @@ impl Free {
 
 /// The answer to a step of a change.
 fn told(world: &mut World, limits: &Limits, step: &Step<&Record>) -> Told
-    requires only { IsOfChange (lent step.now) }
-    requires within { IsWithin limits.now (lent step.now) }
-    ensures fits { Fits limits.now nothing (lent step.now) (answer_of result) }
+    requires only { IsOfChange (step_of_loan step.now) }
+    requires within { IsWithin limits.now (step_of_loan step.now) }
+    ensures fits { Fits limits.now nothing (step_of_loan step.now) (answer_of result) }
 {
     match step {
         Step::PidBits(at) => Told::Number(world.free.word(limits.pids, *at, world.pids)),

@@ -11,7 +11,7 @@ use Rattle.tree_limits.specs.declared.limits.Limits.{Limits}
 use Rattle.traces.specs.declared.trace.Entry.{Entry}
 use Rattle.traces.specs.chain.Chains.{content_in, covers, high_in, low_in}
 use Rattle.traces.specs.chain.SideChain.{LivePage}
-use Rattle.traces.specs.discipline.Discipline.{found, value_of}
+use Rattle.traces.specs.discipline.Discipline.{chain_value, value_of}
 use Rattle.traces.specs.trace.Trace.{memory_of}
 use Rattle.op_machine.specs.theorem.Answered.{IsCursorPage}
 use Rattle.op_machine.specs.theorem.Points.{log_of}
@@ -48,7 +48,7 @@ module _ (limits : Limits) (entries : List Entry) where
             let in_leaves : Contains leaves.pages page = subst (λ ps. Contains ps page) (one memory 1 pages leaves.pages are leaves.leaves) among in
             let same : page ≡ p.page = one_has [] leaves.pages leaves.whole spans key page p.page in_leaves p.among (covers_from page.chain key covered)
             (covers_from p.page.chain key (within key h.0)) in
-            (p.are.exact key value).1 (h.0, subst (λ (q : LivePage). found q.chain key ≡ Some value) same (ap value_of says))),
+            (p.are.exact key value).1 (h.0, subst (λ (q : LivePage). chain_value q.chain key ≡ Some value) same (ap value_of says))),
       );
     };
   })

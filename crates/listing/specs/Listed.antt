@@ -14,7 +14,7 @@ use Rattle.traces.specs.declared.trace.Entry.{Entry}
 use Rattle.traces.specs.chain.Chains.{IsChainFrom, covers, high_in}
 use Rattle.traces.specs.chain.Fitted.{IsPageChain, Makes}
 use Rattle.traces.specs.chain.SideChain.{IsSideChainFrom, LivePage}
-use Rattle.traces.specs.discipline.Discipline.{found}
+use Rattle.traces.specs.discipline.Discipline.{chain_value}
 use Rattle.traces.specs.trace.Trace.{memory_of, turn_of}
 use Rattle.op_machine.specs.theorem.Answered.{IsCursorPage}
 use Rattle.op_machine.specs.theorem.Linearized.{IsLinearized}
@@ -79,7 +79,7 @@ pub record IsPageFrom (pages : List LivePage) (from : List ℕ) (pairs : List (L
   pub among : Contains pages page
   pub covers : IsTrue (covers page.chain from)
   pub ends : high_in page.chain ≡ next
-  pub are : ArePairsOf (found page.chain) from (high_in page.chain) pairs
+  pub are : ArePairsOf (chain_value page.chain) from (high_in page.chain) pairs
 
 -- Whatever the points by which the trace is linearized: a cursor page from the key on would show these pairs, with this key to go on from.
 abbrev pub IsListedPage : Limits → List Entry → List ℕ → List (List ℕ × List ℕ) → Option (List ℕ) → Type 0

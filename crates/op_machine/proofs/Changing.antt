@@ -136,19 +136,19 @@ taken_links k unlinked (Split pid split) linked h = absurd h
 taken_links k unlinked (Root left root) linked h = absurd h
 
 module _ (task : Task) (had has : Spares) (k : Knowledge) (r : Recalled) (old new : change.Change) (then : Then) (told : Answer Record)
-    (h : IsInChange task had k r old then) (fits : Fits task.limits k (change.wanted old had) told)
-    (pid : bound.IsPidFrom had.pid (bound.pid_taken (change.wanted old had) told) has.pid) where
+    (h : IsInChange task had k r old then) (fits : Fits task.limits k (change.wanted_step old had) told)
+    (pid : bound.IsPidFrom had.pid (bound.pid_taken (change.wanted_step old had) told) has.pid) where
   abbrev now : Knowledge
-  now = learn k (change.wanted old had) told
+  now = learn k (change.wanted_step old had) told
 
   abbrev then_recalled : Recalled
-  then_recalled = recall r (change.wanted old had) told
+  then_recalled = recall r (change.wanted_step old had) told
 
-  pub taken_apart : bound.IsApart old.plan (bound.pid_taken (change.wanted old had) told)
-  taken_apart = apart_from k old.plan (bound.pid_taken (change.wanted old had) told) (taken_unread task.limits k (change.wanted old had) told fits) h.split
+  pub taken_apart : bound.IsApart old.plan (bound.pid_taken (change.wanted_step old had) told)
+  taken_apart = apart_from k old.plan (bound.pid_taken (change.wanted_step old had) told) (taken_unread task.limits k (change.wanted_step old had) told fits) h.split
 
   unread : now.read ≡ k.read → IsUnreadPid has now
-  unread same = rw same (unread_from k.read.heads had.pid (bound.pid_taken (change.wanted old had) told) has.pid h.unread (taken_unread task.limits k (change.wanted old had) told fits) pid)
+  unread same = rw same (unread_from k.read.heads had.pid (bound.pid_taken (change.wanted_step old had) told) has.pid h.unread (taken_unread task.limits k (change.wanted_step old had) told fits) pid)
 
   pub change_on : change.IsSameChange old new → change.IsSoundChange new has → change.IsMade new has → change.ChangesOn task.actor k now new has
       → bound.Recalls new has then_recalled → IsInChange task has now then_recalled new then
@@ -167,7 +167,7 @@ module _ (task : Task) (had has : Spares) (k : Knowledge) (r : Recalled) (old ne
   }
 
   pub change_left : bound.SpendsTo (one_round task.limits) r old had told new has None
-      → IsStepSpent task.limits r (change.wanted old had) told (bound.steps_left (one_round task.limits) old had + 1) (bound.steps_left (one_round task.limits) new has + 1)
+      → IsStepSpent task.limits r (change.wanted_step old had) told (bound.steps_left (one_round task.limits) old had + 1) (bound.steps_left (one_round task.limits) new has + 1)
   change_left spends = elim spends.1 [
     | inl less ↦ inl (omega (arith, less))
     | inr paid ↦ let more = paid.1 in let w = enough task.limits in let same : bound.few_steps old.limits ≡ bound.few_steps task.limits = ap bound.few_steps
@@ -241,7 +241,7 @@ module _ (task : Task) (had has : Spares) (k : Knowledge) (r : Recalled) (old ne
   cleared_left (After (Errand key)) is goes = let b = subst (λ t. Brings k task.command old.plan t) is h.brings in let e = sym goes ∙ ap clears b.2 in cc
 
   pub ended_left : (end : End) → bound.SpendsTo (one_round task.limits) r old had told new has (Some end)
-      → IsStepSpent task.limits r (change.wanted old had) told (bound.steps_left (one_round task.limits) old had + 1) (left_for task.limits (outcome.Changed end then))
+      → IsStepSpent task.limits r (change.wanted_step old had) told (bound.steps_left (one_round task.limits) old had + 1) (left_for task.limits (outcome.Changed end then))
   ended_left Won spends = elim spends [
     | inl paid ↦ inr (paid, won_left then (bound.steps_left (one_round task.limits) old had + 1))
     | inr more ↦ inl (let after = cleared_left then refl more.0 in let left = more.1 in omega (arith, after, left))

@@ -4,7 +4,7 @@ use Rattle.std.specs.Prelude.{IsTrue}
 use Rattle.bw_model.specs.Replies.{command_key, reply_of, update_of}
 use Rattle.bw_model.specs.declared.command.Reply.{Reply}
 use Rattle.traces.specs.chain.Chains.{covers}
-use Rattle.traces.specs.discipline.Discipline.{found}
+use Rattle.traces.specs.discipline.Discipline.{chain_value}
 use Rattle.traces.specs.discipline.Knowledge.{Knowledge}
 use Rattle.traces.specs.discipline.Recalled.{Recalled}
 use Rattle.change_machine.specs.Spares.{Spares}
@@ -23,8 +23,8 @@ module _ (task : Task) (spares : Spares) (k : Knowledge) (r : Recalled) (leaf : 
   within = subst (λ errands. IsTrue (covers leaf.chain (way_key errands task.command))) last h.covered
 
   -- a command that changes nothing there answers
-  pub answers_there : (reply : Reply) → reply_of task.command (found leaf.chain (command_key task.command)) ≡ Some reply
-      → is_some (update_of 0 task.command (found leaf.chain (command_key task.command))) ≡ false
+  pub answers_there : (reply : Reply) → reply_of task.command (chain_value leaf.chain (command_key task.command)) ≡ Some reply
+      → is_some (update_of 0 task.command (chain_value leaf.chain (command_key task.command))) ≡ false
       → ShowsState task spares k r (at.Leave reply None)
   answers_there reply replies unchanged = (
     record { inside = h.seeks.inside; spare = h.seeks.spare; going = h.seeks.asked.going },
@@ -38,8 +38,8 @@ module _ (task : Task) (spares : Spares) (k : Knowledge) (r : Recalled) (leaf : 
         leaf = h.level;
         covers = within;
         is = replies;
-        basis = inr (h.seeks.asked.unlinked, inl ((leaf.pid, h.page.in_hand.seen.head), h.page.alive), none_due task.actor 0 task.command (found leaf.chain (command_key task.command)) unchanged);
+        basis = inr (h.seeks.asked.unlinked, inl ((leaf.pid, h.page.in_hand.seen.head), h.page.alive), none_due task.actor 0 task.command (chain_value leaf.chain (command_key task.command)) unchanged);
       });
     },
-    not_full task.command (found leaf.chain (command_key task.command)) reply replies,
+    not_full task.command (chain_value leaf.chain (command_key task.command)) reply replies,
   )

@@ -12,7 +12,7 @@ use Rattle.change_machine.specs.Outs.{TakesFresh, limbo_after}
 use Rattle.change_machine.specs.Spares.{HaveRoom, Spares}
 use Rattle.change_machine.specs.declared.change.End.{End}
 use Rattle.op_machine.specs.machine.Bounded.{one_round}
-use Rattle.op_machine.specs.machine.Outcomes.{UnlinksAfter, changed}
+use Rattle.op_machine.specs.machine.Outcomes.{UnlinksAfter, change_out}
 use Rattle.op_machine.specs.machine.Places.{ended_with}
 use Rattle.op_machine.specs.machine.Shows.{IsInChange}
 use Rattle.op_machine.specs.machine.Tasks.{Task}
@@ -24,15 +24,15 @@ use Rattle.op_machine.proofs.TakingOut.{unlinks}
 
 module _ (old new : change.Change) (then : Then) (had has : Spares) (told : Answer Record) where
   abbrev last : Knowledge → Knowledge
-  last k = learn k (change.wanted old had) told
+  last k = learn k (change.wanted_step old had) told
 
   abbrev pub Follows : Option End → Type 0
-  Follows end = (actor : ℕ) (k : Knowledge) → change.Shows actor old had k → Fits old.limits k (change.wanted old had) told → change.Follows actor k (last k) old told new has end
+  Follows end = (actor : ℕ) (k : Knowledge) → change.Shows actor old had k → Fits old.limits k (change.wanted_step old had) told → change.Follows actor k (last k) old told new has end
 
   -- it goes on, or has ended
   pub changes_into : (end : Option End) → Follows end → IfNone end (change.IsSoundChange new has) → change.IsMade new has → HaveRoom old.limits has
-      → change.IsSameChange old new → bound.IsPidFrom had.pid (bound.pid_taken (change.wanted old had) told) has.pid → bound.Spends old had told new has end
-      → TurnsInto (at.Change old then) had told (at.Change new then) has (changed (ended_with then end))
+      → change.IsSameChange old new → bound.IsPidFrom had.pid (bound.pid_taken (change.wanted_step old had) told) has.pid → bound.Spends old had told new has end
+      → TurnsInto (at.Change old then) had told (at.Change new then) has (change_out (ended_with then end))
   changes_into None follows sound made room same pid spends = record {
     comes = λ task k r h fits.
         let goes = follows task.actor k h.shows (rw h.limits fits) in
@@ -51,9 +51,9 @@ module _ (old new : change.Change) (then : Then) (had has : Spares) (told : Answ
   }
 
   -- what is known to be in limbo then
-  pub unlinks_into : (end : Option End) → ((actor : ℕ) (k : Knowledge) → change.Shows actor old had k → Fits old.limits k (change.wanted old had) told → (last k).limbo ≡ limbo_after old.plan end k)
-      → ((actor : ℕ) (k : Knowledge) → change.Shows actor old had k → Fits old.limits k (change.wanted old had) told → TakesFresh old.limits k old.plan end)
-      → (task : Task) (k : Knowledge) (r : Recalled) → IsInChange task had k r old then → Fits task.limits k (change.wanted old had) told
+  pub unlinks_into : (end : Option End) → ((actor : ℕ) (k : Knowledge) → change.Shows actor old had k → Fits old.limits k (change.wanted_step old had) told → (last k).limbo ≡ limbo_after old.plan end k)
+      → ((actor : ℕ) (k : Knowledge) → change.Shows actor old had k → Fits old.limits k (change.wanted_step old had) told → TakesFresh old.limits k old.plan end)
+      → (task : Task) (k : Knowledge) (r : Recalled) → IsInChange task had k r old then → Fits task.limits k (change.wanted_step old had) told
       → UnlinksAfter task.limits k (ended_with then end) (last k).limbo
   unlinks_into None limbo fresh task k r h fits = limbo task.actor k h.shows (rw h.limits fits)
   unlinks_into (Some end) limbo fresh task k r h fits =

@@ -118,12 +118,12 @@ module _ (task : Task) (spares : Spares) (k : Knowledge) (r : Recalled) (places 
   pub reader_number : (told : Told) → places.stand ≡ Read → Stands → FitsThere (answer_of told) → TellsNumber told
   reader_number told is h f =
       let shows = rw is at h in
-      is_number task.limits k (read.wanted places.reader.round) told (reader_reads places.reader.round k r shows.shows) (rw is at f)
+      is_number task.limits k (read.wanted_step places.reader.round) told (reader_reads places.reader.round k r shows.shows) (rw is at f)
 
   pub reader_told : (told : Answer Record) → places.stand ≡ Read → Stands → FitsThere told → IsTold (machine read.reading) places.reader.round told
   reader_told told is h f =
       let shows = rw is at h in
-      let fits : Fits task.limits k (read.wanted places.reader.round) told = rw is at f in
+      let fits : Fits task.limits k (read.wanted_step places.reader.round) told = rw is at f in
       record { k = k; r = r; shows = shows.shows; fits = rw shows.limits fits }
 
   -- it has what was read there, and wants what the operation wants,
@@ -131,11 +131,11 @@ module _ (task : Task) (spares : Spares) (k : Knowledge) (r : Recalled) (places 
       → IsToldThere is_there (machine read.reading) places.reader.round told
   reader_told_there is_there told is h f there =
       let shows = rw is at h in
-      let fits : Fits task.limits k (read.wanted places.reader.round) told = rw is at f in
+      let fits : Fits task.limits k (read.wanted_step places.reader.round) told = rw is at f in
       record { k = k; r = r; shows = shows.shows; fits = rw shows.limits fits; there = rw is at there }
 
-  pub reader_asked : (asked : Step Record) → places.stand ≡ Read → wanted_at spares (state_of places) ≡ Some asked → read.wanted places.reader.round ≡ asked
-  reader_asked asked is wants = same_Some (read.wanted places.reader.round) asked (rw is at wants)
+  pub reader_asked : (asked : Step Record) → places.stand ≡ Read → wanted_at spares (state_of places) ≡ Some asked → read.wanted_step places.reader.round ≡ asked
+  reader_asked asked is wants = same_Some (read.wanted_step places.reader.round) asked (rw is at wants)
 
   -- for the command's key
   pub reader_key : places.stand ≡ Read → Stands → places.reader.round.key ≡ command_key task.command
@@ -151,23 +151,23 @@ module _ (task : Task) (spares : Spares) (k : Knowledge) (r : Recalled) (places 
   pub writer_number : (told : Told) → places.stand ≡ Write → Stands → FitsThere (answer_of told) → TellsNumber told
   writer_number told is h f =
       let shows = rw is at h in
-      is_number task.limits k (write.wanted places.writer.round) told (writer_reads places.writer.round k r shows.shows) (rw is at f)
+      is_number task.limits k (write.wanted_step places.writer.round) told (writer_reads places.writer.round k r shows.shows) (rw is at f)
 
   pub writer_told : (told : Answer Record) → places.stand ≡ Write → Stands → FitsThere told → IsTold (machine response.writing) places.writer.round told
   writer_told told is h f =
       let shows = rw is at h in
-      let fits : Fits task.limits k (write.wanted places.writer.round) told = rw is at f in
+      let fits : Fits task.limits k (write.wanted_step places.writer.round) told = rw is at f in
       record { k = k; r = r; shows = shows.shows; fits = rw shows.round_of.limits fits }
 
   pub writer_told_there : (is_there : ℕ → Record → Type 0) (told : Answer Record) → places.stand ≡ Write → Stands → FitsThere told → ThenThere is_there told
       → IsToldThere is_there (machine response.writing) places.writer.round told
   writer_told_there is_there told is h f there =
       let shows = rw is at h in
-      let fits : Fits task.limits k (write.wanted places.writer.round) told = rw is at f in
+      let fits : Fits task.limits k (write.wanted_step places.writer.round) told = rw is at f in
       record { k = k; r = r; shows = shows.shows; fits = rw shows.round_of.limits fits; there = rw is at there }
 
-  pub writer_asked : (asked : Step Record) → places.stand ≡ Write → wanted_at spares (state_of places) ≡ Some asked → write.wanted places.writer.round ≡ asked
-  writer_asked asked is wants = same_Some (write.wanted places.writer.round) asked (rw is at wants)
+  pub writer_asked : (asked : Step Record) → places.stand ≡ Write → wanted_at spares (state_of places) ≡ Some asked → write.wanted_step places.writer.round ≡ asked
+  writer_asked asked is wants = same_Some (write.wanted_step places.writer.round) asked (rw is at wants)
 
 -- what the rounds make of an answer
 module _ (old new : OpPlaces) (spares : Spares) (told : Answer Record) where

@@ -70,7 +70,7 @@ in_sweep actor (sweep_state.Reuse given) e = in_reuse given e
 
 -- an operation that isn't at its leave wants another step
 elsewhere : (spares : Spares) (swept : Option Sweep) (state : State) → is_leaving state ≡ false → asked_by swept (wanted_at spares state) ≢ Some step.Leave
-elsewhere spares (Some swept) state on e = in_sweep swept.actor swept.state (same_Some (sweep.wanted swept) step.Leave e)
+elsewhere spares (Some swept) state on e = in_sweep swept.actor swept.state (same_Some (sweep.wanted_step swept) step.Leave e)
 elsewhere spares None Begun on e = cc
 elsewhere spares None Epoch on e = cc
 elsewhere spares None (Enter epoch) on e = cc

@@ -32,7 +32,7 @@ going task spares k r (Leave reply lacks) h = h.0.going
 no_writer : {R : Type 0} (b : Bool) → b ≡ true → b ≡ false → R
 no_writer b e f = absurd (cc (e, f))
 
-visits : (visit : page.Visit) → IsReading (page.wanted visit)
+visits : (visit : page.Visit) → IsReading (page.wanted_step visit)
 visits visit = by_state visit.pid visit.state
   where
     by_state : (pid : _) (state : page.VisitState) → IsReading (page.wanted_at pid state)

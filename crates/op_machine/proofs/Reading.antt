@@ -28,14 +28,14 @@ of_visit : (pid : ℕ) (state : page.VisitState) → IsReading (page.wanted_at p
 of_visit pid page.Slot = inl (pid, refl)
 of_visit pid (page.Row head row) = inr (row, refl)
 
-pub reader_reads : (round : read.ReadRound) (k : Knowledge) (r : Recalled) → read.Shows round k r → IsReading (read.wanted round)
+pub reader_reads : (round : read.ReadRound) (k : Knowledge) (r : Recalled) → read.Shows round k r → IsReading (read.wanted_step round)
 reader_reads round k r shows = go round.state shows
   where
     go : (state : WayState) → read.ShowsState round.limits round.key round.goal round.leg k r state → IsReading (wanted_at state)
     go Root h = inl (0, refl)
     go (Page visit) h = of_visit visit.pid visit.state
 
-pub writer_reads : (round : write.WriteRound) (k : Knowledge) (r : Recalled) → write.Shows round k r → IsReading (write.wanted round)
+pub writer_reads : (round : write.WriteRound) (k : Knowledge) (r : Recalled) → write.Shows round k r → IsReading (write.wanted_step round)
 writer_reads round k r shows = go round.state shows
   where
     go : (state : WayState) → write.ShowsState round k r state → IsReading (wanted_at state)

@@ -30,20 +30,20 @@ use Rattle.op_machine.proofs.Worth.{enough}
 use Rattle.op_machine.proofs.Reading.{reader_reads, seeks_still, writer_reads}
 
 module _ (task : Task) (spares : Spares) (k : Knowledge) (r : Recalled) (round new : read.ReadRound) (told : Answer Record)
-    (h : IsInReadRound task spares k r round) (fits : Fits task.limits k (read.wanted round) told) where
-  pub read_on : read.ReadsForTheSame round new → Follows read.reading k r round told new None → IsInReadRound task spares (learn k (read.wanted round) told) (recall r (read.wanted round) told) new
+    (h : IsInReadRound task spares k r round) (fits : Fits task.limits k (read.wanted_step round) told) where
+  pub read_on : read.ReadsForTheSame round new → Follows read.reading k r round told new None → IsInReadRound task spares (learn k (read.wanted_step round) told) (recall r (read.wanted_step round) told) new
   read_on same follows = record {
-    seeks = seeks_still task spares k h.seeks task.limits (read.wanted round) told (reader_reads round k r h.shows) fits;
+    seeks = seeks_still task spares k h.seeks task.limits (read.wanted_step round) told (reader_reads round k r h.shows) fits;
     reader = h.reader;
     limits = same.limits ∙ h.limits;
     key = same.key ∙ h.key;
     shows = follows;
   }
 
-  pub read_ended : (end : ReadEnd) → read.EndsRead round (learn k (read.wanted round) told) (recall r (read.wanted round) told) end
-      → FacesRead task spares (learn k (read.wanted round) told) (recall r (read.wanted round) told) end
+  pub read_ended : (end : ReadEnd) → read.EndsRead round (learn k (read.wanted_step round) told) (recall r (read.wanted_step round) told) end
+      → FacesRead task spares (learn k (read.wanted_step round) told) (recall r (read.wanted_step round) told) end
   read_ended end ends = record {
-    seeks = seeks_still task spares k h.seeks task.limits (read.wanted round) told (reader_reads round k r h.shows) fits;
+    seeks = seeks_still task spares k h.seeks task.limits (read.wanted_step round) told (reader_reads round k r h.shows) fits;
     reader = h.reader;
     round = round;
     limits = h.limits;
@@ -56,20 +56,20 @@ module _ (task : Task) (spares : Spares) (k : Knowledge) (r : Recalled) (round n
 
   -- where a page wasn't there
   missed : (goal : ReadGoal) → round.goal ≡ goal → read.MissesRead (left_round task.limits) (one_round task.limits) r round told goal
-      → IsStepSpent task.limits r (read.wanted round) told (left_at task.limits r spares (at.Read round)) (one_round task.limits)
+      → IsStepSpent task.limits r (read.wanted_step round) told (left_at task.limits r spares (at.Read round)) (one_round task.limits)
   missed read_to.Seek is either = elim either [ inl paid ↦ inr (paid, (let w = enough task.limits in omega (arith, w))) | inr left ↦ inl (omega (arith, left)) ]
   missed (read_to.Left removed) is either = elim either [ inl paid ↦ inr (paid, (let w = enough task.limits in omega (arith, w))) | inr left ↦ inl (omega (arith, left)) ]
   missed read_to.Beyond is kept = inl (omega (arith, kept))
 
   pub read_went : read.Spends (left_round task.limits) (one_round task.limits) r round told new None
-      → IsStepSpent task.limits r (read.wanted round) told (left_at task.limits r spares (at.Read round)) (left_at task.limits (recall r (read.wanted round) told) spares (at.Read new))
+      → IsStepSpent task.limits r (read.wanted_step round) told (left_at task.limits r spares (at.Read round)) (left_at task.limits (recall r (read.wanted_step round) told) spares (at.Read new))
   read_went spends = elim spends [
     | inl less ↦ inl (omega (arith, less))
     | inr paid ↦ let more = paid.1 in let w = enough task.limits in let same = same_pids in inr (paid.0, omega (arith, more, w, same))
   ]
 
   pub read_left : (end : ReadEnd) → read.Spends (left_round task.limits) (one_round task.limits) r round told new (Some end)
-      → IsStepSpent task.limits r (read.wanted round) told (left_at task.limits r spares (at.Read round)) (left_for task.limits (outcome.Read end))
+      → IsStepSpent task.limits r (read.wanted_step round) told (left_at task.limits r spares (at.Read round)) (left_for task.limits (outcome.Read end))
   read_left read_end.Again misses = missed round.goal refl misses
   read_left (read_end.Removed page) reserved = inl (omega (arith, reserved))
   read_left (read_end.Leaf leaf) some = inl (omega (arith, some))
@@ -77,12 +77,12 @@ module _ (task : Task) (spares : Spares) (k : Knowledge) (r : Recalled) (round n
 
   -- whatever the round makes of the answer
   pub read_comes : read.ReadsForTheSame round new → (result : Option ReadEnd) → Follows read.reading k r round told new result
-      → Comes task k r (Some (read.wanted round)) told (at.Read new) spares (read_out result)
+      → Comes task k r (Some (read.wanted_step round)) told (at.Read new) spares (read_out result)
   read_comes same None follows = (read_on same follows, refl)
   read_comes same (Some end) ends = read_ended end ends
 
   pub read_leaves : (result : Option ReadEnd) → read.Spends (left_round task.limits) (one_round task.limits) r round told new result
-      → LeavesFor task.limits r (Some (read.wanted round)) told (left_at task.limits r spares (at.Read round)) (at.Read new) spares (read_out result)
+      → LeavesFor task.limits r (Some (read.wanted_step round)) told (left_at task.limits r spares (at.Read round)) (at.Read new) spares (read_out result)
   read_leaves None spends = read_went spends
   read_leaves (Some end) spends = read_left end spends
 
@@ -125,11 +125,11 @@ has_sought old new told (write_end.Removed page) responds = tt
 has_sought old new told (write_end.Due plan after) responds = tt
 
 module _ (task : Task) (spares : Spares) (k : Knowledge) (r : Recalled) (round new : write.WriteRound) (told : Answer Record)
-    (h : IsInWriteRound task spares k r round) (fits : Fits task.limits k (write.wanted round) told) where
+    (h : IsInWriteRound task spares k r round) (fits : Fits task.limits k (write.wanted_step round) told) where
   pub write_on : Responds response.writing round told new None → write.WritesForTheSame round new → Follows response.writing k r round told new None
-      → IsInWriteRound task spares (learn k (write.wanted round) told) (recall r (write.wanted round) told) new
+      → IsInWriteRound task spares (learn k (write.wanted_step round) told) (recall r (write.wanted_step round) told) new
   write_on responds same follows = record {
-    seeks = seeks_still task spares k h.seeks task.limits (write.wanted round) told (writer_reads round k r h.shows) fits;
+    seeks = seeks_still task spares k h.seeks task.limits (write.wanted_step round) told (writer_reads round k r h.shows) fits;
     writer = h.writer;
     round_of = record {
       limits = same.limits ∙ h.round_of.limits;
@@ -142,10 +142,10 @@ module _ (task : Task) (spares : Spares) (k : Knowledge) (r : Recalled) (round n
   }
 
   pub write_end_kind : (end : WriteEnd) → Responds response.writing round told new (Some end)
-      → write.EndsWrite round (learn k (write.wanted round) told) (recall r (write.wanted round) told) end
-      → FacesWritten task spares (learn k (write.wanted round) told) (recall r (write.wanted round) told) end
+      → write.EndsWrite round (learn k (write.wanted_step round) told) (recall r (write.wanted_step round) told) end
+      → FacesWritten task spares (learn k (write.wanted_step round) told) (recall r (write.wanted_step round) told) end
   write_end_kind end responds ends = record {
-    seeks = seeks_still task spares k h.seeks task.limits (write.wanted round) told (writer_reads round k r h.shows) fits;
+    seeks = seeks_still task spares k h.seeks task.limits (write.wanted_step round) told (writer_reads round k r h.shows) fits;
     writer = h.writer;
     round = round;
     round_of = h.round_of;
@@ -158,21 +158,21 @@ module _ (task : Task) (spares : Spares) (k : Knowledge) (r : Recalled) (round n
 
   -- where a page wasn't there
   write_missed : (goal : write_to.WriteGoal) → write.MissesWrite (left_round task.limits) (one_round task.limits) r round told goal
-      → IsStepSpent task.limits r (write.wanted round) told (left_at task.limits r spares (at.Write round)) (one_round task.limits)
+      → IsStepSpent task.limits r (write.wanted_step round) told (left_at task.limits r spares (at.Write round)) (one_round task.limits)
   write_missed Seek paid = inr (paid, (let w = enough task.limits in omega (arith, w)))
   write_missed (write_to.Left pid) misses = elim misses [ inl paid ↦ inr (paid, (let w = enough task.limits in omega (arith, w))) | inr was ↦ let kept = was.1 in inl (omega (arith, kept)) ]
   write_missed (write_to.Merge left) paid = inr (paid, (let w = enough task.limits in omega (arith, w)))
   write_missed (write_to.Unterm parent left) kept = inl (omega (arith, kept))
 
   pub write_went : write.Spends (left_round task.limits) (one_round task.limits) r round told new None
-      → IsStepSpent task.limits r (write.wanted round) told (left_at task.limits r spares (at.Write round)) (left_at task.limits (recall r (write.wanted round) told) spares (at.Write new))
+      → IsStepSpent task.limits r (write.wanted_step round) told (left_at task.limits r spares (at.Write round)) (left_at task.limits (recall r (write.wanted_step round) told) spares (at.Write new))
   write_went spends = elim spends [
     | inl less ↦ inl (omega (arith, less))
     | inr paid ↦ let more = paid.1 in let w = enough task.limits in let same = written_pids in inr (paid.0, omega (arith, more, w, same))
   ]
 
   pub write_left : (end : WriteEnd) → write.Spends (left_round task.limits) (one_round task.limits) r round told new (Some end)
-      → IsStepSpent task.limits r (write.wanted round) told (left_at task.limits r spares (at.Write round)) (left_for task.limits (outcome.Written end))
+      → IsStepSpent task.limits r (write.wanted_step round) told (left_at task.limits r spares (at.Write round)) (left_for task.limits (outcome.Written end))
   write_left write_end.Again misses = write_missed round.goal misses
   write_left write_end.Done kept = inl (omega (arith, kept))
   write_left (write_end.Removed page) reserved = inl (omega (arith, reserved))
@@ -181,11 +181,11 @@ module _ (task : Task) (spares : Spares) (k : Knowledge) (r : Recalled) (round n
 
   -- whatever the round makes of the answer
   pub write_comes : write.WritesForTheSame round new → (result : Option WriteEnd) → Responds response.writing round told new result
-      → Follows response.writing k r round told new result → Comes task k r (Some (write.wanted round)) told (at.Write new) spares (written_out result)
+      → Follows response.writing k r round told new result → Comes task k r (Some (write.wanted_step round)) told (at.Write new) spares (written_out result)
   write_comes same None responds follows = (write_on responds same follows, refl)
   write_comes same (Some end) responds ends = write_end_kind end responds ends
 
   pub write_leaves : (result : Option WriteEnd) → write.Spends (left_round task.limits) (one_round task.limits) r round told new result
-      → LeavesFor task.limits r (Some (write.wanted round)) told (left_at task.limits r spares (at.Write round)) (at.Write new) spares (written_out result)
+      → LeavesFor task.limits r (Some (write.wanted_step round)) told (left_at task.limits r spares (at.Write round)) (at.Write new) spares (written_out result)
   write_leaves None spends = write_went spends
   write_leaves (Some end) spends = write_left end spends

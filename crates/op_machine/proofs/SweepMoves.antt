@@ -20,7 +20,7 @@ use Rattle.op_machine.specs.machine.Shows.{FitsLast, ShowsState, learn_last, rec
 use Rattle.op_machine.specs.machine.Sweeping.{FollowsSweep, with_limbo}
 use Rattle.op_machine.specs.machine.Tasks.{Task, Waits}
 use Rattle.op_machine.specs.machine.States.{State, Begun}
-use Rattle.sweep.specs.Sweeps.{IsSoundSweep, IsKeptOutside, Sweep, wanted, Shows as ShowsSweep}
+use Rattle.sweep.specs.Sweeps.{IsSoundSweep, IsKeptOutside, Sweep, wanted_step, Shows as ShowsSweep}
 
 module _ (task : Task) (spares : Spares) where
   -- what is known of the limbo is of no matter before the first step of the work
@@ -69,7 +69,7 @@ module _ (task : Task) (spares : Spares) where
   module _ (had limbo : Limbo) (k : Knowledge) (r : Recalled) (state : State) (sweep : Sweep) (next : Option Sweep) (first : state ≡ Begun) (told : Answer Record)
       (shows : Shows (record { task = task; sweep = Some sweep; state = state }) (with_limbo spares had) k r) where
     abbrev now : Knowledge
-    now = learn k (wanted sweep) told
+    now = learn k (wanted_step sweep) told
 
     same_rests : IsKeptOutside sweep.limits sweep.actor limbo now → IsKeptOutside task.limits task.actor limbo now
     same_rests h = rw (← shows.limbo.limits, ← shows.limbo.actor) h
@@ -80,18 +80,18 @@ module _ (task : Task) (spares : Spares) where
     follows (Some other) h = h
 
     pub goes_on : FollowsSweep k now sweep next limbo → IfSome next (IsSweepOf limbo)
-        → Shows (record { task = task; sweep = next; state = state }) (with_limbo spares limbo) now (recall r (wanted sweep) told)
-    goes_on f of = begins limbo now (recall r (wanted sweep) told) state next first (rw first (waits_still k now f.only (rw first at shows.stands))) (follows next f.then) of
+        → Shows (record { task = task; sweep = next; state = state }) (with_limbo spares limbo) now (recall r (wanted_step sweep) told)
+    goes_on f of = begins limbo now (recall r (wanted_step sweep) told) state next first (rw first (waits_still k now f.only (rw first at shows.stands))) (follows next f.then) of
 
   pub goes_on_from : (had limbo : Limbo) (k : Knowledge) (r : Recalled) (state : State) (old next : Option Sweep) (sweep : Sweep) (told : Answer Record)
       → old ≡ Some sweep → state ≡ Begun → Shows (record { task = task; sweep = old; state = state }) (with_limbo spares had) k r
       → FitsLast task.limits k (asked_by old None) told
-      → ((k : Knowledge) → ShowsSweep sweep had k → Fits sweep.limits k (wanted sweep) told → FollowsSweep k (learn k (wanted sweep) told) sweep next limbo)
+      → ((k : Knowledge) → ShowsSweep sweep had k → Fits sweep.limits k (wanted_step sweep) told → FollowsSweep k (learn k (wanted_step sweep) told) sweep next limbo)
       → IfSome next (λ next. IsSoundSweep next limbo) → IfSome next (λ next. (next.limits ≡ sweep.limits) × (next.actor ≡ sweep.actor))
       → Shows (record { task = task; sweep = next; state = state }) (with_limbo spares limbo) (learn_last k (asked_by old None) told) (recall_last r (asked_by old None) told)
   goes_on_from had limbo k r state old next sweep told some first shows fits follows sound same =
       let h = rw some at shows in
-      let fits' : Fits task.limits k (wanted sweep) told = rw some at fits in
+      let fits' : Fits task.limits k (wanted_step sweep) told = rw some at fits in
       rw some (goes_on had limbo k r state sweep next first told h (follows k h.limbo.shows (rw h.limbo.limits fits')) (both next sound same))
     where
       both : (o : Option Sweep) → IfSome o (λ sweep. IsSoundSweep sweep limbo) → IfSome o (λ next. (next.limits ≡ sweep.limits) × (next.actor ≡ sweep.actor)) → IfSome o (IsSweepOf limbo)
@@ -100,7 +100,7 @@ module _ (task : Task) (spares : Spares) where
 
 -- the step that the sweep wants may be taken
 pub sweeps : (op : Op) (hand : Hand) (k : Knowledge) (r : Recalled) (sweep : Sweep) (asked : Step Record) → op.sweep ≡ Some sweep → Shows op hand k r
-    → asked ≡ wanted sweep → IsWithin sweep.limits asked
+    → asked ≡ wanted_step sweep → IsWithin sweep.limits asked
     → ((limbo : Limbo) (k : Knowledge) → ShowsSweep sweep limbo k → May sweep.actor k asked)
     → ((limbo : Limbo) (k : Knowledge) → ShowsSweep sweep limbo k → MayFree sweep.limits sweep.actor k asked) → IsUseful k asked → IsHalved k asked
     → Goes k r op hand asked

@@ -3,11 +3,11 @@ ghost use Rattle.std.specs.Prelude.{◌≡◌, ◌≢◌, ◌<◌, ◌^◌, ℕ,
 ghost use Rattle.op_machine.specs.machine.Actors.{ActsOn, IsActor, IsGoing, IsActorShown, IsToldActor, IsToldActorThere, errands_of, idle_actor, running_command, wanted_by};
 ghost use Rattle.op_machine.specs.machine.UnderWay.{steps_due};
 ghost use Rattle.bw_model.specs.Answers.{answer_of};
-ghost use Rattle.bw_model.specs.Lent.{lent};
+ghost use Rattle.bw_model.specs.Lent.{step_of_loan};
 ghost use Rattle.tree_limits.specs.declared.limits.Limits.{Limits as LimitsSeen};
 ghost use Rattle.bw_model.specs.declared.step.Answer.TheVariants.{Content, Done};
 ghost use Rattle.bw_model.specs.declared.step.Step.TheVariants.{Row};
-ghost use Rattle.traces.specs.discipline.Knowledge.{Knowledge, begun, nothing};
+ghost use Rattle.traces.specs.discipline.Knowledge.{Knowledge, after_begin, nothing};
 ghost use Rattle.traces.specs.discipline.Recalled.{Recalled, blank, cause_worth};
 
 use crate::{Hand, Operation};
@@ -118,10 +118,11 @@ impl<R: Rows, A: Allocator> Actor<R, A> {
     }
 
     /// The step that its operation wants, with the record that is to be placed lent from where it lies.
+    #[inline(always)]
     pub fn wanted(&self) -> Step<&Record>
         requires shown { IsActorShown self.now }
         requires running { IsSome (running_command self.now) }
-        ensures { wanted_by self.now.running ≡ Some (lent result) }
+        ensures { wanted_by self.now.running ≡ Some (step_of_loan result) }
     {
         self.operation.wanted(&self.hand)
     }
@@ -140,7 +141,7 @@ impl<R: Rows, A: Allocator> Actor<R, A> {
         requires shows { (k : Knowledge) × (r : Recalled) × IsActor limits.now number k r self.old }
         requires idle { running_command self.old ≡ None }
         requires there { number < limits.now.actors }
-        ensures shows { (k : Knowledge) (r : Recalled) → IsActor limits.now number k r self.old → IsActor limits.now number (begun k command) blank self.new }
+        ensures shows { (k : Knowledge) (r : Recalled) → IsActor limits.now number k r self.old → IsActor limits.now number (after_begin k command) blank self.new }
         ensures command { running_command self.new ≡ Some command }
         ensures bounded { steps_due blank self.new.hand self.new.running < cause_worth limits.now }
         ensures lacks { self.new.lacks ≡ None }

@@ -1,12 +1,12 @@
 //! One operation as a machine that stays in its place, apart from the memory: it is told an answer, and then wants one step.
 ghost use Rattle.std.specs.Prelude.{◌≡◌, ◌<◌, ◌≤◌, ◌^◌, [], IfOk, IfSome, IsSome, None, Some, false, is_some, length, true};
 ghost use Rattle.bw_model.specs.Answers.{answer_of};
-ghost use Rattle.bw_model.specs.Lent.{lent};
+ghost use Rattle.bw_model.specs.Lent.{step_of_loan};
 ghost use Rattle.bw_model.specs.declared.step.Answer.{Answer as AnswerOf};
 ghost use Rattle.bw_model.specs.declared.step.Answer.TheVariants.{Content};
 ghost use Rattle.bw_model.specs.declared.step.Step.TheVariants.{Row};
 ghost use Rattle.traces.specs.discipline.Discipline.{May, MayFree};
-ghost use Rattle.traces.specs.discipline.Knowledge.{Knowledge, begun, learn};
+ghost use Rattle.traces.specs.discipline.Knowledge.{Knowledge, after_begin, learn};
 ghost use Rattle.traces.specs.discipline.Recalled.{Recalled, blank, cause_worth};
 ghost use Rattle.traces.specs.discipline.Useful.{IsUseful};
 ghost use Rattle.op_machine.specs.theorem.Halves.{IsHalved};
@@ -16,7 +16,7 @@ ghost use Rattle.epochs.specs.Limbo.{Limbo as LimboSeen};
 ghost use Rattle.op_machine.specs.machine.Hands.{Hand as HandSeen};
 ghost use Rattle.op_machine.specs.machine.InPlace.{IsOpShown, Takes, Wants};
 ghost use Rattle.op_machine.specs.machine.Ops.{EndsAtLeave, IsAtRestWith, IsToldOp, IsToldOpThere, Obeys, Shows, wanted_of};
-ghost use Rattle.op_machine.specs.machine.Outcomes.{changed, has_machine, is_changing, is_leaving, is_reading, is_writing, lacks_at};
+ghost use Rattle.op_machine.specs.machine.Outcomes.{change_out, has_machine, is_changing, is_leaving, is_reading, is_writing, lacks_at};
 ghost use Rattle.op_machine.specs.machine.Places.{ended_with, state_of};
 ghost use Rattle.op_machine.specs.machine.Shows.{FitsLast, ShowsState, learn_last, wanted_at};
 ghost use Rattle.op_machine.specs.machine.Spending.{steps_left};
@@ -27,7 +27,7 @@ ghost use Rattle.op_machine.specs.machine.Wants as Want;
 ghost use Rattle.op_machine.specs.machine.States as State;
 ghost use Rattle.sweep.specs.Kept.{AreKept};
 ghost use Rattle.sweep.specs.Bounded.{steps_left as steps_of};
-ghost use Rattle.sweep.specs.Sweeps.{IsSoundSweep, FitsSweep as IsToldSweepAlone, Shows as ShowsSweep, wanted as sweep_wants};
+ghost use Rattle.sweep.specs.Sweeps.{IsSoundSweep, FitsSweep as IsToldSweepAlone, Shows as ShowsSweep, wanted_step as sweep_wants};
 ghost use Rattle.traces.specs.discipline.Fitting.{Fits};
 
 use crate::hand::Hand;
@@ -90,7 +90,7 @@ impl<R: Rows, A: Allocator> Operation<R, A> {
     /// wanted yet.
     pub fn begin(&mut self, command: Command, actor: u8, limits: &Limits)
         requires { actor < limits.now.actors }
-        ensures shows { (k : Knowledge) (hand : HandSeen) → IsAtRestWith limits.now actor hand k → Shows self.new hand (begun k command) blank }
+        ensures shows { (k : Knowledge) (hand : HandSeen) → IsAtRestWith limits.now actor hand k → Shows self.new hand (after_begin k command) blank }
         ensures task { self.new.task ≡ record { limits = limits.now; actor = actor; command = command; errands = [] } }
         ensures sweep { self.new.sweep ≡ None }
         ensures state { self.new.state ≡ State.Begun }
@@ -117,11 +117,11 @@ impl<R: Rows, A: Allocator> Operation<R, A> {
     }
 
     /// The step that the operation wants, with the record that is to be placed lent from where it lies.
-    #[inline]
+    #[inline(always)]
     pub fn wanted(&self, hand: &Hand<A>) -> Step<&Record>
         requires shown { IsOpShown self.now hand.now }
         requires asks { IsSome (wanted_of self.now hand.now) }
-        ensures { Wants self.now hand.now (lent result) }
+        ensures { Wants self.now hand.now (step_of_loan result) }
     {
         match &self.sweep {
             Some(sweep) => sweeping(sweep),
@@ -346,7 +346,7 @@ fn ended<R: Rows, A: Allocator>(
 ) -> Option<End>
     requires told { IsToldChange (state_of places.old) hand.old (answer_of told) }
     requires changing { places.old.stand ≡ StateKind.Change }
-    ensures makes { TurnsInto (state_of places.old) hand.old.spares (answer_of told) (state_of places.new) hand.new.spares (changed (ended_with places.old.then result)) }
+    ensures makes { TurnsInto (state_of places.old) hand.old.spares (answer_of told) (state_of places.new) hand.new.spares (change_out (ended_with places.old.then result)) }
     ensures keeps { (task : TaskSeen) (k : Knowledge) (r : Recalled) → ShowsState task hand.old.spares k r (state_of places.old)
         → FitsLast task.limits k (wanted_at hand.old.spares (state_of places.old)) (answer_of told) → AreKept task.limits task.actor hand.old.limbo k.limbo
         → AreKept task.limits task.actor hand.new.limbo (learn_last k (wanted_at hand.old.spares (state_of places.old)) (answer_of told)).limbo }
@@ -364,12 +364,12 @@ fn ended<R: Rows, A: Allocator>(
 /// The step that a sweep wants, among steps that lend the record that they place.
 #[inline(never)]
 fn sweeping<'a>(sweep: &Sweep) -> Step<&'a Record>
-    ensures wanted { lent result ≡ sweep_wants sweep.now }
-    ensures within { IsWithin sweep.now.limits (lent result) }
-    ensures may { (limbo : LimboSeen) (k : Knowledge) → ShowsSweep sweep.now limbo k → May sweep.now.actor k (lent result) }
-    ensures frees { (limbo : LimboSeen) (k : Knowledge) → ShowsSweep sweep.now limbo k → MayFree sweep.now.limits sweep.now.actor k (lent result) }
-    ensures useful { (k : Knowledge) → IsUseful k (lent result) }
-    ensures halved { (k : Knowledge) → IsHalved k (lent result) }
+    ensures wanted { step_of_loan result ≡ sweep_wants sweep.now }
+    ensures within { IsWithin sweep.now.limits (step_of_loan result) }
+    ensures may { (limbo : LimboSeen) (k : Knowledge) → ShowsSweep sweep.now limbo k → May sweep.now.actor k (step_of_loan result) }
+    ensures frees { (limbo : LimboSeen) (k : Knowledge) → ShowsSweep sweep.now limbo k → MayFree sweep.now.limits sweep.now.actor k (step_of_loan result) }
+    ensures useful { (k : Knowledge) → IsUseful k (step_of_loan result) }
+    ensures halved { (k : Knowledge) → IsHalved k (step_of_loan result) }
 {
     match sweep.step() {
         Step::Epoch => Step::Epoch,

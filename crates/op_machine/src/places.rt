@@ -2,13 +2,13 @@
 ghost use Rattle.std.specs.Prelude.{◌≡◌, ◌<◌, ◌≤◌, ◌+◌, ℕ, List, IfOk, IsSome, None, Some, true};
 ghost use Rattle.std.specs.Option.{option_map};
 ghost use Rattle.bw_model.specs.Answers.{answer_of};
-ghost use Rattle.bw_model.specs.Lent.{lent};
+ghost use Rattle.bw_model.specs.Lent.{step_of_loan};
 ghost use Rattle.bw_model.specs.Pairs.{ArePairsOf};
 ghost use Rattle.bw_model.specs.declared.command.Reply.TheVariants as Reply;
 ghost use Rattle.bw_model.specs.declared.step.Answer.TheVariants.{Content, Number};
 ghost use Rattle.bw_model.specs.declared.step.Step.TheVariants.{Row};
 ghost use Rattle.traces.specs.chain.Chains.{high_in};
-ghost use Rattle.traces.specs.discipline.Discipline.{found};
+ghost use Rattle.traces.specs.discipline.Discipline.{chain_value};
 ghost use Rattle.traces.specs.discipline.Knowledge.{Knowledge};
 ghost use Rattle.traces.specs.discipline.Recalled.{Recalled};
 ghost use Rattle.row_chain.specs.Placed.{IsReadChain};
@@ -24,7 +24,7 @@ ghost use Rattle.round_model.specs.ReadGoals as goal;
 ghost use Rattle.change_machine.specs.Changes.{IsSpellablePlan, IsTarget};
 ghost use Rattle.change_machine.specs.Spares.{HaveRoom};
 ghost use Rattle.op_machine.specs.machine.Bounded.{few_changes, left_at};
-ghost use Rattle.op_machine.specs.machine.Outcomes.{IsToldAt, UnlinksAfter, changed, has_begun, is_changing, lacks_at};
+ghost use Rattle.op_machine.specs.machine.Outcomes.{IsToldAt, UnlinksAfter, change_out, has_begun, is_changing, lacks_at};
 ghost use Rattle.op_machine.specs.machine.Places.{HaveLimits, ReadsOn, WritesOn, ended_with, leaf_read, left_round_of, state_of};
 ghost use Rattle.op_machine.specs.machine.Shows.{FitsLast, MayBegin, MayStep, ShowsState, learn_last, wanted_at};
 ghost use Rattle.op_machine.specs.machine.Tasks.{Task as TaskSeen};
@@ -239,7 +239,7 @@ impl<R: Rows, A: Allocator> Places<R, A> {
     )
         requires read { IsReadChain (R.has rows.now pass.old) (chain_of (leaf_read is_beside self.old.reader)) }
         ensures looks { pass.new ≡ pass.old }
-        ensures page { (pairs : List (List ℕ × List ℕ)) × ArePairsOf (found (leaf_read is_beside self.old.reader).chain) from.now (high_in (leaf_read is_beside self.old.reader).chain) pairs × (self.new ≡ record self.old { stand = StateKind.Leave; reply = Reply.Page pairs (high_in (leaf_read is_beside self.old.reader).chain); lacks = None }) }
+        ensures page { (pairs : List (List ℕ × List ℕ)) × ArePairsOf (chain_value (leaf_read is_beside self.old.reader).chain) from.now (high_in (leaf_read is_beside self.old.reader).chain) pairs × (self.new ≡ record self.old { stand = StateKind.Leave; reply = Reply.Page pairs (high_in (leaf_read is_beside self.old.reader).chain); lacks = None }) }
     {
         let leaf = leaf_of(&self.reader, is_beside).chain();
         self.reply.put_page(leaf, from, rows, pass);
@@ -284,12 +284,12 @@ impl<R: Rows, A: Allocator> Places<R, A> {
     }
 
     /// The step that is wanted, with the record that is to be placed lent from where it lies.
-    #[inline]
+    #[inline(always)]
     pub(crate) fn wanted(&self, spares: &Spares) -> Step<&Record>
         requires stands { (task : TaskSeen) × (k : Knowledge) × (r : Recalled) × ShowsState task spares.now k r (state_of self.now) }
         requires asks { IsSome (wanted_at spares.now (state_of self.now)) }
-        ensures wanted { wanted_at spares.now (state_of self.now) ≡ Some (lent result) }
-        ensures may { (task : TaskSeen) (k : Knowledge) (r : Recalled) → ShowsState task spares.now k r (state_of self.now) → MayStep task k (lent result) }
+        ensures wanted { wanted_at spares.now (state_of self.now) ≡ Some (step_of_loan result) }
+        ensures may { (task : TaskSeen) (k : Knowledge) (r : Recalled) → ShowsState task spares.now k r (state_of self.now) → MayStep task k (step_of_loan result) }
     {
         match self.stand {
             StateKind::Begun => unreachable!(),
@@ -335,7 +335,7 @@ impl<R: Rows, A: Allocator> Places<R, A> {
         rows: &R,
         pass: &mut R::Pass,
     ) -> Option<ReadEndKind>
-        requires asked { read.wanted self.old.reader.round ≡ Row found.row }
+        requires asked { read.wanted_step self.old.reader.round ≡ Row found.row }
         requires told { IsToldThere (R.has rows.now pass.old) (machine read.reading) self.old.reader.round (Content found.content) }
         ensures reads { ReadsOn self.old (Content found.content) self.new (option_map (reads.ended_read self.new.reader) result) }
         ensures same { pass.new ≡ pass.old }
@@ -353,7 +353,7 @@ impl<R: Rows, A: Allocator> Places<R, A> {
 
     /// The writer's round takes a record that stands over another one.
     pub(crate) fn write_on(&mut self, found: RowAt<R>, rows: &R, pass: &mut R::Pass)
-        requires asked { write.wanted self.old.writer.round ≡ Row found.row }
+        requires asked { write.wanted_step self.old.writer.round ≡ Row found.row }
         requires told { IsToldThere (R.has rows.now pass.old) (machine response.writing) self.old.writer.round (Content found.content) }
         requires on { reads_on (Content found.content) ≡ true }
         ensures writes { WritesOn self.old (Content found.content) self.new None }
@@ -369,7 +369,7 @@ impl<R: Rows, A: Allocator> Places<R, A> {
         rows: &R,
         pass: &mut R::Pass,
     ) -> Option<WriteEndKind>
-        requires asked { write.wanted self.old.writer.round ≡ Row found.row }
+        requires asked { write.wanted_step self.old.writer.round ≡ Row found.row }
         requires told { IsToldThere (R.has rows.now pass.old) (machine response.writing) self.old.writer.round (Content found.content) }
         ensures writes { WritesOn self.old (Content found.content) self.new (option_map (writes.ended_write self.new.writer) result) }
         ensures same { pass.new ≡ pass.old }
@@ -381,7 +381,7 @@ impl<R: Rows, A: Allocator> Places<R, A> {
     pub(crate) fn change_next(&mut self, spares: &mut Spares, told: Told) -> Option<End>
         requires told { IsToldAt (state_of self.old) spares.old (answer_of told) }
         requires changing { self.old.stand ≡ StateKind.Change }
-        ensures makes { TurnsInto (state_of self.old) spares.old (answer_of told) (state_of self.new) spares.new (changed (ended_with self.old.then result)) }
+        ensures makes { TurnsInto (state_of self.old) spares.old (answer_of told) (state_of self.new) spares.new (change_out (ended_with self.old.then result)) }
         ensures unlinks { (task : TaskSeen) (k : Knowledge) (r : Recalled) → ShowsState task spares.old k r (state_of self.old)
             → FitsLast task.limits k (wanted_at spares.old (state_of self.old)) (answer_of told)
             → UnlinksAfter task.limits k (ended_with self.old.then result) (learn_last k (wanted_at spares.old (state_of self.old)) (answer_of told)).limbo }
@@ -400,7 +400,7 @@ impl<R: Rows, A: Allocator> Places<R, A> {
 
 /// The step that a round asks for.
 fn reading<'a>(asked: Asked) -> Step<&'a Record>
-    ensures { lent result ≡ asked_step asked }
+    ensures { step_of_loan result ≡ asked_step asked }
 {
     match asked {
         Asked::Slot(pid) => Step::Slot(pid),

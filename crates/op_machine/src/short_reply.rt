@@ -5,7 +5,7 @@ ghost use Rattle.bw_model.specs.declared.command.Reply.TheVariants as replied;
 ghost use Rattle.bw_model.specs.Pairs.{ArePairsOf};
 ghost use Rattle.base_page.specs.Shown.{pairs_from};
 ghost use Rattle.traces.specs.chain.Chains.{high_in};
-ghost use Rattle.traces.specs.discipline.Discipline.{found};
+ghost use Rattle.traces.specs.discipline.Discipline.{chain_value};
 ghost use Rattle.row_chain.specs.Placed.{IsReadChain};
 ghost use Rattle.op_machine.specs.machine.ShortReplies.{reply_with};
 
@@ -196,7 +196,7 @@ impl ReplyPlace {
     )
         requires read { IsReadChain (R.has rows.now pass.old) leaf.now }
         ensures looks { pass.new ≡ pass.old }
-        ensures page { (pairs : List (List ℕ × List ℕ)) × ArePairsOf (found leaf.now.records) from.now (high_in leaf.now.records) pairs × (self.new ≡ replied.Page pairs (high_in leaf.now.records)) }
+        ensures page { (pairs : List (List ℕ × List ℕ)) × ArePairsOf (chain_value leaf.now.records) from.now (high_in leaf.now.records) pairs × (self.new ≡ replied.Page pairs (high_in leaf.now.records)) }
     {
         self.is_page = true;
         self.from = from.copied();

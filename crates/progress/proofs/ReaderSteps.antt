@@ -18,7 +18,7 @@ use Rattle.traces.specs.discipline.Knowledge.{Knowledge, knows}
 use Rattle.traces.specs.discipline.Recalled.{Recalled, recalls}
 use Rattle.traces.specs.trace.Trace.{memory_of}
 use Rattle.traces.proofs.Pushes.{pushed_length, slice_get_below}
-use Rattle.round_model.specs.ReadRounds.{ReadRound, wanted}
+use Rattle.round_model.specs.ReadRounds.{ReadRound, wanted_step}
 use Rattle.op_machine.specs.machine.Actors.{IsActorWith, command_at, command_left, wanted_by}
 use Rattle.op_machine.specs.machine.GoesLeft.{first_read}
 use Rattle.op_machine.specs.machine.Hands.{Hand}
@@ -110,7 +110,7 @@ module _ (limits : Limits) (entries : List Entry) (actor : ℕ) (step : StepOf R
   ]
 
   -- a round goes on
-  round_on : (round next : ReadRound) (r : Recalled) → wanted round ≡ step → ShowsState old hand.spares (knows entries actor) r (Read round)
+  round_on : (round next : ReadRound) (r : Recalled) → wanted_step round ≡ step → ShowsState old hand.spares (knows entries actor) r (Read round)
       → StepsReading old round answer (Read next) → (m : ℕ) → m ≤ length entries → PaysForRound limits entries task round m
       → PaysForRound limits longer task next m
   round_on round next r wants shows steps m within pays = record {
@@ -146,10 +146,10 @@ module _ (limits : Limits) (entries : List Entry) (actor : ℕ) (step : StepOf R
       none : ◌≡◌ {A = ℕ} (if changes_tree (memory_of limits entries) entry then 1 else 0) 0
       none =
           ap (λ (b : Bool). if◌then◌else◌ {A = ℕ} b 1 0) (ap (λ (s : StepOf Record). changes_tree (memory_of limits entries) (Step actor s answer None))
-          (sym wants) ∙ read_no_change (memory_of limits entries) actor (wanted round) answer (is_read round.state))
+          (sym wants) ∙ read_no_change (memory_of limits entries) actor (wanted_step round) answer (is_read round.state))
 
   -- by what the round makes of the answer
-  from_round : (round : ReadRound) (r : Recalled) (t : State) → wanted round ≡ step → ShowsState old hand.spares (knows entries actor) r (Read round)
+  from_round : (round : ReadRound) (r : Recalled) (t : State) → wanted_step round ≡ step → ShowsState old hand.spares (knows entries actor) r (Read round)
       → StepsReading old round answer t → (is_reading t ≡ true) ⊎ (is_leaving t ≡ true)
       → ((m : ℕ) → start < m → m ≤ length entries → PaysForRound limits entries task round m) → (m : ℕ) → start < m → m ≤ length longer → PaysAt limits longer task m t
   from_round round r (Read next) wants shows steps goes pays m after within = elim (cases_lt (length entries) m) [
@@ -196,7 +196,7 @@ module _ (limits : Limits) (entries : List Entry) (actor : ℕ) (step : StepOf R
   from_state Epoch t r shows wants other stays steps pays m after within = from_epoch t steps pays m after within
   from_state (Enter epoch) t r shows wants other stays steps pays m after within = from_enter t (steps (ap is_writer same_command ∙ reader)) pays m after within
   from_state (Read round) t r shows wants other stays steps pays m after within =
-      from_round round r t (same_Some (wanted round) step wants) shows steps (after_reads old steps.next steps.end t steps.goes) pays m after within
+      from_round round r t (same_Some (wanted_step round) step wants) shows steps (after_reads old steps.next steps.end t steps.goes) pays m after within
   from_state (Write round) t r shows wants other stays steps pays m after within = absurd (pays (length entries) begun (omega arith))
   from_state (Change now next) t r shows wants other stays steps pays m after within = absurd (pays (length entries) begun (omega arith))
   from_state (Leave reply lacks) t r shows wants other stays steps pays m after within = absurd (stays (sym (same_Some step_of.Leave step wants)))

@@ -16,7 +16,7 @@ use Rattle.round_model.specs.Descents.{Descent, Page, Root}
 use Rattle.round_model.specs.ReadEnds.{ReadEnd, Beside, Removed}
 use Rattle.round_model.specs.ReadGoals.{ReadGoal, Seek, Left}
 use Rattle.round_model.specs.ReadLegs.{Down}
-use Rattle.round_model.specs.ReadRounds.{ReadRound, TreatsRead, left_of, read_way, reading, wanted}
+use Rattle.round_model.specs.ReadRounds.{ReadRound, TreatsRead, left_of, read_way, reading, wanted_step}
 use Rattle.round_model.specs.Rounds.{Responds}
 use Rattle.round_model.specs.Visits.{Row, Slot, Visit, Whole, to_page}
 use Rattle.round_model.specs.Ways.{LeadsDown, reaches}
@@ -43,7 +43,7 @@ begins goal = record {
 }
 
 -- the slot of a page is read
-heads : (goal : ReadGoal) (above : Option Version) (pid row : ℕ) → IsAnswer beside_removal (wanted (round_at goal above pid [] Slot)) (Number row) → 0 < row
+heads : (goal : ReadGoal) (above : Option Version) (pid row : ℕ) → IsAnswer beside_removal (wanted_step (round_at goal above pid [] Slot)) (Number row) → 0 < row
     → ReadsIn beside_removal get_x (round_at goal above pid [] Slot) (Read (round_at goal above pid [] (Row row row)))
 heads goal above pid row told some = record {
   answer = Number row;
@@ -69,7 +69,7 @@ heads goal above pid row told some = record {
 
 -- a delta is read
 deltas : (goal : ReadGoal) (above : Option Version) (pid row under : ℕ) (content : Record)
-    → IsAnswer beside_removal (wanted (round_at goal above pid [] (Row row row))) (Content content) → next_row content ≡ Some under
+    → IsAnswer beside_removal (wanted_step (round_at goal above pid [] (Row row row))) (Content content) → next_row content ≡ Some under
     → ReadsIn beside_removal get_x (round_at goal above pid [] (Row row row)) (Read (round_at goal above pid (content ∷ []) (Row row under)))
 deltas goal above pid row under content told more = record {
   answer = Content content;
@@ -96,7 +96,7 @@ deltas goal above pid row under content told more = record {
 -- the base is read, and the page is whole
 wholes : (goal : ReadGoal) (above : Option Version) (version : Version) (row : ℕ) (newest content : Record) (next : ReadRound) (end : Option ReadEnd) (new : State)
     → version.chain ≡ newest ∷ content ∷ []
-    → IsAnswer beside_removal (wanted (round_at goal above version.pid (newest ∷ []) (Row version.head row))) (Content content) → next_row content ≡ None
+    → IsAnswer beside_removal (wanted_step (round_at goal above version.pid (newest ∷ []) (Row version.head row))) (Content content) → next_row content ≡ None
     → TreatsRead (round_at goal above version.pid (newest ∷ []) (Row version.head row)) version next end
     → next.limits ≡ small → next.key ≡ codes "x" → AfterReading get_x next end new → ReadsIn beside_removal get_x (round_at goal above version.pid (newest ∷ []) (Row version.head row)) new
 wholes goal above version row newest content next end new chain told last treats limits key goes = record {

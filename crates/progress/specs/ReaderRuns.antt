@@ -5,7 +5,7 @@ use Rattle.deltas.specs.Memory.{Memory}
 use Rattle.deltas.specs.declared.record.Record.{Record}
 use Rattle.traces.specs.trace.Steps.{IsAnswer}
 use Rattle.round_model.specs.ReadEnds.{Again}
-use Rattle.round_model.specs.ReadRounds.{ReadRound, wanted}
+use Rattle.round_model.specs.ReadRounds.{ReadRound, wanted_step}
 use Rattle.op_machine.specs.machine.RoundSteps.{StepsReading}
 use Rattle.op_machine.specs.machine.States.{State, Read}
 use Rattle.op_machine.specs.machine.Tasks.{Task}
@@ -13,7 +13,7 @@ use Rattle.op_machine.specs.machine.Tasks.{Task}
 -- The memory answers the step that the round wants, and the operation comes to this with the answer.
 pub record ReadsIn (memory : Memory) (task : Task) (round : ReadRound) (new : State) : Type 0 where
   pub answer : Answer Record
-  pub told : IsAnswer memory (wanted round) answer
+  pub told : IsAnswer memory (wanted_step round) answer
   pub steps : StepsReading task round answer new
 
 -- These are what a reader's round becomes, step after step; a further round, too, where one begins.

@@ -15,7 +15,7 @@ use Rattle.traces.specs.discipline.Knowledge.{knows}
 use Rattle.traces.specs.discipline.Recalled.{Recalled}
 use Rattle.traces.specs.trace.Run.{IsNext}
 use Rattle.traces.specs.trace.Trace.{memory_of}
-use Rattle.round_model.specs.ReadRounds.{ReadRound, Shows, wanted}
+use Rattle.round_model.specs.ReadRounds.{ReadRound, Shows, wanted_step}
 use Rattle.op_machine.specs.machine.RoundSteps.{StepsReading}
 use Rattle.op_machine.specs.machine.States.{Read}
 use Rattle.op_machine.specs.machine.Tasks.{Task}
@@ -37,7 +37,7 @@ IsOthers actor (Step other step answer reply) = other ≢ actor
 -- The reader takes the step that its round wants, and goes on by what the round makes of the answer.
 pub record IsOwnMoment (actor : ℕ) (task : Task) (round : ReadRound) (moment : Moment) : Type 0 where
   pub answer : Answer Record
-  pub entry_is : moment.entry ≡ Step actor (wanted round) answer None
+  pub entry_is : moment.entry ≡ Step actor (wanted_step round) answer None
   pub steps : StepsReading task round answer (Read moment.round)
 
 -- Another actor has the entry, and the reader's round stays.

@@ -8,7 +8,7 @@ use Rattle.std.specs.List.{AllByRecursion, flat_map}
 use Rattle.shell_lines.specs.declared.race_line.JobCommand.{JobCommand}
 use Rattle.shell_lines.specs.Request.{IsShortCommand}
 use Rattle.shell_lines.specs.RaceLine.{SaysOfJob}
-use Rattle.bw_shell.specs.Lines.{lines_of, ended, HasNoFeed, Splits}
+use Rattle.bw_shell.specs.Lines.{lines_of, with_newline, HasNoFeed, Splits}
 use Rattle.bw_shell.specs.declared.refusal.Refusal.{Refusal}
 use Rattle.race.specs.Asked.{AskFor, RefuseAt, RefusesJobLine}
 use Rattle.race.specs.Looked.{AreLinesOf}
@@ -31,20 +31,20 @@ some_split (b ∷ bs) = let rest = some_split bs in at (b == 10) refl rest.0 res
 
 -- what the lines of bytes are
 abbrev pub Whole : Type 0
-Whole = (lines : List (List ℕ)) → AllByRecursion HasNoFeed lines → lines_of (flat_map ended lines) ≡ lines
+Whole = (lines : List (List ℕ)) → AllByRecursion HasNoFeed lines → lines_of (flat_map with_newline lines) ≡ lines
 
 abbrev pub Last : Type 0
-Last = (lines : List (List ℕ)) (part : List ℕ) → AllByRecursion HasNoFeed lines → HasNoFeed part → 0 < length part → lines_of (flat_map ended lines ++ part) ≡ lines ++ part ∷ []
+Last = (lines : List (List ℕ)) (part : List ℕ) → AllByRecursion HasNoFeed lines → HasNoFeed part → 0 < length part → lines_of (flat_map with_newline lines ++ part) ≡ lines ++ part ∷ []
 
 all_lines : Whole → Last → (bytes : List ℕ) (lines : List (List ℕ)) (part : List ℕ) → Splits bytes lines part → (rest : List (List ℕ)) × (lines_of bytes ≡ lines ++ rest)
-all_lines whole last bytes lines [] s = ([], ap lines_of (s.whole ∙ append-nil (flat_map ended lines)) ∙ whole lines s.each ∙ sym (append-nil lines))
+all_lines whole last bytes lines [] s = ([], ap lines_of (s.whole ∙ append-nil (flat_map with_newline lines)) ∙ whole lines s.each ∙ sym (append-nil lines))
 all_lines whole last bytes lines (b ∷ bs) s = ((b ∷ bs) ∷ [], ap lines_of s.whole ∙ last lines (b ∷ bs) s.each s.open_end (omega arith))
 
 -- ---- the lines that are looked at so far
 
 -- these lines stand in front, with their LF, and ask for this
 pub record AreLooked (bytes : List ℕ) (done : List (List ℕ)) (rest : List ℕ) (asked : List JobCommand) : Type 0 where
-  pub whole : bytes ≡ flat_map ended done ++ rest
+  pub whole : bytes ≡ flat_map with_newline done ++ rest
   pub each : AllByRecursion HasNoFeed done
   pub asks : AskFor done asked
 
@@ -59,17 +59,17 @@ ask_more ([] ∷ ls) asked line own h one = ask_more ls asked line own h one
 ask_more ((b ∷ bs) ∷ ls) [] line own h one = absurd h
 ask_more ((b ∷ bs) ∷ ls) (a ∷ more) line own h one = (h.0, h.1, ask_more ls more line own h.2 one)
 
-one_more : (done : List (List ℕ)) (line behind : List ℕ) → flat_map ended done ++ (line ++ 10 ∷ behind) ≡ flat_map ended (done ++ line ∷ []) ++ behind
+one_more : (done : List (List ℕ)) (line behind : List ℕ) → flat_map with_newline done ++ (line ++ 10 ∷ behind) ≡ flat_map with_newline (done ++ line ∷ []) ++ behind
 one_more done line behind =
     sym (
-    ap (λ (l : List ℕ). l ++ behind) (flat_map-append ended done (line ∷ [])) ∙ append_assoc (flat_map ended done) (flat_map ended (line ∷ [])) behind
-    ∙ ap (λ (l : List ℕ). flat_map ended done ++ l) (ap (λ (l : List ℕ). l ++ behind) (append-nil (line ++ 10 ∷ [])) ∙ append_assoc line (10 ∷ []) behind)
+    ap (λ (l : List ℕ). l ++ behind) (flat_map-append with_newline done (line ∷ [])) ∙ append_assoc (flat_map with_newline done) (flat_map with_newline (line ∷ [])) behind
+    ∙ ap (λ (l : List ℕ). flat_map with_newline done ++ l) (ap (λ (l : List ℕ). l ++ behind) (append-nil (line ++ 10 ∷ [])) ∙ append_assoc line (10 ∷ []) behind)
     )
 
 pub more_looked : (bytes : List ℕ) (done : List (List ℕ)) (rest : List ℕ) (asked : List JobCommand) (line behind : List ℕ) (own : List JobCommand)
     → AreLooked bytes done rest asked → HasNoFeed line → rest ≡ line ++ 10 ∷ behind → AskFor (line ∷ []) own → AreLooked bytes (done ++ line ∷ []) behind (asked ++ own)
 more_looked bytes done rest asked line behind own l clean is one = record {
-  whole = l.whole ∙ ap (λ (x : List ℕ). flat_map ended done ++ x) is ∙ one_more done line behind;
+  whole = l.whole ∙ ap (λ (x : List ℕ). flat_map with_newline done ++ x) is ∙ one_more done line behind;
   each = all_then HasNoFeed done (line ∷ []) l.each (clean, tt);
   asks = ask_more done asked line own l.asks one;
 }
@@ -78,7 +78,7 @@ more_looked bytes done rest asked line behind own l clean is one = record {
 
 -- whether the input has ended or not, a line stands behind those
 lines_with : Whole → Last → (bytes : List ℕ) (done : List (List ℕ)) (line behind : List ℕ) (ends : Bool) → AllByRecursion HasNoFeed done → HasNoFeed line
-    → bytes ≡ flat_map ended (done ++ line ∷ []) ++ behind → (others : List (List ℕ)) × AreLinesOf bytes ends (done ++ line ∷ others)
+    → bytes ≡ flat_map with_newline (done ++ line ∷ []) ++ behind → (others : List (List ℕ)) × AreLinesOf bytes ends (done ++ line ∷ others)
 lines_with whole last bytes done line behind ends each clean is = at ends
   where
     s : (lines : List (List ℕ)) × (part : List ℕ) × Splits behind lines part
@@ -87,9 +87,9 @@ lines_with whole last bytes done line behind ends each clean is = at ends
     all : Splits bytes ((done ++ line ∷ []) ++ s.0) s.1
     all = record {
       whole =
-          is ∙ ap (λ (l : List ℕ). flat_map ended (done ++ line ∷ []) ++ l) s.2.whole
-          ∙ sym (append_assoc (flat_map ended (done ++ line ∷ [])) (flat_map ended s.0) s.1)
-          ∙ ap (λ (l : List ℕ). l ++ s.1) (sym (flat_map-append ended (done ++ line ∷ []) s.0));
+          is ∙ ap (λ (l : List ℕ). flat_map with_newline (done ++ line ∷ []) ++ l) s.2.whole
+          ∙ sym (append_assoc (flat_map with_newline (done ++ line ∷ [])) (flat_map with_newline s.0) s.1)
+          ∙ ap (λ (l : List ℕ). l ++ s.1) (sym (flat_map-append with_newline (done ++ line ∷ []) s.0));
       each = all_then HasNoFeed (done ++ line ∷ []) s.0 (all_then HasNoFeed done (line ∷ []) each (clean, tt)) s.2.each;
       open_end = s.2.open_end;
     }
@@ -106,7 +106,7 @@ pub refused_line : Whole → Last → (bytes : List ℕ) (done : List (List ℕ)
     → AreLooked bytes done rest asked → HasNoFeed line → rest ≡ line ++ 10 ∷ behind → number ≡ length done + 1 → 0 < length line → RefusesJobLine line why
     → (lines : List (List ℕ)) × AreLinesOf bytes ends lines × RefuseAt lines number why
 refused_line whole last bytes done rest asked line behind ends number why l clean is count some refuses =
-    let w = lines_with whole last bytes done line behind ends l.each clean (l.whole ∙ ap (λ (x : List ℕ). flat_map ended done ++ x) is ∙ one_more done line behind) in
+    let w = lines_with whole last bytes done line behind ends l.each clean (l.whole ∙ ap (λ (x : List ℕ). flat_map with_newline done ++ x) is ∙ one_more done line behind) in
     (done ++ line ∷ w.0, w.1, (done, line, w.0, refl, (asked, l.asks), count, some, refuses))
 
 -- ---- the end of the bytes
@@ -116,7 +116,7 @@ pub last_looked : Whole → Last → (bytes : List ℕ) (done : List (List ℕ))
     → (lines : List (List ℕ)) × AreLinesOf bytes true lines × AskFor lines (asked ++ own)
 unfolding AskFor
 last_looked whole last bytes done [] asked own l clean one =
-    (done, sym (ap lines_of (l.whole ∙ append-nil (flat_map ended done)) ∙ whole done l.each), rw (one, append-nil) l.asks)
+    (done, sym (ap lines_of (l.whole ∙ append-nil (flat_map with_newline done)) ∙ whole done l.each), rw (one, append-nil) l.asks)
 last_looked whole last bytes done (b ∷ bs) asked own l clean one =
     (done ++ (b ∷ bs) ∷ [], sym (ap lines_of l.whole ∙ last done (b ∷ bs) l.each clean (omega arith)), ask_more done asked (b ∷ bs) own l.asks one)
 

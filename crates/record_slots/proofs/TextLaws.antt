@@ -11,7 +11,7 @@ use Rattle.std.proofs.Math.Nat.{mod-lt, mod-one, mul-mod_left, mul_assoc, add-mu
 use Rattle.std.proofs.Math.Seq.{take-append-add}
 use Rattle.bw_model.specs.Bytes.{longest}
 use Rattle.record_slots.specs.Layout.{text_size}
-use Rattle.record_slots.specs.Spelling.{packed, text_words}
+use Rattle.record_slots.specs.Spelling.{big_endian, text_words}
 use Rattle.record_slots.specs.Texts.{IsText, bytes_of, ends_there}
 use Rattle.record_slots.proofs.WordLaws.{AreBytes, bytes_at, multiple, no_packed, packed_below, packed_split, pow_bytes, some_bytes}
 use Rattle.record_slots.proofs.Flags.{left, right}
@@ -30,7 +30,7 @@ append_bytes : (xs ys : List ℕ) → AreBytes xs → AreBytes ys → AreBytes (
 append_bytes [] ys h g = g
 append_bytes (x ∷ xs) ys h g = (h.0, append_bytes xs ys h.1 g)
 
-packed_full : (n : ℕ) (xs ys : List ℕ) → length xs ≡ n → packed n (xs ++ ys) ≡ packed n xs
+packed_full : (n : ℕ) (xs ys : List ℕ) → length xs ≡ n → big_endian n (xs ++ ys) ≡ big_endian n xs
 packed_full zero xs ys h = refl
 packed_full (suc n) [] ys h = absurd (omega arith)
 packed_full (suc n) (x ∷ xs) ys h = ap (λ p. x * 256 ^ n + p) (packed_full n xs ys (omega arith))
@@ -51,7 +51,7 @@ drop_all (suc n) [] h = refl
 drop_all (suc n) (x ∷ xs) h = drop_all n xs (omega arith)
 
 -- eight bytes are read as the number that they are packed to
-worth : (xs : List ℕ) → length xs ≡ 8 → from_be_bytes w64 xs ≡ packed 8 xs
+worth : (xs : List ℕ) → length xs ≡ 8 → from_be_bytes w64 xs ≡ big_endian 8 xs
 worth (a ∷ b ∷ c ∷ d ∷ e ∷ f ∷ g ∷ h ∷ []) eight = omega arith
 worth _ eight = absurd (omega arith)
 
@@ -68,25 +68,25 @@ module _ (word : ℕ) (fits : word < 2 ^ 64) where
       low : (n i : ℕ) → n / 256 ^ i % 256 < 256
       low n i = mod-lt (n / 256 ^ i) (omega arith)
 
-  pub word_packed : packed 8 bytes ≡ word
+  pub word_packed : big_endian 8 bytes ≡ word
   word_packed = sym (worth bytes eight) ∙ from_be_bytes-to_be_bytes_8 word fits
 
   -- no other bytes are packed to the word
-  pub unpacked : (xs : List ℕ) → AreBytes xs → length xs ≡ 8 → packed 8 xs ≡ word → bytes ≡ xs
+  pub unpacked : (xs : List ℕ) → AreBytes xs → length xs ≡ 8 → big_endian 8 xs ≡ word → bytes ≡ xs
   unpacked xs h n e = be_bytes_8 xs word n (bytes_at xs h) (sym e ∙ sym (worth xs n))
 
   -- the first bytes are packed to the word where there is nothing behind them
-  pub first_packed : (count : ℕ) → count ≤ 8 → word % 256 ^ (8 - count) ≡ 0 → packed 8 (take count bytes) ≡ word
+  pub first_packed : (count : ℕ) → count ≤ 8 → word % 256 ^ (8 - count) ≡ 0 → big_endian 8 (take count bytes) ≡ word
   first_packed count few nothing =
       let m : ℕ = 8 - count in
       let eight : 8 ≡ count + m = omega arith in
-      let s : packed 8 bytes ≡ packed 8 (take count bytes) + packed m (drop count bytes) = packed_split count m 8 bytes eight in
+      let s : big_endian 8 bytes ≡ big_endian 8 (take count bytes) + big_endian m (drop count bytes) = packed_split count m 8 bytes eight in
       let q = multiple count m 8 (take count bytes) eight (takes count bytes) in
-      let f : packed 8 (take count bytes) ≡ q.0 * 256 ^ m = q.1 in
+      let f : big_endian 8 (take count bytes) ≡ q.0 * 256 ^ m = q.1 in
       let small = packed_below m (drop count bytes) (drop_bytes count bytes word_bytes) in
       let w = word_packed in
-      let whole : word ≡ q.0 * 256 ^ m + packed m (drop count bytes) = omega arith in
-      let none : packed m (drop count bytes) ≡ 0 = sym (mod-mul-add q.0 (256 ^ m) (packed m (drop count bytes)) small) ∙ ap (λ n. n % 256 ^ m) (sym whole) ∙ nothing in
+      let whole : word ≡ q.0 * 256 ^ m + big_endian m (drop count bytes) = omega arith in
+      let none : big_endian m (drop count bytes) ≡ 0 = sym (mod-mul-add q.0 (256 ^ m) (big_endian m (drop count bytes)) small) ∙ ap (λ n. n % 256 ^ m) (sym whole) ∙ nothing in
       omega arith
     where
       takes : (n : ℕ) (xs : List ℕ) → length (take n xs) ≤ n
@@ -122,7 +122,7 @@ spelled (word ∷ words) count h few ends =
       | inr full ↦
           let more : count ≡ length front + (count - 8) = let e = eight word h.0 in omega arith in
           let text : take count (front ++ bytes_of words) ≡ front ++ back = ap (λ k. take k (front ++ bytes_of words)) more ∙ take-append-add front (bytes_of words) (count - 8) in
-          let first : packed 8 (front ++ back) ≡ word = packed_full 8 front back (eight word h.0) ∙ word_packed word h.0 in
+          let first : big_endian 8 (front ++ back) ≡ word = packed_full 8 front back (eight word h.0) ∙ word_packed word h.0 in
           let behind : text_words (length words) (drop 8 (front ++ back)) ≡ words = ap (text_words (length words)) (drop_full 8 front back (eight word h.0)) ∙ rest.are in
           let counts : length (front ++ back) ≡ count = let c = rest.counts in omega arith in
           subst (SpellsBytes (length (word ∷ words)) count (word ∷ words)) (sym text)
@@ -150,7 +150,7 @@ padded_bytes zero xs h = tt
 padded_bytes (suc n) [] h = (omega arith, padded_bytes n [] tt)
 padded_bytes (suc n) (x ∷ xs) h = (h.0, padded_bytes n xs h.1)
 
-padded_packed : (n : ℕ) (xs : List ℕ) → packed n (padded n xs) ≡ packed n xs
+padded_packed : (n : ℕ) (xs : List ℕ) → big_endian n (padded n xs) ≡ big_endian n xs
 padded_packed zero xs = refl
 padded_packed (suc n) [] = let r = padded_packed n [] in let e = no_packed n in omega arith
 padded_packed (suc n) (x ∷ xs) = ap (λ p. x * 256 ^ n + p) (padded_packed n xs)
@@ -160,17 +160,17 @@ padded_front zero xs ys h = let z : length xs ≡ length xs - 0 = omega arith in
 padded_front (suc n) [] ys h = refl
 padded_front (suc n) (x ∷ xs) ys h = let z : length xs - n ≡ suc (length xs) - suc n = omega arith in ap (λ zs. x ∷ zs) (padded_front n xs ys (ap (λ k. take k ys) z ∙ h))
 
-packed_fits : (xs : List ℕ) → AreBytes xs → packed 8 xs < 2 ^ 64
+packed_fits : (xs : List ℕ) → AreBytes xs → big_endian 8 xs < 2 ^ 64
 packed_fits xs h = let p = packed_below 8 xs h in let e = pow_bytes 8 in omega arith
 
-nothing_behind : (xs : List ℕ) → packed 8 xs % 256 ^ (8 - length xs) ≡ 0
+nothing_behind : (xs : List ℕ) → big_endian 8 xs % 256 ^ (8 - length xs) ≡ 0
 nothing_behind xs = elim (cases_lt (length xs) 8) [
   | inl few ↦
       let m : ℕ = 8 - length xs in
       let eight : 8 ≡ length xs + m = omega arith in
       let q = multiple (length xs) m 8 xs eight (omega arith) in
       ap (λ n. n % 256 ^ m) q.1 ∙ mul-mod_left q.0 (256 ^ m)
-  | inr full ↦ let z : 8 - length xs ≡ 0 = omega arith in ap (λ m. packed 8 xs % 256 ^ m) z ∙ mod-one (packed 8 xs)
+  | inr full ↦ let z : 8 - length xs ≡ 0 = omega arith in ap (λ m. big_endian 8 xs % 256 ^ m) z ∙ mod-one (big_endian 8 xs)
 ]
 
 pub record ReadsBytes (count : ℕ) (words text : List ℕ) : Type 0 where
@@ -185,8 +185,8 @@ read_back (suc n) text h few =
     let back : List ℕ = drop 8 text in
     let lb : length back ≡ length text - 8 = length-drop 8 text in
     let rest = read_back n back (drop_bytes 8 text h) (omega arith) in
-    let front = unpacked (packed 8 text) (packed_fits text h) (padded 8 text) (padded_bytes 8 text h) (padded_length 8 text) (padded_packed 8 text) in
-    let nothing : packed 8 text % 256 ^ (8 - length text) ≡ 0 = nothing_behind text in
+    let front = unpacked (big_endian 8 text) (packed_fits text h) (padded 8 text) (padded_bytes 8 text h) (padded_length 8 text) (padded_packed 8 text) in
+    let nothing : big_endian 8 text % 256 ^ (8 - length text) ≡ 0 = nothing_behind text in
     let behind : take (length text - 8) (bytes_of (text_words n back)) ≡ back = ap (λ k. take k (bytes_of (text_words n back))) (sym lb) ∙ rest.are in
     record {
       ends = (λ i. (nothing i == 0) && (ap (λ k. ends_there k (text_words n back)) (sym lb) ∙ rest.ends) i);
@@ -194,11 +194,11 @@ read_back (suc n) text h few =
     }
 
 -- one word more has the next eight bytes
-pub text_grows : (n : ℕ) (text : List ℕ) → text_words (suc n) text ≡ text_words n text ++ packed 8 (drop (8 * n) text) ∷ []
+pub text_grows : (n : ℕ) (text : List ℕ) → text_words (suc n) text ≡ text_words n text ++ big_endian 8 (drop (8 * n) text) ∷ []
 text_grows zero text = refl
 text_grows (suc n) text =
-    ap (λ ws. packed 8 text ∷ ws)
-    (text_grows n (drop 8 text) ∙ ap (λ xs. text_words n (drop 8 text) ++ packed 8 xs ∷ []) (drop-drop (8 * n) 8 text ∙ ap (λ k. drop k text) (let e : 8 + 8 * n ≡ 8 * suc n = omega arith in e)))
+    ap (λ ws. big_endian 8 text ∷ ws)
+    (text_grows n (drop 8 text) ∙ ap (λ xs. text_words n (drop 8 text) ++ big_endian 8 xs ∷ []) (drop-drop (8 * n) 8 text ∙ ap (λ k. drop k text) (let e : 8 + 8 * n ≡ 8 * suc n = omega arith in e)))
 
 words_fit : (words : List ℕ) → ((i : ℕ) → get_or words i 0 < 2 ^ 64) → AreWords words
 words_fit [] h = tt

@@ -7,7 +7,7 @@ use Rattle.std.proofs.lemmas.Nat.{le_or_l, pow-add, pow_pos, pow_below}
 use Rattle.std.proofs.lemmas.Bool.{cases_lt}
 use Rattle.std.proofs.Math.Dec.{eqb-suc-zero}
 use Rattle.std.proofs.Math.Nat.{pow-succ', mul-le-mul_left, mul_assoc, add-mul}
-use Rattle.record_slots.specs.Spelling.{packed}
+use Rattle.record_slots.specs.Spelling.{big_endian}
 
 abbrev pub AreBytes : List ℕ → Type 0
 AreBytes = AllByRecursion (λ byte. byte < 256)
@@ -25,7 +25,7 @@ pow_bytes (suc n) =
 pub some_bytes : (n : ℕ) → 0 < 256 ^ n
 some_bytes n = subst (λ k. 0 < k) (pow_bytes n) (pow_pos (8 * n))
 
-pub packed_below : (n : ℕ) (xs : List ℕ) → AreBytes xs → packed n xs < 256 ^ n
+pub packed_below : (n : ℕ) (xs : List ℕ) → AreBytes xs → big_endian n xs < 256 ^ n
 packed_below zero xs h = omega arith
 packed_below (suc n) [] h = some_bytes (suc n)
 packed_below (suc n) (x ∷ xs) h =
@@ -41,12 +41,12 @@ bytes_at [] h i = omega arith
 bytes_at (x ∷ xs) h zero = h.0
 bytes_at (x ∷ xs) h (suc i) = bytes_at xs h.1 i
 
-pub no_packed : (n : ℕ) → packed n [] ≡ 0
+pub no_packed : (n : ℕ) → big_endian n [] ≡ 0
 no_packed zero = refl
 no_packed (suc n) = refl
 
 -- what few bytes are packed to ends in zeros
-pub multiple : (k m n : ℕ) (xs : List ℕ) → n ≡ k + m → length xs ≤ k → (q : ℕ) × packed n xs ≡ q * 256 ^ m
+pub multiple : (k m n : ℕ) (xs : List ℕ) → n ≡ k + m → length xs ≤ k → (q : ℕ) × big_endian n xs ≡ q * 256 ^ m
 multiple k m n [] e few = let z : 0 ≡ 0 * 256 ^ m = omega arith in (0, no_packed n ∙ z)
 multiple zero m n (x ∷ xs) e few = absurd (omega arith)
 multiple (suc k) m zero (x ∷ xs) e few = absurd (omega arith)
@@ -59,25 +59,25 @@ multiple (suc k) m (suc n) (x ∷ xs) e few =
     (x * 256 ^ k + r.0, (λ i. first i + r.1 i) ∙ sym spread)
 
 -- the first bytes and the others make up the whole
-pub packed_split : (k m n : ℕ) (xs : List ℕ) → n ≡ k + m → packed n xs ≡ packed n (take k xs) + packed m (drop k xs)
+pub packed_split : (k m n : ℕ) (xs : List ℕ) → n ≡ k + m → big_endian n xs ≡ big_endian n (take k xs) + big_endian m (drop k xs)
 packed_split zero m n xs e =
     let same : n ≡ m = omega arith in
-    let z : packed m xs ≡ 0 + packed m xs = omega arith in
-    ap (λ j. packed j xs) same ∙ z ∙ (λ i. sym (no_packed n) i + packed m xs)
+    let z : big_endian m xs ≡ 0 + big_endian m xs = omega arith in
+    ap (λ j. big_endian j xs) same ∙ z ∙ (λ i. sym (no_packed n) i + big_endian m xs)
 packed_split (suc k) m zero xs e = absurd (omega arith)
 packed_split (suc k) m (suc n) [] e = let z = no_packed m in omega arith
 packed_split (suc k) m (suc n) (x ∷ xs) e = let r = packed_split k m n xs (omega arith) in omega arith
 
 -- the byte at a place is the highest of those from it on
-packed_at : (n place : ℕ) (bytes : List ℕ) → packed (suc n) (drop place bytes) ≡ get_or bytes place 0 * 256 ^ n + packed n (drop (suc place) bytes)
+packed_at : (n place : ℕ) (bytes : List ℕ) → big_endian (suc n) (drop place bytes) ≡ get_or bytes place 0 * 256 ^ n + big_endian n (drop (suc place) bytes)
 packed_at n zero [] = let p = no_packed n in omega arith
 packed_at n zero (byte ∷ bytes) = refl
 packed_at n (suc place) [] = let p = no_packed n in omega arith
 packed_at n (suc place) (byte ∷ bytes) = packed_at n place bytes
 
 -- one byte more
-pub packed_more : (word byte n place whole : ℕ) (bytes : List ℕ) → byte ≡ get_or bytes place 0 → word * 256 ^ suc n + packed (suc n) (drop place bytes) ≡ whole
-    → (word * 256 + byte) * 256 ^ n + packed n (drop (suc place) bytes) ≡ whole
+pub packed_more : (word byte n place whole : ℕ) (bytes : List ℕ) → byte ≡ get_or bytes place 0 → word * 256 ^ suc n + big_endian (suc n) (drop place bytes) ≡ whole
+    → (word * 256 + byte) * 256 ^ n + big_endian n (drop (suc place) bytes) ≡ whole
 packed_more word byte n place whole bytes is before =
     let more : word * 256 ^ suc n ≡ (word * 256) * 256 ^ n = ap (λ p. word * p) (pow-succ' 256 n) ∙ sym (mul_assoc word 256 (256 ^ n)) in
     let at = packed_at n place bytes in

@@ -1,11 +1,23 @@
 -- A row that is written part by part.
-use Rattle.std.proofs.Common.{◌≡◌, ◌<◌, ◌≤◌, ◌+◌, ◌*◌, ◌-◌, ℕ, suc, List, [], ◌∷◌, ◌++◌, length, get_or, drop, replicate, refl, sym, ap, ◌∙◌, arith, append_assoc, length-append}
+use Rattle.std.proofs.Common.{◌≡◌, ◌<◌, ◌≤◌, ◌+◌, ◌*◌, ◌-◌, ℕ, suc, List, [], ◌∷◌, ◌++◌, length, get_or, set, drop, replicate, refl, sym, ap, ◌∙◌, arith, append_assoc, length-append}
 use Rattle.std.specs.Prelude.{Option, Some, None}
-use Rattle.std.proofs.lemmas.List.{drop_more}
+use Rattle.std.proofs.lemmas.List.{drop_more, drop-replicate, drop-set-lt, length-set}
 use Rattle.base_page.specs.declared.item.Item.{Item}
-use Rattle.record_slots.specs.Layout.{field_size, item_size, items_at, row_size}
+use Rattle.record_slots.specs.Layout.{IsWrittenTo, field_size, item_size, items_at, row_size, with_zeros}
 use Rattle.record_slots.specs.Spelling.{field_words, bound_words, item_words, items_words, words_left}
 use Rattle.record_slots.proofs.ItemLaws.{item_long, items_length}
+
+-- one word more is written
+pub pushed : (words : List ℕ) (count word : ℕ) → count < row_size → IsWrittenTo count words → IsWrittenTo (count + 1) (set words count word)
+pushed words count word room is =
+    let short : count < length words = omega (arith, is.long) in
+    let behind : drop (count + 1) words ≡ replicate (row_size - (count + 1)) 0 =
+    ap (drop 1) (sym (drop_more words count 0 short) ∙ is.zeros) ∙ drop-replicate 1 (row_size - count) 0 ∙ ap (λ n. replicate n 0) (omega arith) in
+    record {
+      within = omega arith;
+      long = length-set words count word ∙ is.long;
+      zeros = drop-set-lt (count + 1) words count word (omega arith) ∙ behind;
+    }
 
 bound_long : (bound : Option (List ℕ)) → length (bound_words bound) ≡ field_size
 bound_long None = refl
@@ -31,15 +43,15 @@ module _ (head next page : ℕ) (key : List ℕ) (bound : Option (List ℕ)) (it
       let f_is : f ≡ head ∷ next ∷ page ∷ (field_words key ++ bound_words bound) = ft ∙ ap (λ xs. xs ++ bound_words bound) (et ∙ ap (λ xs. xs ++ field_words key) d_is) in
       gt ∙ ap (λ xs. xs ++ items_words items) f_is ∙ ap (λ xs. head ∷ next ∷ page ∷ xs) (append_assoc (field_words key) (bound_words bound) (items_words items))
 
-  pub filled : (g h : List ℕ) → g ≡ used → h ≡ g ++ replicate (row_size - length g) 0
-      → h ≡ head ∷ next ∷ page ∷ (field_words key ++ (bound_words bound ++ (items_words items ++ replicate (words_left (length items)) 0)))
-  filled g h is more =
+  pub filled : (g : List ℕ) → g ≡ used
+      → with_zeros g ≡ head ∷ next ∷ page ∷ (field_words key ++ (bound_words bound ++ (items_words items ++ replicate (words_left (length items)) 0)))
+  filled g is =
       let zeros : List ℕ = replicate (words_left (length items)) 0 in
       let l = used_length in
       let left : row_size - length g ≡ words_left (length items) = ap (λ xs. row_size - length xs) is ∙ (omega arith) in
       let inner = append_assoc (bound_words bound) (items_words items) zeros in
       let outer = append_assoc (field_words key) (bound_words bound ++ items_words items) zeros in
-      more ∙ (λ i. is i ++ replicate (left i) 0) ∙ ap (λ xs. head ∷ next ∷ page ∷ xs) (outer ∙ ap (λ xs. field_words key ++ xs) inner)
+      (λ i. is i ++ replicate (left i) 0) ∙ ap (λ xs. head ∷ next ∷ page ∷ xs) (outer ∙ ap (λ xs. field_words key ++ xs) inner)
 
 -- an item is written, and those behind it are left
 module _ (items : List Item) (place : ℕ) (item : Item) (within : place < length items) (is : item ≡ get_or items place item) where

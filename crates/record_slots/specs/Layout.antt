@@ -1,5 +1,5 @@
 -- The numbers of a row's layout, each in one place.
-use Rattle.std.specs.Prelude.{ℕ}
+use Rattle.std.specs.Prelude.{◌≡◌, ◌≤◌, ◌++◌, ◌-◌, ℕ, List, drop, length, replicate}
 
 -- A form of rows: its number, how many words of eight bytes a key or a value takes, and how many words a row has.
 pub record Form : Type 0 where
@@ -65,3 +65,13 @@ this_form = record { number = 2; text_size = text_size; row_size = row_size }
 -- the form of rows whose keys and values had 32 bytes at most
 abbrev pub first_form : Form
 first_form = record { number = 0; text_size = 4; row_size = 256 }
+
+-- the row that begins with these words: zeros are behind them
+abbrev pub with_zeros : List ℕ → List ℕ
+with_zeros words = words ++ replicate (row_size - length words) 0
+
+-- So many words of a row are written, and behind them are zeros.
+pub record IsWrittenTo (count : ℕ) (words : List ℕ) : Type 0 where
+  pub within : count ≤ row_size
+  pub long : length words ≡ row_size
+  pub zeros : drop count words ≡ replicate (row_size - count) 0

@@ -9,15 +9,15 @@ use Rattle.deltas.specs.declared.record.Record.TheVariants.{Base, Put, Delete, S
 use Rattle.record_slots.specs.Layout.{Form, this_form, count_unit, form_unit, held_mark, level_unit, no_bound}
 
 -- n bytes as one number, the first byte the highest; past the end of the bytes there are zeros
-abbrev pub packed : ℕ → List ℕ → ℕ
-packed zero bytes = 0
-packed (suc n) [] = 0
-packed (suc n) (byte ∷ bytes) = byte * 256 ^ n + packed n bytes
+abbrev pub big_endian : ℕ → List ℕ → ℕ
+big_endian zero bytes = 0
+big_endian (suc n) [] = 0
+big_endian (suc n) (byte ∷ bytes) = byte * 256 ^ n + big_endian n bytes
 
 -- n words of eight bytes each
 abbrev pub text_words : ℕ → List ℕ → List ℕ
 text_words zero bytes = []
-text_words (suc n) bytes = packed 8 bytes ∷ text_words n (drop 8 bytes)
+text_words (suc n) bytes = big_endian 8 bytes ∷ text_words n (drop 8 bytes)
 
 module _ (form : Form) where
   -- the length of a key or a value, and its bytes

@@ -18,6 +18,7 @@ mod small;
 mod spelling_laws;
 mod texts;
 mod write;
+mod written_row;
 
 pub use layout::{
     FIELD_WORDS, FIRST_ITEM, FIRST_KEY, FORM, FORM_UNIT, HELD, ITEM_CONTENT, ITEM_UNIT, ITEM_WORDS,
@@ -27,4 +28,5 @@ pub use read::{from_words, read_words};
 pub use row::BadRow;
 pub use spelling_laws::{rows_have_words, spelling_is_one};
 pub use texts::{key_in, value_in};
-pub use write::{key_bytes, to_words, word_at};
+pub use write::{key_bytes, to_words, word_at, write_record};
+pub use written_row::WrittenRow;

@@ -15,7 +15,7 @@ use Rattle.traces.specs.discipline.Knowledge.{Knowledge, learn, learn_slot}
 use Rattle.traces.specs.discipline.Recalled.{IsUnread, Recalled, is_lower, recall}
 use Rattle.structure_changes.specs.Readings.{IsAfter}
 use Rattle.structure_changes.specs.Versions.{Version}
-use Rattle.round_model.specs.Visits.{VisitState, Slot, Row, FindsHead, Completes, Continues, Visit, at, wanted}
+use Rattle.round_model.specs.Visits.{VisitState, Slot, Row, FindsHead, Completes, Continues, Visit, at, wanted_step}
 use Rattle.round_model.specs.Walks.{HasArrived, IsAmongPids}
 use Rattle.round_model.specs.Courses.{WriteGoal, Seek, Left, Merge, Unterm}
 use Rattle.round_model.specs.WriteRounds.{IsLosingTerm, IsMissing, KeepsToWrite, is_cutting, write_way, IsBased, IsLed, IsLeftOf, IsKept, VisitsToWrite, SeeksLeaf}
@@ -194,17 +194,17 @@ module _ (limits : Limits) (key : List ℕ) (floor : ℕ) (goal : WriteGoal) (pa
 
 -- the same by what a visit makes of an answer
 module _ (limits : Limits) (key : List ℕ) (floor : ℕ) (goal : WriteGoal) (parent left : Option Version) (k : Knowledge) (r : Recalled) (visit : Visit)
-    (told : Answer Record) (h : VisitsToWrite limits key floor goal parent left k r visit) (f : Fits limits k (wanted visit) told) where
+    (told : Answer Record) (h : VisitsToWrite limits key floor goal parent left k r visit) (f : Fits limits k (wanted_step visit) told) where
   abbrev VisitsAt : Visit → Answer Record → Type 0
   VisitsAt v x = VisitsToWrite limits key floor goal parent left k r v
 
   abbrev FitsAt : Visit → Answer Record → Type 0
-  FitsAt v x = Fits limits k (wanted v) x
+  FitsAt v x = Fits limits k (wanted_step v) x
 
   pub visits_next : (new : Visit) → FindsHead visit told new ⊎ Continues visit told new
-      → VisitsToWrite limits key floor goal parent left (learn k (wanted visit) told) (recall r (wanted visit) told) new
+      → VisitsToWrite limits key floor goal parent left (learn k (wanted_step visit) told) (recall r (wanted_step visit) told) new
   visits_next new moves =
-      let P : Visit → Answer Record → Type 0 = λ v x. VisitsToWrite limits key floor goal parent left (learn k (wanted v) x) (recall r (wanted v) x) new in
+      let P : Visit → Answer Record → Type 0 = λ v x. VisitsToWrite limits key floor goal parent left (learn k (wanted_step v) x) (recall r (wanted_step v) x) new in
       elim moves [
         | inl b ↦ back visit P Slot (answer.Number b.row) told b.asked b.is (rw b.goes (visits_slot limits key floor goal parent left k r visit b.row b.some
             (rw h.seeks.on_way.same (row_below limits k visit.pid b.row h.seeks.on_way.shows.page (there visit FitsAt Slot (answer.Number b.row) told b.asked b.is f)))
@@ -216,9 +216,9 @@ module _ (limits : Limits) (key : List ℕ) (floor : ℕ) (goal : WriteGoal) (pa
             (there visit VisitsAt (Row b.head b.row) (answer.Content b.content) told b.asked b.is h)))
       ]
 
-  pub reached_next : (version : Version) → Completes visit told version → HasReached limits key floor goal parent left k (learn k (wanted visit) told) (recall r (wanted visit) told) version
+  pub reached_next : (version : Version) → Completes visit told version → HasReached limits key floor goal parent left k (learn k (wanted_step visit) told) (recall r (wanted_step visit) told) version
   reached_next version b =
       let fits = there visit FitsAt (Row version.head b.row) (answer.Content b.content) told b.asked b.is f in
-      back visit (λ v x. HasReached limits key floor goal parent left k (learn k (wanted v) x) (recall r (wanted v) x) version) (Row version.head b.row) (answer.Content b.content) told b.asked b.is
+      back visit (λ v x. HasReached limits key floor goal parent left k (learn k (wanted_step v) x) (recall r (wanted_step v) x) version) (Row version.head b.row) (answer.Content b.content) told b.asked b.is
       (reaches_whole limits key floor goal parent left k r visit b.row b.content fits version b.pid b.chain b.last
       (there visit VisitsAt (Row version.head b.row) (answer.Content b.content) told b.asked b.is h))

@@ -16,7 +16,7 @@ use Rattle.structure_changes.specs.Readings.{IsAfter}
 use Rattle.structure_changes.specs.Versions.{Version}
 use Rattle.round_model.specs.ReadGoals.{ReadGoal, Seek, Left, Beyond}
 use Rattle.round_model.specs.ReadLegs.{Leg, Down, Round, Past, below, has_met}
-use Rattle.round_model.specs.Visits.{Slot, Row, FindsHead, Completes, Continues, Visit, at, to_page, wanted}
+use Rattle.round_model.specs.Visits.{Slot, Row, FindsHead, Completes, Continues, Visit, at, to_page, wanted_step}
 use Rattle.round_model.specs.Versions.{IsInHand}
 use Rattle.round_model.specs.Walks.{HasArrived, IsUnderRemoval}
 use Rattle.round_model.specs.Ways.{LeadsDown, LeadsRight, NamesAt, reaches, precedes}
@@ -184,7 +184,7 @@ module _ (limits : Limits) (key : List ℕ) (k : Knowledge) (r : Recalled) where
 
 -- the same by what a visit makes of an answer
 module _ (limits : Limits) (key : List ℕ) (goal : ReadGoal) (leg : Leg) (k : Knowledge) (r : Recalled) (visit : Visit) (told : Answer Record)
-    (h : VisitsToRead limits key goal leg k r visit) (f : Fits limits k (wanted visit) told) where
+    (h : VisitsToRead limits key goal leg k r visit) (f : Fits limits k (wanted_step visit) told) where
   abbrev KeepsAt : ReadGoal → Visit → Answer Record → Type 0
   KeepsAt other v x = KeepsToRead limits key k v other
 
@@ -192,13 +192,13 @@ module _ (limits : Limits) (key : List ℕ) (goal : ReadGoal) (leg : Leg) (k : K
   OnAt v x = IsOn limits k r goal v h.level h.earlier leg
 
   abbrev FitsAt : Visit → Answer Record → Type 0
-  FitsAt v x = Fits limits k (wanted v) x
+  FitsAt v x = Fits limits k (wanted_step v) x
 
   -- a page that is kept aside
   pub keeps_next : (other : ReadGoal) → KeepsToRead limits key k visit other → (new : Visit) → FindsHead visit told new ⊎ Continues visit told new
-      → KeepsToRead limits key (learn k (wanted visit) told) new other
+      → KeepsToRead limits key (learn k (wanted_step visit) told) new other
   keeps_next other keeps new moves =
-      let P : Visit → Answer Record → Type 0 = λ v x. KeepsToRead limits key (learn k (wanted v) x) new other in
+      let P : Visit → Answer Record → Type 0 = λ v x. KeepsToRead limits key (learn k (wanted_step v) x) new other in
       elim moves [
         | inl b ↦ back visit P Slot (answer.Number b.row) told b.asked b.is
             (rw b.goes (keeps_slot limits key k r visit b.row h.seeks.on_way.shows.page b.some other (there visit (KeepsAt other) Slot (answer.Number b.row) told b.asked b.is keeps)))
@@ -208,9 +208,9 @@ module _ (limits : Limits) (key : List ℕ) (goal : ReadGoal) (leg : Leg) (k : K
             (rw b.goes (keeps_row limits key k r visit b.row b.content fits b.head b.under other (there visit (KeepsAt other) (Row b.head b.row) (answer.Content b.content) told b.asked b.is keeps)))
       ]
 
-  on_next : (new : Visit) → FindsHead visit told new ⊎ Continues visit told new → IsOn limits (learn k (wanted visit) told) (recall r (wanted visit) told) goal new h.level h.earlier leg
+  on_next : (new : Visit) → FindsHead visit told new ⊎ Continues visit told new → IsOn limits (learn k (wanted_step visit) told) (recall r (wanted_step visit) told) goal new h.level h.earlier leg
   on_next new moves =
-      let P : Visit → Answer Record → Type 0 = λ v x. IsOn limits (learn k (wanted v) x) (recall r (wanted v) x) goal new h.level h.earlier leg in
+      let P : Visit → Answer Record → Type 0 = λ v x. IsOn limits (learn k (wanted_step v) x) (recall r (wanted_step v) x) goal new h.level h.earlier leg in
       elim moves [
         | inl b ↦ back visit P Slot (answer.Number b.row) told b.asked b.is
             (rw b.goes (on_slot limits key k r visit b.row h.level h.earlier h.seeks.on_way.shows.page goal leg (there visit OnAt Slot (answer.Number b.row) told b.asked b.is h.leg_is)))
@@ -221,7 +221,7 @@ module _ (limits : Limits) (key : List ℕ) (goal : ReadGoal) (leg : Leg) (k : K
             (there visit OnAt (Row b.head b.row) (answer.Content b.content) told b.asked b.is h.leg_is)))
       ]
 
-  pub visits_next : (new : Visit) → FindsHead visit told new ⊎ Continues visit told new → VisitsToRead limits key goal leg (learn k (wanted visit) told) (recall r (wanted visit) told) new
+  pub visits_next : (new : Visit) → FindsHead visit told new ⊎ Continues visit told new → VisitsToRead limits key goal leg (learn k (wanted_step visit) told) (recall r (wanted_step visit) told) new
   visits_next new moves = record {
     level = h.level;
     low = h.low;
@@ -236,19 +236,19 @@ module _ (limits : Limits) (key : List ℕ) (goal : ReadGoal) (leg : Leg) (k : K
     fits : FitsRow limits k b.row b.content
     fits = there visit FitsAt (Row version.head b.row) (answer.Content b.content) told b.asked b.is f
 
-    pub passed_next : (other : ReadGoal) → KeepsToRead limits key k visit other → Passed limits key k (learn k (wanted visit) told) version other
+    pub passed_next : (other : ReadGoal) → KeepsToRead limits key k visit other → Passed limits key k (learn k (wanted_step visit) told) version other
     passed_next other keeps =
-        back visit (λ v x. Passed limits key k (learn k (wanted v) x) version other) (Row version.head b.row) (answer.Content b.content) told b.asked b.is
+        back visit (λ v x. Passed limits key k (learn k (wanted_step v) x) version other) (Row version.head b.row) (answer.Content b.content) told b.asked b.is
         (passed_row limits key k r visit b.row b.content fits version b.pid version.head other
         (there visit (KeepsAt other) (Row version.head b.row) (answer.Content b.content) told b.asked b.is keeps))
 
-    was_next : WasOn limits k (learn k (wanted visit) told) (recall r (wanted visit) told) goal version h.level h.earlier leg
+    was_next : WasOn limits k (learn k (wanted_step visit) told) (recall r (wanted_step visit) told) goal version h.level h.earlier leg
     was_next =
-        back visit (λ v x. WasOn limits k (learn k (wanted v) x) (recall r (wanted v) x) goal version h.level h.earlier leg) (Row version.head b.row) (answer.Content b.content) told b.asked b.is
+        back visit (λ v x. WasOn limits k (learn k (wanted_step v) x) (recall r (wanted_step v) x) goal version h.level h.earlier leg) (Row version.head b.row) (answer.Content b.content) told b.asked b.is
         (was_row limits key k r visit b.row b.content fits version b.pid b.chain version.head h.level h.earlier goal leg
         (there visit OnAt (Row version.head b.row) (answer.Content b.content) told b.asked b.is h.leg_is))
 
-    pub reached_next : HasReached limits key goal leg k (learn k (wanted visit) told) (recall r (wanted visit) told) version
+    pub reached_next : HasReached limits key goal leg k (learn k (wanted_step visit) told) (recall r (wanted_step visit) told) version
     reached_next = record {
       level = h.level;
       low = h.low;

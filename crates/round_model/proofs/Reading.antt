@@ -15,7 +15,7 @@ use Rattle.round_model.specs.ReadEnds.{ReadEnd, Again, Removed, Leaf, Beside}
 use Rattle.round_model.specs.Descents.{WayState, Root, Page, Finds, Shows as WayShows}
 use Rattle.round_model.specs.Visits.{Sight, Slot, Row, Empty, Whole}
 use Rattle.round_model.specs.ReadRounds.{BeginsToRead, CanMeetLeg, CanPass, EndsRead, HasChildren, IsAtLevel, IsAtMergedPage, IsLeftLeaf, VisitsToRead}
-use Rattle.round_model.specs.ReadRounds.{MissesRead, ReadRound, SeeksKey, Shows, ShowsVisit, Spends, TreatsRead, at, goes_beyond, read_round_kept, wanted}
+use Rattle.round_model.specs.ReadRounds.{MissesRead, ReadRound, SeeksKey, Shows, ShowsVisit, Spends, TreatsRead, at, goes_beyond, read_round_kept, wanted_step}
 use Rattle.round_model.specs.ReadRounds.{read_way, way_on, reading}
 use Rattle.round_model.specs.Machines.{IsTold}
 use Rattle.round_model.specs.Versions.{IsInHand}
@@ -138,10 +138,10 @@ module _ (old : ReadRound) (k now : Knowledge) (r : Recalled) (version : Version
       rw t.is (is_beside old.limits old.key removed old.leg k now r version (at_goal (Left removed) t.at_left.goal t.at_left.plain) t.at_left.alive t.beside t.stays t.at_left.ends.leaf)
 
 abbrev Then : ReadRound → Option ReadEnd → ReadRound → Answer Record → Type 0
-Then new result old told = (k : Knowledge) (r : Recalled) → Shows old k r → Fits old.limits k (wanted old) told → Follows reading k r old told new result
+Then new result old told = (k : Knowledge) (r : Recalled) → Shows old k r → Fits old.limits k (wanted_step old) told → Follows reading k r old told new result
 
 abbrev Pays : ReadRound → Option ReadEnd → ReadRound → Answer Record → Type 0
-Pays new result old told = (reserve kept : ℕ) (k : Knowledge) (r : Recalled) → Shows old k r → Fits old.limits k (wanted old) told → Spends reserve kept r old told new result
+Pays new result old told = (reserve kept : ℕ) (k : Knowledge) (r : Recalled) → Shows old k r → Fits old.limits k (wanted_step old) told → Spends reserve kept r old told new result
 
 -- A page is visited on some way.
 record IsSought (limits : Limits) (k : Knowledge) (r : Recalled) (visit : page.Visit) : Type 0 where
@@ -175,9 +175,9 @@ met_before limits key goal k r visit (Past above) h e = by_state visit.state h.l
     by_state (Row head row) is = is.1
 
 -- by what a visit makes of an answer
-module _ (limits : Limits) (key : List ℕ) (goal : ReadGoal) (k : Knowledge) (r : Recalled) (visit : page.Visit) (told : Answer Record) (f : Fits limits k (page.wanted visit) told) where
+module _ (limits : Limits) (key : List ℕ) (goal : ReadGoal) (k : Knowledge) (r : Recalled) (visit : page.Visit) (told : Answer Record) (f : Fits limits k (page.wanted_step visit) told) where
   on_visit : (leg : Leg) → ShowsVisit limits key goal leg k r visit → (new : page.Visit) → page.FindsHead visit told new ⊎ page.Continues visit told new
-      → ShowsVisit limits key goal leg (learn k (page.wanted visit) told) (recall r (page.wanted visit) told) new
+      → ShowsVisit limits key goal leg (learn k (page.wanted_step visit) told) (recall r (page.wanted_step visit) told) new
   on_visit (Down above) h new moves = visits_next limits key goal (Down above) k r visit told h f new moves
   on_visit (Round removed) h new moves = record {
     nears = visits_next limits key (Left removed) (Round removed) k r visit told h.nears f new moves;
@@ -188,7 +188,7 @@ module _ (limits : Limits) (key : List ℕ) (goal : ReadGoal) (k : Knowledge) (r
   on_visit (Past above) h new moves = visits_next limits key goal (Past above) k r visit told h f new moves
 
   pub whole : (leg : Leg) → ShowsVisit limits key goal leg k r visit → (version : Version) → page.Completes visit told version
-      → HasRead limits key goal leg k (learn k (page.wanted visit) told) (recall r (page.wanted visit) told) version
+      → HasRead limits key goal leg k (learn k (page.wanted_step visit) told) (recall r (page.wanted_step visit) told) version
   whole (Down above) h version b = reached_next limits key goal (Down above) k r visit told h f version b
   whole (Round removed) h version b = record {
     nears = reached_next limits key (Left removed) (Round removed) k r visit told h.nears f version b;
@@ -206,13 +206,13 @@ module _ (old new : ReadRound) (told : Answer Record) (visit : page.Visit) where
   seen next Empty result b sees = rw sees (λ k r h f. inl (found_nothing r visit told b))
   seen next (Whole version) result b sees = λ k r h f.
       by_result k r result
-      (treated here k (learn k (page.wanted visit) told) (recall r (page.wanted visit) told) version (whole old.limits old.key old.goal k r visit told f old.leg h version b) new result sees)
+      (treated here k (learn k (page.wanted_step visit) told) (recall r (page.wanted_step visit) told) version (whole old.limits old.key old.goal k r visit told f old.leg h version b) new result sees)
     where
-      by_result : (k : Knowledge) (r : Recalled) (o : Option ReadEnd) → After here (learn k (page.wanted visit) told) (recall r (page.wanted visit) told) new o → Follows reading k r here told new o
+      by_result : (k : Knowledge) (r : Recalled) (o : Option ReadEnd) → After here (learn k (page.wanted_step visit) told) (recall r (page.wanted_step visit) told) new o → Follows reading k r here told new o
       by_result k r None a = a
       by_result k r (Some end) a = a
 
-  module _ (reserve kept : ℕ) (k : Knowledge) (r : Recalled) (h : ShowsVisit old.limits old.key old.goal old.leg k r visit) (f : Fits old.limits k (page.wanted visit) told) where
+  module _ (reserve kept : ℕ) (k : Knowledge) (r : Recalled) (h : ShowsVisit old.limits old.key old.goal old.leg k r visit) (f : Fits old.limits k (page.wanted_step visit) told) where
     abbrev Lost : ReadGoal → Type 0
     Lost goal = MissesRead reserve kept r (record here { goal = goal }) told goal
 
@@ -245,19 +245,19 @@ module _ (old new : ReadRound) (told : Answer Record) (visit : page.Visit) where
       unpassed_at : is_removed version.chain ≡ true → (above : Version) → above_of old.leg ≡ Some above → r.walk.passed ≡ false
       unpassed_at gone above e =
           sym (base_passed reserve old.limits s.way s.beyond k r visit s.level s.low s.earlier told s.seeks f version b)
-          ∙ unpassed old.limits old.key old.goal old.leg above e k (learn k (page.wanted visit) told) (recall r (page.wanted visit) told) version
-          (read_plain old.limits old.key old.goal k (learn k (page.wanted visit) told) (recall r (page.wanted visit) told) version old.leg
+          ∙ unpassed old.limits old.key old.goal old.leg above e k (learn k (page.wanted_step visit) told) (recall r (page.wanted_step visit) told) version
+          (read_plain old.limits old.key old.goal k (learn k (page.wanted_step visit) told) (recall r (page.wanted_step visit) told) version old.leg
           (plain_above old.leg above e) (whole old.limits old.key old.goal k r visit told f old.leg h version b)) gone
 
-      less : is_removed version.chain ≡ false → reads_left_at old.limits reserve (recall r (page.wanted visit) told).walk [] Slot < reads_left_in old.limits reserve r visit
+      less : is_removed version.chain ≡ false → reads_left_at old.limits reserve (recall r (page.wanted_step visit) told).walk [] Slot < reads_left_in old.limits reserve r visit
       less = left_on reserve old.limits s.way s.beyond k r visit s.level s.low s.earlier told s.seeks f version b
 
       more : is_removed version.chain ≡ false → (goal : ReadGoal) → old.goal ≡ goal
-          → reads_left_at old.limits reserve (recall r (page.wanted visit) told).walk [] Slot + read_round_kept kept goal < reads_left_in old.limits reserve r visit + read_round_kept kept old.goal
+          → reads_left_at old.limits reserve (recall r (page.wanted_step visit) told).walk [] Slot + read_round_kept kept goal < reads_left_in old.limits reserve r visit + read_round_kept kept old.goal
       more alive goal e = let l = less alive in rw e (omega (arith, l))
 
       gone_on : is_removed version.chain ≡ true → (above : Version) → above_of old.leg ≡ Some above
-          → reads_left_at old.limits reserve (recall r (page.wanted visit) told).walk [] Slot + read_round_kept kept old.goal < reads_left_in old.limits reserve r visit + read_round_kept kept old.goal
+          → reads_left_at old.limits reserve (recall r (page.wanted_step visit) told).walk [] Slot + read_round_kept kept old.goal < reads_left_in old.limits reserve r visit + read_round_kept kept old.goal
       gone_on gone above e = let l = left_round reserve old.limits s.way s.beyond k r visit s.level s.low s.earlier told s.seeks f version b gone (unpassed_at gone above e) in omega (arith, l)
 
       reserved : is_removed version.chain ≡ true → reserve < reads_left_in old.limits reserve r visit
@@ -294,19 +294,19 @@ module _ (old new : ReadRound) (told : Answer Record) (visit : page.Visit) where
 -- what follows from what a round makes of an answer
 
 pub follows_from : (old new : ReadRound) (told : Answer Record) (result : Option ReadEnd) → Responds reading old told new result
-    → (k : Knowledge) (r : Recalled) → Shows old k r → Fits old.limits k (wanted old) told → Follows reading k r old told new result
+    → (k : Knowledge) (r : Recalled) → Shows old k r → Fits old.limits k (wanted_step old) told → Follows reading k r old told new result
 follows_from old new told result responds = by_step reading (λ round. refl) (λ o x n e. Then n e o x) old new told result responds
     (λ root k r h f. rw h.0 (begins old.limits old.key k r root f old.goal h.1))
     (λ visit next b k r h f. on_visit old.limits old.key old.goal k r visit told f old.leg h next b)
     (λ visit next sight b sees. seen old new told visit next sight result b sees)
 
 pub spends_from : (old new : ReadRound) (told : Answer Record) (result : Option ReadEnd) → Responds reading old told new result
-    → (reserve kept : ℕ) (k : Knowledge) (r : Recalled) → Shows old k r → Fits old.limits k (wanted old) told → Spends reserve kept r old told new result
+    → (reserve kept : ℕ) (k : Knowledge) (r : Recalled) → Shows old k r → Fits old.limits k (wanted_step old) told → Spends reserve kept r old told new result
 spends_from old new told result responds = by_step reading (λ round. refl) (λ o x n e. Pays n e o x) old new told result responds
     (λ root reserve kept k r h f. inl (omega arith))
     (λ visit next b reserve kept k r h f.
     let s = sought old.limits old.key old.goal k r visit old.leg h in
-    still (with_walk old.limits reserve) r (page.wanted visit) told _ _ (read_round_kept kept old.goal)
+    still (with_walk old.limits reserve) r (page.wanted_step visit) told _ _ (read_round_kept kept old.goal)
     (spent_on reserve old.limits s.way s.beyond k r visit s.level s.low s.earlier told s.seeks f next b))
     (λ visit next sight b sees. paid old new told visit next sight result b sees)
 
@@ -360,8 +360,8 @@ can_see old other told Empty b t = tt
 can_see old other told (Whole version) b t =
     let visit = b.visit in
     let h : ShowsVisit old.limits old.key old.goal old.leg t.k t.r visit = subst (λ (s : WayState). Shows (at old s) t.k t.r) b.asked t.shows in
-    let f : Fits old.limits t.k (page.wanted visit) told = subst (λ (s : WayState). Fits old.limits t.k (wanted (at old s)) told) b.asked t.fits in
-    let meets = can_meet old.limits old.key old.goal t.k (learn t.k (page.wanted visit) told) (recall t.r (page.wanted visit) told) version old.leg
+    let f : Fits old.limits t.k (page.wanted_step visit) told = subst (λ (s : WayState). Fits old.limits t.k (wanted_step (at old s)) told) b.asked t.fits in
+    let meets = can_meet old.limits old.key old.goal t.k (learn t.k (page.wanted_step visit) told) (recall t.r (page.wanted_step visit) told) version old.leg
     (whole old.limits old.key old.goal t.k t.r visit told f old.leg h version b.responds) in
     record { reached = meets.0; meets = meets.1 }
 

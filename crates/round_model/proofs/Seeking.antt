@@ -14,7 +14,7 @@ use Rattle.traces.specs.discipline.Fitting.{Fits, FitsRow}
 use Rattle.traces.specs.discipline.Knowledge.{Knowledge, learn, learn_slot}
 use Rattle.traces.specs.discipline.Recalled.{Recalled, is_lower, recall}
 use Rattle.structure_changes.specs.Versions.{Version}
-use Rattle.round_model.specs.Visits.{Slot, Row, FindsHead, Completes, Continues, Visit, at, to_page, wanted}
+use Rattle.round_model.specs.Visits.{Slot, Row, FindsHead, Completes, Continues, Visit, at, to_page, wanted_step}
 use Rattle.round_model.specs.Versions.{IsAlive, IsGone, IsInHand}
 use Rattle.round_model.specs.Walks.{HasArrived, IsNamedNow, IsReached, IsSeeking}
 use Rattle.round_model.specs.Ways.{NamesAt}
@@ -102,16 +102,16 @@ module _ (limits : Limits) (way : List ℕ → Bool) (beyond : Bool) (k : Knowle
 
 -- the same by what a visit makes of an answer
 module _ (limits : Limits) (way : List ℕ → Bool) (beyond : Bool) (k : Knowledge) (r : Recalled) (visit : Visit) (level : ℕ) (low : List ℕ) (earlier : List ℕ)
-    (told : Answer Record) (h : IsSeeking limits way beyond k r visit level low earlier) (f : Fits limits k (wanted visit) told) where
+    (told : Answer Record) (h : IsSeeking limits way beyond k r visit level low earlier) (f : Fits limits k (wanted_step visit) told) where
   abbrev Seeks : Visit → Answer Record → Type 0
   Seeks v x = IsSeeking limits way beyond k r v level low earlier
 
   abbrev FitsAt : Visit → Answer Record → Type 0
-  FitsAt v x = Fits limits k (wanted v) x
+  FitsAt v x = Fits limits k (wanted_step v) x
 
-  pub seeks_next : (new : Visit) → FindsHead visit told new ⊎ Continues visit told new → IsSeeking limits way beyond (learn k (wanted visit) told) (recall r (wanted visit) told) new level low earlier
+  pub seeks_next : (new : Visit) → FindsHead visit told new ⊎ Continues visit told new → IsSeeking limits way beyond (learn k (wanted_step visit) told) (recall r (wanted_step visit) told) new level low earlier
   seeks_next new moves =
-      let P : Visit → Answer Record → Type 0 = λ v x. IsSeeking limits way beyond (learn k (wanted v) x) (recall r (wanted v) x) new level low earlier in
+      let P : Visit → Answer Record → Type 0 = λ v x. IsSeeking limits way beyond (learn k (wanted_step v) x) (recall r (wanted_step v) x) new level low earlier in
       elim moves [
         | inl b ↦ back visit P Slot (answer.Number b.row) told b.asked b.is (rw b.goes (seeks_slot limits way beyond k r visit level low earlier b.row b.some
             (rw h.on_way.same (row_below limits k visit.pid b.row h.on_way.shows.page (there visit FitsAt Slot (answer.Number b.row) told b.asked b.is f)))
@@ -123,15 +123,15 @@ module _ (limits : Limits) (way : List ℕ → Bool) (beyond : Bool) (k : Knowle
             (there visit Seeks (Row b.head b.row) (answer.Content b.content) told b.asked b.is h)))
       ]
 
-  pub fresh_next : (version : Version) → Completes visit told version → IsFalse beyond → (recall r (wanted visit) told).walk.passed ≡ false
+  pub fresh_next : (version : Version) → Completes visit told version → IsFalse beyond → (recall r (wanted_step visit) told).walk.passed ≡ false
   fresh_next version b here =
-      back visit (λ v x. (recall r (wanted v) x).walk.passed ≡ false) (Row version.head b.row) (answer.Content b.content) told b.asked b.is
+      back visit (λ v x. (recall r (wanted_step v) x).walk.passed ≡ false) (Row version.head b.row) (answer.Content b.content) told b.asked b.is
       (not_passed (is_lower b.content r.walk) r.walk.passed ((there visit Seeks (Row version.head b.row) (answer.Content b.content) told b.asked b.is h).fresh here))
 
-  pub arrived_next : (version : Version) → Completes visit told version → HasArrived limits k (learn k (wanted visit) told) (recall r (wanted visit) told) version level low earlier
+  pub arrived_next : (version : Version) → Completes visit told version → HasArrived limits k (learn k (wanted_step visit) told) (recall r (wanted_step visit) told) version level low earlier
   arrived_next version b =
       let fits = there visit FitsAt (Row version.head b.row) (answer.Content b.content) told b.asked b.is f in
-      back visit (λ v x. HasArrived limits k (learn k (wanted v) x) (recall r (wanted v) x) version level low earlier) (Row version.head b.row) (answer.Content b.content) told b.asked b.is
+      back visit (λ v x. HasArrived limits k (learn k (wanted_step v) x) (recall r (wanted_step v) x) version level low earlier) (Row version.head b.row) (answer.Content b.content) told b.asked b.is
       (arrived limits way beyond k r visit level low earlier b.row b.content fits version b.pid b.chain b.last
       (there visit Seeks (Row version.head b.row) (answer.Content b.content) told b.asked b.is h))
 

@@ -14,7 +14,7 @@ use Rattle.traces.specs.discipline.Fitting.{Fits, FitsRow}
 use Rattle.traces.specs.discipline.Knowledge.{Knowledge}
 use Rattle.traces.specs.discipline.Recalled.{AnyNames, IsPaid, IsSpentWith, IsUnread, Recalled, Walk, is_lower, is_removal, recall, trail}
 use Rattle.structure_changes.specs.Versions.{Version}
-use Rattle.round_model.specs.Visits.{VisitState, Slot, Row, FindsHead, Completes, Continues, FindsEmpty, Visit, at, wanted}
+use Rattle.round_model.specs.Visits.{VisitState, Slot, Row, FindsHead, Completes, Continues, FindsEmpty, Visit, at, wanted_step}
 use Rattle.round_model.specs.Walks.{IsSeeking, reads_left_at, reads_left_in, with_walk}
 use Rattle.round_model.proofs.Meeting.{few_pages, removed_push}
 use Rattle.round_model.proofs.Removals.{base_is_none, lower_first, paid_lower}
@@ -105,26 +105,26 @@ module _ (reserve : ℕ) (limits : Limits) (way : List ℕ → Bool) (beyond : B
 
   -- the same by what a visit makes of an answer
 
-  module _ (told : Answer Record) (h : IsSeeking limits way beyond k r visit level low earlier) (f : Fits limits k (wanted visit) told) where
+  module _ (told : Answer Record) (h : IsSeeking limits way beyond k r visit level low earlier) (f : Fits limits k (wanted_step visit) told) where
     seeks_at : (state : VisitState) → visit.state ≡ state → Seeks state
     seeks_at state e = subst (λ (s : VisitState). Seeks s) e h
 
     abbrev FitsAt : Visit → Answer Record → Type 0
-    FitsAt v x = Fits limits k (wanted v) x
+    FitsAt v x = Fits limits k (wanted_step v) x
 
     pub spent_on : (new : Visit) → FindsHead visit told new ⊎ Continues visit told new
-        → IsSpentWith (1 + full) r (wanted visit) told (reads_left_in limits reserve r visit) (reads_left_in limits reserve (recall r (wanted visit) told) new)
+        → IsSpentWith (1 + full) r (wanted_step visit) told (reads_left_in limits reserve r visit) (reads_left_in limits reserve (recall r (wanted_step visit) told) new)
     spent_on new moves =
-        let P : Visit → Answer Record → Type 0 = λ v x. IsSpentWith (1 + full) r (wanted v) x (reads_left_in limits reserve r v) (reads_left_in limits reserve (recall r (wanted v) x) new) in
+        let P : Visit → Answer Record → Type 0 = λ v x. IsSpentWith (1 + full) r (wanted_step v) x (reads_left_in limits reserve r v) (reads_left_in limits reserve (recall r (wanted_step v) x) new) in
         elim moves [
           | inl b ↦ back visit P Slot (answer.Number b.row) told b.asked b.is (rw b.goes (inl (spent_slot b.row (seeks_at Slot b.asked))))
           | inr b ↦ back visit P (Row b.head b.row) (answer.Content b.content) told b.asked b.is
               (rw b.goes (spent_row b.head b.row b.content b.under (there visit FitsAt (Row b.head b.row) (answer.Content b.content) told b.asked b.is f) (seeks_at (Row b.head b.row) b.asked)))
         ]
 
-    pub spent_empty : IsFalse beyond → FindsEmpty visit told → IsPaid r (wanted visit) told
+    pub spent_empty : IsFalse beyond → FindsEmpty visit told → IsPaid r (wanted_step visit) told
     spent_empty here b =
-        back visit (λ v x. IsPaid r (wanted v) x) Slot (answer.Number 0) told b.asked b.is (empty here (seeks_at Slot b.asked) (there visit FitsAt Slot (answer.Number 0) told b.asked b.is f))
+        back visit (λ v x. IsPaid r (wanted_step v) x) Slot (answer.Number 0) told b.asked b.is (empty here (seeks_at Slot b.asked) (there visit FitsAt Slot (answer.Number 0) told b.asked b.is f))
 
     -- there are pages that weren't visited
     pub left_empty : FindsEmpty visit told → 0 < reads_left_in limits reserve r visit
@@ -166,9 +166,9 @@ module _ (reserve : ℕ) (limits : Limits) (way : List ℕ → Bool) (beyond : B
       left_some = let more = more_left in omega (arith, more)
 
       -- the base is no removal
-      pub base_passed : (recall r (wanted visit) told).walk.passed ≡ r.walk.passed
+      pub base_passed : (recall r (wanted_step visit) told).walk.passed ≡ r.walk.passed
       base_passed =
-          back visit (λ v x. (recall r (wanted v) x).walk.passed ≡ r.walk.passed) (Row version.head b.row) (answer.Content b.content) told b.asked b.is (rw (base_is_none b.content r.walk b.last) refl)
+          back visit (λ v x. (recall r (wanted_step v) x).walk.passed ≡ r.walk.passed) (Row version.head b.row) (answer.Content b.content) told b.asked b.is (rw (base_is_none b.content r.walk b.last) refl)
 
       -- once a removed page was met, what is reserved is left
       pub left_kept : r.walk.removed ≡ true → reserve < reads_left_in limits reserve r visit
@@ -180,9 +180,9 @@ module _ (reserve : ℕ) (limits : Limits) (way : List ℕ → Bool) (beyond : B
           by_tests false false e f g = let clash : false ≡ true = rw (e, f) at g in absurd cc
 
       -- the round goes on from a page that isn't removed
-      pub left_on : is_removed version.chain ≡ false → reads_left_at limits reserve (recall r (wanted visit) told).walk [] Slot < reads_left_in limits reserve r visit
+      pub left_on : is_removed version.chain ≡ false → reads_left_at limits reserve (recall r (wanted_step visit) told).walk [] Slot < reads_left_in limits reserve r visit
       left_on alive =
-          back visit (λ v x. reads_left_at limits reserve (recall r (wanted v) x).walk [] Slot < reads_left_in limits reserve r visit) (Row version.head b.row)
+          back visit (λ v x. reads_left_at limits reserve (recall r (wanted_step v) x).walk [] Slot < reads_left_in limits reserve r visit) (Row version.head b.row)
           (answer.Content b.content) told b.asked b.is (by_passed r.walk.passed refl)
         where
           now : Walk
@@ -237,9 +237,9 @@ module _ (reserve : ℕ) (limits : Limits) (way : List ℕ → Bool) (beyond : B
           by_passed false e = let is = part_removed gone in let same : kept ≡ full = rw (e, is) refl in let more = more_left in omega (arith, more, same)
 
       -- the round goes round a removed page, whose removal was a cause: the pages that it has read don't count any more
-      pub left_round : is_removed version.chain ≡ true → r.walk.passed ≡ false → reads_left_at limits reserve (recall r (wanted visit) told).walk [] Slot < reads_left_in limits reserve r visit
+      pub left_round : is_removed version.chain ≡ true → r.walk.passed ≡ false → reads_left_at limits reserve (recall r (wanted_step visit) told).walk [] Slot < reads_left_in limits reserve r visit
       left_round gone first =
-          back visit (λ v x. reads_left_at limits reserve (recall r (wanted v) x).walk [] Slot < reads_left_in limits reserve r visit) (Row version.head b.row)
+          back visit (λ v x. reads_left_at limits reserve (recall r (wanted_step v) x).walk [] Slot < reads_left_in limits reserve r visit) (Row version.head b.row)
           (answer.Content b.content) told b.asked b.is here
         where
           now : Walk

@@ -12,7 +12,7 @@ use Rattle.traces.specs.chain.Chains.{IsChainFrom, IsFront}
 use Rattle.traces.specs.discipline.Fitting.{Fits, FitsRow, IsReadWhole}
 use Rattle.traces.specs.discipline.Knowledge.{Knowledge, learn, learn_slot}
 use Rattle.structure_changes.specs.Versions.{Version}
-use Rattle.round_model.specs.Visits.{Sight, Empty, Whole, VisitState, Slot, Row, Arrives, FindsHead, Completes, Continues, Follows, Reads, Responds, Shows, Visit, at, wanted}
+use Rattle.round_model.specs.Visits.{Sight, Empty, Whole, VisitState, Slot, Row, Arrives, FindsHead, Completes, Continues, Follows, Reads, Responds, Shows, Visit, at, wanted_step}
 use Rattle.round_model.specs.Versions.{IsSound}
 use Rattle.round_model.proofs.FrontLaws.{front_more, front_next, front_end}
 
@@ -105,21 +105,21 @@ there visit P state told real e i h = subst (λ (s : VisitState). P (at visit s)
 
 module _ (k : Knowledge) (old : Visit) where
   abbrev Then : Visit → Option Sight → Visit → Answer Record → Type 0
-  Then new result v x = Shows v k → Fits v.limits k (wanted v) x → Follows k v x new result
+  Then new result v x = Shows v k → Fits v.limits k (wanted_step v) x → Follows k v x new result
 
-  begins : (told : Answer Record) (new : Visit) → FindsHead old told new → Shows old k → Fits old.limits k (wanted old) told → Follows k old told new None
+  begins : (told : Answer Record) (new : Visit) → FindsHead old told new → Shows old k → Fits old.limits k (wanted_step old) told → Follows k old told new None
   begins told new b = back old (Then new None) Slot (answer.Number b.row) told b.asked b.is (λ h f. rw b.goes (begins_chain k old b.row b.some (row_below old.limits k old.pid b.row h.page f) h))
 
-  continues : (told : Answer Record) (new : Visit) → Continues old told new → Shows old k → Fits old.limits k (wanted old) told → Follows k old told new None
+  continues : (told : Answer Record) (new : Visit) → Continues old told new → Shows old k → Fits old.limits k (wanted_step old) told → Follows k old told new None
   continues told new b = back old (Then new None) (Row b.head b.row) (answer.Content b.content) told b.asked b.is (λ h f. rw b.goes (goes_on k old b.head b.row b.content b.under b.more h f))
 
-  completes : (told : Answer Record) (new : Visit) (version : Version) → Completes old told version → Shows old k → Fits old.limits k (wanted old) told → Follows k old told new (Some (Whole version))
+  completes : (told : Answer Record) (new : Visit) (version : Version) → Completes old told version → Shows old k → Fits old.limits k (wanted_step old) told → Follows k old told new (Some (Whole version))
   completes told new version b =
       back old (Then new (Some (Whole version))) (Row version.head b.row) (answer.Content b.content) told b.asked b.is (λ h f. arrives_at k old b.row b.content version b.pid b.chain b.last h f)
 
 -- what follows from what a visit makes of an answer
 pub follows_from : (k : Knowledge) (old : Visit) (told : Answer Record) (new : Visit) (result : Option Sight) → Responds old told new result → Shows old k
-    → Fits old.limits k (wanted old) told → Follows k old told new result
+    → Fits old.limits k (wanted_step old) told → Follows k old told new result
 follows_from k old told new None b = elim b [ inl begun ↦ begins k old told new begun | inr more ↦ continues k old told new more ]
 follows_from k old told new (Some Empty) b = λ h f. tt
 follows_from k old told new (Some (Whole version)) b = completes k old told new version b

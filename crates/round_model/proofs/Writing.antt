@@ -21,7 +21,7 @@ use Rattle.round_model.specs.Visits.{Sight, Slot, Empty, Whole}
 use Rattle.round_model.specs.Visits as page
 use Rattle.round_model.specs.Walks.{IsSeeking, reads_left_at, reads_left_in, with_walk}
 use Rattle.round_model.specs.Ways.{precedes, reaches}
-use Rattle.round_model.specs.WriteRounds.{BeginsToWrite, IsMissing, KeepsToWrite, MissesWrite, is_cutting, write_round_kept, write_way, VisitsToWrite, Shows, Spends, WriteRound, at, wanted}
+use Rattle.round_model.specs.WriteRounds.{BeginsToWrite, IsMissing, KeepsToWrite, MissesWrite, is_cutting, write_round_kept, write_way, VisitsToWrite, Shows, Spends, WriteRound, at, wanted_step}
 use Rattle.round_model.specs.Machines.{IsTold}
 use Rattle.round_model.specs.Rounds.{CanSee, Follows, Responds, Sees, machine}
 use Rattle.round_model.specs.WriteResponses.{CanMeetGoal, IsHere, IsAtLeft, IsTended, TreatsWrite, writing, EndsBy}
@@ -36,10 +36,10 @@ use Rattle.round_model.proofs.WayLaws.{lowest}
 use Rattle.round_model.proofs.Treating.{After, treated}
 
 abbrev Then : WriteRound → Option WriteEnd → WriteRound → Answer Record → Type 0
-Then new result old told = (k : Knowledge) (r : Recalled) → Shows old k r → Fits old.limits k (wanted old) told → Follows writing k r old told new result
+Then new result old told = (k : Knowledge) (r : Recalled) → Shows old k r → Fits old.limits k (wanted_step old) told → Follows writing k r old told new result
 
 abbrev Pays : WriteRound → Option WriteEnd → WriteRound → Answer Record → Type 0
-Pays new result old told = (reserve kept : ℕ) (k : Knowledge) (r : Recalled) → Shows old k r → Fits old.limits k (wanted old) told → Spends reserve kept r old told new result
+Pays new result old told = (reserve kept : ℕ) (k : Knowledge) (r : Recalled) → Shows old k r → Fits old.limits k (wanted_step old) told → Spends reserve kept r old told new result
 
 module _ (old new : WriteRound) (told : Answer Record) (visit : page.Visit) where
   abbrev here : WriteRound
@@ -48,15 +48,15 @@ module _ (old new : WriteRound) (told : Answer Record) (visit : page.Visit) wher
   seen : (next : page.Visit) (sight : Sight) (result : Option WriteEnd) → page.Responds visit told next (Some sight) → Sees writing here sight new result → Then new result here told
   seen next Empty result b sees = rw sees (λ k r h f. inl (found_nothing r visit told b))
   seen next (Whole version) result b sees = λ k r h f.
-      by_result k r result (treated here k (learn k (page.wanted visit) told) (recall r (page.wanted visit) told) version
+      by_result k r result (treated here k (learn k (page.wanted_step visit) told) (recall r (page.wanted_step visit) told) version
       (reached_next old.limits old.key old.floor old.goal old.parent old.left k r visit told h f version b) new result sees)
     where
-      by_result : (k : Knowledge) (r : Recalled) (o : Option WriteEnd) → After here (learn k (page.wanted visit) told) (recall r (page.wanted visit) told) new o → Follows writing k r here told new o
+      by_result : (k : Knowledge) (r : Recalled) (o : Option WriteEnd) → After here (learn k (page.wanted_step visit) told) (recall r (page.wanted_step visit) told) new o → Follows writing k r here told new o
       by_result k r None a = a
       by_result k r (Some end) a = a
 
   module _ (reserve kept : ℕ) (k : Knowledge) (r : Recalled) (h : VisitsToWrite old.limits old.key old.floor old.goal old.parent old.left k r visit)
-      (f : Fits old.limits k (page.wanted visit) told) where
+      (f : Fits old.limits k (page.wanted_step visit) told) where
     -- a page wasn't there
     missed : page.FindsEmpty visit told → (goal : WriteGoal) → IsSeeking old.limits (write_way goal old.key) (is_cutting goal) k r visit h.level h.low h.earlier
         → MissesWrite reserve kept r (record here { goal = goal }) told goal
@@ -70,11 +70,11 @@ module _ (old new : WriteRound) (told : Answer Record) (visit : page.Visit) wher
       abbrev way_here : List ℕ → Bool
       way_here = write_way old.goal old.key
 
-      less : is_removed version.chain ≡ false → reads_left_at old.limits reserve (recall r (page.wanted visit) told).walk [] Slot < reads_left_in old.limits reserve r visit
+      less : is_removed version.chain ≡ false → reads_left_at old.limits reserve (recall r (page.wanted_step visit) told).walk [] Slot < reads_left_in old.limits reserve r visit
       less = left_on reserve old.limits way_here (is_cutting old.goal) k r visit h.level h.low h.earlier told h.seeks f version b
 
       more : is_removed version.chain ≡ false → (goal : WriteGoal) → old.goal ≡ goal
-          → reads_left_at old.limits reserve (recall r (page.wanted visit) told).walk [] Slot + write_round_kept kept goal < reads_left_in old.limits reserve r visit + write_round_kept kept old.goal
+          → reads_left_at old.limits reserve (recall r (page.wanted_step visit) told).walk [] Slot + write_round_kept kept goal < reads_left_in old.limits reserve r visit + write_round_kept kept old.goal
       more alive goal e = let l = less alive in rw e (omega (arith, l))
 
       some_left : write_round_kept kept old.goal < reads_left_in old.limits reserve r visit + write_round_kept kept old.goal
@@ -162,18 +162,18 @@ module _ (limits : Limits) (key : List ℕ) (floor : ℕ) (k : Knowledge) (r : R
 -- what follows from what a round makes of an answer
 
 pub follows_from : (old new : WriteRound) (told : Answer Record) (result : Option WriteEnd) → Responds writing old told new result
-    → (k : Knowledge) (r : Recalled) → Shows old k r → Fits old.limits k (wanted old) told → Follows writing k r old told new result
+    → (k : Knowledge) (r : Recalled) → Shows old k r → Fits old.limits k (wanted_step old) told → Follows writing k r old told new result
 follows_from old new told result responds = by_step writing (λ round. refl) (λ o x n e. Then n e o x) old new told result responds
     (λ pid k r h f. root old.limits old.key old.floor k r pid f old.goal old.parent old.left h.1 h.2 h.0 h.3)
     (λ visit next b k r h f. visits_next old.limits old.key old.floor old.goal old.parent old.left k r visit told h f next b)
     (λ visit next sight b sees. seen old new told visit next sight result b sees)
 
 pub spends_from : (old new : WriteRound) (told : Answer Record) (result : Option WriteEnd) → Responds writing old told new result
-    → (reserve kept : ℕ) (k : Knowledge) (r : Recalled) → Shows old k r → Fits old.limits k (wanted old) told → Spends reserve kept r old told new result
+    → (reserve kept : ℕ) (k : Knowledge) (r : Recalled) → Shows old k r → Fits old.limits k (wanted_step old) told → Spends reserve kept r old told new result
 spends_from old new told result responds = by_step writing (λ round. refl) (λ o x n e. Pays n e o x) old new told result responds
     (λ pid reserve kept k r h f. inl (omega arith))
     (λ visit next b reserve kept k r h f.
-    still (with_walk old.limits reserve) r (page.wanted visit) told _ _ (write_round_kept kept old.goal)
+    still (with_walk old.limits reserve) r (page.wanted_step visit) told _ _ (write_round_kept kept old.goal)
     (spent_on reserve old.limits (write_way old.goal old.key) (is_cutting old.goal) k r visit h.level h.low h.earlier told h.seeks f next b))
     (λ visit next sight b sees. paid old new told visit next sight result b sees)
 
@@ -192,12 +192,12 @@ can_see old other told Empty b t = tt
 can_see old other told (Whole version) b t =
     let visit = b.visit in
     let h : VisitsToWrite old.limits old.key old.floor old.goal old.parent old.left t.k t.r visit = subst (λ (s : WayState). Shows (at old s) t.k t.r) b.asked t.shows in
-    let f : Fits old.limits t.k (page.wanted visit) told = subst (λ (s : WayState). Fits old.limits t.k (wanted (at old s)) told) b.asked t.fits in
+    let f : Fits old.limits t.k (page.wanted_step visit) told = subst (λ (s : WayState). Fits old.limits t.k (wanted_step (at old s)) told) b.asked t.fits in
     let d = reached_next old.limits old.key old.floor old.goal old.parent old.left t.k t.r visit told h f version b.responds in
     record {
-      reached = reached old.limits t.k (learn t.k (page.wanted visit) told) (recall t.r (page.wanted visit) told) version d.level d.low d.earlier d.arrives (write_way old.goal old.key) d.passing;
+      reached = reached old.limits t.k (learn t.k (page.wanted_step visit) told) (recall t.r (page.wanted_step visit) told) version d.level d.low d.earlier d.arrives (write_way old.goal old.key) d.passing;
       above = IfSome_then old.parent d.above (λ other i. i.kept.alive);
-      meets = meets_at t.k (learn t.k (page.wanted visit) told) d.earlier old.goal d.passed;
+      meets = meets_at t.k (learn t.k (page.wanted_step visit) told) d.earlier old.goal d.passed;
     }
   where
     meets_at : (k now : Knowledge) (earlier : List ℕ) (goal : WriteGoal) → Passed old.limits old.key old.floor k now version.pid earlier goal → CanMeetGoal old.limits goal

@@ -29,10 +29,10 @@ IsSoundState limits (Page visit) = visit.limits ≡ limits
 -- the step that a state has asked for
 abbrev pub wanted_at : WayState → StepOf Record
 wanted_at Root = step.Slot 0
-wanted_at (Page visit) = page.wanted visit
+wanted_at (Page visit) = page.wanted_step visit
 
-abbrev pub wanted : Descent → StepOf Record
-wanted descent = wanted_at descent.state
+abbrev pub wanted_step : Descent → StepOf Record
+wanted_step descent = wanted_at descent.state
 
 -- the descent, gone to a state, and to a page
 abbrev pub at : Descent → WayState → Descent
@@ -50,7 +50,7 @@ abbrev pub Shows : Descent → Knowledge → Type 0
 Shows descent k = ShowsState k descent.state
 
 abbrev pub descending : Machine Descent
-descending = record { limits = λ descent. descent.limits; wanted = wanted; Shows = λ descent k r. Shows descent k }
+descending = record { limits = λ descent. descent.limits; wanted = wanted_step; Shows = λ descent k r. Shows descent k }
 
 -- Slot 0 was read, and the root is visited.
 pub record Starts (old : Descent) (told : Answer Record) (new : Descent) : Type 0 where

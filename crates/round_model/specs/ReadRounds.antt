@@ -31,8 +31,8 @@ pub record ReadRound : Type 0 where
   pub state : WayState
 
 -- the step that the round has asked for
-abbrev pub wanted : ReadRound → StepOf Record
-wanted round = wanted_at round.state
+abbrev pub wanted_step : ReadRound → StepOf Record
+wanted_step round = wanted_at round.state
 
 abbrev pub at : ReadRound → WayState → ReadRound
 at round state = record round { state = state }
@@ -395,15 +395,15 @@ read_round_left reserve kept r round = left_from round.limits reserve r round.st
 -- Where a page wasn't there, a cause pays, but where a removed index page was met, and what is reserved is left; beyond a removed leaf
 -- the reads that were kept are.
 abbrev pub MissesRead : ℕ → ℕ → Recalled → ReadRound → Answer Record → ReadGoal → Type 0
-MissesRead reserve kept r old told Seek = IsPaid r (wanted old) told ⊎ (reserve < read_round_left reserve kept r old)
-MissesRead reserve kept r old told (Left removed) = IsPaid r (wanted old) told ⊎ (reserve + kept < read_round_left reserve kept r old)
+MissesRead reserve kept r old told Seek = IsPaid r (wanted_step old) told ⊎ (reserve < read_round_left reserve kept r old)
+MissesRead reserve kept r old told (Left removed) = IsPaid r (wanted_step old) told ⊎ (reserve + kept < read_round_left reserve kept r old)
 MissesRead reserve kept r old told Beyond = kept < read_round_left reserve kept r old
 
 -- A round that goes on has fewer reads left, or a cause paid for the reserve. Where the round ends at a removed page, the reserve
 -- is left; where it was begun for a removed page, so are those that were kept.
 abbrev pub Spends : ℕ → ℕ → Recalled → ReadRound → Answer Record → ReadRound → Option ReadEnd → Type 0
 Spends reserve kept r old told new None =
-    IsSpentWith (1 + with_walk old.limits reserve) r (wanted old) told (read_round_left reserve kept r old) (read_round_left reserve kept (recall r (wanted old) told) new)
+    IsSpentWith (1 + with_walk old.limits reserve) r (wanted_step old) told (read_round_left reserve kept r old) (read_round_left reserve kept (recall r (wanted_step old) told) new)
 Spends reserve kept r old told new (Some Again) = MissesRead reserve kept r old told old.goal
 Spends reserve kept r old told new (Some (Removed removed)) = reserve + read_round_kept kept old.goal < read_round_left reserve kept r old
 Spends reserve kept r old told new (Some (Leaf leaf)) = read_round_kept kept old.goal < read_round_left reserve kept r old

@@ -5,7 +5,7 @@ use Rattle.deltas.specs.declared.record.Record.{Record}
 use Rattle.traces.specs.discipline.Knowledge.{Knowledge, learn}
 use Rattle.traces.specs.discipline.Recalled.{Recalled, recall}
 use Rattle.structure_changes.specs.Versions.{Version}
-use Rattle.round_model.specs.Descents.{Descent, Finds, Responds as Moves, WayState, wanted}
+use Rattle.round_model.specs.Descents.{Descent, Finds, Responds as Moves, WayState, wanted_step}
 use Rattle.round_model.specs.Machines.{Machine}
 use Rattle.round_model.specs.Visits.{Sight, Empty, Whole}
 
@@ -21,12 +21,12 @@ pub record Rounds (Round End : Type 0) : Type 1 where
   pub again : End
 
 abbrev pub machine : {Round End : Type 0} → Rounds Round End → Machine Round
-machine rounds = record { limits = λ round. (rounds.way round).limits; wanted = λ round. wanted (rounds.way round); Shows = rounds.Shows }
+machine rounds = record { limits = λ round. (rounds.way round).limits; wanted = λ round. wanted_step (rounds.way round); Shows = rounds.Shows }
 
 -- what follows from an answer
 abbrev pub Follows : {Round End : Type 0} → Rounds Round End → Knowledge → Recalled → Round → Answer Record → Round → Option End → Type 0
-Follows rounds k r old told new None = rounds.Shows new (learn k (wanted (rounds.way old)) told) (recall r (wanted (rounds.way old)) told)
-Follows rounds k r old told new (Some end) = rounds.Ends old (learn k (wanted (rounds.way old)) told) (recall r (wanted (rounds.way old)) told) end
+Follows rounds k r old told new None = rounds.Shows new (learn k (wanted_step (rounds.way old)) told) (recall r (wanted_step (rounds.way old)) told)
+Follows rounds k r old told new (Some end) = rounds.Ends old (learn k (wanted_step (rounds.way old)) told) (recall r (wanted_step (rounds.way old)) told) end
 
 -- a page was found that the round has reached, or none
 abbrev pub CanSee : {Round End : Type 0} → Rounds Round End → Round → Sight → Type 0

@@ -40,8 +40,8 @@ abbrev pub wanted_at : ℕ → VisitState → StepOf Record
 wanted_at pid Slot = step.Slot pid
 wanted_at pid (Row head row) = step.Row row
 
-abbrev pub wanted : Visit → StepOf Record
-wanted visit = wanted_at visit.pid visit.state
+abbrev pub wanted_step : Visit → StepOf Record
+wanted_step visit = wanted_at visit.pid visit.state
 
 -- The step reads a slot or a row that there is.
 abbrev pub ReadsWithin : Limits → StepOf Record → Type 0
@@ -94,9 +94,9 @@ pub record Arrives (k now : Knowledge) (visit : Visit) (version : Version) : Typ
 
 -- what follows from an answer
 abbrev pub Follows : Knowledge → Visit → Answer Record → Visit → Option Sight → Type 0
-Follows k old told new None = Shows new (learn k (wanted old) told)
+Follows k old told new None = Shows new (learn k (wanted_step old) told)
 Follows k old told new (Some Empty) = ⊤
-Follows k old told new (Some (Whole version)) = Arrives k (learn k (wanted old) told) old version
+Follows k old told new (Some (Whole version)) = Arrives k (learn k (wanted_step old) told) old version
 
 -- The slot was read as a row, and the visit goes on with the record there.
 pub record FindsHead (old : Visit) (told : Answer Record) (new : Visit) : Type 0 where

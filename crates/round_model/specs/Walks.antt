@@ -59,9 +59,9 @@ IsAhead k other page Slot = ⊤
 IsAhead k other page (Row head row) = k.read.before page other.pid ≡ Some other.head
 
 -- the pages that count, by the state of the visit
-abbrev pub counted : Walk → VisitState → List ℕ
-counted walk Slot = trail walk
-counted walk (Row head row) = walk.visited
+abbrev pub counting_pages : Walk → VisitState → List ℕ
+counting_pages walk Slot = trail walk
+counting_pages walk (Row head row) = walk.visited
 
 -- Once the page's slot was read, a removal was read since slot 0 was, where the round has gone on from the last one that was a cause, or it
 -- is among the deltas.
@@ -124,7 +124,7 @@ pub record IsOnWay (limits : Limits) (k : Knowledge) (r : Recalled) (visit : Vis
   pub shows : Shows visit k
   pub same : visit.limits ≡ limits
   pub bare : HasNoneRead visit.state visit.part
-  pub visited : counted r.walk visit.state ≡ been visit.state visit.pid earlier
+  pub visited : counting_pages r.walk visit.state ≡ been visit.state visit.pid earlier
   pub recalled : AreRecalled k r (been visit.state visit.pid earlier)
   pub expected : IsExpected limits k visit.pid level low earlier
   pub distinct : AreDistinct limits (visit.pid ∷ earlier)

@@ -52,8 +52,8 @@ pub record WriteRound : Type 0 where
   pub state : WayState
 
 -- the step that the round has asked for
-abbrev pub wanted : WriteRound → StepOf Record
-wanted round = wanted_at round.state
+abbrev pub wanted_step : WriteRound → StepOf Record
+wanted_step round = wanted_at round.state
 
 abbrev pub at : WriteRound → WayState → WriteRound
 at round state = record round { state = state }
@@ -360,16 +360,16 @@ write_round_left reserve kept r round = left_from round.limits reserve r round.s
 -- Where a page wasn't there, a cause pays, but where a removed page is read for its term, the reads that were kept are left; so they
 -- are where a page that was there is below the removed one's level.
 abbrev pub MissesWrite : ℕ → ℕ → Recalled → WriteRound → Answer Record → WriteGoal → Type 0
-MissesWrite reserve kept r old told Seek = IsPaid r (wanted old) told
-MissesWrite reserve kept r old told (Left pid) = IsPaid r (wanted old) told ⊎ ((told ≢ Number 0) × (kept < write_round_left reserve kept r old))
-MissesWrite reserve kept r old told (Merge left) = IsPaid r (wanted old) told
+MissesWrite reserve kept r old told Seek = IsPaid r (wanted_step old) told
+MissesWrite reserve kept r old told (Left pid) = IsPaid r (wanted_step old) told ⊎ ((told ≢ Number 0) × (kept < write_round_left reserve kept r old))
+MissesWrite reserve kept r old told (Merge left) = IsPaid r (wanted_step old) told
 MissesWrite reserve kept r old told (Unterm parent left) = kept < write_round_left reserve kept r old
 
 -- A round that goes on has fewer reads left, or a cause paid for the reserve. Where the round ends at a removed page, the reserve
 -- is left; where it was begun for a removed page, so are those that were kept.
 abbrev pub Spends : ℕ → ℕ → Recalled → WriteRound → Answer Record → WriteRound → Option WriteEnd → Type 0
 Spends reserve kept r old told new None =
-    IsSpentWith (1 + with_walk old.limits reserve) r (wanted old) told (write_round_left reserve kept r old) (write_round_left reserve kept (recall r (wanted old) told) new)
+    IsSpentWith (1 + with_walk old.limits reserve) r (wanted_step old) told (write_round_left reserve kept r old) (write_round_left reserve kept (recall r (wanted_step old) told) new)
 Spends reserve kept r old told new (Some end.Again) = MissesWrite reserve kept r old told old.goal
 Spends reserve kept r old told new (Some (end.Removed removed)) = reserve + write_round_kept kept old.goal < write_round_left reserve kept r old
 Spends reserve kept r old told new (Some end.Done) = kept < write_round_left reserve kept r old

@@ -40,12 +40,12 @@ pub fn rounds_are_short()
 pub fn read_rounds_follow()
     ensures follows { (old new : reader.ReadRound) (told : Answer Record) (result : Option ReadEnd) (k : Knowledge) (r : Recalled)
         → reader.Shows old k r
-        → Fits old.limits k (reader.wanted old) told
+        → Fits old.limits k (reader.wanted_step old) told
         → Responds reader.reading old told new result
         → Follows reader.reading k r old told new result }
     ensures spends { (reserve kept : ℕ) (old new : reader.ReadRound) (told : Answer Record) (result : Option ReadEnd) (k : Knowledge) (r : Recalled)
         → reader.Shows old k r
-        → Fits old.limits k (reader.wanted old) told
+        → Fits old.limits k (reader.wanted_step old) told
         → Responds reader.reading old told new result
         → reader.Spends reserve kept r old told new result }
 {}
@@ -54,12 +54,12 @@ pub fn read_rounds_follow()
 pub fn write_rounds_follow()
     ensures follows { (old new : writer.WriteRound) (told : Answer Record) (result : Option WriteEnd) (k : Knowledge) (r : Recalled)
         → writer.Shows old k r
-        → Fits old.limits k (writer.wanted old) told
+        → Fits old.limits k (writer.wanted_step old) told
         → Responds response.writing old told new result
         → Follows response.writing k r old told new result }
     ensures spends { (reserve kept : ℕ) (old new : writer.WriteRound) (told : Answer Record) (result : Option WriteEnd) (k : Knowledge) (r : Recalled)
         → writer.Shows old k r
-        → Fits old.limits k (writer.wanted old) told
+        → Fits old.limits k (writer.wanted_step old) told
         → Responds response.writing old told new result
         → writer.Spends reserve kept r old told new result }
 {}

@@ -11,7 +11,7 @@ use Rattle.traces.specs.chain.Fitted.{IsPageChain}
 use Rattle.row_chain.specs.Placed.{PlacedChain}
 use Rattle.structure_changes.specs.Reads.{chain_of}
 use Rattle.structure_changes.specs.Versions.{Version}
-use Rattle.round_model.specs.Descents.{Descent, Responds, Root, Page, descending, wanted}
+use Rattle.round_model.specs.Descents.{Descent, Responds, Root, Page, descending, wanted_step}
 use Rattle.round_model.specs.Machines.{IsTold}
 use Rattle.round_model.specs.Visits as page
 use Rattle.round_model.specs.Visits.{Empty, Whole, VisitState, Slot, Row}
@@ -57,7 +57,7 @@ module _ (limits : Limits) (pid head row : ℕ) (part : List Record) (w : Record
   pub few : Told → length part < 13
   few told = told.fits.short pid head part told.shows.stands.in_slot told.shows.stands.seen
 
-  pub lies_next : (asked : ℕ) → wanted (visiting limits pid part (Row head row)) ≡ step.Row asked → Told → chain_rows head (part ++ w ∷ []) ≡ chain_rows head part ++ asked ∷ []
+  pub lies_next : (asked : ℕ) → wanted_step (visiting limits pid part (Row head row)) ≡ step.Row asked → Told → chain_rows head (part ++ w ∷ []) ≡ chain_rows head part ++ asked ∷ []
   lies_next asked is told =
       let same : row ≡ asked = cc in
       subst (λ (n : ℕ). chain_rows head (part ++ w ∷ []) ≡ chain_rows head part ++ n ∷ []) same (lies_behind told.k.read.seen part head row w told.shows.stands.seen)

@@ -14,7 +14,7 @@ use Rattle.round_model.specs.Descents.{Finds, WayState}
 use Rattle.round_model.specs.Machines.{AreThere, IsToldThere}
 use Rattle.round_model.specs.ReadGoals.{ReadGoal, Seek, Left, Beyond}
 use Rattle.round_model.specs.ReadLegs.{Leg, Down, Round, Past, above_of}
-use Rattle.round_model.specs.ReadRounds.{ReadRound, Shows, ShowsVisit, at, reading, wanted}
+use Rattle.round_model.specs.ReadRounds.{ReadRound, Shows, ShowsVisit, at, reading, wanted_step}
 use Rattle.round_model.specs.Rounds.{machine}
 use Rattle.round_model.specs.Visits as page
 use Rattle.round_model.specs.Visits.{Whole}
@@ -51,10 +51,10 @@ module _ (is_there : ℕ → Record → Type 0) where
   are_read old other told version b t =
       let visit = b.visit in
       let h : ShowsVisit old.limits old.key old.goal old.leg t.k t.r visit = subst (λ (s : WayState). Shows (at old s) t.k t.r) b.asked t.shows in
-      let f : Fits old.limits t.k (page.wanted visit) told = subst (λ (s : WayState). Fits old.limits t.k (wanted (at old s)) told) b.asked t.fits in
-      let now : Knowledge = learn t.k (page.wanted visit) told in
-      let there : AreThere is_there now = subst (λ (s : WayState). AreThere is_there (learn t.k (wanted (at old s)) told)) b.asked t.there in
-      let d = by_leg old.limits old.key t.k now (recall t.r (page.wanted visit) told) version there old.goal old.leg
+      let f : Fits old.limits t.k (page.wanted_step visit) told = subst (λ (s : WayState). Fits old.limits t.k (wanted_step (at old s)) told) b.asked t.fits in
+      let now : Knowledge = learn t.k (page.wanted_step visit) told in
+      let there : AreThere is_there now = subst (λ (s : WayState). AreThere is_there (learn t.k (wanted_step (at old s)) told)) b.asked t.there in
+      let d = by_leg old.limits old.key t.k now (recall t.r (page.wanted_step visit) told) version there old.goal old.leg
       (whole old.limits old.key old.goal t.k t.r visit told f old.leg h version b.responds) in
       record { page = d.0; aside = d.1; leg = d.2 }
 

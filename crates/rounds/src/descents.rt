@@ -4,7 +4,7 @@ ghost use Rattle.bw_model.specs.declared.step.Answer.TheVariants.{Content, Numbe
 ghost use Rattle.bw_model.specs.declared.step.Step.TheVariants as step;
 ghost use Rattle.traces.specs.discipline.Discipline.{May};
 ghost use Rattle.traces.specs.discipline.Knowledge.{Knowledge};
-ghost use Rattle.round_model.specs.Descents.{Responds, Shows, descending, going_to, wanted};
+ghost use Rattle.round_model.specs.Descents.{Responds, Shows, descending, going_to, wanted_step};
 ghost use Rattle.round_model.specs.Machines.{IsTold};
 ghost use Rattle.round_model.specs.Visits.{ReadsWithin};
 ghost use Rattle.round_model.specs.Descents as state;
@@ -119,7 +119,7 @@ impl<R: Rows, A: Allocator> Descent<R, A> {
 
     /// What the descent reads next.
     pub(crate) fn asks(&self) -> Asked
-        ensures wanted { asked_step result ≡ wanted self.now.way }
+        ensures wanted { asked_step result ≡ wanted_step self.now.way }
         ensures within { ReadsWithin self.now.way.limits (asked_step result) }
         ensures may { (actor : ℕ) (k : Knowledge) → Shows self.now.way k → May actor k (asked_step result) }
     {
@@ -181,7 +181,7 @@ impl<R: Rows, A: Allocator> Descent<R, A> {
 
     /// Takes the record that was read in the row that the descent asked for. With the base the page is whole.
     pub(crate) fn take_record(&mut self, found: RowAt<R>, rows: &R, pass: &mut R::Pass) -> SightKind
-        requires asked { wanted self.old.way ≡ step.Row found.row }
+        requires asked { wanted_step self.old.way ≡ step.Row found.row }
         requires told { IsTold descending self.old.way (Content found.content) }
         requires read { R.has rows.now pass.old found.row found.content }
         ensures responds { Responds self.old.way (Content found.content) self.new.way (sight_of result self.new.page) }

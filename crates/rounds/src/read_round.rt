@@ -11,7 +11,7 @@ ghost use Rattle.traces.specs.discipline.Recalled.{Recalled};
 ghost use Rattle.structure_changes.specs.Reads.{IsReadPage};
 ghost use Rattle.round_model.specs.Machines.{IsTold, IsToldThere};
 ghost use Rattle.round_model.specs.ReadLegs.{Down, level_on};
-ghost use Rattle.round_model.specs.ReadRounds.{CanTreatRead, ReadsForTheSame, Shows, TreatsRead, reading_on_to, on, read_way, reading, toward, wanted};
+ghost use Rattle.round_model.specs.ReadRounds.{CanTreatRead, ReadsForTheSame, Shows, TreatsRead, reading_on_to, on, read_way, reading, toward, wanted_step};
 ghost use Rattle.round_model.specs.Rounds.{Responds, machine};
 ghost use Rattle.round_model.specs.Visits.{ReadsWithin};
 ghost use Rattle.round_model.specs.Ways.{EndsHere, LeadsDown, LeadsRight, StaysLeft, precedes};
@@ -147,7 +147,7 @@ impl<R: Rows, A: Allocator> ReadRound<R, A> {
 
     /// What the round reads next.
     pub fn asks(&self) -> Asked
-        ensures wanted { asked_step result ≡ wanted self.now.round }
+        ensures wanted { asked_step result ≡ wanted_step self.now.round }
         ensures within { ReadsWithin self.now.round.limits (asked_step result) }
         ensures may { (actor : ℕ) (k : Knowledge) (r : Recalled) → Shows self.now.round k r → May actor k (asked_step result) }
     {
@@ -175,7 +175,7 @@ impl<R: Rows, A: Allocator> ReadRound<R, A> {
         rows: &R,
         pass: &mut R::Pass,
     ) -> Option<ReadEndKind>
-        requires asked { wanted self.old.round ≡ Row found.row }
+        requires asked { wanted_step self.old.round ≡ Row found.row }
         requires told { IsToldThere (R.has rows.now pass.old) (machine reading) self.old.round (Content found.content) }
         ensures responds { Responds reading self.old.round (Content found.content) self.new.round (option_map (ended_read self.new) result) }
         ensures same { ReadsForTheSame self.old.round self.new.round }

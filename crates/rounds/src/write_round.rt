@@ -12,7 +12,7 @@ ghost use Rattle.round_model.specs.Machines.{IsTold, IsToldThere};
 ghost use Rattle.round_model.specs.Rounds.{Responds, machine};
 ghost use Rattle.round_model.specs.Visits.{ReadsWithin, reads_on};
 ghost use Rattle.round_model.specs.WriteResponses.{CanTreatWrite, IsFine, IsHere, IsIdleOnWay, IsAtLeft, IsSplitFinished, TreatsWrite, writing};
-ghost use Rattle.round_model.specs.WriteRounds.{WritesForTheSame, SeeksLeaf, Shows, ends_at, goes_left, wanted, write_way};
+ghost use Rattle.round_model.specs.WriteRounds.{WritesForTheSame, SeeksLeaf, Shows, ends_at, goes_left, wanted_step, write_way};
 ghost use Rattle.round_model.specs.Ways.{LeadsDown, LeadsRight, StaysLeft};
 ghost use Rattle.round_model.specs.Descents.{Root};
 ghost use Rattle.rounds.specs.Descents.{asked_step};
@@ -137,7 +137,7 @@ impl<R: Rows, A: Allocator> WriteRound<R, A> {
 
     /// What the round reads next.
     pub fn asks(&self) -> Asked
-        ensures wanted { asked_step result ≡ wanted self.now.round }
+        ensures wanted { asked_step result ≡ wanted_step self.now.round }
         ensures within { ReadsWithin self.now.round.limits (asked_step result) }
         ensures may { (actor : ℕ) (k : Knowledge) (r : Recalled) → Shows self.now.round k r → May actor k (asked_step result) }
     {
@@ -160,7 +160,7 @@ impl<R: Rows, A: Allocator> WriteRound<R, A> {
 
     /// Takes the record that was read in the row that the round asked for, which stands over another one.
     pub fn read_on(&mut self, found: RowAt<R>, rows: &R, pass: &mut R::Pass)
-        requires asked { wanted self.old.round ≡ Row found.row }
+        requires asked { wanted_step self.old.round ≡ Row found.row }
         requires told { IsToldThere (R.has rows.now pass.old) (machine writing) self.old.round (Content found.content) }
         requires on { reads_on (Content found.content) ≡ true }
         ensures looks { pass.new ≡ pass.old }
@@ -178,7 +178,7 @@ impl<R: Rows, A: Allocator> WriteRound<R, A> {
         rows: &R,
         pass: &mut R::Pass,
     ) -> Option<WriteEndKind>
-        requires asked { wanted self.old.round ≡ Row found.row }
+        requires asked { wanted_step self.old.round ≡ Row found.row }
         requires told { IsToldThere (R.has rows.now pass.old) (machine writing) self.old.round (Content found.content) }
         ensures looks { pass.new ≡ pass.old }
         ensures responds { Responds writing self.old.round (Content found.content) self.new.round (option_map (ended_write self.new) result) }

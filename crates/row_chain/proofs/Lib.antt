@@ -3,6 +3,7 @@ pub mod ChildWalks
 pub mod CountLaws
 pub mod Counts
 pub mod Making
+pub mod MostItems
 pub mod Newest
 pub mod Offers
 pub mod OneKeys

@@ -14,19 +14,19 @@ use Rattle.base_page.specs.declared.item.Content.{Content}
 use Rattle.base_page.specs.declared.item.Content.TheVariants.{Value, Child}
 use Rattle.base_page.specs.declared.item.Item.{Item}
 use Rattle.base_page.specs.Pages.{Page, IsAscending, IsPage, content_at}
-use Rattle.base_page.specs.Shown.{Pair, pairs_from, shown}
+use Rattle.base_page.specs.Shown.{Pair, pairs_from, with_pair_of}
 use Rattle.base_page.proofs.ItemLaws.{Ascends, Ascends-from, lacks_above}
 use Rattle.base_page.proofs.KeyLaws.{and_both, and_left, and_right, itself, either, same}
 use Rattle.base_page.proofs.PageLaws.{belongs}
 use Rattle.deltas.specs.declared.record.Record.{Record}
 use Rattle.traces.specs.chain.Chains.{high_in}
-use Rattle.traces.specs.discipline.Discipline.{found, value_of}
+use Rattle.traces.specs.discipline.Discipline.{chain_value, value_of}
 use Rattle.traces.specs.chain.Fitted.{Makes}
 
 -- the keys ascend
 
 all_shown : (P : List ℕ → Type 0) (below : Bool) (key : List ℕ) (content : Content) (pairs : List Pair) → P key → AllByRecursion P (map (λ (pair : Pair). pair.0) pairs)
-    → AllByRecursion P (map (λ (pair : Pair). pair.0) (shown below key content pairs))
+    → AllByRecursion P (map (λ (pair : Pair). pair.0) (with_pair_of below key content pairs))
 all_shown P true key (Value value) pairs p h = h
 all_shown P false key (Value value) pairs p h = (p, h)
 all_shown P below key (Child page held) pairs p h = h
@@ -36,7 +36,7 @@ all_among P from [] h = tt
 all_among P from (item ∷ items) h = all_shown P (is_below item.key from) item.key item.content (pairs_from from items) h.0 (all_among P from items h.1)
 
 shown_ascends : (below : Bool) (key : List ℕ) (content : Content) (pairs : List Pair) → AllByRecursion (λ other. key_cmp key other ≡ Less) (map (λ (pair : Pair). pair.0) pairs)
-    → IsStrictlySortedBy key_cmp (map (λ (pair : Pair). pair.0) pairs) → IsStrictlySortedBy key_cmp (map (λ (pair : Pair). pair.0) (shown below key content pairs))
+    → IsStrictlySortedBy key_cmp (map (λ (pair : Pair). pair.0) pairs) → IsStrictlySortedBy key_cmp (map (λ (pair : Pair). pair.0) (with_pair_of below key content pairs))
 unfolding IsStrictlySortedBy
 shown_ascends true key (Value value) pairs above h = h
 shown_ascends false key (Value value) pairs above h = (above, h)
@@ -54,14 +54,14 @@ abbrev pub value_among : List ℕ → List Pair → Option (List ℕ)
 value_among q pairs = lookup (λ key. is_eq (key_cmp q key)) pairs
 
 shown_here : (below : Bool) (key : List ℕ) (content : Content) (pairs : List Pair) → value_among key pairs ≡ None
-    → value_among key (shown below key content pairs) ≡ (if not below then value_of (Some content) else None)
+    → value_among key (with_pair_of below key content pairs) ≡ (if not below then value_of (Some content) else None)
 shown_here true key (Value value) pairs none = none
 shown_here false key (Value value) pairs none = rw (itself key) refl
 shown_here true key (Child page held) pairs none = none
 shown_here false key (Child page held) pairs none = none
 
 shown_other : (below : Bool) (key : List ℕ) (content : Content) (pairs : List Pair) (q : List ℕ) → is_eq (key_cmp q key) ≡ false
-    → value_among q (shown below key content pairs) ≡ value_among q pairs
+    → value_among q (with_pair_of below key content pairs) ≡ value_among q pairs
 shown_other true key (Value value) pairs q other = refl
 shown_other false key (Value value) pairs q other = rw other refl
 shown_other below key (Child page held) pairs q other = refl
@@ -114,11 +114,11 @@ value_under page is key value h = by (content_at page.items key) refl h
 
 -- the pairs of the page that a chain makes are those of the chain
 pub pairs_in : (chain : List Record) (page : Page) (from : List ℕ) (pairs : List Pair) → Makes chain page → IsPage page
-    → ArePairsOf (λ key. value_of (content_at page.items key)) from None pairs → ArePairsOf (found chain) from (high_in chain) pairs
+    → ArePairsOf (λ key. value_of (content_at page.items key)) from None pairs → ArePairsOf (chain_value chain) from (high_in chain) pairs
 pairs_in chain page from pairs makes is are = record {
   ascending = are.ascending;
   exact = λ key value.
-      let same_value : value_of (content_at page.items key) ≡ found chain key = ap value_of (makes.items.contents key) in (
+      let same_value : value_of (content_at page.items key) ≡ chain_value chain key = ap value_of (makes.items.contents key) in (
         (λ contains.
             let h = (are.exact key value).0 contains in
             let under : IsTrue (is_under key (high_in chain)) = subst (λ high. IsTrue (is_under key high)) makes.high (value_under page is key value h.1) in

@@ -3,7 +3,6 @@ use Rattle.std.proofs.Common.{◌≡◌, ℕ, ◌+◌, ◌-◌, ◌<◌, ◌≤�
 use Rattle.std.specs.Prelude.{ltb, if◌then◌else◌, is_some, IsTrue, IsSome, not, ◌&&◌}
 use Rattle.std.specs.List.{AllWithin}
 use Rattle.std.specs.Ordering.{is_lt}
-use Rattle.std.specs.declared.cmp.Ordering.TheVariants.{Less}
 use Rattle.std.proofs.Math.Bool.{and-false}
 use Rattle.std.proofs.lemmas.Bool.{ltb-true, ltb-false}
 use Rattle.std.proofs.lemmas.List.{get_or_default, get_or-map, get_or-take, get_or-drop, length-map, length-take, length-drop}
@@ -15,7 +14,7 @@ use Rattle.base_page.specs.declared.item.Item.{Item}
 use Rattle.base_page.specs.Pages.{AreItems, IsPage, Page, content_at}
 use Rattle.base_page.specs.Places.{IsAt, IsGreatest}
 use Rattle.base_page.proofs.ItemLaws.{of_content}
-use Rattle.base_page.proofs.KeyLaws.{same, above, below_from, below_reach, itself, either, and_left, and_right, and_both, not_true}
+use Rattle.base_page.proofs.KeyLaws.{above, below_from, below_reach, itself, either, and_left, and_right, and_both, not_true}
 use Rattle.base_page.proofs.PageLaws.{belongs}
 use Rattle.base_page.proofs.PlaceLaws.{content_at_place}
 use Rattle.deltas.specs.declared.record.Record.{Record}

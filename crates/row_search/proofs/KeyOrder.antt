@@ -6,7 +6,7 @@ use Rattle.std.specs.Ordering.{nat_cmp, ordering_then, MatchOrdering}
 use Rattle.std.specs.Cmp.{nat_cmp_is, ranked}
 use Rattle.std.specs.Cmp.Lexicographic.{slice_cmp}
 use Rattle.bw_model.specs.Bytes.{key_cmp}
-use Rattle.record_slots.specs.Spelling.{packed, text_words}
+use Rattle.record_slots.specs.Spelling.{big_endian, text_words}
 use Rattle.record_slots.proofs.WordLaws.{AreBytes, no_packed, packed_below}
 
 -- Keys are compared word by word, and where all words are the same, by their lengths.
@@ -22,7 +22,7 @@ behind_bytes : (xs : List ℕ) → AreBytes xs → AreBytes (drop 1 xs)
 behind_bytes [] h = tt
 behind_bytes (x ∷ xs) h = h.1
 
-packed_first : (n : ℕ) (xs : List ℕ) → packed (suc n) xs ≡ get_or xs 0 0 * 256 ^ n + packed n (drop 1 xs)
+packed_first : (n : ℕ) (xs : List ℕ) → big_endian (suc n) xs ≡ get_or xs 0 0 * 256 ^ n + big_endian n (drop 1 xs)
 packed_first n [] = let p = no_packed n in omega arith
 packed_first n (x ∷ xs) = refl
 
@@ -59,11 +59,11 @@ digit z a b x y low_x low_y = nat_cmp_is (a * z + x) (b * z + y) (ordering_then 
         same Greater f = let l : y < x = ranked x y Greater f in subst (λ w. w * z + y < a * z + x) is (omega arith)
 
 -- packed bytes are in the order of the bytes
-packed_order : (n : ℕ) (x y : List ℕ) → AreBytes x → AreBytes y → nat_cmp (packed n x) (packed n y) ≡ slice_cmp nat_cmp (padded n x) (padded n y)
+packed_order : (n : ℕ) (x y : List ℕ) → AreBytes x → AreBytes y → nat_cmp (big_endian n x) (big_endian n y) ≡ slice_cmp nat_cmp (padded n x) (padded n y)
 packed_order zero x y h g = refl
 packed_order (suc n) x y h g =
     (λ i. nat_cmp (packed_first n x i) (packed_first n y i))
-    ∙ sym (digit (256 ^ n) (get_or x 0 0) (get_or y 0 0) (packed n (drop 1 x)) (packed n (drop 1 y)) (packed_below n (drop 1 x) (behind_bytes x h)) (packed_below n (drop 1 y) (behind_bytes y g)))
+    ∙ sym (digit (256 ^ n) (get_or x 0 0) (get_or y 0 0) (big_endian n (drop 1 x)) (big_endian n (drop 1 y)) (packed_below n (drop 1 x) (behind_bytes x h)) (packed_below n (drop 1 y) (behind_bytes y g)))
     ∙ ap (ordering_then (nat_cmp (get_or x 0 0) (get_or y 0 0))) (packed_order n (drop 1 x) (drop 1 y) (behind_bytes x h) (behind_bytes y g))
 
 drop_one : (n : ℕ) (xs : List ℕ) → drop n (drop 1 xs) ≡ drop (suc n) xs

@@ -16,7 +16,7 @@ use Rattle.traces.specs.declared.trace.Entry.{Entry}
 use Rattle.traces.specs.declared.trace.Entry.TheVariants.{Begin}
 use Rattle.traces.specs.discipline.Discipline.{May}
 use Rattle.traces.specs.discipline.Disciplined.{Extends}
-use Rattle.traces.specs.discipline.Knowledge.{Knowledge, begun, knows}
+use Rattle.traces.specs.discipline.Knowledge.{Knowledge, after_begin, knows}
 use Rattle.traces.specs.discipline.Recalled.{Recalled, blank, cause_worth, recalls}
 use Rattle.traces.specs.trace.Steps.{IsAnswer}
 use Rattle.traces.specs.trace.Trace.{command_of, memory_of}
@@ -67,12 +67,12 @@ idle_of old seat is idle = subst (λ s. unfinished_command s ≡ None) (sym is) 
 
 module _ (laws : HaveLaws) (limits : Limits) (a : ℕ) (seen : List Entry) (now new : Actor) (command : Command) (there : a < limits.actors)
     (h : IsSeated limits a seen now) (free : command_of seen a ≡ None)
-    (begins : (k : Knowledge) (r : Recalled) → IsActor limits a k r now → IsActor limits a (begun k command) blank new)
+    (begins : (k : Knowledge) (r : Recalled) → IsActor limits a k r now → IsActor limits a (after_begin k command) blank new)
     (has : running_command new ≡ Some command) (few : steps_due blank new.hand new.running < cause_worth limits) (quiet : new.lacks ≡ None) where
   idle : running_command now ≡ None
   idle = h.runs ∙ free
 
-  shows : IsActor limits a (begun (knows seen a) command) blank new
+  shows : IsActor limits a (after_begin (knows seen a) command) blank new
   shows = begins (knows seen a) (recalls seen a) h.shows
 
   -- once the begin stands behind the longest run, the seat's operation is at its first step
@@ -81,8 +81,8 @@ module _ (laws : HaveLaws) (limits : Limits) (a : ℕ) (seen : List Entry) (now 
       let lasts = laws.own limits a seen run x in
       let grows = laws.grow limits run (Begin a command) in
       let direct = laws.begins_directly limits run a (steps_due blank new.hand new.running) command legal.direct (omega arith) in
-      let known : begun (knows seen a) command ≡ knows (run ++ Begin a command ∷ []) a =
-      sym (ap (λ (ks : ℕ → Knowledge). ks a) grows.known ∙ replaced_same a (begun (knows run a) command) (knows run) ∙ ap (λ q. begun q command) lasts.known) in
+      let known : after_begin (knows seen a) command ≡ knows (run ++ Begin a command ∷ []) a =
+      sym (ap (λ (ks : ℕ → Knowledge). ks a) grows.known ∙ replaced_same a (after_begin (knows run a) command) (knows run) ∙ ap (λ q. after_begin q command) lasts.known) in
       let recalled : blank ≡ recalls (run ++ Begin a command ∷ []) a = sym (ap (λ (rs : ℕ → Recalled). rs a) grows.recalled ∙ replaced_same a blank (recalls run)) in
       let later = laws.begins limits run a command legal.state there (lasts.command ∙ free) in
       record {
@@ -94,17 +94,17 @@ module _ (laws : HaveLaws) (limits : Limits) (a : ℕ) (seen : List Entry) (now 
               laws.readers.begins limits run a command legal.readers later direct.state.direct;
         };
         shows = subst (λ q. IsActorWith limits a q (recalls (run ++ Begin a command ∷ []) a) new.hand new.running) known
-            (subst (λ q. IsActorWith limits a (begun (knows seen a) command) q new.hand new.running) recalled shows);
+            (subst (λ q. IsActorWith limits a (after_begin (knows seen a) command) q new.hand new.running) recalled shows);
         runs = has ∙ sym (ap (λ (cs : ℕ → Option Command). cs a) grows.commands ∙ replaced_same a (Some command) (command_of run));
         pays = subst (λ q. Accounts limits (run ++ Begin a command ∷ []) a (steps_due q new.hand new.running)) recalled direct.account;
-        reads = laws.readers.begun limits run a command (begun (knows seen a) command) blank new shows (idle_outside limits a (knows seen a) (recalls seen a) now.hand now.running idle h.shows) has;
+        reads = laws.readers.begun limits run a command (after_begin (knows seen a) command) blank new shows (idle_outside limits a (knows seen a) (recalls seen a) now.hand now.running idle h.shows) has;
         lacks = lack_begun limits a run command new.lacks quiet;
       }
 
   -- its actor is outside
   outside : (run : List Entry) → Extends a seen run → (knows (run ++ Begin a command ∷ []) a).inside ≡ false
   outside run x =
-      ap (λ (ks : ℕ → Knowledge). (ks a).inside) (laws.grow limits run (Begin a command)).known ∙ ap (λ (q : Knowledge). q.inside) (replaced_same a (begun (knows run a) command) (knows run))
+      ap (λ (ks : ℕ → Knowledge). (ks a).inside) (laws.grow limits run (Begin a command)).known ∙ ap (λ (q : Knowledge). q.inside) (replaced_same a (after_begin (knows run a) command) (knows run))
       ∙ ap (λ (q : Knowledge). q.inside) (laws.own limits a seen run x).known ∙ idle_outside limits a (knows seen a) (recalls seen a) now.hand now.running idle h.shows
 
   same_memory : (run : List Entry) → memory_of limits (run ++ Begin a command ∷ []) ≡ memory_of limits run

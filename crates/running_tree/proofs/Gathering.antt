@@ -7,7 +7,7 @@ use Rattle.traces.specs.discipline.Disciplined.{Extends}
 use Rattle.table_rule.specs.declared.view.Part.{Part}
 use Rattle.table_rule.specs.declared.view.Reach.TheVariants.{Idle}
 use Rattle.table_rule.specs.Running.{Each, ExtendsFor}
-use Rattle.table_rule.specs.Views.{HasPart, IsRefreshed, SitsAt, Mine, alone, first_part, other_parts, part, refreshed, seen_of}
+use Rattle.table_rule.specs.Views.{HasPart, IsRefreshed, SitsAt, Mine, alone, first_part, other_parts, part, with_run, seen_of}
 use Rattle.running_tree.specs.SeatLaws.{SeatsLast}
 use Rattle.running_tree.specs.Runs.{IsLawfulRun, IsSeenRun}
 use Rattle.running_tree.specs.Seats.{IsSeat}
@@ -25,8 +25,8 @@ module _ (limits : Limits) (a : ℕ) (one other joined : Mine) (at : SitsAt limi
   some_part = (part limits a (seen_of one) Idle, other.0, ap (λ (m : Mine). m.0) both_is, refl)
 
   module _ (later left right : Mine) (saw : IsRefreshed (IsLawfulRun limits) joined later) (first : left ≡ (first_part later.0, later.1)) (others : right ≡ (other_parts later.0, [])) where
-    refreshed_is : later ≡ (part limits a saw.run Idle ∷ map (refreshed saw.run) other.0, [])
-    refreshed_is = saw.saw ∙ ap (λ (m : Mine). (map (refreshed saw.run) m.0, m.1)) both_is
+    refreshed_is : later ≡ (part limits a saw.run Idle ∷ map (with_run saw.run) other.0, [])
+    refreshed_is = saw.saw ∙ ap (λ (m : Mine). (map (with_run saw.run) m.0, m.1)) both_is
 
     left_is : left ≡ (alone limits a saw.run Idle, [])
     left_is = first ∙ ap (λ (m : Mine). (first_part m.0, m.1)) refreshed_is
@@ -46,8 +46,8 @@ module _ (limits : Limits) (a : ℕ) (one other joined : Mine) (at : SitsAt limi
     pub others_extend : AllExtend (seen_of left) other.0
     others_extend = subst (λ run. AllExtend run other.0) (sym left_saw) all_extend.1
 
-    pub others_are : right ≡ (map (refreshed (seen_of left)) other.0, [])
-    others_are = others ∙ ap (λ (m : Mine). (other_parts m.0, [])) refreshed_is ∙ ap (λ run. (map (refreshed run) other.0, [])) (sym left_saw)
+    pub others_are : right ≡ (map (with_run (seen_of left)) other.0, [])
+    others_are = others ∙ ap (λ (m : Mine). (other_parts m.0, [])) refreshed_is ∙ ap (λ run. (map (with_run run) other.0, [])) (sym left_saw)
 
     saw_run : IsSeenRun limits saw.run
     saw_run = record { lawful = saw.legal; begins = saw.begins }

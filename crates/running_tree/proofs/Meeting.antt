@@ -11,7 +11,7 @@ use Rattle.table_rule.specs.declared.view.Part.{Part}
 use Rattle.table_rule.specs.declared.view.Reach.{Reach}
 use Rattle.table_rule.specs.declared.view.Reach.TheVariants.{Idle, Noted}
 use Rattle.table_rule.specs.Running.{BeginWithSteps, Each, ExtendsFor}
-use Rattle.table_rule.specs.Views.{HasPart, IsRefreshed, SitsAt, Mine, alone, first_part, other_parts, part, refreshed, seen_of}
+use Rattle.table_rule.specs.Views.{HasPart, IsRefreshed, SitsAt, Mine, alone, first_part, other_parts, part, with_run, seen_of}
 use Rattle.tree_law.specs.Direct.{Accounts}
 use Rattle.running_tree.specs.SeatLaws.{SeatsLast}
 use Rattle.running_tree.specs.Runs.{IsLawfulRun, IsSeenRun, StartsWith}
@@ -54,7 +54,7 @@ module _ (limits : Limits) (a b : ℕ) (reach : Reach) (one other joined : Mine)
 
   module _ (later left right : Mine) (saw : IsRefreshed (IsLawfulRun limits) joined later) (first : left ≡ (first_part later.0, later.1)) (others : right ≡ (other_parts later.0, [])) where
     refreshed_is : later ≡ (part limits a saw.run Idle ∷ part limits b saw.run reach ∷ [], [])
-    refreshed_is = saw.saw ∙ ap (λ (m : Mine). (map (refreshed saw.run) m.0, m.1)) both_is
+    refreshed_is = saw.saw ∙ ap (λ (m : Mine). (map (with_run saw.run) m.0, m.1)) both_is
 
     left_is : left ≡ (alone limits a saw.run Idle, [])
     left_is = first ∙ ap (λ (m : Mine). (first_part m.0, m.1)) refreshed_is

@@ -1,6 +1,6 @@
 -- Which steps are taken on a word.
 use Rattle.std.proofs.Common.{◌≡◌, ℕ, Bor, refl, arith}
-use Rattle.bw_model.specs.Lent.{lent}
+use Rattle.bw_model.specs.Lent.{step_of_loan}
 use Rattle.bw_model.specs.declared.step.Step.{Step as StepOf}
 use Rattle.bw_model.specs.declared.step.Step.TheVariants.{Slot, Row, Epoch, Announce, PidBits, RowBits, Place, Exchange, TakePid, TakeRow, Enter, Leave, Retire, ReusePids, ReuseRows}
 use Rattle.deltas.specs.declared.record.Record.{Record}
@@ -9,8 +9,8 @@ use Rattle.tree_limits.specs.declared.limits.Limits.{Limits}
 use Rattle.tree_words.specs.Changes.{HasWord}
 
 -- a step that neither reads a record nor places one
-pub on_word : (limits : Limits) (step : StepOf (Bor Record)) → IsWithin limits (lent step) → ((row : ℕ) → step ≡ Row row → ⊥)
-    → ((row : ℕ) (content : Bor Record) → step ≡ Place row content → ⊥) → HasWord limits (lent step)
+pub on_word : (limits : Limits) (step : StepOf (Bor Record)) → IsWithin limits (step_of_loan step) → ((row : ℕ) → step ≡ Row row → ⊥)
+    → ((row : ℕ) (content : Bor Record) → step ≡ Place row content → ⊥) → HasWord limits (step_of_loan step)
 on_word limits (Slot pid) within reads places = within
 on_word limits (Row row) within reads places = reads row refl
 on_word limits Epoch within reads places = tt
@@ -28,6 +28,6 @@ on_word limits (ReusePids word bits) within reads places = let whole = limits.al
 on_word limits (ReuseRows word bits) within reads places = let whole = limits.allowed.whole_rows in let few = within.0 in omega (arith, whole, few)
 
 -- a step that isn't the leave, with the record that is lent
-pub lent_stays : (step : StepOf (Bor Record)) → (step ≡ Leave → ⊥) → lent step ≡ Leave → ⊥
+pub lent_stays : (step : StepOf (Bor Record)) → (step ≡ Leave → ⊥) → step_of_loan step ≡ Leave → ⊥
 lent_stays Leave stays leaves = stays refl
 lent_stays step stays leaves = cc leaves

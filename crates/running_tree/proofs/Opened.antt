@@ -14,7 +14,7 @@ use Rattle.traces.specs.discipline.Recalled.{Recalled, blank}
 use Rattle.table_rule.specs.declared.view.Part.{Part}
 use Rattle.table_rule.specs.declared.view.Reach.TheVariants.{Idle}
 use Rattle.table_rule.specs.Running.{Running}
-use Rattle.table_rule.specs.Views.{Mine, alone, dealt, dealt_from, first_part, other_parts, refreshed, seen_of}
+use Rattle.table_rule.specs.Views.{Mine, alone, dealt, dealt_from, first_part, other_parts, with_run, seen_of}
 use Rattle.running_tree.specs.SeatLaws.{SeatsLast}
 use Rattle.tree_words.specs.Opening.{opening_words}
 use Rattle.running_tree.specs.Loaded.{AreAt, seat_at}
@@ -72,7 +72,7 @@ others_dealt limits zero some = absurd (omega (arith, some))
 others_dealt limits (suc many) some = let less : many ≡ suc many - 1 = omega arith in ap (dealt_from limits 1) less
 
 -- where nobody has taken a step, all have seen the empty run
-pub refreshed_none : (limits : Limits) (number many : ℕ) → dealt_from limits number many ≡ map (refreshed []) (dealt_from limits number many)
+pub refreshed_none : (limits : Limits) (number many : ℕ) → dealt_from limits number many ≡ map (with_run []) (dealt_from limits number many)
 refreshed_none limits number zero = refl
 refreshed_none limits number (suc many) = ap (λ parts. alone limits number [] Idle ++ parts) (refreshed_none limits (suc number) many)
 
@@ -82,7 +82,7 @@ extends_none limits number (suc many) = (([], refl, refl), extends_none limits (
 
 -- the parts of so many actors from this one on, which have seen the run
 abbrev pub left_of : Limits → List Entry → ℕ → ℕ → List Part
-left_of limits run number left = map (refreshed run) (dealt_from limits number left)
+left_of limits run number left = map (with_run run) (dealt_from limits number left)
 
 -- the first of the actors that are left gets a seat, and the others are left
 pub deals_one : (limits : Limits) (run : List Entry) (number left : ℕ) (me now : Mine) → number < limits.actors → number + left ≡ limits.actors
@@ -133,10 +133,10 @@ pub first_seat_at : (tree : Tree) (first : Seat) → IsSeatOf tree first → fir
 first_seat_at tree first own is zero below = ap Some (λ i. record { table = own.table i; limits = own.limits i; actor = is i; seen = first.seen })
 first_seat_at tree first own is (suc n) below = absurd (omega (arith, below))
 
-pub first_left : (own limits : Limits) (run : List Entry) (me : Mine) → own ≡ limits → me ≡ (map (refreshed run) (other_parts (dealt own)), []) → me ≡ (left_of limits run 1 (limits.actors - 1), [])
+pub first_left : (own limits : Limits) (run : List Entry) (me : Mine) → own ≡ limits → me ≡ (map (with_run run) (other_parts (dealt own)), []) → me ≡ (left_of limits run 1 (limits.actors - 1), [])
 first_left own limits run me same is =
-    is ∙ ap (λ (l : Limits). (map (refreshed run) (other_parts (dealt l)), [])) same
-    ∙ ap (λ parts. (map (refreshed run) parts, [])) (others_dealt limits limits.actors (let some = limits.allowed.some_actor in omega (arith, some)))
+    is ∙ ap (λ (l : Limits). (map (with_run run) (other_parts (dealt l)), [])) same
+    ∙ ap (λ parts. (map (with_run run) parts, [])) (others_dealt limits limits.actors (let some = limits.allowed.some_actor in omega (arith, some)))
 
 pub first_extend : (own limits : Limits) (run : List Entry) → own ≡ limits → AllExtend run (other_parts (dealt own)) → AllExtend run (dealt_from limits 1 (limits.actors - 1))
 first_extend own limits run same each =
@@ -144,12 +144,12 @@ first_extend own limits run same each =
     (subst (λ (l : Limits). AllExtend run (other_parts (dealt l))) same each)
 
 -- where nobody has taken a step
-pub fresh_left : (limits : Limits) (run : List Entry) (me : Mine) → run ≡ [] → me ≡ (other_parts (dealt limits), []) → me ≡ (map (refreshed run) (other_parts (dealt limits)), [])
+pub fresh_left : (limits : Limits) (run : List Entry) (me : Mine) → run ≡ [] → me ≡ (other_parts (dealt limits), []) → me ≡ (map (with_run run) (other_parts (dealt limits)), [])
 fresh_left limits run me none is =
     let some : 0 < limits.actors = (let there = limits.allowed.some_actor in omega (arith, there)) in
     let others : other_parts (dealt limits) ≡ dealt_from limits 1 (limits.actors - 1) = others_dealt limits limits.actors some in
     is ∙ ap (λ (parts : List Part). (parts, []))
-    (others ∙ refreshed_none limits 1 (limits.actors - 1) ∙ ap (map (refreshed [])) (sym others) ∙ ap (λ r. map (refreshed r) (other_parts (dealt limits))) (sym none))
+    (others ∙ refreshed_none limits 1 (limits.actors - 1) ∙ ap (map (with_run [])) (sym others) ∙ ap (λ r. map (with_run r) (other_parts (dealt limits))) (sym none))
 
 pub fresh_extend : (limits : Limits) (run : List Entry) → run ≡ [] → AllExtend run (other_parts (dealt limits))
 fresh_extend limits run none =

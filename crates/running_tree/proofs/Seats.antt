@@ -18,7 +18,7 @@ use Rattle.traces.specs.declared.trace.Entry.TheVariants.{Step}
 use Rattle.traces.specs.discipline.Discipline.{IsAllowed, May, MayFree, MayReply}
 use Rattle.traces.specs.discipline.Disciplined.{Extends}
 use Rattle.traces.specs.discipline.Fitting.{Fits}
-use Rattle.traces.specs.discipline.Knowledge.{Knowledge, finished, knows, learn}
+use Rattle.traces.specs.discipline.Knowledge.{Knowledge, after_reply, knows, learn}
 use Rattle.traces.specs.discipline.Recalled.{IsStepSpent, cause_worth, Recalled, recall, recalls}
 use Rattle.traces.specs.trace.Steps.{IsAnswer}
 use Rattle.traces.specs.trace.Trace.{command_of, commands_after, memory_of}
@@ -129,7 +129,7 @@ pub known_after : HaveLaws
     → Took IsLawfulRun limits a seen None asked told reply later → knows later a ≡ knows_then (knows seen a) asked told reply
 known_after laws limits a seen asked told reply later took =
     ap (λ run. knows run a) (grown_so limits a seen asked told reply later took) ∙ ap (λ (ks : ℕ → Knowledge). ks a) (laws.grow limits took.run (Step a asked told reply)).known
-    ∙ replaced_same a (finished (learn (knows took.run a) asked told) reply) (knows took.run) ∙ ap (λ q. knows_then q asked told reply) (laws.own limits a seen took.run took.extends).known
+    ∙ replaced_same a (after_reply (learn (knows took.run a) asked told) reply) (knows took.run) ∙ ap (λ q. knows_then q asked told reply) (laws.own limits a seen took.run took.extends).known
 
 module _ (laws : HaveLaws) (limits : Limits) (a : ℕ) (seen : List Entry) (now : Actor) (h : IsSeated limits a seen now) (asked : StepOf Record) (reply : Option Reply)
     (allowed : IsAllowed limits a (knows seen a) asked reply) (useful : IsOfUse (knows seen a) asked) (halved : IsHalved (knows seen a) asked) where

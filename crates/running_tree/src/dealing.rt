@@ -6,7 +6,7 @@ ghost use Rattle.running_tree.specs.Seats.{IsSame};
 ghost use Rattle.running_tree.specs.Trees.{IsSeatOf, fresh_seat};
 ghost use Rattle.traces.specs.discipline.Disciplined.{Extends};
 ghost use Rattle.table_rule.specs.Running.{Each, ExtendsFor};
-ghost use Rattle.table_rule.specs.Views.{dealt, other_parts, refreshed};
+ghost use Rattle.table_rule.specs.Views.{dealt, other_parts, with_run};
 
 use crate::desk::Desk;
 use crate::lawful_runs::{TreeLaw, empty_run_is_lawful, runs_are_one_history, seats_last};
@@ -60,7 +60,7 @@ pub(crate) fn gathered<A: Allocator>(
     ensures extends { Extends seat.old.actor seat.old.seen seat.new.seen }
     ensures history { IsOneHistory seat.new.limits seat.new.seen }
     ensures table { result.table_id ≡ tree.now.table }
-    ensures others { result.me ≡ (map (refreshed seat.new.seen) others.me.0, []) }
+    ensures others { result.me ≡ (map (with_run seat.new.seen) others.me.0, []) }
     ensures each { Each (λ part. ExtendsFor part.reach part.actor part.seen seat.new.seen) others.me.0 }
 {
     runs_are_one_history();
@@ -81,7 +81,7 @@ pub(crate) fn dealt_out<A: Allocator + Copy>(
     requires own { IsSeatOf tree.now first }
     requires first { first.actor ≡ 0 }
     requires table { others.table_id ≡ tree.now.table }
-    requires others { others.me ≡ (map (refreshed first.seen) (other_parts (dealt tree.now.limits)), []) }
+    requires others { others.me ≡ (map (with_run first.seen) (other_parts (dealt tree.now.limits)), []) }
     requires each { Each (λ part. ExtendsFor part.reach part.actor part.seen first.seen) (other_parts (dealt tree.now.limits)) }
     ensures { IfOk result (λ seats. AreAt tree.now first.seen seats.items) }
 {

@@ -1,6 +1,6 @@
 //! How many PIDs and rows of a running tree are free.
 ghost use Rattle.std.specs.Prelude.{◌≡◌, ◌<◌, ◌≤◌, ◌*◌};
-ghost use Rattle.bw_model.specs.Lent.{lent};
+ghost use Rattle.bw_model.specs.Lent.{step_of_loan};
 ghost use Rattle.running_tree.specs.Room.{HasCounted, HasSeenRoom, HasWatched, bits_step};
 ghost use Rattle.running_tree.specs.Runs.{IsOneHistory};
 ghost use Rattle.running_tree.specs.Seats.{IsSame};
@@ -95,7 +95,7 @@ fn limit_of(kind: Kind, limits: &Limits) -> u64
 
 /// The step that reads a word of free bits.
 fn bits<'a>(kind: Kind, word: u32) -> Step<&'a Record>
-    ensures { lent result ≡ bits_step kind word }
+    ensures { step_of_loan result ≡ bits_step kind word }
 {
     match kind {
         Kind::Pid => Step::PidBits(word),

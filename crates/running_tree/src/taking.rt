@@ -1,6 +1,6 @@
 //! One step on the words of the tree.
 ghost use Rattle.std.specs.Prelude.{◌≡◌, ◌≢◌, ◌<◌, None, Some};
-ghost use Rattle.bw_model.specs.Lent.{lent};
+ghost use Rattle.bw_model.specs.Lent.{step_of_loan};
 ghost use Rattle.bw_model.specs.declared.step.Answer.TheVariants as Answer;
 ghost use Rattle.bw_model.specs.declared.step.Step.TheVariants.{Leave};
 ghost use Rattle.running_tree.specs.Runs.{IsLawfulRun};
@@ -16,7 +16,7 @@ ghost use Rattle.table_rule.specs.Views.{SitsAt, IsOf, seen_of};
 use crate::lawful_runs::{TreeWords, runs_keep_rows_apart};
 use bw_model::{Limits, Reply, Step, Told};
 use deltas::Record;
-use record_slots::to_words;
+use record_slots::{WrittenRow, write_record};
 use table_rule::{TableSeat, act, place_row, read_first};
 
 /// What a step answers.
@@ -40,13 +40,13 @@ pub(crate) fn take(
 ) -> Taken
     requires table { IsOf limits.now words.now.key words.now.table_id place.old.table_id }
     requires there { number < limits.now.actors }
-    requires within { IsWithin limits.now (lent step.now) }
+    requires within { IsWithin limits.now (step_of_loan step.now) }
     requires seat { SitsAt limits.now number Idle place.old.me }
-    requires known { May number (knows (seen_of place.old.me) number) (lent step.now) }
-    requires may { lent step.now ≢ Leave → IsLawfulStep IsLawfulRun limits.now number (seen_of place.old.me) None (lent step.now) None }
+    requires known { May number (knows (seen_of place.old.me) number) (step_of_loan step.now) }
+    requires may { step_of_loan step.now ≢ Leave → IsLawfulStep IsLawfulRun limits.now number (seen_of place.old.me) None (step_of_loan step.now) None }
     ensures same { place.new.table_id ≡ place.old.table_id }
     ensures seat { SitsAt limits.now number Idle place.new.me }
-    ensures took { HasTaken limits.now number (seen_of place.old.me) (lent step.now) result (seen_of place.new.me) }
+    ensures took { HasTaken limits.now number (seen_of place.old.me) (step_of_loan step.now) result (seen_of place.new.me) }
     ensures leaving { result ≡ Leaving → place.new.me ≡ place.old.me }
 {
     match step {
@@ -112,6 +112,7 @@ fn place_record(
     ensures took { Took IsLawfulRun limits.now number (seen_of place.old.me) None (Step.Place row content.now) Answer.Done None (seen_of place.new.me) }
 {
     runs_keep_rows_apart();
-    let spelt = to_words(content);
-    place_row(words, place, limits, number, row, content, &spelt);
+    let mut spelt = WrittenRow::new();
+    write_record(&mut spelt, content);
+    place_row(words, place, limits, number, row, content, spelt.words());
 }

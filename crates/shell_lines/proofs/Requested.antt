@@ -16,11 +16,11 @@ use Rattle.shell_lines.specs.declared.request.Request.TheVariants.{Begin, Turn, 
 use Rattle.shell_lines.specs.declared.token.LineError.{LineError}
 use Rattle.shell_lines.specs.declared.token.LineError.TheVariants.{Malformed, TooLong}
 use Rattle.shell_lines.specs.Token.{Means, token_value}
-use Rattle.shell_lines.specs.Number.{number_of, capped, fitting}
+use Rattle.shell_lines.specs.Number.{number_of, up_to_most, fitting}
 use Rattle.shell_lines.specs.Fields.{fields_of}
 use Rattle.shell_lines.specs.Request.{Says, SpellsRequest, SpellsNumber, SpellsCommand, IsAskedIn, IsShortRequest, word_of}
 use Rattle.shell_lines.specs.Reading.{key_in, pair_in, pair_said, swap_in, command_in, capped_number, begin_in, turn_by, turn_in, link_in, until_in, finish_in}
-use Rattle.shell_lines.specs.Reading.{mix_by, mix_in, list_in, woven_in, script_in, asked, GivesRequest}
+use Rattle.shell_lines.specs.Reading.{mix_by, mix_in, list_in, woven_in, script_in, request_in, GivesRequest}
 use Rattle.shell_lines.proofs.Tokens.{chosen, some_is, value_means, means_value}
 
 pub map_some : {A B : Type 0} (f : A → B) (o : Option A) (y : B) → option_map f o ≡ Some y → (x : A) × (o ≡ Some x) × (f x ≡ y)
@@ -35,7 +35,7 @@ is_text : (a b : List ℕ) → bytes_eq a b ≡ true → a ≡ b
 is_text a b h = (bytes_eq-Decides a b).0 h
 
 number_is : (a : List ℕ) (n : ℕ) → capped_number a ≡ Some n → SpellsNumber a n
-number_is a n h = let m = map_some capped (number_of a) n h in (m.0, m.1, sym m.2)
+number_is a n h = let m = map_some up_to_most (number_of a) n h in (m.0, m.1, sym m.2)
 
 is_number : (a : List ℕ) (n : ℕ) → SpellsNumber a n → capped_number a ≡ Some n
 is_number a n h = rw (h.1, h.2) refl
@@ -286,7 +286,7 @@ script_is (verb ∷ args) request h =
           rw (sym c.2) (command_is (verb ∷ args) c.0 c.1, tt)
     ]
 
-pub asked_is : (language : Language) (fs : List (List ℕ)) (request : Request) → asked language fs ≡ Some request → Spells language fs request
+pub asked_is : (language : Language) (fs : List (List ℕ)) (request : Request) → request_in language fs ≡ Some request → Spells language fs request
 asked_is Script fs request h = script_is fs request h
 asked_is Weave fs request h = woven_is fs request h
 
@@ -328,24 +328,24 @@ is_script fs (Until actor link) h a = absurd a
 is_script fs (Finish actor) h a = absurd a
 is_script fs (Mix seed count) h a = absurd a
 
-pub is_asked : (language : Language) (fs : List (List ℕ)) (request : Request) → Spells language fs request → asked language fs ≡ Some request
+pub is_asked : (language : Language) (fs : List (List ℕ)) (request : Request) → Spells language fs request → request_in language fs ≡ Some request
 is_asked Script fs request h = is_script fs request h.0 h.1
 is_asked Weave fs request h = is_woven fs request h.0 h.1
 
 -- ---- what reading a line answers
 
-pub parse_ok : (language : Language) (line : List ℕ) (r : Result Request LineError) → length line ≤ 1024 → GivesRequest r (asked language (fields_of line))
+pub parse_ok : (language : Language) (line : List ℕ) (r : Result Request LineError) → length line ≤ 1024 → GivesRequest r (request_in language (fields_of line))
     → IfOk r (λ request. Says language line request × IsShortRequest request)
 parse_ok language line (Ok request) short h = let asks = asked_is language (fields_of line) request h.0 in ((short, asks.0, asks.1), h.1)
 parse_ok language line (Err e) short h = tt
 
-pub parse_malformed : (language : Language) (line : List ℕ) (r : Result Request LineError) → GivesRequest r (asked language (fields_of line)) → r ≡ Err Malformed
+pub parse_malformed : (language : Language) (line : List ℕ) (r : Result Request LineError) → GivesRequest r (request_in language (fields_of line)) → r ≡ Err Malformed
     → (request : Request) → Says language line request → ⊥
 parse_malformed language line (Ok a) h e request says = cc e
 parse_malformed language line (Err Malformed) h e request says = cc (sym h ∙ is_asked language (fields_of line) request (says.1, says.2))
 parse_malformed language line (Err TooLong) h e request says = cc e
 
-pub parse_too_long : (language : Language) (line : List ℕ) (r : Result Request LineError) → length line ≤ 1024 → GivesRequest r (asked language (fields_of line)) → r ≡ Err TooLong
+pub parse_too_long : (language : Language) (line : List ℕ) (r : Result Request LineError) → length line ≤ 1024 → GivesRequest r (request_in language (fields_of line)) → r ≡ Err TooLong
     → (request : Request) × Says language line request × (IsShortRequest request → ⊥)
 parse_too_long language line (Ok request) short h e = cc e
 parse_too_long language line (Err Malformed) short h e = cc e

@@ -9,7 +9,7 @@ use Rattle.bw_model.specs.Bytes.{longest}
 use Rattle.hex.specs.Hex.{decode_of, decode_pairs, value_at, pair_value, digit_or_error, hex_digit_value, ◌>>=◌, IsBytes, encode_lower, is_hex_digit}
 use Rattle.hex.specs.declared.error.FromHexError.{FromHexError}
 use Rattle.hex.proofs.HexLemmas.{decode_of-encode_lower, decode_of-ok, decode_of-digits, decode_of-even}
-use Rattle.shell_lines.specs.Token.{IsDigitOf, SpellsBytes, Means, token_value, is_word, printed}
+use Rattle.shell_lines.specs.Token.{IsDigitOf, SpellsBytes, Means, token_value, is_word, as_token}
 use Rattle.shell_lines.specs.Gives.{Gives}
 use Rattle.shell_lines.specs.declared.token.LineError.{LineError}
 use Rattle.shell_lines.specs.declared.token.LineError.TheVariants.{Malformed, TooLong}
@@ -149,7 +149,7 @@ some_is x y h = cc h
 pub one_meaning : (t a b : List ℕ) → Means t a → Means t b → a ≡ b
 one_meaning t a b ma mb = some_is a b (sym (means_value t a ma) ∙ means_value t b mb)
 
-pub printed_means : (bytes : List ℕ) → IsBytes bytes → Means (printed bytes) bytes
+pub printed_means : (bytes : List ℕ) → IsBytes bytes → Means (as_token bytes) bytes
 printed_means bytes h = at (is_word bytes) refl
   where
     at : (b : Bool) → is_word bytes ≡ b → Means (cond b bytes (61 ∷ encode_lower bytes)) bytes

@@ -15,7 +15,7 @@ use Rattle.shell_lines.specs.declared.token.LineError.{LineError}
 use Rattle.shell_lines.specs.declared.token.LineError.TheVariants.{Malformed, TooLong}
 use Rattle.shell_lines.specs.Token.{token_value}
 use Rattle.shell_lines.specs.Fields.{one_of, two_of, three_of}
-use Rattle.shell_lines.specs.Number.{number_of, capped, fitting}
+use Rattle.shell_lines.specs.Number.{number_of, up_to_most, fitting}
 use Rattle.shell_lines.specs.Request.{IsShortRequest, IsShortCommand}
 
 -- the key that the fields after a verb give, if they are one token
@@ -50,7 +50,7 @@ command_in (verb ∷ args) =
 
 -- an actor's number
 abbrev pub capped_number : List ℕ → Option ℕ
-capped_number text = option_map capped (number_of text)
+capped_number text = option_map up_to_most (number_of text)
 
 unfoldable pub begin_in : List (List ℕ) → Option Request
 begin_in [] = None
@@ -113,9 +113,9 @@ script_in (verb ∷ args) =
     if bytes_eq verb (codes "list") then list_in args
     else option_map Run (command_in (verb ∷ args))
 
-abbrev pub asked : Language → List (List ℕ) → Option Request
-asked Script fields = script_in fields
-asked Weave fields = woven_in fields
+abbrev pub request_in : Language → List (List ℕ) → Option Request
+request_in Script fields = script_in fields
+request_in Weave fields = woven_in fields
 
 -- no key or value of a pair is too long
 abbrev pub HasNoLongText : List ℕ × List ℕ → Type 0

@@ -10,12 +10,12 @@ use Rattle.shell_lines.specs.declared.request.Language.TheVariants.{Script, Weav
 use Rattle.shell_lines.specs.declared.request.Request.{Request}
 use Rattle.shell_lines.specs.declared.request.Request.TheVariants.{Begin, Turn, Until, Finish, Mix, List as ListPairs, Run}
 use Rattle.shell_lines.specs.Token.{Means}
-use Rattle.shell_lines.specs.Number.{number_of, capped}
+use Rattle.shell_lines.specs.Number.{number_of, up_to_most}
 use Rattle.shell_lines.specs.Fields.{fields_of}
 
 -- the text is a number, and n stands for it
 abbrev pub SpellsNumber : List ℕ → ℕ → Type 0
-SpellsNumber text n = (m : ℕ) × (number_of text ≡ Some m) × (n ≡ capped m)
+SpellsNumber text n = (m : ℕ) × (number_of text ≡ Some m) × (n ≡ up_to_most m)
 
 -- the fields spell this command, its keys of any length
 abbrev pub SpellsCommand : List (List ℕ) → Command → Type 0

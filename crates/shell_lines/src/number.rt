@@ -2,11 +2,11 @@
 
 ghost use Rattle.std.specs.Prelude.{◌≡◌};
 ghost use Rattle.std.specs.Option.{option_and_then, option_map};
-ghost use Rattle.shell_lines.specs.Number.{number_of, capped, fitting};
+ghost use Rattle.shell_lines.specs.Number.{number_of, up_to_most, fitting};
 
 /// The number that digits spell, or the greatest of 64 bits for one that is greater.
 pub fn read_number(text: &[u8]) -> Option<u64>
-    ensures { result ≡ option_map capped (number_of text.now) }
+    ensures { result ≡ option_map up_to_most (number_of text.now) }
 {
     if text.is_empty() {
         return None;

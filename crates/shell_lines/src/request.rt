@@ -7,7 +7,7 @@ ghost use Rattle.shell_lines.specs.Gives.{Gives};
 ghost use Rattle.shell_lines.specs.Request.{Says, IsShortRequest};
 ghost use Rattle.shell_lines.specs.Both.{both_of};
 ghost use Rattle.shell_lines.specs.Reading.{GivesCommand, GivesPair, GivesRequest, key_in, pair_in, pair_said, swap_in, swap_said, command_in, begin_in};
-ghost use Rattle.shell_lines.specs.Reading.{turn_in, link_in, until_in, finish_in, mix_in, list_in, woven_in, script_in, asked};
+ghost use Rattle.shell_lines.specs.Reading.{turn_in, link_in, until_in, finish_in, mix_in, list_in, woven_in, script_in, request_in};
 ghost use Rattle.shell_lines.specs.declared.request.Language.{Language as LanguageSeen};
 ghost use Rattle.shell_lines.specs.declared.request.Request.{Request as RequestSeen};
 
@@ -294,7 +294,7 @@ fn read_script(line: &[u8]) -> Result<Request, LineError>
 }
 
 fn read_fields(language: Language, line: &[u8]) -> Result<Request, LineError>
-    ensures { GivesRequest result (asked language (fields_of line.now)) }
+    ensures { GivesRequest result (request_in language (fields_of line.now)) }
 {
     match language {
         Language::Script => read_script(line),

@@ -6,7 +6,7 @@ ghost use Rattle.std.specs.Option.{ok_or};
 ghost use Rattle.std.specs.Result.{result_ok};
 ghost use Rattle.bw_model.specs.Bytes.{longest};
 ghost use Rattle.hex.specs.Hex.{decode_of, IsBytes, is_hex_digit as is_hex_digit_lem};
-ghost use Rattle.shell_lines.specs.Token.{Means, token_value, printed, is_word as is_word_lem, is_word_byte as is_word_byte_lem};
+ghost use Rattle.shell_lines.specs.Token.{Means, token_value, as_token, is_word as is_word_lem, is_word_byte as is_word_byte_lem};
 ghost use Rattle.shell_lines.specs.Gives.{Gives};
 
 use bw_model::{Key, MAX_LENGTH, Value};
@@ -115,6 +115,6 @@ pub fn read_token(token: &[u8]) -> Result<Key, LineError>
 
 /// Each list of bytes has a token, and each token stands for one list of bytes.
 pub fn tokens_are_exact()
-    ensures printed { (bytes : List ℕ) → IsBytes bytes → Means (printed bytes) bytes }
+    ensures printed { (bytes : List ℕ) → IsBytes bytes → Means (as_token bytes) bytes }
     ensures one { (token a b : List ℕ) → Means token a → Means token b → a ≡ b }
 {}

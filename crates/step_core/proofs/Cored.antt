@@ -24,7 +24,7 @@ use Rattle.round_model.specs.Machines.{AreThere}
 use Rattle.traces.specs.trace.Trace.{command_of, commands_after, memory_of}
 use Rattle.traces.specs.discipline.Discipline.{IsAllowed, May}
 use Rattle.traces.specs.discipline.Disciplined.{IsDisciplinedFrom, MayStand, is_entry_of, own_entries}
-use Rattle.traces.specs.discipline.Knowledge.{Knowledge, begun, finished, knows, knows_after, learn, nothing}
+use Rattle.traces.specs.discipline.Knowledge.{Knowledge, after_begin, after_reply, knows, knows_after, learn, nothing}
 use Rattle.traces.specs.discipline.Useful.{IsUseful}
 use Rattle.op_machine.specs.theorem.Halves.{IsHalved}
 use Rattle.tree_law.specs.Changes.{IsPaidState, StepsPay}
@@ -266,7 +266,7 @@ module _ (limits : Limits) where
       → (table : CoreTable) (actors : List Actor) (entries entries' : List Entry) (i j : ℕ) (new : Actor) (command : Command)
       → IsCore limits table actors entries
       → (demand : Demand) (v : Core) → record { limits = limits; entries = entries; demand = demand } ≡ v → refusal_of v (turn.Begin i command) ≡ None → j ≡ i
-      → (knows entries i).inside ≡ false → IsActor limits i (begun (knows entries i) command) blank new → running_command new ≡ Some command
+      → (knows entries i).inside ≡ false → IsActor limits i (after_begin (knows entries i) command) blank new → running_command new ≡ Some command
       → Grows limits entries (Begin i command) → StaysDirect limits entries (Begin i command) i (steps_due blank new.hand new.running)
       → entries' ≡ entries ++ Begin i command ∷ [] → IsCore limits table (set actors j new) entries'
   core_begun begins pays reads table actors entries entries' i j new command core demand v is refusal same out shows runs grows stays grown =
@@ -286,8 +286,8 @@ module _ (limits : Limits) where
         each_shows =
             rw (grows.known, grows.recalled)
             (shows_set limits actors i new (knows entries) (knows_after (knows entries) (Begin i command)) (recalls entries) (recalls_after (recalls entries) (Begin i command)) core.each_shows
-            (rw (replaced_same i (begun (knows entries i) command) (knows entries), replaced_same i blank (recalls entries)) shows)
-            (λ a other. replaced_other i (begun (knows entries i) command) (knows entries) a other)
+            (rw (replaced_same i (after_begin (knows entries i) command) (knows entries), replaced_same i blank (recalls entries)) shows)
+            (λ a other. replaced_other i (after_begin (knows entries i) command) (knows entries) a other)
             (λ a other. replaced_other i blank (recalls entries) a other));
         each_running = rw grows.commands (each_set actors i new (command_of entries) (commands_after (command_of entries) (Begin i command)) core.each_running
             (runs ∙ sym (replaced_same i (Some command) (command_of entries)))
@@ -296,7 +296,7 @@ module _ (limits : Limits) where
             (subst (λ r. StaysDirect limits entries (Begin i command) i (steps_due r new.hand new.running)) (sym (replaced_same i blank (recalls entries))) stays);
         each_reads =
             reads_set reads limits actors entries (Begin i command) i new (λ a. refl) core.each_shows core.each_reads readers
-            (reads.begun limits entries i command (begun (knows entries i) command) blank new shows out runs);
+            (reads.begun limits entries i command (after_begin (knows entries i) command) blank new shows out runs);
       })
 
   -- the commands after a step
@@ -348,8 +348,8 @@ module _ (limits : Limits) where
         each_shows =
             rw (grows.known, grows.recalled) (shows_set limits actors i new (knows entries) (knows_after (knows entries) (Step i step answer reply))
             (recalls entries) (recalls_after (recalls entries) (Step i step answer reply)) core.each_shows
-            (rw (replaced_same i (finished (learn (knows entries i) step answer) reply) (knows entries), replaced_same i (recall (recalls entries i) step answer) (recalls entries)) acts.shows)
-            (λ a other. replaced_other i (finished (learn (knows entries i) step answer) reply) (knows entries) a other)
+            (rw (replaced_same i (after_reply (learn (knows entries i) step answer) reply) (knows entries), replaced_same i (recall (recalls entries i) step answer) (recalls entries)) acts.shows)
+            (λ a other. replaced_other i (after_reply (learn (knows entries i) step answer) reply) (knows entries) a other)
             (λ a other. replaced_other i (recall (recalls entries i) step answer) (recalls entries) a other));
         each_running = rw grows.commands (each_set actors i new (command_of entries) (commands_after (command_of entries) (Step i step answer reply)) core.each_running
             (runs ∙ ap (command_left reply) (core.each_running i old found) ∙ left_same (command_of entries) i step answer reply)

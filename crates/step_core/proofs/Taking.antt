@@ -20,7 +20,7 @@ use Rattle.bw_model.specs.Replies.{command_key, reply_of}
 use Rattle.deltas.specs.declared.record.Record.{Record}
 use Rattle.deltas.specs.Memory.{Memory, replaced_at}
 use Rattle.deltas.proofs.Replaced.{replaced_same, replaced_other}
-use Rattle.traces.specs.discipline.Discipline.{MayReply, found}
+use Rattle.traces.specs.discipline.Discipline.{MayReply, chain_value}
 use Rattle.traces.specs.trace.Within.{IsWithin}
 use Rattle.core_memory.specs.Looks.{StandsIn}
 use Rattle.core_memory.specs.Replies.{ShowsPairs}
@@ -59,7 +59,7 @@ no_pairs (Tidy key) o reply e h = cc
 -- a reply with pairs is that of a cursor page
 asks_page : (limits : Limits) (actor : ℕ) (k : Knowledge) (reply : Reply) → MayReply limits actor k reply → ShowsPairs reply → (from : List ℕ) × (k.asked.command ≡ Some (Page from))
 asks_page limits actor k reply may shows = elim may.justified [
-  | inl value ↦ absurd (no_pairs may.command (found value.chain (command_key may.command)) reply value.is shows)
+  | inl value ↦ absurd (no_pairs may.command (chain_value value.chain (command_key may.command)) reply value.is shows)
   | inr (inl page) ↦ (page.from, may.going ∙ ap Some page.asks)
   | inr (inr (inl tidy)) ↦ absurd (subst ShowsPairs tidy.is shows)
   | inr (inr (inr full)) ↦ absurd (subst ShowsPairs full.is shows)

@@ -10,7 +10,7 @@ use Rattle.deltas.specs.Memory.{Memory, replaced_at}
 use Rattle.traces.specs.chain.Chains.{IsChainFrom, IsChainOf, chain_rows, content_in, covers, high_in, level_in, right_in}
 use Rattle.traces.specs.chain.SideChain.{LivePage, IsSideChainFrom, IsWholeFrom}
 use Rattle.traces.proofs.ChainLaws.{IsSideChainFrom-unique}
-use Rattle.structure_changes.specs.Linking.{HasLeaves, IsSpareRow, KeepsMap, linked}
+use Rattle.structure_changes.specs.Linking.{HasLeaves, IsSpareRow, KeepsMap, with_link}
 use Rattle.deltas.proofs.Replaced.{replaced_other}
 
 -- chains
@@ -173,7 +173,7 @@ module _ (memory after : Memory) (one : ℕ) (stays : (pid : ℕ) (chain : List 
 -- linking
 
 pub link_stays : (memory : Memory) (page row : ℕ) (content : Record) (pid : ℕ) (chain : List Record) → pid ≢ page → IsChainOf memory pid chain
-    → Avoids row (chain_rows (memory.slots pid) chain) → IsChainOf (linked page row content memory) pid chain
+    → Avoids row (chain_rows (memory.slots pid) chain) → IsChainOf (with_link page row content memory) pid chain
 link_stays memory page row content pid chain other is avoid =
     let slot : replaced_at page row memory.slots pid ≡ memory.slots pid = replaced_other page row memory.slots pid other in
     record {

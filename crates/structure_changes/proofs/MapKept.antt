@@ -23,7 +23,7 @@ use Rattle.traces.proofs.ChainLaws.{IsChainOf-unique}
 use Rattle.traces.proofs.FittedLaws.{ruled}
 use Rattle.structure_changes.specs.declared.split.SplitPlan.{SplitPlan}
 use Rattle.structure_changes.specs.Versions.{Version}
-use Rattle.structure_changes.specs.Linking.{HasLeaves, HasVersion, IsSpareRow, KeepsMap, linked, with_root}
+use Rattle.structure_changes.specs.Linking.{HasLeaves, HasVersion, IsSpareRow, KeepsMap, with_link, with_root}
 use Rattle.structure_changes.specs.Splits.{IsSplitPlan, split_to}
 use Rattle.structure_changes.specs.Terms.{IsTermPlan}
 use Rattle.structure_changes.specs.Holds.{IsHoldPlan}
@@ -41,36 +41,36 @@ chain_of memory version h = record { page = version.is_pid.0; linked = rw h.slot
 
 -- every page but the linked one stands
 others_stay : (memory : Memory) (page row : ℕ) (content : Record) → IsSpareRow memory row → (pid : ℕ) (chain : List Record) → pid ≢ page
-    → IsChainOf memory pid chain → IsChainOf (linked page row content memory) pid chain
+    → IsChainOf memory pid chain → IsChainOf (with_link page row content memory) pid chain
 others_stay memory page row content spare pid chain other is = link_stays memory page row content pid chain other is (avoided memory row pid chain spare is)
 
 -- a record over an index page
 above_keeps : (memory : Memory) (version : Version) (row : ℕ) (content : Record) → HasLeaves memory → HasVersion memory version → IsSpareRow memory row
-    → 0 < level_in version.chain → KeepsMap memory (linked version.pid row content memory)
-above_keeps memory version row content h holds spare index = beside_keeps memory (linked version.pid row content memory) version.pid h (others_stay memory version.pid row content spare)
+    → 0 < level_in version.chain → KeepsMap memory (with_link version.pid row content memory)
+above_keeps memory version row content h holds spare index = beside_keeps memory (with_link version.pid row content memory) version.pid h (others_stay memory version.pid row content spare)
     (λ chain is level.
     let same : chain ≡ version.chain = IsChainOf-unique memory version.pid chain version.chain is (chain_of memory version holds) in
     let leaf : level_in version.chain ≡ 0 = subst (λ (c : List Record). level_in c ≡ 0) same level in
     omega (arith, index, leaf))
 
 pub term_keeps : (memory : Memory) (parent page : Version) (term : Term) (row : ℕ) → IsTermPlan parent page term → HasLeaves memory → HasVersion memory parent
-    → IsSpareRow memory row → KeepsMap memory (linked parent.pid row (kind.Term term) memory)
+    → IsSpareRow memory row → KeepsMap memory (with_link parent.pid row (kind.Term term) memory)
 term_keeps memory parent page term row is h holds spare = above_keeps memory parent row (kind.Term term) h holds spare (let level = is.can.level in omega (arith, level))
 
 pub hold_keeps : (memory : Memory) (parent page : Version) (hold : Hold) (row : ℕ) → IsHoldPlan parent page hold → IsPageChain parent.chain → HasLeaves memory
-    → HasVersion memory parent → IsSpareRow memory row → KeepsMap memory (linked parent.pid row (kind.Hold hold) memory)
+    → HasVersion memory parent → IsSpareRow memory row → KeepsMap memory (with_link parent.pid row (kind.Hold hold) memory)
 hold_keeps memory parent page hold row is rules h holds spare =
     above_keeps memory parent row (kind.Hold hold) h holds spare (covered parent.chain rules.fitted (low_in page.chain) page.pid false is.can.there).1
 
 pub unterm_keeps : (memory : Memory) (parent left removed : Version) (unterm : Unterm) (row : ℕ) → IsUntermPlan parent left removed unterm
     → IsPageChain parent.chain → HasLeaves memory → HasVersion memory parent → IsSpareRow memory row
-    → KeepsMap memory (linked parent.pid row (kind.Unterm unterm) memory)
+    → KeepsMap memory (with_link parent.pid row (kind.Unterm unterm) memory)
 unterm_keeps memory parent left removed unterm row is rules h holds spare =
     above_keeps memory parent row (kind.Unterm unterm) h holds spare (covered parent.chain rules.fitted (low_in removed.chain) removed.pid true is.can.held).1
 
 -- a page whose slot was empty
-pub ready_keeps : (memory : Memory) (page row : ℕ) (content : Record) → HasLeaves memory → memory.slots page ≡ 0 → IsSpareRow memory row → KeepsMap memory (linked page row content memory)
-ready_keeps memory page row content h empty spare = beside_keeps memory (linked page row content memory) page h (others_stay memory page row content spare)
+pub ready_keeps : (memory : Memory) (page row : ℕ) (content : Record) → HasLeaves memory → memory.slots page ≡ 0 → IsSpareRow memory row → KeepsMap memory (with_link page row content memory)
+ready_keeps memory page row content h empty spare = beside_keeps memory (with_link page row content memory) page h (others_stay memory page row content spare)
     (λ chain is level. let some = is.linked in omega (arith, empty, some))
 
 -- another root
@@ -83,7 +83,7 @@ with_root_keeps memory page h = beside_keeps memory (with_root page memory) 0 h
 
 -- a record over a page that was read
 pub over_chain : (memory : Memory) (version : Version) (row : ℕ) (content : Record) → HasVersion memory version → IsSpareRow memory row
-    → next_row content ≡ Some version.head → IsChainOf (linked version.pid row content memory) version.pid (content ∷ version.chain)
+    → next_row content ≡ Some version.head → IsChainOf (with_link version.pid row content memory) version.pid (content ∷ version.chain)
 over_chain memory version row content holds spare next =
     let is = chain_of memory version holds in
     let slot : replaced_at version.pid row memory.slots version.pid ≡ row = replaced_same version.pid row memory.slots in
@@ -94,13 +94,13 @@ over_chain memory version row content holds spare next =
 
 -- a removal
 pub remove_keeps : (memory : Memory) (parent page : Version) (remove : Remove) (row : ℕ) → IsRemovePlan parent page remove → HasLeaves memory
-    → HasVersion memory page → IsSpareRow memory row → KeepsMap memory (linked page.pid row (kind.Remove remove) memory)
-remove_keeps memory parent page remove row is h holds spare = page_keeps memory (linked page.pid row (kind.Remove remove) memory) page.pid h stays here
+    → HasVersion memory page → IsSpareRow memory row → KeepsMap memory (with_link page.pid row (kind.Remove remove) memory)
+remove_keeps memory parent page remove row is h holds spare = page_keeps memory (with_link page.pid row (kind.Remove remove) memory) page.pid h stays here
   where
-    stays : (pid : ℕ) (chain : List Record) → pid ≢ page.pid → IsChainOf memory pid chain → IsChainOf (linked page.pid row (kind.Remove remove) memory) pid chain
+    stays : (pid : ℕ) (chain : List Record) → pid ≢ page.pid → IsChainOf memory pid chain → IsChainOf (with_link page.pid row (kind.Remove remove) memory) pid chain
     stays = others_stay memory page.pid row (kind.Remove remove) spare
 
-    here : (low : List ℕ) (pages : List LivePage) → Segment memory page.pid low pages → Goes (linked page.pid row (kind.Remove remove) memory) page.pid low pages
+    here : (low : List ℕ) (pages : List LivePage) → Segment memory page.pid low pages → Goes (with_link page.pid row (kind.Remove remove) memory) page.pid low pages
     here low [] s = absurd s.sides
     here low (first ∷ pages) s =
         let same : page.chain ≡ first.chain = IsChainOf-unique memory page.pid page.chain first.chain (chain_of memory page holds) s.sides.1 in
@@ -109,8 +109,8 @@ remove_keeps memory parent page remove row is h holds spare = page_keeps memory 
           record {
             sides = (
               refl,
-              subst (λ (c : List Record). IsChainOf (linked page.pid row (kind.Remove remove) memory) page.pid (kind.Remove remove ∷ c)) same over,
-              rest_stays memory (linked page.pid row (kind.Remove remove) memory) page.pid stays (right_in first.chain) pages s.sides.2 (apart memory page.pid first pages s.sides),
+              subst (λ (c : List Record). IsChainOf (with_link page.pid row (kind.Remove remove) memory) page.pid (kind.Remove remove ∷ c)) same over,
+              rest_stays memory (with_link page.pid row (kind.Remove remove) memory) page.pid stays (right_in first.chain) pages s.sides.2 (apart memory page.pid first pages s.sides),
             );
             whole = s.whole;
             level = s.level;
@@ -120,10 +120,10 @@ remove_keeps memory parent page remove row is h holds spare = page_keeps memory 
 
 -- a new root: its page is made ready, and slot 0 set to it
 pub root_keeps : (memory : Memory) (root : Page) (new row : ℕ) → HasLeaves memory → memory.slots new ≡ 0 → IsSpareRow memory row
-    → KeepsMap memory (linked new row (kind.Base root) memory) × KeepsMap (linked new row (kind.Base root) memory) (with_root new (linked new row (kind.Base root) memory))
+    → KeepsMap memory (with_link new row (kind.Base root) memory) × KeepsMap (with_link new row (kind.Base root) memory) (with_root new (with_link new row (kind.Base root) memory))
 root_keeps memory root new row h empty spare =
     let first = ready_keeps memory new row (kind.Base root) h empty spare in
-    (first, with_root_keeps (linked new row (kind.Base root) memory) new first.leaves)
+    (first, with_root_keeps (with_link new row (kind.Base root) memory) new first.leaves)
 
 -- keys
 
@@ -162,10 +162,10 @@ module _ (memory : Memory) (page : Version) (plan : SplitPlan) (right row base_r
   split = kind.Split (split_to plan right)
 
   abbrev ready : Memory
-  ready = linked right base_row base memory
+  ready = with_link right base_row base memory
 
   abbrev split_memory : Memory
-  split_memory = linked page.pid row split ready
+  split_memory = with_link page.pid row split ready
 
   page_is : IsChainOf memory page.pid page.chain
   page_is = chain_of memory page holds
@@ -257,8 +257,8 @@ module _ (memory : Memory) (page : Version) (plan : SplitPlan) (right row base_r
       )
 
   -- before the split is linked, and after
-  pub split_keeps : KeepsMap memory (linked right base_row (kind.Base plan.upper) memory) × KeepsMap memory (linked page.pid row split (linked right base_row (kind.Base plan.upper) memory))
-  split_keeps = subst (λ (r : Record). KeepsMap memory (linked right base_row r memory) × KeepsMap memory (linked page.pid row split (linked right base_row r memory))) (sym is.base)
+  pub split_keeps : KeepsMap memory (with_link right base_row (kind.Base plan.upper) memory) × KeepsMap memory (with_link page.pid row split (with_link right base_row (kind.Base plan.upper) memory))
+  split_keeps = subst (λ (r : Record). KeepsMap memory (with_link right base_row r memory) × KeepsMap memory (with_link page.pid row split (with_link right base_row r memory))) (sym is.base)
       (ready_keeps memory right base_row base h empty spare_base, page_keeps memory split_memory page.pid h stays here)
 
 -- the ranges of two pages that meet
@@ -303,7 +303,7 @@ module _ (memory : Memory) (left removed : Version) (merge : Merge) (row : ℕ) 
   due = kind.Merge (merge_of left removed merge.items)
 
   abbrev merged_memory : Memory
-  merged_memory = linked left.pid row due memory
+  merged_memory = with_link left.pid row due memory
 
   merge_stays : (pid : ℕ) (chain : List Record) → pid ≢ left.pid → IsChainOf memory pid chain → IsChainOf merged_memory pid chain
   merge_stays = others_stay memory left.pid row due spare
@@ -375,5 +375,5 @@ module _ (memory : Memory) (left removed : Version) (merge : Merge) (row : ℕ) 
         both_alike first second pages same same_removed,
       )
 
-  pub merge_keeps : KeepsMap memory (linked left.pid row (kind.Merge merge) memory)
-  merge_keeps = subst (λ (m : Merge). KeepsMap memory (linked left.pid row (kind.Merge m) memory)) (sym is.is) (page_keeps memory merged_memory left.pid h merge_stays merge_here)
+  pub merge_keeps : KeepsMap memory (with_link left.pid row (kind.Merge merge) memory)
+  merge_keeps = subst (λ (m : Merge). KeepsMap memory (with_link left.pid row (kind.Merge m) memory)) (sym is.is) (page_keeps memory merged_memory left.pid h merge_stays merge_here)

@@ -9,8 +9,8 @@ use Rattle.traces.specs.chain.SideChain.{LivePage, IsLeaves, IsWhole, Spells}
 use Rattle.structure_changes.specs.Versions.{Version}
 
 -- the memory with a record in a row, and that row in a page's slot
-abbrev pub linked : ℕ → ℕ → Record → Memory → Memory
-linked page row content memory = record memory { slots = replaced_at page row memory.slots; rows = replaced_at row (Some content) memory.rows }
+abbrev pub with_link : ℕ → ℕ → Record → Memory → Memory
+with_link page row content memory = record memory { slots = replaced_at page row memory.slots; rows = replaced_at row (Some content) memory.rows }
 
 -- the memory with another root
 abbrev pub with_root : ℕ → Memory → Memory

@@ -9,7 +9,7 @@ use Rattle.tree_limits.specs.declared.limits.Limits.{Limits}
 use Rattle.deltas.specs.Memory.{replaced_at}
 use Rattle.traces.specs.discipline.Discipline.{IsPassed}
 use Rattle.traces.specs.discipline.Knowledge as known
-use Rattle.traces.specs.discipline.Knowledge.{passed_by, stamped}
+use Rattle.traces.specs.discipline.Knowledge.{passed_by, with_stamp}
 use Rattle.epochs.specs.declared.entry.Stage.{Stage}
 use Rattle.epochs.specs.declared.entry.Stage.TheVariants.{Unstamped, Stamped, Passed}
 use Rattle.epochs.specs.Limbo.{compared_with, stamped_by}
@@ -24,7 +24,7 @@ read_before (Some before) t epoch later was = omega (arith, later, was)
 
 -- the epoch was read, and is the stamp of what has none
 pub stamped_agrees : (limits : Limits) (actor t : ℕ) (last : Option ℕ) (stage : Option Stage) (limbo : known.LimboMark) → IfSome last (λ before. before ≤ t)
-    → Agrees limits actor last stage limbo → Agrees limits actor (Some t) (after (stamped_by t) stage) (stamped t limbo)
+    → Agrees limits actor last stage limbo → Agrees limits actor (Some t) (after (stamped_by t) stage) (with_stamp t limbo)
 stamped_agrees limits actor t last None known.Absent later h = tt
 stamped_agrees limits actor t last None known.Unstamped later h = absurd h
 stamped_agrees limits actor t last None (known.Stamped epoch passed) later h = absurd h
@@ -40,7 +40,7 @@ stamped_agrees limits actor t last (Some (Passed stamp)) (known.Stamped epoch pa
 
 -- the epoch was read outside of a sweep
 pub read_agrees : (limits : Limits) (actor t : ℕ) (last : Option ℕ) (stage : Option Stage) (limbo : known.LimboMark) → IfSome last (λ before. before ≤ t)
-    → Agrees limits actor last stage limbo → Agrees limits actor (Some t) stage (stamped t limbo)
+    → Agrees limits actor last stage limbo → Agrees limits actor (Some t) stage (with_stamp t limbo)
 read_agrees limits actor t last None known.Absent later h = tt
 read_agrees limits actor t last None known.Unstamped later h = absurd h
 read_agrees limits actor t last None (known.Stamped epoch passed) later h = absurd h

@@ -11,7 +11,7 @@ use Rattle.deltas.specs.declared.record.Record.{Record}
 use Rattle.traces.specs.discipline.Discipline.{IsPassed}
 use Rattle.traces.specs.discipline.Fitting.{Fits}
 use Rattle.traces.specs.discipline.Knowledge as known
-use Rattle.traces.specs.discipline.Knowledge.{Knowledge, Limbos, freed, learn}
+use Rattle.traces.specs.discipline.Knowledge.{Knowledge, Limbos, after_freeing, learn}
 use Rattle.tree_limits.specs.Words.{is_among}
 use Rattle.epochs.specs.declared.entry.Entry.{Entry}
 use Rattle.epochs.specs.declared.entry.Stage.{Stage}
@@ -23,8 +23,8 @@ use Rattle.sweep.specs.declared.sweep.State.{State}
 use Rattle.sweep.specs.declared.sweep.State.TheVariants as state
 use Rattle.sweep.specs.Kept.{Agrees, AreKept, IsLimboOf}
 use Rattle.sweep.specs.declared.sweep.TheConstants.{MOST_COMPARED}
-use Rattle.sweep.specs.Moves.{BeginsSweep, Compares, Frees, Moves, Stamps, compared, has_unstamped, state_if}
-use Rattle.sweep.specs.Sweeps.{AreTold, LearnsOfLimbo, IsSameSweep, Shows, ShowsState, ShowsThen, Sweep, Told, other_at, wanted, wanted_at}
+use Rattle.sweep.specs.Moves.{BeginsSweep, Compares, Frees, Moves, Stamps, after_comparing, has_unstamped, state_if}
+use Rattle.sweep.specs.Sweeps.{AreTold, LearnsOfLimbo, IsSameSweep, Shows, ShowsState, ShowsThen, Sweep, Told, other_at, wanted_step, wanted_at}
 use Rattle.sweep.proofs.Agreeing.{announced_agrees, announced_told, compared_agrees, may_free, stamped_agrees, stamped_told}
 use Rattle.sweep.proofs.Stages.{first_stage, kept_stage, no_item, no_stage, passed_stage, restaged_stage}
 
@@ -43,7 +43,7 @@ module _ (limits : Limits) (actor : ℕ) (last : Option ℕ) (list : LimboList) 
       may_free limits actor stage.0 last (knows n) (rw stage.1 at (agree n))
 
   -- and the rest agrees once it is freed
-  pub hands_agree : (word bits : ℕ) (now : LimboList) → HandsOn list word bits now → (n : ℕ) → Agrees limits actor last (stage_of now n) (freed word bits knows n)
+  pub hands_agree : (word bits : ℕ) (now : LimboList) → HandsOn list word bits now → (n : ℕ) → Agrees limits actor last (stage_of now n) (after_freeing word bits knows n)
   hands_agree word bits now hands n = elim (is_among word bits n) as (λ b. is_among word bits n ≡ b → Agrees limits actor last (stage_of now n) (if b then known.Absent else knows n)) [
     | true ↦ λ among. rw (hands.rest, no_stage (without word list.entries) n (rw hands.rest at (hands.gone n among))) tt
     | false ↦ λ among. rw (hands.rest, kept_stage list.entries word n (sym (hands.exact n) ∙ among)) (agree n)
@@ -112,7 +112,7 @@ module _ (limits : Limits) (actor : ℕ) where
   }
 
   compared_kept : (announces : List ℕ) (limbo : Limbo) (now : Limbos) → actor < limits.actors → limits.actors ≤ suc (length announces)
-      → AreKept limits actor limbo now → AreTold actor announces limbo now → AreKept limits actor (compared limits announces limbo) now
+      → AreKept limits actor limbo now → AreTold actor announces limbo now → AreKept limits actor (after_comparing limits announces limbo) now
   compared_kept announces limbo now inside all kept told = elim limits.is_large as
       (λ b. AreKept limits actor (if b then firsts_restaged MOST_COMPARED (compared_with announces) limbo else all_restaged (compared_with announces) limbo) now) [
         | true ↦ first_kept MOST_COMPARED announces limbo now inside all kept told
@@ -124,7 +124,7 @@ module _ (limits : Limits) (actor : ℕ) where
       → ShowsNext limits actor next after k
   compares_shows k announces limbo after next inside kept told compares = elim (cases_lt (suc (length announces)) limits.actors) [
     | inl more ↦ let is = compares.reads more in rw (is.0, is.1) (kept, told)
-    | inr all ↦ frees_shows k (compared limits announces limbo) after next (compared_kept announces limbo k.limbo inside all kept told) (compares.frees all)
+    | inr all ↦ frees_shows k (after_comparing limits announces limbo) after next (compared_kept announces limbo k.limbo inside all kept told) (compares.frees all)
   ]
 
   -- ---- the epoch was read
@@ -214,11 +214,11 @@ shown_then false limits actor next limbo k outside h = record { outside = outsid
 
 pub follows : (old new : Sweep) (limbo after : Limbo) (told : Answer Record) (goes : Bool) → old.actor < old.limits.actors → IsSameSweep old new
     → Moves old.limits old.state limbo told (state_if goes new.state) after
-    → (k : Knowledge) → Shows old limbo k → Fits old.limits k (wanted old) told → LearnsOfLimbo k (learn k (wanted old) told) new after goes
+    → (k : Knowledge) → Shows old limbo k → Fits old.limits k (wanted_step old) told → LearnsOfLimbo k (learn k (wanted_step old) told) new after goes
 follows old new limbo after told goes inside same moves k shows fits = record {
   only = only_limbo old.limits old.actor k old.state told fits;
   shows =
-      rw (same.limits, same.actor) (shown_then goes old.limits old.actor new.state after (learn k (wanted old) told)
+      rw (same.limits, same.actor) (shown_then goes old.limits old.actor new.state after (learn k (wanted_step old) told)
       (let only = only_limbo old.limits old.actor k old.state told fits in ap (λ (k : Knowledge). k.inside) only ∙ shows.outside)
       (moves_show old.limits old.actor k old.state told limbo after (state_if goes new.state) inside fits shows.stands moves));
 }

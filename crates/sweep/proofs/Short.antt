@@ -15,12 +15,12 @@ use Rattle.epochs.specs.declared.item.Item.{Item}
 use Rattle.epochs.specs.declared.item.Item.TheVariants.{Row, Pid}
 use Rattle.epochs.specs.declared.item.Reuse.{Reuse}
 use Rattle.epochs.specs.declared.item.Reuse.TheVariants.{Rows, Pids}
-use Rattle.epochs.specs.Limbo.{Limbo, LimboList, all_restaged, compared_with, first_restaged, is_passed, restaged, stamped_by, with_item}
+use Rattle.epochs.specs.Limbo.{Limbo, LimboList, all_restaged, compared_with, first_restaged, is_passed, with_stages, stamped_by, with_item}
 use Rattle.epochs.specs.Words.{HandsNothingOn, HandsOn, HasNone, may_go, without}
 use Rattle.sweep.specs.declared.sweep.State.{State}
 use Rattle.sweep.specs.declared.sweep.State.TheVariants as state
 use Rattle.sweep.specs.declared.sweep.TheConstants.{MOST_COMPARED}
-use Rattle.sweep.specs.Moves.{BeginsSweep, Compares, Frees, Moves, Stamps, compared, has_unstamped}
+use Rattle.sweep.specs.Moves.{BeginsSweep, Compares, Frees, Moves, Stamps, after_comparing, has_unstamped}
 use Rattle.sweep.specs.Short.{GoesShort, IsClear, count_free, free_now, most_short, short_left}
 use Rattle.sweep.specs.Sweeps.{IsSoundState}
 use Rattle.sweep.proofs.Stages.{no_item}
@@ -46,20 +46,20 @@ none_dropped (suc most) (x ∷ xs) none = none_dropped most xs (rest_none (is_pa
     rest_none false e = e
 
 -- the first entries
-few_restaged : (f : Stage → Stage) (most : ℕ) (xs : List Entry) → count_free (restaged f (take most xs)) ≤ most
+few_restaged : (f : Stage → Stage) (most : ℕ) (xs : List Entry) → count_free (with_stages f (take most xs)) ≤ most
 few_restaged f zero [] = omega arith
 few_restaged f zero (x ∷ xs) = omega arith
 few_restaged f (suc most) [] = omega arith
 few_restaged f (suc most) (x ∷ xs) =
     let rest = few_restaged f most xs in
-    elim (is_passed (f x.stage)) as (λ b. (if b then suc (count_free (restaged f (take most xs))) else count_free (restaged f (take most xs))) ≤ suc most) [
+    elim (is_passed (f x.stage)) as (λ b. (if b then suc (count_free (with_stages f (take most xs))) else count_free (with_stages f (take most xs))) ≤ suc most) [
       | true ↦ omega (arith, rest)
       | false ↦ omega (arith, rest)
     ]
 
 first_few : (f : Stage → Stage) (most : ℕ) (xs : List Entry) → count_free xs ≡ 0 → count_free (first_restaged most f xs) ≤ most
 first_few f most xs none =
-    let both = count_append (restaged f (take most xs)) (drop most xs) in
+    let both = count_append (with_stages f (take most xs)) (drop most xs) in
     let others = none_dropped most xs none in
     let few = few_restaged f most xs in
     omega (arith, both, others, few)
@@ -76,7 +76,7 @@ same_ifs false false m n e same = same
 same_ifs true false m n e same = cc
 same_ifs false true m n e same = cc
 
-stamped_same : (epoch : ℕ) (xs : List Entry) → count_free (restaged (stamped_by epoch) xs) ≡ count_free xs
+stamped_same : (epoch : ℕ) (xs : List Entry) → count_free (with_stages (stamped_by epoch) xs) ≡ count_free xs
 stamped_same epoch [] = refl
 stamped_same epoch (x ∷ xs) = same_ifs (is_passed (stamped_by epoch x.stage)) (is_passed x.stage) _ _ (stamp_keeps epoch x.stage) (stamped_same epoch xs)
 
@@ -160,7 +160,7 @@ frees_short limbo after (Some (state.Announce announces)) bound few frees = absu
 
 module _ (limits : Limits) (large : limits.is_large ≡ true) where
   -- of what is compared few may be freed
-  compared_few : (announces : List ℕ) (limbo : Limbo) → free_now limbo ≡ 0 → free_now (compared limits announces limbo) ≤ 2 * MOST_COMPARED
+  compared_few : (announces : List ℕ) (limbo : Limbo) → free_now limbo ≡ 0 → free_now (after_comparing limits announces limbo) ≤ 2 * MOST_COMPARED
   compared_few announces limbo none =
       let rows = first_few (compared_with announces) MOST_COMPARED limbo.rows.entries (omega (arith, none)) in
       let pids = first_few (compared_with announces) MOST_COMPARED limbo.pids.entries (omega (arith, none)) in
@@ -172,7 +172,7 @@ module _ (limits : Limits) (large : limits.is_large ≡ true) where
     | inl more ↦ reads next (compares.reads more)
     | inr all ↦
         let few = compared_few announces limbo none in
-        frees_short (compared limits announces limbo) after next (suc (15 + 2 * MOST_COMPARED - length announces)) (omega (arith, few, short)) (compares.frees all)
+        frees_short (after_comparing limits announces limbo) after next (suc (15 + 2 * MOST_COMPARED - length announces)) (omega (arith, few, short)) (compares.frees all)
   ]
     where
       reads : (next : Option State) → (next ≡ Some (state.Announce announces)) × (after ≡ limbo) → GoesShort (suc (15 + 2 * MOST_COMPARED - length announces)) next after

@@ -15,14 +15,14 @@ use Rattle.epochs.specs.declared.entry.Stage.{Stage}
 use Rattle.epochs.specs.declared.entry.Stage.TheVariants.{Unstamped, Stamped, Passed}
 use Rattle.epochs.specs.declared.item.Reuse.{Reuse}
 use Rattle.epochs.specs.declared.item.Reuse.TheVariants.{Rows, Pids}
-use Rattle.epochs.specs.Limbo.{IsLimboList, Limbo, LimboList, all_restaged, compared_with, first_restaged, firsts_restaged, is_passed, is_unstamped, restaged, stamped_by}
+use Rattle.epochs.specs.Limbo.{IsLimboList, Limbo, LimboList, all_restaged, compared_with, first_restaged, firsts_restaged, is_passed, is_unstamped, with_stages, stamped_by}
 use Rattle.epochs.specs.Words.{HandsNothingOn, HandsOn, HasNone, may_go}
 use Rattle.sweep.specs.declared.sweep.State.{State}
 use Rattle.sweep.specs.declared.sweep.State.TheVariants as state
 use Rattle.sweep.specs.Bounded.{most_steps, reuses_left, steps_left}
 use Rattle.sweep.specs.Kept.{IsLimboOf}
 use Rattle.sweep.specs.declared.sweep.TheConstants.{MOST_COMPARED}
-use Rattle.sweep.specs.Moves.{BeginsSweep, Compares, Frees, IsEmpty, Moves, Stamps, compared, has_unstamped}
+use Rattle.sweep.specs.Moves.{BeginsSweep, Compares, Frees, IsEmpty, Moves, Stamps, after_comparing, has_unstamped}
 use Rattle.sweep.specs.Sweeps.{ComesFirst, HasPlace, IsInOrder, IsSameSweep, IsSoundState, IsSoundSweep, Sweep}
 use Rattle.sweep.proofs.Stages.{left_later, no_item}
 
@@ -33,13 +33,13 @@ AreBelow list = All (λ (entry : Entry). entry.number < list.limit) list.entries
 pub are_below : (list : LimboList) → IsLimboList list → AreBelow list
 are_below list is = is.within
 
-restaged_below : (f : Stage → Stage) (list : LimboList) → AreBelow list → AreBelow (record list { entries = restaged f list.entries })
+restaged_below : (f : Stage → Stage) (list : LimboList) → AreBelow list → AreBelow (record list { entries = with_stages f list.entries })
 restaged_below f list below = All-map (λ (entry : Entry). entry.number < list.limit) (λ (entry : Entry). record entry { stage = f entry.stage }) list.entries below
 
 first_below : (most : ℕ) (f : Stage → Stage) (list : LimboList) → AreBelow list → AreBelow (record list { entries = first_restaged most f list.entries })
 first_below most f list below =
     let is_below : Entry → Type 0 = λ entry. entry.number < list.limit in
-    All-append is_below (restaged f (take most list.entries)) (drop most list.entries)
+    All-append is_below (with_stages f (take most list.entries)) (drop most list.entries)
     (restaged_below f (record list { entries = take most list.entries }) (All-take is_below most list.entries below))
     (All-drop is_below most list.entries below)
 
@@ -92,7 +92,7 @@ module _ (limits : Limits) where
     lists = record { rows = whole.lists.rows; pids = whole.lists.pids };
   }
 
-  compared_whole : (announces : List ℕ) (limbo : Limbo) → IsWhole limits limbo → IsWhole limits (compared limits announces limbo)
+  compared_whole : (announces : List ℕ) (limbo : Limbo) → IsWhole limits limbo → IsWhole limits (after_comparing limits announces limbo)
   compared_whole announces limbo whole = elim limits.is_large as
       (λ b. IsWhole limits (if b then firsts_restaged MOST_COMPARED (compared_with announces) limbo else all_restaged (compared_with announces) limbo)) [
         | true ↦ record {
@@ -158,7 +158,7 @@ module _ (limits : Limits) where
   compares_follow announces limbo after next whole short compares = elim (cases_lt (suc (length announces)) limits.actors) [
     | inl more ↦ reads next (compares.reads more) more
     | inr all ↦
-        let h = frees_follow (compared limits announces limbo) after next (compared_whole announces limbo whole) (compares.frees all) in
+        let h = frees_follow (after_comparing limits announces limbo) after next (compared_whole announces limbo whole) (compares.frees all) in
         record { lists = h.lists; sound = h.sound; order = h.order; fewer = (let few = h.fewer in omega (arith, few, short)) }
   ]
     where
@@ -230,14 +230,14 @@ none_first e rest stamped none = at_first e.stage refl
     at_first (Passed stamp) is = (let h : true ≡ false = sym (may (ap (λ s. is_passed (compared_with [] s)) is)) ∙ none e.number in cc)
 
 none_left : (large : Bool) (entries : List Entry) → list_any (λ (entry : Entry). is_unstamped entry.stage) entries ≡ false
-    → HasNone (if large then first_restaged MOST_COMPARED (compared_with []) entries else restaged (compared_with []) entries) → entries ≡ []
+    → HasNone (if large then first_restaged MOST_COMPARED (compared_with []) entries else with_stages (compared_with []) entries) → entries ≡ []
 none_left large [] stamped none = refl
 none_left true (e ∷ es) stamped none = absurd (none_first e _ (or_parts (is_unstamped e.stage) (list_any (λ (entry : Entry). is_unstamped entry.stage) es) stamped).0 none)
 none_left false (e ∷ es) stamped none = absurd (none_first e _ (or_parts (is_unstamped e.stage) (list_any (λ (entry : Entry). is_unstamped entry.stage) es) stamped).0 none)
 
 none_compared : (limits : Limits) (limbo : Limbo) → list_any (λ (entry : Entry). is_unstamped entry.stage) limbo.rows.entries ≡ false
-    → list_any (λ (entry : Entry). is_unstamped entry.stage) limbo.pids.entries ≡ false → HasNone (compared limits [] limbo).rows.entries
-    → HasNone (compared limits [] limbo).pids.entries → IsEmpty limbo
+    → list_any (λ (entry : Entry). is_unstamped entry.stage) limbo.pids.entries ≡ false → HasNone (after_comparing limits [] limbo).rows.entries
+    → HasNone (after_comparing limits [] limbo).pids.entries → IsEmpty limbo
 none_compared limits limbo rows pids = elim limits.is_large as (λ b. HasNone
     (if b then firsts_restaged MOST_COMPARED (compared_with []) limbo else all_restaged (compared_with []) limbo).rows.entries → HasNone
     (if b then firsts_restaged MOST_COMPARED (compared_with []) limbo else all_restaged (compared_with []) limbo).pids.entries → IsEmpty limbo) [

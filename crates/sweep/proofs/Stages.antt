@@ -6,7 +6,7 @@ use Rattle.std.proofs.lemmas.Bool.{cases_eq, eq-eqb, eqb-true, ne_eqb, or_right,
 use Rattle.epochs.specs.declared.entry.Entry.{Entry}
 use Rattle.epochs.specs.declared.entry.Stage.{Stage}
 use Rattle.epochs.specs.declared.entry.Stage.TheVariants.{Unstamped, Stamped, Passed}
-use Rattle.epochs.specs.Limbo.{Limbo, first_restaged, is_passed, restaged, stage_in}
+use Rattle.epochs.specs.Limbo.{Limbo, first_restaged, is_passed, with_stages, stage_in}
 use Rattle.epochs.specs.Words.{may_go, without}
 use Rattle.sweep.specs.Moves.{IsEmpty}
 
@@ -15,9 +15,9 @@ abbrev pub after : (Stage → Stage) → Option Stage → Option Stage
 after f None = None
 after f (Some stage) = Some (f stage)
 
-pub restaged_stage : (f : Stage → Stage) (entries : List Entry) (n : ℕ) → stage_in (restaged f entries) n ≡ after f (stage_in entries n)
+pub restaged_stage : (f : Stage → Stage) (entries : List Entry) (n : ℕ) → stage_in (with_stages f entries) n ≡ after f (stage_in entries n)
 restaged_stage f [] n = refl
-restaged_stage f (e ∷ es) n = elim (eqb e.number n) as (λ b. (if b then Some (f e.stage) else stage_in (restaged f es) n) ≡ after f (if b then Some e.stage else stage_in es n)) [
+restaged_stage f (e ∷ es) n = elim (eqb e.number n) as (λ b. (if b then Some (f e.stage) else stage_in (with_stages f es) n) ≡ after f (if b then Some e.stage else stage_in es n)) [
   | true ↦ refl
   | false ↦ restaged_stage f es n
 ]

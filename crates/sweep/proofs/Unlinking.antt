@@ -18,7 +18,7 @@ use Rattle.traces.specs.discipline.Knowledge.{Knowledge, is_on_walk, taken_out}
 use Rattle.epochs.specs.declared.entry.Entry.{Entry}
 use Rattle.epochs.specs.declared.entry.Stage.{Stage}
 use Rattle.epochs.specs.declared.entry.Stage.TheVariants.{Unstamped, Stamped, Passed}
-use Rattle.epochs.specs.Limbo.{IsNew, Limbo, LimboList, added, stage_in, stage_of}
+use Rattle.epochs.specs.Limbo.{IsNew, Limbo, LimboList, with_entry, stage_in, stage_of}
 use Rattle.sweep.specs.Kept.{Agrees, AreKept}
 use Rattle.sweep.specs.Taken.{IsTakenOut, fresh, with_rows}
 
@@ -180,7 +180,7 @@ module _ (limits : Limits) (actor : ℕ) (last : Option ℕ) where
 
   added_agrees : (list : LimboList) (pid : ℕ) (knows : ℕ → known.LimboMark) → knows pid ≡ known.Absent
       → ((n : ℕ) → Agrees limits actor last (stage_of list n) (knows n)) → (n : ℕ)
-      → Agrees limits actor last (stage_of (added pid list) n) (replaced_at pid known.Unstamped knows n)
+      → Agrees limits actor last (stage_of (with_entry pid list) n) (replaced_at pid known.Unstamped knows n)
   added_agrees list pid knows absent h n =
       rw (eqb_turned n pid) (taken_agrees list (pid ∷ []) (knows n) n (eqb pid n) (one_of_one (eqb pid n)) (λ same. ap knows (sym (eqb-true pid n same)) ∙ absent) (h n))
     where

@@ -27,14 +27,14 @@ Frees limbo (Some (Announce announces)) after = ⊥
 
 -- These epochs are what all other actors announced. In a large tree they are compared with the first items of each list alone, so that
 -- a sweep takes no longer where more is in limbo. What is freed makes room for others, which the next sweep compares.
-abbrev pub compared : Limits → List ℕ → Limbo → Limbo
-compared limits announces limbo = if limits.is_large then firsts_restaged MOST_COMPARED (compared_with announces) limbo else all_restaged (compared_with announces) limbo
+abbrev pub after_comparing : Limits → List ℕ → Limbo → Limbo
+after_comparing limits announces limbo = if limits.is_large then firsts_restaged MOST_COMPARED (compared_with announces) limbo else all_restaged (compared_with announces) limbo
 
 -- All that is in limbo has a stamp, and the first of the other actors announced these epochs: the next one is read, if there is one.
 -- What all of them have passed may be freed, of what is compared.
 pub record Compares (limits : Limits) (announces : List ℕ) (limbo : Limbo) (next : Option State) (after : Limbo) : Type 0 where
   pub reads : suc (length announces) < limits.actors → (next ≡ Some (Announce announces)) × (after ≡ limbo)
-  pub frees : limits.actors ≤ suc (length announces) → Frees (compared limits announces limbo) next after
+  pub frees : limits.actors ≤ suc (length announces) → Frees (after_comparing limits announces limbo) next after
 
 -- The epoch was read. It is retired, unless it is the last one.
 pub record Stamps (limits : Limits) (epoch : ℕ) (limbo : Limbo) (next : Option State) (after : Limbo) : Type 0 where

@@ -41,8 +41,8 @@ wanted_at actor (state.Retire epoch) = step.Retire epoch
 wanted_at actor (state.Announce announces) = step.Announce (other_at actor (length announces))
 wanted_at actor (state.Reuse reuse) = step_of reuse
 
-abbrev pub wanted : Sweep → StepOf Record
-wanted sweep = wanted_at sweep.actor sweep.state
+abbrev pub wanted_step : Sweep → StepOf Record
+wanted_step sweep = wanted_at sweep.actor sweep.state
 
 -- the steps of a sweep
 abbrev pub IsOfSweep : StepOf Record → Type 0
@@ -120,7 +120,7 @@ pub record IsKeptOutside (limits : Limits) (actor : ℕ) (limbo : Limbo) (k : Kn
 -- Something is known that the answer to the step wanted last fits.
 pub record FitsSweep (sweep : Sweep) (told : Answer Record) : Type 0 where
   pub k : Knowledge
-  pub fits : Fits sweep.limits k (wanted sweep) told
+  pub fits : Fits sweep.limits k (wanted_step sweep) told
 
 -- A sweep that goes on is shown, and one that has ended leaves its actor at rest.
 abbrev pub ShowsThen : Bool → Sweep → Limbo → Knowledge → Type 0

@@ -5,7 +5,7 @@ use Rattle.tree_limits.specs.declared.limits.Limits.{Limits}
 use Rattle.traces.specs.discipline.Knowledge.{Limbos}
 use Rattle.epochs.specs.declared.entry.Entry.{Entry}
 use Rattle.epochs.specs.declared.entry.Stage.TheVariants.{Unstamped}
-use Rattle.epochs.specs.Limbo.{IsNew, Limbo, LimboList, added}
+use Rattle.epochs.specs.Limbo.{IsNew, Limbo, LimboList, with_entry}
 use Rattle.sweep.specs.Kept.{AreKept}
 
 -- a number without a stamp
@@ -19,7 +19,7 @@ with_rows rows list = record list { entries = list.entries ++ map fresh rows }
 -- with the number, if there is one
 abbrev pub with_pid : Option ℕ → LimboList → LimboList
 with_pid None list = list
-with_pid (Some pid) list = added pid list
+with_pid (Some pid) list = with_entry pid list
 
 -- The rows are apart, and they and the PID are numbers of the tree that aren't in limbo.
 pub record AreNew (rows : List ℕ) (pid : Option ℕ) (limbo : Limbo) : Type 0 where

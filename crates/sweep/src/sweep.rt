@@ -9,8 +9,8 @@ ghost use Rattle.epochs.specs.Limbo.{Limbo as LimboSeen};
 ghost use Rattle.traces.specs.trace.Within.{IsWithin};
 ghost use Rattle.sweep.specs.Bounded.{Spends, most_steps, steps_left};
 ghost use Rattle.sweep.specs.Kept.{IsLimboOf};
-ghost use Rattle.sweep.specs.Moves.{BeginsSweep, Compares, Frees, IsEmpty, Moves, Stamps, compared, state_if};
-ghost use Rattle.sweep.specs.Sweeps.{LearnsOfLimbo, IsOfSweep, IsSameSweep, IsSoundSweep, FitsSweep, IsKeptOutside, Shows, other_at, wanted};
+ghost use Rattle.sweep.specs.Moves.{BeginsSweep, Compares, Frees, IsEmpty, Moves, Stamps, after_comparing, state_if};
+ghost use Rattle.sweep.specs.Sweeps.{LearnsOfLimbo, IsOfSweep, IsSameSweep, IsSoundSweep, FitsSweep, IsKeptOutside, Shows, other_at, wanted_step};
 
 use crate::announces::Announces;
 use bw_model::{Limits, Step, Told};
@@ -76,7 +76,7 @@ impl Sweep {
 
     /// The step that the sweep wants next.
     pub fn step(&self) -> Step<Record>
-        ensures wanted { result ≡ wanted self.now }
+        ensures wanted { result ≡ wanted_step self.now }
         ensures within { IsWithin self.now.limits result }
         ensures only { IsOfSweep result }
         ensures may { (limbo : LimboSeen) (k : Knowledge) → Shows self.now limbo k → May self.now.actor k result }
@@ -100,8 +100,8 @@ impl Sweep {
         requires told { FitsSweep self.old (answer_of told) }
         ensures moves { Moves self.old.limits self.old.state limbo.old (answer_of told) (state_if result self.new.state) limbo.new }
         ensures same { IsSameSweep self.old self.new }
-        ensures follows { (k : Knowledge) → Shows self.old limbo.old k → Fits self.old.limits k (wanted self.old) (answer_of told)
-            → LearnsOfLimbo k (learn k (wanted self.old) (answer_of told)) self.new limbo.new result }
+        ensures follows { (k : Knowledge) → Shows self.old limbo.old k → Fits self.old.limits k (wanted_step self.old) (answer_of told)
+            → LearnsOfLimbo k (learn k (wanted_step self.old) (answer_of told)) self.new limbo.new result }
         ensures sound { IsTrue result → IsSoundSweep self.new limbo.new }
         ensures lists { IsLimboOf self.old.limits limbo.new }
         ensures spends { Spends self.old.limits result self.old.state self.new.state }
@@ -184,7 +184,7 @@ fn compare<A: Allocator>(
 
 /// Finds out what may be freed.
 fn may_free<A: Allocator>(limits: &Limits, limbo: &mut Limbo<A>, announces: &[u64])
-    ensures { limbo.new ≡ compared limits.now announces.now limbo.old }
+    ensures { limbo.new ≡ after_comparing limits.now announces.now limbo.old }
 {
     if limits.is_large {
         limbo.may_free_first(MOST_COMPARED, announces);

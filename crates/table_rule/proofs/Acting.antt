@@ -17,7 +17,7 @@ use Rattle.deltas.specs.Memory.{Memory}
 use Rattle.traces.specs.declared.trace.Entry.{Entry}
 use Rattle.traces.specs.trace.Steps.{memory_after}
 use Rattle.traces.specs.trace.Trace.{memory_of}
-use Rattle.tree_words.specs.Changes.{HasWord, SetsBits, TellsNothing, changed_word, left_by, operation_of, told, word_after, words_after, SpellsParts}
+use Rattle.tree_words.specs.Changes.{HasWord, SetsBits, TellsNothing, changed_word, left_by, operation_of, answer_by, word_after, words_after, SpellsParts}
 use Rattle.tree_words.specs.Changes.{ChangesOneWord, OperationsLeaveWords, StepsChangeOneWord, StoresTellNothing, WordsStandApart, HasOwnWord}
 use Rattle.tree_words.specs.declared.operations.Operation.{Operation}
 use Rattle.tree_words.specs.declared.operations.Operation.TheVariants as operation
@@ -49,7 +49,7 @@ module _ (change : StepsChangeOneWord) (first : WordsStandApart) (limits : Limit
   step_ready : (s : TableState) (h : Rule limits law s) (id actor : ℕ) (seen : List Entry) (begun : Option Command) (step : Step Record) (reply : Option Reply)
       → get_elem? s.views id ≡ some (alone limits actor seen Idle) → actor < 16 → HasWord limits step → SetsBits step
       → Ready limits law s h id actor (changed_word limits actor step) (word_after step (get_or s.words (changed_word limits actor step) 0)) begun step
-      (told step (get_or s.words (changed_word limits actor step) 0)) reply
+      (answer_by step (get_or s.words (changed_word limits actor step) 0)) reply
   step_ready s h id actor seen begun step reply at few has bits =
       let m : Memory = memory_of limits h.run in
       let own : HasOwnWord limits actor step = first limits actor step few has in
@@ -71,7 +71,7 @@ module _ (change : StepsChangeOneWord) (first : WordsStandApart) (limits : Limit
   acts : (slots id actor : ℕ) (me : Mine) (begun : Option Command) (step : Step Record) (reply : Option Reply) → SitsAt limits actor Idle me
       → IsLawfulStep law limits actor (seen_of me) begun step reply
       → actor < 16 → HasWord limits step → SetsBits step → Allows (Rule limits law) slots id me (changed_word limits actor step) (word_after step) (Acts law begun step reply me)
-  acts slots id actor me begun step reply is may few has bits = event limits law slots id actor me (changed_word limits actor step) (word_after step) begun step reply (told step) is may
+  acts slots id actor me begun step reply is may few has bits = event limits law slots id actor me (changed_word limits actor step) (word_after step) begun step reply (answer_by step) is may
       (λ s h at. step_ready s h id actor (seen_of me) begun step reply at few has bits)
 
 module _ (change : StepsChangeOneWord) (first : WordsStandApart) (law : Limits → List Entry → Type 0) (limits key : Limits) (table seat : TableId) (of : IsOf limits key table seat)
@@ -93,7 +93,7 @@ module _ (change : StepsChangeOneWord) (first : WordsStandApart) (law : Limits �
   )
 
   -- a store, which tells nothing
-  pub store_arm : (x : ℕ) → ((found : ℕ) → x ≡ word_after step found) → ((found : ℕ) → told step found ≡ Done)
+  pub store_arm : (x : ℕ) → ((found : ℕ) → x ≡ word_after step found) → ((found : ℕ) → answer_by step found ≡ Done)
       → (seat ≡ table) × (i < table.words) × Allows (Rule key law) slots id me i (λ _. x) (λ _. Acts law begun step reply me x)
   store_arm x same quiet = (
     of.same,

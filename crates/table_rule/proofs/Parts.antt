@@ -16,7 +16,6 @@ use Rattle.deltas.specs.Memory.{Memory}
 use Rattle.traces.specs.declared.trace.Entry.{Entry}
 use Rattle.traces.specs.declared.trace.Entry.TheVariants.{Begin, Step}
 use Rattle.traces.specs.discipline.Disciplined.{is_entry_of, Extends}
-use Rattle.traces.specs.discipline.Knowledge.{begun}
 use Rattle.traces.specs.trace.Steps.{memory_after}
 use Rattle.traces.specs.trace.Trace.{memory_of}
 use Rattle.tree_words.specs.Words.{SpellsWhere}
@@ -24,7 +23,7 @@ use Rattle.table_rule.specs.declared.view.Reach.{Reach}
 use Rattle.table_rule.specs.declared.view.Reach.TheVariants.{Idle, Writing, Noted}
 use Rattle.table_rule.specs.declared.view.Part.{Part}
 use Rattle.table_rule.specs.Running.{Each, ExtendsFor, LeavesRow, IsSettled, StartsWith, GoesOnWithStep, BeginWithSteps, entry_actor, is_at, times, everywhere}
-use Rattle.table_rule.specs.Steps.{opened, with_step}
+use Rattle.table_rule.specs.Steps.{begin_before, with_step}
 use Rattle.table_rule.specs.Views.{alone}
 use Rattle.traces.proofs.OwnEntries.{AreOthers, others_append}
 use Rattle.traces.proofs.TraceLaws.{memory_of-push}
@@ -65,23 +64,23 @@ extends_goes Noted actor seen run extends = (extends.0, extends.1)
 
 -- the begin, if there is one, and the step, which are of the actor alone
 abbrev pub events : ℕ → Option Command → StepOf Record → Answer Record → Option Reply → List Entry
-events actor begun step answer reply = opened actor begun ++ Step actor step answer reply ∷ []
+events actor begun step answer reply = begin_before actor begun ++ Step actor step answer reply ∷ []
 
 none_of_one : (actor : ℕ) (entry : Entry) → is_entry_of actor entry ≡ false → AreOthers actor (entry ∷ [])
 none_of_one actor entry e = rw e refl
 
-others_begin : (actor other : ℕ) (begun : Option Command) → other ≢ actor → AreOthers other (opened actor begun)
+others_begin : (actor other : ℕ) (begun : Option Command) → other ≢ actor → AreOthers other (begin_before actor begun)
 others_begin actor other None ne = refl
 others_begin actor other (Some command) ne = none_of_one other (Begin actor command) (ne_eqb other actor ne)
 
 pub others_events : (actor other : ℕ) (begun : Option Command) (step : StepOf Record) (answer : Answer Record) (reply : Option Reply) → other ≢ actor
     → AreOthers other (events actor begun step answer reply)
 others_events actor other begun step answer reply ne =
-    others_append other (opened actor begun) (Step actor step answer reply ∷ []) (others_begin actor other begun ne) (none_of_one other (Step actor step answer reply) (ne_eqb other actor ne))
+    others_append other (begin_before actor begun) (Step actor step answer reply ∷ []) (others_begin actor other begun ne) (none_of_one other (Step actor step answer reply) (ne_eqb other actor ne))
 
 pub with_events : (run : List Entry) (actor : ℕ) (begun : Option Command) (step : StepOf Record) (answer : Answer Record) (reply : Option Reply)
     → with_step run actor begun step answer reply ≡ run ++ events actor begun step answer reply
-with_events run actor begun step answer reply = append_assoc run (opened actor begun) (Step actor step answer reply ∷ [])
+with_events run actor begun step answer reply = append_assoc run (begin_before actor begun) (Step actor step answer reply ∷ [])
 
 -- More entries, which begin with steps too, leave each begin with its step.
 goes_on_with : (actor : ℕ) (run more : List Entry) → GoesOnWithStep actor run → GoesOnWithStep actor (run ++ more)
@@ -103,14 +102,14 @@ pub actors_events : (limits : Limits) (actor : ℕ) (begun : Option Command) (st
 actors_events limits actor None step answer reply there = (there, tt)
 actors_events limits actor (Some command) step answer reply there = (there, (there, tt))
 
-memory_begun : (limits : Limits) (run : List Entry) (actor : ℕ) (begun : Option Command) → memory_of limits (run ++ opened actor begun) ≡ memory_of limits run
+memory_begun : (limits : Limits) (run : List Entry) (actor : ℕ) (begun : Option Command) → memory_of limits (run ++ begin_before actor begun) ≡ memory_of limits run
 memory_begun limits run actor None = ap (memory_of limits) (append-nil run)
 memory_begun limits run actor (Some command) = memory_of-push limits run (Begin actor command)
 
 pub memory_stepped : (limits : Limits) (run : List Entry) (actor : ℕ) (begun : Option Command) (step : StepOf Record) (answer : Answer Record) (reply : Option Reply)
     → memory_of limits (with_step run actor begun step answer reply) ≡ memory_after actor step (memory_of limits run)
 memory_stepped limits run actor begun step answer reply =
-    memory_of-push limits (run ++ opened actor begun) (Step actor step answer reply) ∙ ap (memory_after actor step) (memory_begun limits run actor begun)
+    memory_of-push limits (run ++ begin_before actor begun) (Step actor step answer reply) ∙ ap (memory_after actor step) (memory_begun limits run actor begun)
 
 -- No reach but that of the seat id is changed, and it did not write the row r before.
 pub settled_back : (views : List (List Part)) (id : ℕ) (limits : Limits) (a : ℕ) (seen : List Entry) (h : Reach) (w : List Part) (r : ℕ)

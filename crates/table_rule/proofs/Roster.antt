@@ -16,7 +16,7 @@ use Rattle.table_rule.specs.declared.view.Reach.{Reach}
 use Rattle.table_rule.specs.declared.view.Reach.TheVariants.{Idle, Writing, Noted}
 use Rattle.table_rule.specs.declared.view.Part.{Part}
 use Rattle.table_rule.specs.Running.{Each, ExtendsFor, LeavesRow, IsSettled, StartsWith, is_at, times, PartFits, Running}
-use Rattle.table_rule.specs.Views.{Mine, IsRefreshed, Refreshes, refreshed, IsBlank, first_part, noted, other_parts}
+use Rattle.table_rule.specs.Views.{Mine, IsRefreshed, Refreshes, with_run, IsBlank, first_part, part_note, other_parts}
 use Rattle.table_rule.proofs.Turns.{TableState}
 use Rattle.table_rule.proofs.Parts.{mark, each_map, each_append, extends_goes, everywhere_set, everywhere_snoc, times_append, spells_views}
 use Rattle.traces.proofs.OwnEntries.{extends_self}
@@ -34,11 +34,11 @@ each_right : {A : Type 0} (P : A → Type 0) (xs ys : List A) → Each P (xs ++ 
 each_right P [] ys t = t
 each_right P (x ∷ xs) ys t = each_right P xs ys t.1
 
-times_refreshed : (a : ℕ) (run : List Entry) (v : List Part) → times a (map (refreshed run) v) ≡ times a v
+times_refreshed : (a : ℕ) (run : List Entry) (v : List Part) → times a (map (with_run run) v) ≡ times a v
 times_refreshed a run [] = refl
 times_refreshed a run (p ∷ ps) = ap (λ (n : ℕ). mark (is_at a p.actor p.reach) + n) (times_refreshed a run ps)
 
-leaves_refreshed : (r : ℕ) (run : List Entry) (v : List Part) → Each (λ p. LeavesRow r p.reach) (map (refreshed run) v) → Each (λ p. LeavesRow r p.reach) v
+leaves_refreshed : (r : ℕ) (run : List Entry) (v : List Part) → Each (λ p. LeavesRow r p.reach) (map (with_run run) v) → Each (λ p. LeavesRow r p.reach) v
 leaves_refreshed r run [] t = tt
 leaves_refreshed r run (p ∷ ps) t = (t.0, leaves_refreshed r run ps t.1)
 
@@ -61,14 +61,14 @@ module _ (limits : Limits) (law : List Entry → Type 0) where
   abbrev Fits : List ℕ → List Entry → Part → Type 0
   Fits words run = PartFits limits words run
 
-  fits_refreshed : (words : List ℕ) (run : List Entry) (v : List Part) → Each (Fits words run) v → Each (Fits words run) (map (refreshed run) v)
+  fits_refreshed : (words : List ℕ) (run : List Entry) (v : List Part) → Each (Fits words run) v → Each (Fits words run) (map (with_run run) v)
   fits_refreshed words run [] t = tt
   fits_refreshed words run (p ∷ ps) t =
       (record { extends = extends_goes p.reach p.actor run run (extends_self p.actor run); reach = t.0.reach; there = t.0.there; own_limits = t.0.own_limits }, fits_refreshed words run ps t.1)
 
   pub view_refreshed : (s : TableState) (h : R s) (id : ℕ) (v : List Part) → get_elem? s.views id ≡ some v
-      → R record { words = s.words; homes = s.homes; views = set s.views id (map (refreshed h.run) v) }
-  view_refreshed s h id v at = let w : List Part = map (refreshed h.run) v in record {
+      → R record { words = s.words; homes = s.homes; views = set s.views id (map (with_run h.run) v) }
+  view_refreshed s h id v at = let w : List Part = map (with_run h.run) v in record {
     run = h.run;
     legal = h.legal;
     kept = h.kept;
@@ -89,10 +89,10 @@ module _ (limits : Limits) (law : List Entry → Type 0) where
 
   pub refreshes : (slots id : ℕ) (me : Mine) (i : ℕ) → Allows R slots id me i (λ n. n) (λ n. IsRefreshed law me)
   refreshes slots id me i s h _ at _ = (
-    map (refreshed h.run) me.0,
+    map (with_run h.run) me.0,
     keeps,
     tt,
-    subst (λ (ws : List ℕ). R record { words = ws; homes = s.homes; views = set s.views id (map (refreshed h.run) me.0) }) (sym (set-get_or s.words i 0)) (view_refreshed s h id me.0 at),
+    subst (λ (ws : List ℕ). R record { words = ws; homes = s.homes; views = set s.views id (map (with_run h.run) me.0) }) (sym (set-get_or s.words i 0)) (view_refreshed s h id me.0 at),
     record {
       run = h.run;
       legal = h.legal;
@@ -166,7 +166,7 @@ module _ (limits : Limits) (law : List Entry → Type 0) where
             (at_snoc first right u j is);
       }
 
-  note_times : (a : ℕ) (v : List Part) → times a (noted v) ≡ 0
+  note_times : (a : ℕ) (v : List Part) → times a (part_note v) ≡ 0
   note_times a [] = refl
   note_times a (p ∷ ps) = refl
 
@@ -175,15 +175,15 @@ module _ (limits : Limits) (law : List Entry → Type 0) where
   note_goes p (Writing row first words) run goes = (goes.0, goes.1)
   note_goes p Noted run goes = goes
 
-  note_fits : (words : List ℕ) (run : List Entry) (v : List Part) → Each (Fits words run) v → Each (Fits words run) (noted v)
+  note_fits : (words : List ℕ) (run : List Entry) (v : List Part) → Each (Fits words run) v → Each (Fits words run) (part_note v)
   note_fits words run [] t = tt
   note_fits words run (p ∷ ps) t = (record { extends = note_goes p p.reach run t.0.extends; reach = tt; there = t.0.there; own_limits = t.0.own_limits }, tt)
 
-  pub notes : (id : ℕ) (v : List Part) → Splits R id v v (noted v)
+  pub notes : (id : ℕ) (v : List Part) → Splits R id v v (part_note v)
   notes id v s h at =
       let first : List (List Part) = set s.views id v in
-      let last : List (List Part) = first ++ noted v ∷ [] in
-      let here : get_elem? last id ≡ some v = at_longer first (noted v ∷ []) id v (set_at s.views id v v at) in record {
+      let last : List (List Part) = first ++ part_note v ∷ [] in
+      let here : get_elem? last id ≡ some v = at_longer first (part_note v ∷ []) id v (set_at s.views id v v at) in record {
         run = h.run;
         legal = h.legal;
         kept = h.kept;
@@ -191,18 +191,18 @@ module _ (limits : Limits) (law : List Entry → Type 0) where
         spells = with_views limits s.words s.views last (memory_of limits h.run)
             (λ r st j u is. dite (ℕ_discrete j id)
             (λ e. subst (λ z. Each (λ p. LeavesRow r p.reach) z) (same_view s.views id j v u at is e) (st id v here))
-            (λ ne. st j u (at_longer first (noted v ∷ []) j u (set_else s.views id j v ne ∙ is)))) h.spells;
+            (λ ne. st j u (at_longer first (part_note v ∷ []) j u (set_else s.views id j v ne ∙ is)))) h.spells;
         begins = h.begins;
         actors = h.actors;
-        once = λ a. let t = everywhere_set s.views id v v a at in let u = everywhere_snoc first (noted v) a in let o = h.once a in let none = note_times a v in omega arith;
-        somewhere = λ a below. let t = everywhere_set s.views id v v a at in let u = everywhere_snoc first (noted v) a in let o = h.somewhere a below in let none = note_times a v in omega arith;
+        once = λ a. let t = everywhere_set s.views id v v a at in let u = everywhere_snoc first (part_note v) a in let o = h.once a in let none = note_times a v in omega arith;
+        somewhere = λ a below. let t = everywhere_set s.views id v v a at in let u = everywhere_snoc first (part_note v) a in let o = h.somewhere a below in let none = note_times a v in omega arith;
         each = λ j u is. ⊎_elim
             (λ t. ⊎_elim
             (λ y. subst (λ z. Each (Fits s.words h.run) z) y.1 (h.each id v at))
             (λ y. h.each j u y.1)
             (at_set s.views id j v u t))
             (λ e. subst (λ z. Each (Fits s.words h.run) z) e (note_fits s.words h.run v (h.each id v at)))
-            (at_snoc first (noted v) u j is);
+            (at_snoc first (part_note v) u j is);
       }
 
 module _ (limits : Limits) (law : List Entry → Type 0) where

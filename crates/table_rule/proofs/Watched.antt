@@ -13,13 +13,13 @@ use Rattle.deltas.specs.Memory.{Memory}
 use Rattle.traces.specs.declared.trace.Entry.{Entry}
 use Rattle.traces.specs.trace.Steps.{IsAnswer}
 use Rattle.traces.specs.trace.Trace.{memory_of}
-use Rattle.tree_words.specs.Changes.{HasWord, SetsBits, StepsChangeOneWord, WordsStandApart, SpellsParts, changed_word, operation_of, told}
+use Rattle.tree_words.specs.Changes.{HasWord, SetsBits, StepsChangeOneWord, WordsStandApart, SpellsParts, changed_word, operation_of, answer_by}
 use Rattle.tree_words.specs.declared.operations.Operation.TheVariants.{Load}
 use Rattle.table_rule.specs.declared.view.Part.{Part}
 use Rattle.table_rule.specs.declared.view.Reach.TheVariants.{Idle}
 use Rattle.table_rule.specs.Running.{Each, IsSettled, PartFits}
 use Rattle.table_rule.specs.Steps.{Watched, Watches}
-use Rattle.table_rule.specs.Views.{IsOf, Mine, alone, part, refreshed, seen_of}
+use Rattle.table_rule.specs.Views.{IsOf, Mine, alone, part, with_run, seen_of}
 use Rattle.table_rule.proofs.Parts.{spells_views}
 use Rattle.table_rule.proofs.Roster.{view_refreshed}
 use Rattle.table_rule.proofs.Turns.{TableState, Rule}
@@ -30,7 +30,7 @@ reads_none (ReusePids word bits) is = cc
 reads_none (ReuseRows word bits) is = cc
 reads_none other is = tt
 
-reads_number : (limits : Limits) (step : Step Record) (found : ℕ) → HasWord limits step → operation_of step ≡ Load → told step found ≡ Number found
+reads_number : (limits : Limits) (step : Step Record) (found : ℕ) → HasWord limits step → operation_of step ≡ Load → answer_by step found ≡ Number found
 reads_number limits (Slot pid) found has is = refl
 reads_number limits (Row row) found has is = refl
 reads_number limits Epoch found has is = refl
@@ -48,21 +48,21 @@ module _ (change : StepsChangeOneWord) (limits : Limits) (law : Limits → List 
       let m : Memory = memory_of limits h.run in
       let parts : SpellsParts limits s.words m = spells_views limits s.words m (IsSettled s.views) (λ row. ⊥) (λ row none. absurd none) h.spells in
       let found : ℕ = get_or s.words (changed_word limits actor step) 0 in
-      let told_is : IsAnswer m step (told step found) = (change limits s.words m actor step h.wide parts few has (reads_none step reads)).answers in
+      let told_is : IsAnswer m step (answer_by step found) = (change limits s.words m actor step h.wide parts few has (reads_none step reads)).answers in
       let number : IsAnswer m step (Number found) = subst (IsAnswer m step) (reads_number limits step found has reads) told_is in
       subst (λ (j : ℕ). IsAnswer m step (Number (get_or s.words j 0))) (sym at) number
 
   watches : (slots id : ℕ) (me : Mine) (i : ℕ) → Allows (Rule limits law) slots id me i (λ n. n) (Watches law (made slots i 0 0 none) me)
   watches slots id me i s h _ at _ =
       let run : List Entry = h.run in
-      let view : List Part = map (refreshed run) me.0 in (
+      let view : List Part = map (with_run run) me.0 in (
         view,
         keeps,
         tt,
         subst (λ (ws : List ℕ). Rule limits law record { words = ws; homes = s.homes; views = set s.views id view }) (sym (set-get_or s.words i 0)) (view_refreshed limits (law limits) s h id me.0 at),
         λ limits' actor step is few has reads word.
             let fits : PartFits limits s.words run (part limits' actor (seen_of me) Idle) = (subst (λ (m : Mine). Each (PartFits limits s.words run) m.0) is (h.each id me.0 at)).0 in
-            let now : (view, me.1) ≡ (alone limits' actor run Idle, []) = ap (λ (m : Mine). (map (refreshed run) m.0, m.1)) is in
+            let now : (view, me.1) ≡ (alone limits' actor run Idle, []) = ap (λ (m : Mine). (map (with_run run) m.0, m.1)) is in
             let saw : seen_of (view, me.1) ≡ run = ap seen_of now in (
               subst (λ (seen : List Entry). (view, me.1) ≡ (alone limits' actor seen Idle, [])) (sym saw) now,
               subst (λ (z : Limits × List Entry). Watched law z.0 actor (seen_of me) step (get_or s.words i 0) z.1) (λ k. (sym fits.own_limits k, sym saw k))

@@ -18,7 +18,7 @@ use Rattle.traces.specs.trace.Trace.{memory_of}
 use Rattle.record_slots.specs.Layout.{count_unit, item_size, items_at, part_limit, row_size}
 use Rattle.record_slots.specs.Spelling.{words_of}
 use Rattle.record_slots.specs.Spells.{HasSpelling}
-use Rattle.tree_words.specs.Changes.{HasWord, changed_word, operation_of, told}
+use Rattle.tree_words.specs.Changes.{HasWord, changed_word, operation_of, answer_by}
 use Rattle.tree_words.specs.declared.operations.Operation.TheVariants.{Load}
 use Rattle.tree_words.specs.Layout.{row_at}
 use Rattle.table_rule.specs.declared.view.Reach.{Reach}
@@ -27,13 +27,13 @@ use Rattle.table_rule.specs.Running.{BeginWithSteps, KnowsReadable}
 use Rattle.table_rule.specs.Views.{SitsAt, Mine, seen_of}
 
 -- the begin that stands before a step with which an operation begins
-abbrev pub opened : ℕ → Option Command → List Entry
-opened actor None = []
-opened actor (Some command) = Begin actor command ∷ []
+abbrev pub begin_before : ℕ → Option Command → List Entry
+begin_before actor None = []
+begin_before actor (Some command) = Begin actor command ∷ []
 
 -- the run with one more step, and its begin
 abbrev pub with_step : List Entry → ℕ → Option Command → StepOf Record → Answer Record → Option Reply → List Entry
-with_step run actor begun step answer reply = (run ++ opened actor begun) ++ Step actor step answer reply ∷ []
+with_step run actor begun step answer reply = (run ++ begin_before actor begun) ++ Step actor step answer reply ∷ []
 
 -- The actor may take the step, whatever the others have done since: the run keeps the law.
 abbrev pub IsLawfulStep : (Limits → List Entry → Type 0) → Limits → ℕ → List Entry → Option Command → StepOf Record → Option Reply → Type 0
@@ -68,7 +68,7 @@ Event law begun step reply reach me answer me' = (limits : Limits) (actor : ℕ)
     → SitsAt limits actor Idle me' × Took law limits actor (seen_of me) begun step answer reply (seen_of me')
 
 abbrev pub Acts : (Limits → List Entry → Type 0) → Option Command → StepOf Record → Option Reply → Mine → ℕ → Mine → Type 0
-Acts law begun step reply me found me' = Event law begun step reply Idle me (told step found) me'
+Acts law begun step reply me found me' = Event law begun step reply Idle me (answer_by step found) me'
 
 -- The first word of a row is read, which is the step.
 abbrev pub ReadsRow : (Limits → List Entry → Type 0) → Made (Unit {0}) → Mine → ℕ → Mine → Type 0

@@ -57,17 +57,17 @@ other_parts [] = []
 other_parts (part ∷ parts) = parts
 
 -- a note of what the first part has seen
-abbrev pub noted : List Part → List Part
-noted [] = []
-noted (part ∷ parts) = record part { reach = Noted } ∷ []
+abbrev pub part_note : List Part → List Part
+part_note [] = []
+part_note (part ∷ parts) = record part { reach = Noted } ∷ []
 
 -- a new seat, in which no actor stands
 abbrev pub IsBlank : Mine → Type 0
 IsBlank me = me ≡ ([], [])
 
 -- the part once it has seen the run
-abbrev pub refreshed : List Entry → Part → Part
-refreshed run old = part old.limits old.actor run old.reach
+abbrev pub with_run : List Entry → Part → Part
+with_run run old = part old.limits old.actor run old.reach
 
 -- The seat is refreshed: each part has now seen the longest run, which goes on from what it had seen, and in which each begin stands
 -- directly before its operation's first step.
@@ -75,7 +75,7 @@ pub record IsRefreshed (law : List Entry → Type 0) (me me' : Mine) : Type 0 wh
   pub run : List Entry
   pub legal : law run
   pub begins : BeginWithSteps run
-  pub saw : me' ≡ (map (refreshed run) me.0, me.1)
+  pub saw : me' ≡ (map (with_run run) me.0, me.1)
   pub extends : Each (λ part. ExtendsFor part.reach part.actor part.seen run) me.0
 
 -- An operation can't say the table's limits, and takes those of the seat's first part.

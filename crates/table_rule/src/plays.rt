@@ -138,11 +138,11 @@ impl Split<View> for Apart {
 pub(crate) struct Noting;
 
 impl Split<View> for Noting {
-    ghost use Rattle.table_rule.specs.Views.{noted};
+    ghost use Rattle.table_rule.specs.Views.{part_note};
 
     ghost left = { λ parts. parts };
 
-    ghost right = { noted };
+    ghost right = { part_note };
 }
 
 /// The parts of two seats in one.

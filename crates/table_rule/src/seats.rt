@@ -1,6 +1,6 @@
 //! Seats that are refreshed, cut in two, noted, and joined.
 ghost use Rattle.std.specs.Prelude.{◌≡◌, ◌<◌, ◌++◌, []};
-ghost use Rattle.table_rule.specs.Views.{HasPart, IsBlank, IsOf, IsRefreshed, first_part, noted, other_parts};
+ghost use Rattle.table_rule.specs.Views.{HasPart, IsBlank, IsOf, IsRefreshed, first_part, part_note, other_parts};
 
 use crate::plays::{Apart, Blank, Noting, Refreshing, Together};
 use crate::rule::{Law, TableSeat, Words};
@@ -35,7 +35,7 @@ pub fn note<P: Law>(words: &Words<P>, seat: &mut TableSeat, limits: &Limits) -> 
     ensures same { seat.new.table_id ≡ seat.old.table_id }
     ensures stays { seat.new.me ≡ seat.old.me }
     ensures table { result.table_id ≡ seat.old.table_id }
-    ensures noted { result.me ≡ (noted seat.old.me.0, []) }
+    ensures noted { result.me ≡ (part_note seat.old.me.0, []) }
 {
     let _ = limits;
     words.split_seat::<Noting>(seat)

@@ -1,11 +1,11 @@
 //! The steps that are one atomic operation on a word.
 ghost use Rattle.std.specs.Prelude.{◌≡◌, ◌<◌, option_copied};
 ghost use Rattle.bw_model.specs.Answers.{answer_of};
-ghost use Rattle.bw_model.specs.Lent.{lent};
+ghost use Rattle.bw_model.specs.Lent.{step_of_loan};
 ghost use Rattle.table_rule.specs.declared.view.Reach.TheVariants.{Idle};
 ghost use Rattle.table_rule.specs.Steps.{IsLawfulStep, Took};
 ghost use Rattle.table_rule.specs.Views.{SitsAt, IsOf, seen_of};
-ghost use Rattle.tree_words.specs.Changes.{HasWord, SetsBits, changed_word, operation_of, told};
+ghost use Rattle.tree_words.specs.Changes.{HasWord, SetsBits, changed_word, operation_of, answer_by};
 
 use crate::plays::{Acting, Telling};
 use crate::rule::{Law, TableSeat, Words};
@@ -28,13 +28,13 @@ pub fn act<P: Law>(
     reply: Option<&Reply>,
 ) -> Told
     requires table { IsOf limits.now words.now.key words.now.table_id seat.old.table_id }
-    requires range { HasWord limits.now (lent step.now) }
+    requires range { HasWord limits.now (step_of_loan step.now) }
     requires actor { actor < 16 }
     requires seat { SitsAt limits.now actor Idle seat.old.me }
-    requires may { IsLawfulStep P.law limits.now actor (seen_of seat.old.me) (option_copied begun) (lent step.now) (option_copied reply) }
+    requires may { IsLawfulStep P.law limits.now actor (seen_of seat.old.me) (option_copied begun) (step_of_loan step.now) (option_copied reply) }
     ensures same { seat.new.table_id ≡ seat.old.table_id }
     ensures seat { SitsAt limits.now actor Idle seat.new.me }
-    ensures took { Took P.law limits.now actor (seen_of seat.old.me) (option_copied begun.entry) (lent step.now) (answer_of result) (option_copied reply.entry) (seen_of seat.new.me) }
+    ensures took { Took P.law limits.now actor (seen_of seat.old.me) (option_copied begun.entry) (step_of_loan step.now) (answer_of result) (option_copied reply.entry) (seen_of seat.new.me) }
 {
     act_told::<P, Brand>(words, seat, limits, actor, step, begun, reply)
 }
@@ -49,17 +49,17 @@ fn act_told<P: Law, C: Telling>(
     begun: Option<&Command>,
     reply: Option<&Reply>,
 ) -> Told
-    requires told { lent step.now ≡ C.step }
+    requires told { step_of_loan step.now ≡ C.step }
     requires begun { option_copied begun ≡ C.begun }
     requires reply { option_copied reply ≡ C.reply }
     requires table { IsOf limits.now words.now.key words.now.table_id seat.old.table_id }
-    requires range { HasWord limits.now (lent step.now) }
+    requires range { HasWord limits.now (step_of_loan step.now) }
     requires actor { actor < 16 }
     requires seat { SitsAt limits.now actor Idle seat.old.me }
-    requires may { IsLawfulStep P.law limits.now actor (seen_of seat.old.me) C.begun (lent step.now) C.reply }
+    requires may { IsLawfulStep P.law limits.now actor (seen_of seat.old.me) C.begun (step_of_loan step.now) C.reply }
     ensures same { seat.new.table_id ≡ seat.old.table_id }
     ensures seat { SitsAt limits.now actor Idle seat.new.me }
-    ensures took { Took P.law limits.now actor (seen_of seat.old.me) C.begun (lent step.now) (answer_of result) C.reply (seen_of seat.new.me) }
+    ensures took { Took P.law limits.now actor (seen_of seat.old.me) C.begun (step_of_loan step.now) (answer_of result) C.reply (seen_of seat.new.me) }
 {
     let _ = begun;
     let _ = reply;
@@ -94,7 +94,7 @@ fn operate<P: Law, C: Telling>(
     requires operation { operation ≡ operation_of C.step }
     ensures same { seat.new.table_id ≡ seat.old.table_id }
     ensures seat { SitsAt limits.now actor Idle seat.new.me }
-    ensures took { Took P.law limits.now actor (seen_of seat.old.me) C.begun C.step (told C.step result) C.reply (seen_of seat.new.me) }
+    ensures took { Took P.law limits.now actor (seen_of seat.old.me) C.begun C.step (answer_by C.step result) C.reply (seen_of seat.new.me) }
 {
     let _ = limits;
     let _ = actor;

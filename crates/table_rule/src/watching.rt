@@ -1,6 +1,6 @@
 //! A word that is watched: what a step that reads it would be told, without that step.
 ghost use Rattle.std.specs.Prelude.{◌≡◌, ◌<◌};
-ghost use Rattle.bw_model.specs.Lent.{lent};
+ghost use Rattle.bw_model.specs.Lent.{step_of_loan};
 ghost use Rattle.table_rule.specs.declared.view.Reach.TheVariants.{Idle};
 ghost use Rattle.table_rule.specs.Steps.{Watched};
 ghost use Rattle.table_rule.specs.Views.{SitsAt, IsOf, seen_of};
@@ -22,13 +22,13 @@ pub fn watch<P: Law>(
     step: &Step<&Record>,
 ) -> u64
     requires table { IsOf limits.now words.now.key words.now.table_id seat.old.table_id }
-    requires range { HasWord limits.now (lent step.now) }
-    requires reads { operation_of (lent step.now) ≡ Load }
+    requires range { HasWord limits.now (step_of_loan step.now) }
+    requires reads { operation_of (step_of_loan step.now) ≡ Load }
     requires actor { actor < 16 }
     requires seat { SitsAt limits.now actor Idle seat.old.me }
     ensures same { seat.new.table_id ≡ seat.old.table_id }
     ensures seat { SitsAt limits.now actor Idle seat.new.me }
-    ensures watched { Watched P.law limits.now actor (seen_of seat.old.me) (lent step.now) result (seen_of seat.new.me) }
+    ensures watched { Watched P.law limits.now actor (seen_of seat.old.me) (step_of_loan step.now) result (seen_of seat.new.me) }
 {
     steps_change_one_word();
     words.load::<Watching<P>>(seat, word_place(limits, actor, step))

@@ -7,23 +7,23 @@ use Rattle.std.proofs.lemmas.List.{append_assoc, append-nil}
 use Rattle.deltas.proofs.Replaced.{replaced_other, replaced_same}
 use Rattle.traces.specs.declared.trace.Entry.{Entry}
 use Rattle.traces.specs.declared.trace.Entry.TheVariants.{Begin, Step}
-use Rattle.traces.specs.discipline.Knowledge.{Knowledge, begun, finished, knows, knows_after, learn, nothing}
+use Rattle.traces.specs.discipline.Knowledge.{Knowledge, after_begin, after_reply, knows, knows_after, learn, nothing}
 use Rattle.traces.specs.discipline.Disciplined.{Extends, is_entry_of, own_entries}
 
 -- an entry of another actor leaves what the actor knows
 pub after_other : (ks : ℕ → Knowledge) (actor : ℕ) (entry : Entry) → is_entry_of actor entry ≡ false → knows_after ks entry actor ≡ ks actor
-after_other ks actor (Begin other command) e = replaced_other other (begun (ks other) command) ks actor (eqb-false actor other e)
-after_other ks actor (Step other step answer reply) e = replaced_other other (finished (learn (ks other) step answer) reply) ks actor (eqb-false actor other e)
+after_other ks actor (Begin other command) e = replaced_other other (after_begin (ks other) command) ks actor (eqb-false actor other e)
+after_other ks actor (Step other step answer reply) e = replaced_other other (after_reply (learn (ks other) step answer) reply) ks actor (eqb-false actor other e)
 
 -- an own entry makes the same of the same knowledge
 after_own : (ks ks' : ℕ → Knowledge) (actor : ℕ) (entry : Entry) → is_entry_of actor entry ≡ true → ks actor ≡ ks' actor → knows_after ks entry actor ≡ knows_after ks' entry actor
 after_own ks ks' actor (Begin other command) e same =
     let i : actor ≡ other = eqb-true actor other e in
-    rw (i, replaced_same other (begun (ks other) command) ks, replaced_same other (begun (ks' other) command) ks') (ap (λ k. begun k command) (subst (λ n. ks n ≡ ks' n) i same))
+    rw (i, replaced_same other (after_begin (ks other) command) ks, replaced_same other (after_begin (ks' other) command) ks') (ap (λ k. after_begin k command) (subst (λ n. ks n ≡ ks' n) i same))
 after_own ks ks' actor (Step other step answer reply) e same =
     let i : actor ≡ other = eqb-true actor other e in
-    rw (i, replaced_same other (finished (learn (ks other) step answer) reply) ks, replaced_same other (finished (learn (ks' other) step answer) reply) ks')
-    (ap (λ k. finished (learn k step answer) reply) (subst (λ n. ks n ≡ ks' n) i same))
+    rw (i, replaced_same other (after_reply (learn (ks other) step answer) reply) ks, replaced_same other (after_reply (learn (ks' other) step answer) reply) ks')
+    (ap (λ k. after_reply (learn k step answer) reply) (subst (λ n. ks n ≡ ks' n) i same))
 
 fold_own : (entries : List Entry) (ks ks' : ℕ → Knowledge) (actor : ℕ) → ks actor ≡ ks' actor → fold knows_after ks entries actor ≡ fold knows_after ks' (own_entries actor entries) actor
 fold_own [] ks ks' actor same = same

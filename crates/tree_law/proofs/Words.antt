@@ -50,17 +50,17 @@ pub use Rattle.traces.proofs.Pushes.{slice_get_below, slice_get_kept, slice_get-
 pub use Rattle.traces.proofs.RunLaws.{IsRun-push}
 pub use Rattle.traces.proofs.TraceLaws.{TakesStep-push_cases, memory_of-push, command_of-push, memory_at-push, Happens-kept, Happens-push_cases}
 pub use Rattle.traces.specs.chain.Chains.{IsChainOf, IsOnChain, chain_rows, IsChainFrom, content_in, right_in, low_in, is_removed, level_in, high_in, covers, IsFront}
-pub use Rattle.traces.specs.discipline.Discipline.{MayReply, May, root_over, IsOwn, MayExchange, IsOwnBase, IsAllowed, FitsOn, found, value_of, IsUnset, IsPassed, MayFree, MayLink, MayRoot, MayAdd}
+pub use Rattle.traces.specs.discipline.Discipline.{MayReply, May, root_over, IsOwn, MayExchange, IsOwnBase, IsAllowed, FitsOn, chain_value, value_of, IsUnset, IsPassed, MayFree, MayLink, MayRoot, MayAdd}
 pub use Rattle.traces.specs.discipline.Discipline.{base_from, HasRead, update_record, MayPost, IsMet, MayUpdate, LacksRoom, MayAnswer, WasStanding, NamesChild, MayUnterm, MayHold, MayMerge, MaySplit}
 pub use Rattle.traces.specs.discipline.Discipline.{MayConsolidate, MayRemove}
 pub use Rattle.traces.specs.discipline.Disciplined.{IsDisciplined, IsDisciplinedFrom, own_entries, is_entry_of}
 pub use Rattle.traces.specs.chain.Fitted.{IsFitted, FitsOver, Makes}
 pub use Rattle.traces.specs.discipline.Fitting.{Fits}
 pub use Rattle.traces.specs.chain.HeldBack.{HoldsBack}
-pub use Rattle.traces.specs.discipline.Knowledge.{begun, knows, Knowledge, knows_after, finished, Ready, learn, learnt_next, nothing, Foreign, Empty, OwnPage}
-pub use Rattle.traces.specs.discipline.Knowledge.{Taken, Other, Gone, Written, filled, rooted}
-pub use Rattle.traces.specs.discipline.Knowledge.{OwnRow, emptied, exchanged, split_off, linked_over, forgotten, Unstamped, handed_page, is_on_walk, LimboMark, handed_over, Absent, Stamped, passed_by}
-pub use Rattle.traces.specs.discipline.Knowledge.{stamped, Readings, set_page, taken_out, next_seen, rebuilt, Limbos, updated, learn_head}
+pub use Rattle.traces.specs.discipline.Knowledge.{after_begin, knows, Knowledge, knows_after, after_reply, Ready, learn, learnt_next, nothing, Foreign, Empty, OwnPage}
+pub use Rattle.traces.specs.discipline.Knowledge.{Taken, Other, Gone, Written, after_filling, after_root}
+pub use Rattle.traces.specs.discipline.Knowledge.{OwnRow, after_emptying, after_exchange, split_off, linked_over, forgotten, Unstamped, handed_page, is_on_walk, LimboMark, handed_over, Absent, Stamped, passed_by}
+pub use Rattle.traces.specs.discipline.Knowledge.{with_stamp, Readings, set_page, taken_out, next_seen, rebuilt, Limbos, after_update, learn_head}
 pub use Rattle.traces.specs.discipline.Learnt.{ShowsRow}
 pub use Rattle.traces.specs.discipline.Recalled.{recall, Recalled, blank, recalls_after, recalls, is_removal}
 pub use Rattle.traces.specs.chain.SideChain.{LivePage, IsSideChainFrom}
@@ -103,7 +103,7 @@ pub use Rattle.tree_law.specs.Phases.{Phased, LinkMoves, Exchanged}
 pub use Rattle.tree_law.specs.Put.{put}
 pub use Rattle.tree_law.specs.Removal.{removal}
 pub use Rattle.tree_law.specs.Replies.{IsRepliedAt}
-pub use Rattle.tree_law.specs.Shared.{shared, slot_in, row_in, Shared}
+pub use Rattle.tree_law.specs.Shared.{shared_part, slot_in, row_in, Shared}
 pub use Rattle.tree_law.specs.State.{IsReadyPage, Tells, operation_from, IsSearch, IsState, phase_of, IsInTree, IsUnended, IsAnsweredBy, IsMarked, HasFound, IsNamed}
 pub use Rattle.tree_law.specs.Stood.{HaveStood, WasRead, WereRead, WasLeafWith, IsLeafWith}
 pub use Rattle.tree_law.specs.Times.{Times, Timed, times_after, LimboFits, Outing, Holds, NamesSince, IsSince, HeldHead, out_after, is_linked, is_cleared, is_base, split_page}

@@ -56,8 +56,8 @@ abbrev pub deletion_a : Record
 deletion_a = delta.Delete (record { next = 13; key = a })
 
 -- what is placed in rows 2 to 14
-abbrev pub placed : List Record
-placed = put_a
+abbrev pub example_records : List Record
+example_records = put_a
     ∷ upper_a
     ∷ split_a
     ∷ root_a
@@ -77,7 +77,7 @@ placed = put_a
 abbrev pub all_links : List Entry
 all_links = enters 0 insert_a
     ++ takes_rows 13 2
-    ++ places 2 placed
+    ++ places 2 example_records
     ++ Step 0 (Slot 0) (Number 1) None
     ∷ Step 0 (Slot 1) (Number 1) None
     ∷ Step 0 (Row 1) (Content opening_leaf) None

@@ -25,7 +25,7 @@ use Rattle.op_machine.specs.theorem.Progress.{ChangesTree, is_begin, takes_numbe
 use Rattle.tree_law.specs.Keys.{Key}
 use Rattle.tree_law.specs.Owners.{Linked, Owners}
 use Rattle.tree_law.specs.Phase.{Fresh, Indexed, Held, Removed, Merged, PageOwner, Nobody, Keeps, Placed, Cleared}
-use Rattle.tree_law.specs.Shared.{Shared, shared}
+use Rattle.tree_law.specs.Shared.{Shared, shared_part}
 use Rattle.tree_law.specs.State.{IsState}
 
 -- what the life of a page that begins at the key is worth: one that begins at the empty key is never removed
@@ -90,7 +90,7 @@ total f (suc n) = total f n + f n
 -- what is in store, where the chains are worth so much
 abbrev pub store : (limits : Limits) (entries : List Entry) → IsState limits entries → (ℕ → ℕ) → ℕ
 store limits entries state worths =
-    total (λ page. life (state.owners.page page) ((shared (memory_of limits entries)).slots page)) limits.pids + total worths limits.pids + total
+    total (λ page. life (state.owners.page page) ((shared_part (memory_of limits entries)).slots page)) limits.pids + total worths limits.pids + total
     (λ actor. credit (knows entries actor).asked) limits.actors
 
 -- what may be in store: nothing before the first entry, and from then on 154 for each page that there may be, and 8 for each actor
@@ -133,7 +133,7 @@ pub record AreUsed (limits : Limits) (entries : List Entry) : Type 0 where
 pub record IsPaidState (limits : Limits) (entries : List Entry) : Type 0 where
   pub state : IsState limits entries
   pub worths : ℕ → ℕ
-  pub each : (page : ℕ) → IsWorth state.owners (shared (memory_of limits entries)) page (worths page)
+  pub each : (page : ℕ) → IsWorth state.owners (shared_part (memory_of limits entries)) page (worths page)
   pub few : HasFewChanges limits entries
   pub taken : AreUsed limits entries
   pub paid : (m : ℕ) (changes : List ℕ) → IsStrictlyIncreasing changes → All (λ place. (m ≤ place) × Happens limits entries place ChangesTree) changes

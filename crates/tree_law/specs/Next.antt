@@ -13,7 +13,7 @@ use Rattle.deltas.specs.declared.record.Record.{Record}
 use Rattle.deltas.specs.declared.record.Record.TheVariants.{Base, Split}
 use Rattle.deltas.specs.declared.record.Split.{Split as SplitOf}
 use Rattle.deltas.specs.Records.{next_row}
-use Rattle.traces.specs.discipline.Knowledge.{Knowledge, learn, finished}
+use Rattle.traces.specs.discipline.Knowledge.{Knowledge, learn, after_reply}
 use Rattle.tree_law.specs.Fitness.{IsAdded}
 use Rattle.tree_law.specs.Owners.{Owner, Free, Spare, Linked, Owners}
 use Rattle.tree_law.specs.Phases.{Phased}
@@ -33,9 +33,9 @@ grown log None = log
 grown log (Some u) = log ++ u ∷ []
 
 -- the log at an operation's point, after a step at this log that is its point or not
-abbrev pub pointed : List Update → Option Update → Option (List Update) → Option (List Update)
-pointed log None old = old
-pointed log (Some u) old = Some log
+abbrev pub log_at_point : List Update → Option Update → Option (List Update) → Option (List Update)
+log_at_point log None old = old
+log_at_point log (Some u) old = Some log
 
 -- the update that the actor's command makes by the log, where it has made none yet
 abbrev pub IsDue : ℕ → Knowledge → List Update → Update → Type 0
@@ -67,7 +67,7 @@ pub record Next (a : ℕ) (m m' : Shared) (log : List Update) (o : Owners) (know
   pub homed : (row : ℕ) → owners.row row ≡ Linked → (o.row row ≡ Linked) ⊎ IsHomed m s x row
   -- a linked row stays linked, with its record
   pub kept : (row : ℕ) → o.row row ≡ Linked → (owners.row row ≡ Linked) × (m'.rows row ≡ m.rows row)
-  pub is_tree : IsTree m' (grown log update) owners (put knows a (finished (learn (knows a) s x) r)) (put point a (pointed log update (point a))) (put logs a (log ∷ logs a))
+  pub is_tree : IsTree m' (grown log update) owners (put knows a (after_reply (learn (knows a) s x) r)) (put point a (log_at_point log update (point a))) (put logs a (log ∷ logs a))
 
 -- The same of every step, a reuse among them, which lets linked rows go.
 pub record After (a : ℕ) (m m' : Shared) (log : List Update) (o : Owners) (knows : ℕ → Knowledge) (point : ℕ → Option (List Update)) (logs : ℕ → List (List Update)) (s : StepOf Record) (x : Answer Record) (r : Option Reply) : Type
@@ -80,4 +80,4 @@ pub record After (a : ℕ) (m m' : Shared) (log : List Update) (o : Owners) (kno
   pub added : (row : ℕ) → owners.row row ≡ Linked → (o.row row ≡ Linked) ⊎ IsAdded o m'.rows row
   -- a linked row has its record still
   pub same : (row : ℕ) → o.row row ≡ Linked → m'.rows row ≡ m.rows row
-  pub is_tree : IsTree m' (grown log update) owners (put knows a (finished (learn (knows a) s x) r)) (put point a (pointed log update (point a))) (put logs a (log ∷ logs a))
+  pub is_tree : IsTree m' (grown log update) owners (put knows a (after_reply (learn (knows a) s x) r)) (put point a (log_at_point log update (point a))) (put logs a (log ∷ logs a))

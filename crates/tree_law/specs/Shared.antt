@@ -19,5 +19,5 @@ abbrev pub slot_in : (ℕ → ℕ) → ℕ → Option ℕ
 slot_in slots zero = None
 slot_in slots (suc page) = row_in (slots (suc page))
 
-abbrev pub shared : Memory → Shared
-shared memory = record { root = memory.slots 0; slots = slot_in memory.slots; rows = memory.rows; free = memory.free_rows; free_pages = memory.free_pids }
+abbrev pub shared_part : Memory → Shared
+shared_part memory = record { root = memory.slots 0; slots = slot_in memory.slots; rows = memory.rows; free = memory.free_rows; free_pages = memory.free_pids }

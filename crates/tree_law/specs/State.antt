@@ -31,7 +31,7 @@ use Rattle.tree_law.specs.Limbos.{IsInLimbo}
 use Rattle.traces.specs.discipline.Knowledge.{Ready, Knowledge, knows}
 use Rattle.tree_law.specs.Owners.{Free, Spare, Linked, Owners, Among}
 use Rattle.tree_law.specs.Phase.{Fresh, Indexed, Held, Removed, Merged, PageOwner, Nobody, Keeps, Placed, Cleared}
-use Rattle.tree_law.specs.Shared.{slot_in, shared}
+use Rattle.tree_law.specs.Shared.{slot_in, shared_part}
 use Rattle.tree_law.specs.Stood.{HaveStood}
 use Rattle.tree_law.specs.Times.{Times, Timed}
 use Rattle.tree_law.specs.Tree.{IsTree}
@@ -131,7 +131,7 @@ pub record IsState (limits : Limits) (entries : List Entry) : Type 0 where
   pub owners : Owners
   pub point : ℕ → Option (List Update)
   pub logs : ℕ → List (List Update)
-  pub is_tree : IsTree (shared (memory_of limits entries)) (log_of entries points) owners (knows entries) point logs
+  pub is_tree : IsTree (shared_part (memory_of limits entries)) (log_of entries points) owners (knows entries) point logs
   pub fitted : AreFitted owners (memory_of limits entries).rows
   pub unheld : AreUnheld owners (memory_of limits entries).rows
   pub named : IsNamed limits entries owners (memory_of limits entries) (knows entries)

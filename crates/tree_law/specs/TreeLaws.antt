@@ -12,13 +12,13 @@ use Rattle.deltas.specs.Memory.{Memory, opening}
 use Rattle.traces.specs.trace.Steps.{IsAnswer, memory_after}
 use Rattle.tree_law.specs.Indexed.{IsIndexed}
 use Rattle.tree_law.specs.Keys.{Key, IsBelow, IsUpTo}
-use Rattle.traces.specs.discipline.Knowledge.{Knowledge, nothing, begun, learn, finished}
+use Rattle.traces.specs.discipline.Knowledge.{Knowledge, nothing, after_begin, learn, after_reply}
 use Rattle.traces.specs.discipline.Discipline.{MayAnswer, IsAllowed}
 use Rattle.tree_law.specs.Next.{After}
 use Rattle.tree_law.specs.Owners.{Owners}
 use Rattle.tree_law.specs.Put.{put}
 use Rattle.tree_law.specs.Replies.{IsRepliedAt}
-use Rattle.tree_law.specs.Shared.{Shared, shared}
+use Rattle.tree_law.specs.Shared.{Shared, shared_part}
 use Rattle.tree_law.specs.Times.{Times, Timed}
 use Rattle.tree_law.specs.Tree.{IsTree}
 
@@ -32,25 +32,25 @@ pub record KeyLaw : Type 0 where
 
 -- The opening memory meets the invariant at the empty log, while nobody knows anything.
 abbrev pub OpenLaw : Type 0
-OpenLaw = (limits : Limits) → (o : Owners) × IsTree (shared (opening limits)) [] o (λ actor. nothing) (λ actor. None) (λ actor. [])
+OpenLaw = (limits : Limits) → (o : Owners) × IsTree (shared_part (opening limits)) [] o (λ actor. nothing) (λ actor. None) (λ actor. [])
 
 -- An operation's begin keeps it.
 abbrev pub BeginLaw : Type 0
 BeginLaw = (m : Shared) (log : List Update) (o : Owners) (knows : ℕ → Knowledge) (point : ℕ → Option (List Update)) (logs : ℕ → List (List Update)) → IsTree m log o knows point logs
-    → (a : ℕ) (command : Command) → IsTree m log o (put knows a (begun (knows a) command)) (put point a None) (put logs a [])
+    → (a : ℕ) (command : Command) → IsTree m log o (put knows a (after_begin (knows a) command)) (put point a None) (put logs a [])
 
 -- What a step leaves, and what actors hold then.
 pub record Stepped (limits : Limits) (memory : Memory) (log : List Update) (o : Owners) (knows : ℕ → Knowledge) (point : ℕ → Option (List Update)) (logs : ℕ → List (List Update)) (now a : ℕ) (s : StepOf Record) (x : Answer Record) (r : Option Reply) : Type
     0 where
-  pub after : After a (shared memory) (shared (memory_after a s memory)) log o knows point logs s x r
+  pub after : After a (shared_part memory) (shared_part (memory_after a s memory)) log o knows point logs s x r
   pub times : Times
-  pub timed : Timed limits (memory_after a s memory) after.owners (put knows a (finished (learn (knows a) s x) r)) (suc now) times
+  pub timed : Timed limits (memory_after a s memory) after.owners (put knows a (after_reply (learn (knows a) s x) r)) (suc now) times
 
 -- Each allowed step with the memory's answer keeps the invariant, with what the step adds to the log, and what actors hold.
 abbrev pub StepLaw : Type 0
 StepLaw =
     (limits : Limits) (memory : Memory) (log : List Update) (o : Owners) (knows : ℕ → Knowledge) (point : ℕ → Option (List Update)) (logs : ℕ → List (List Update)) (now : ℕ) (t : Times)
-    → IsTree (shared memory) log o knows point logs → Timed limits memory o knows now t
+    → IsTree (shared_part memory) log o knows point logs → Timed limits memory o knows now t
     → (a : ℕ) → a < limits.actors → (s : StepOf Record) (x : Answer Record) (r : Option Reply) → IsAllowed limits a (knows a) s r → IsAnswer memory s x
     → Stepped limits memory log o knows point logs now a s x r
 
@@ -63,4 +63,4 @@ AnswerLaw = (m : Shared) (log : List Update) (o : Owners) (knows : ℕ → Knowl
 abbrev pub IndexLaw : Type 0
 IndexLaw =
     (memory : Memory) (log : List Update) (o : Owners) (knows : ℕ → Knowledge) (point : ℕ → Option (List Update)) (logs : ℕ → List (List Update))
-    → IsTree (shared memory) log o knows point logs → IsIndexed memory o
+    → IsTree (shared_part memory) log o knows point logs → IsIndexed memory o

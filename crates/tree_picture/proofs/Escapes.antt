@@ -3,7 +3,7 @@ use Rattle.std.proofs.Common.{◌≡◌, ◌≢◌, ◌≤◌, ℕ, List, [], �
 use Rattle.std.specs.Prelude.{nat_le, ◌&&◌, if◌then◌else◌, codes}
 use Rattle.std.specs.List.{AllByRecursion}
 use Rattle.std.proofs.lemmas.Bool.Decides.{nat_tests}
-use Rattle.tree_picture.specs.Document.{escaped_byte, escaped}
+use Rattle.tree_picture.specs.Document.{escaped_byte, escape}
 
 abbrev pub IsSafe : ℕ → Type 0
 IsSafe b = (b ≢ 60) × (b ≢ 62) × (b ≢ 34) × (32 ≤ b) × (b ≤ 126)
@@ -70,6 +70,6 @@ byte_safe b = go (b == 60) (b == 62) (b == 38) (b == 34) (nat_le 32 b && nat_le 
     go false false false false true l g a q p = plain b (known b (grind (arith, nat_tests)) (grind (arith, nat_tests)) (grind (arith, nat_tests)) (grind (arith, nat_tests)) (grind (arith, nat_tests)))
     go false false false false false l g a q p = (ask, tt)
 
-pub all_safe : (bytes : List ℕ) → Safe (escaped bytes)
+pub all_safe : (bytes : List ℕ) → Safe (escape bytes)
 all_safe [] = tt
-all_safe (b ∷ bytes) = all_append (escaped_byte b) (escaped bytes) (byte_safe b) (all_safe bytes)
+all_safe (b ∷ bytes) = all_append (escaped_byte b) (escape bytes) (byte_safe b) (all_safe bytes)

@@ -10,8 +10,8 @@ escaped_byte b =
     if b == 60 then codes "&lt;" else if b == 62 then codes "&gt;" else if b == 38 then codes "&amp;" else if b == 34 then codes "&quot;"
     else if nat_le 32 b && nat_le b 126 then b ∷ [] else codes "?"
 
-abbrev pub escaped : List ℕ → List ℕ
-escaped bytes = flat_map escaped_byte bytes
+abbrev pub escape : List ℕ → List ℕ
+escape bytes = flat_map escaped_byte bytes
 
 -- what an element is told of: a name, and any bytes for it
 pub record Attribute : Type 0 where
@@ -24,7 +24,7 @@ pub record Element : Type 0 where
   pub content : List ℕ
 
 abbrev pub attribute_text : Attribute → List ℕ
-attribute_text attribute = codes " " ++ attribute.name ++ codes "=\"" ++ escaped attribute.value ++ codes "\""
+attribute_text attribute = codes " " ++ attribute.name ++ codes "=\"" ++ escape attribute.value ++ codes "\""
 
 -- where an element begins, and where it ends
 abbrev pub open_text : List ℕ → List Attribute → List ℕ
@@ -34,7 +34,7 @@ abbrev pub close_text : List ℕ → List ℕ
 close_text name = codes "</" ++ name ++ codes ">\n"
 
 abbrev pub element_text : Element → List ℕ
-element_text element = open_text element.name element.attributes ++ escaped element.content ++ close_text element.name
+element_text element = open_text element.name element.attributes ++ escape element.content ++ close_text element.name
 
 -- a small letter
 abbrev pub is_lower_case : ℕ → Bool

@@ -59,17 +59,17 @@ changed_word limits actor (ReusePids word bits) = pid_bits_at limits word
 changed_word limits actor (ReuseRows word bits) = row_bits_at limits word
 
 -- the number that such a step found in its word, as its answer
-abbrev pub told : Step Record → ℕ → Answer Record
-told (Exchange slot old new) found = Whether (found == old)
-told (TakePid pid) found = Whether (not (bit_and found (2 ^ (pid % 64)) == 0))
-told (TakeRow row) found = Whether (not (bit_and found (2 ^ (row % 64)) == 0))
-told (Retire epoch) found = Whether (found == epoch)
-told (Enter epoch) found = Done
-told Leave found = Done
-told (Place row content) found = Done
-told (ReusePids word bits) found = Done
-told (ReuseRows word bits) found = Done
-told _ found = Number found
+abbrev pub answer_by : Step Record → ℕ → Answer Record
+answer_by (Exchange slot old new) found = Whether (found == old)
+answer_by (TakePid pid) found = Whether (not (bit_and found (2 ^ (pid % 64)) == 0))
+answer_by (TakeRow row) found = Whether (not (bit_and found (2 ^ (row % 64)) == 0))
+answer_by (Retire epoch) found = Whether (found == epoch)
+answer_by (Enter epoch) found = Done
+answer_by Leave found = Done
+answer_by (Place row content) found = Done
+answer_by (ReusePids word bits) found = Done
+answer_by (ReuseRows word bits) found = Done
+answer_by _ found = Number found
 
 -- what the step leaves there
 abbrev pub word_after : Step Record → ℕ → ℕ
@@ -109,7 +109,7 @@ OperationsLeaveWords = (step : Step Record) (found : ℕ) → left_by (operation
 
 -- A step that is a store tells nothing of what it finds.
 abbrev pub TellsNothing : Step Record → Operation → Type 0
-TellsNothing step (Store word) = (found : ℕ) → told step found ≡ Done
+TellsNothing step (Store word) = (found : ℕ) → answer_by step found ≡ Done
 TellsNothing step _ = ⊤
 
 abbrev pub StoresTellNothing : Type 0
@@ -125,7 +125,7 @@ SpellsParts limits words memory = SpellsWhere limits words memory (λ row. ⊥)
 
 -- Its word has the memory's answer, and once it is changed, the words are those of the memory after the step. No record is placed.
 pub record ChangesOneWord (limits : Limits) (words : List ℕ) (memory : Memory) (actor : ℕ) (step : Step Record) : Type 0 where
-  pub answers : IsAnswer memory step (told step (slice_index words (changed_word limits actor step)))
+  pub answers : IsAnswer memory step (answer_by step (slice_index words (changed_word limits actor step)))
   pub spells : SpellsParts limits (words_after limits actor step words) (memory_after actor step memory)
   pub records : (memory_after actor step memory).rows ≡ memory.rows
 

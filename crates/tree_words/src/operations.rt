@@ -1,8 +1,8 @@
 //! Steps as atomic operations: on which word, by which operation, and what the number that it finds tells.
 ghost use Rattle.std.specs.Prelude.{◌≡◌, ◌%◌, ◌^◌};
 ghost use Rattle.bw_model.specs.Answers.{answer_of};
-ghost use Rattle.bw_model.specs.Lent.{lent};
-ghost use Rattle.tree_words.specs.Changes.{HasWord, SetsBits, changed_word, operation_of, told};
+ghost use Rattle.bw_model.specs.Lent.{step_of_loan};
+ghost use Rattle.tree_words.specs.Changes.{HasWord, SetsBits, changed_word, operation_of, answer_by};
 
 use crate::places::{announced_place, epoch_place, pid_bits_place, row_bits_place, slot_place};
 use bw_model::{Limits, Step, Told};
@@ -25,8 +25,8 @@ pub enum Operation {
 
 /// The place of the word of an actor's step.
 pub fn word_place(limits: &Limits, actor: u8, step: &Step<&Record>) -> usize
-    requires { HasWord limits.now (lent step.now) }
-    ensures { result ≡ changed_word limits.now actor (lent step.now) }
+    requires { HasWord limits.now (step_of_loan step.now) }
+    ensures { result ≡ changed_word limits.now actor (step_of_loan step.now) }
 {
     match step {
         Step::Slot(pid) | Step::Exchange(pid, _, _) => slot_place(limits, *pid),
@@ -43,9 +43,9 @@ pub fn word_place(limits: &Limits, actor: u8, step: &Step<&Record>) -> usize
 
 /// The operation that a step is.
 pub fn made_by(limits: &Limits, step: &Step<&Record>) -> Operation
-    requires { HasWord limits.now (lent step.now) }
-    ensures made { result ≡ operation_of (lent step.now) }
-    ensures bits { SetsBits (lent step.now) }
+    requires { HasWord limits.now (step_of_loan step.now) }
+    ensures made { result ≡ operation_of (step_of_loan step.now) }
+    ensures bits { SetsBits (step_of_loan step.now) }
 {
     let _ = limits;
     match step {
@@ -61,8 +61,8 @@ pub fn made_by(limits: &Limits, step: &Step<&Record>) -> Operation
 
 /// What a step is told by the number that it found in its word.
 pub fn told_by(limits: &Limits, step: &Step<&Record>, found: u64) -> Told
-    requires { HasWord limits.now (lent step.now) }
-    ensures { answer_of result ≡ told (lent step.now) found }
+    requires { HasWord limits.now (step_of_loan step.now) }
+    ensures { answer_of result ≡ answer_by (step_of_loan step.now) found }
 {
     let _ = limits;
     match step {

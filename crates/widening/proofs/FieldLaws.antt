@@ -8,7 +8,7 @@ use Rattle.base_page.specs.declared.item.Content.TheVariants.{Value, Child}
 use Rattle.base_page.specs.declared.item.Item.{Item}
 use Rattle.base_page.specs.Rules.{is_held}
 use Rattle.record_slots.specs.Layout.{first_form, held_mark, no_bound, text_size}
-use Rattle.record_slots.specs.Spelling.{packed, text_words, field_words, field_words_in, bound_words, bound_words_in, content_words, content_words_in}
+use Rattle.record_slots.specs.Spelling.{big_endian, text_words, field_words, field_words_in, bound_words, bound_words_in, content_words, content_words_in}
 use Rattle.record_slots.specs.Spelling.{item_words, item_words_in, items_words, items_words_in}
 use Rattle.record_slots.specs.Spells.{HasItemTexts, HasTextIn}
 use Rattle.widening.specs.FirstForm.{IsNarrow, first_longest}
@@ -32,12 +32,12 @@ none_back text few =
 
 -- the words of a text of few bytes end in zeros
 text_wide : (text : List ℕ) → length text ≤ first_longest → text_words text_size text ≡ text_words 4 text ++ replicate 4 0
-text_wide text few = ap (λ rest. packed 8 text ∷ packed 8 (drop 8 text) ∷ packed 8 (drop 8 (drop 8 text)) ∷ packed 8 (drop 8 (drop 8 (drop 8 text))) ∷ text_words 4 rest) (none_back text few)
+text_wide text few = ap (λ rest. big_endian 8 text ∷ big_endian 8 (drop 8 text) ∷ big_endian 8 (drop 8 (drop 8 text)) ∷ big_endian 8 (drop 8 (drop 8 (drop 8 text))) ∷ text_words 4 rest) (none_back text few)
 
 -- a text behind a word, whatever the word
 marked_wide : (count word : ℕ) (text rest : List ℕ) → IsNarrow text → spread_fields (suc count) (word ∷ (text_words 4 text ++ rest)) ≡ word ∷ (text_words text_size text ++ spread_fields count rest)
 marked_wide count word text rest h =
-    spread_field count word (packed 8 text) (packed 8 (drop 8 text)) (packed 8 (drop 8 (drop 8 text))) (packed 8 (drop 8 (drop 8 (drop 8 text)))) rest
+    spread_field count word (big_endian 8 text) (big_endian 8 (drop 8 text)) (big_endian 8 (drop 8 (drop 8 text))) (big_endian 8 (drop 8 (drop 8 (drop 8 text)))) rest
     ∙ ap (λ ws. word ∷ (ws ++ spread_fields count rest)) (sym (text_wide text h.few))
 
 pub field_wide : (count : ℕ) (text rest : List ℕ) → IsNarrow text → spread_fields (suc count) (field_words_in first_form text ++ rest) ≡ field_words text ++ spread_fields count rest

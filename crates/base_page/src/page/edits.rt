@@ -2,7 +2,7 @@
 ghost use Rattle.std.specs.Prelude.{◌≡◌, ◌+◌, ◌++◌, ◌<◌, ◌≤◌, ℕ, List, Some, None, IsTrue, true, if◌then◌else◌, length, take, drop, slice_index_or, is_some};
 ghost use Rattle.std.specs.Ordering.{is_eq};
 ghost use Rattle.bw_model.specs.Bytes.{key_cmp, is_below, is_in_range};
-ghost use Rattle.base_page.specs.Pages.{content_at, held, IsOfLevel, IsPage};
+ghost use Rattle.base_page.specs.Pages.{content_at, content_held, IsOfLevel, IsPage};
 ghost use Rattle.base_page.specs.declared.item.Item.{Item};
 ghost use Rattle.base_page.specs.declared.items.TheConstants.{MAX_ITEMS};
 
@@ -37,7 +37,7 @@ impl Page {
     pub fn hold(&mut self, key: &Key)
         ensures page { IsPage self.new }
         ensures frame { self.new ≡ record self.old { items = self.new.items } }
-        ensures contents { (q : List ℕ) → content_at self.new.items q ≡ (if is_eq (key_cmp q key.now) then held (content_at self.old.items key.now) else content_at self.old.items q) }
+        ensures contents { (q : List ℕ) → content_at self.new.items q ≡ (if is_eq (key_cmp q key.now) then content_held (content_at self.old.items key.now) else content_at self.old.items q) }
         ensures count { length self.new.items ≡ length self.old.items }
     {
         match self.items.child_at(key) {

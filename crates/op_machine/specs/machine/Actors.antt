@@ -8,7 +8,7 @@ use Rattle.bw_model.specs.declared.step.Step.{Step as StepOf}
 use Rattle.deltas.specs.declared.record.Record.{Record}
 use Rattle.traces.specs.discipline.Discipline.{IsAllowed}
 use Rattle.traces.specs.discipline.Fitting.{Fits}
-use Rattle.traces.specs.discipline.Knowledge.{Knowledge, learn, finished}
+use Rattle.traces.specs.discipline.Knowledge.{Knowledge, learn, after_reply}
 use Rattle.traces.specs.discipline.Recalled.{Recalled, cause_worth, recall}
 use Rattle.round_model.specs.Machines.{AreThere}
 use Rattle.change_machine.specs.declared.taking.Kind.{Kind}
@@ -51,7 +51,7 @@ IsActor limits actor k r at = IsActorWith limits actor k r at.hand at.running
 
 -- what the actor knows after its step
 abbrev pub knows_then : Knowledge → StepOf Record → Answer Record → Option Reply → Knowledge
-knows_then k step answer reply = finished (learn k step answer) reply
+knows_then k step answer reply = after_reply (learn k step answer) reply
 
 abbrev pub command_at : Option UnderWay → Option Command
 command_at None = None

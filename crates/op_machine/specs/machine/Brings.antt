@@ -8,7 +8,7 @@ use Rattle.deltas.specs.declared.record.Record.{Record}
 use Rattle.deltas.specs.declared.record.Record.TheVariants.{Base}
 use Rattle.deltas.specs.declared.record.Record.TheVariants as newest
 use Rattle.traces.specs.chain.Chains.{IsChainFrom, covers, is_removed, level_in}
-use Rattle.traces.specs.discipline.Discipline.{found}
+use Rattle.traces.specs.discipline.Discipline.{chain_value}
 use Rattle.traces.specs.discipline.Knowledge.{Knowledge}
 use Rattle.change_machine.specs.declared.change.End.{End}
 use Rattle.change_machine.specs.declared.change.End.TheVariants.{Won}
@@ -39,7 +39,7 @@ pub record IsUpdateOf (k : Knowledge) (command : Command) (plan : Plan) (answere
   pub few : HasFewItems chain
   pub alive : is_removed chain ≡ false
   pub covers : IsTrue (covers chain (command_key command))
-  pub replies : reply_of command (found chain (command_key command)) ≡ Some answered
+  pub replies : reply_of command (chain_value chain (command_key command)) ≡ Some answered
 
 -- The plan is no split.
 abbrev pub IsNoSplit : Plan → Type 0

@@ -18,7 +18,7 @@ use Rattle.op_machine.specs.machine.Tasks.{IsAtRest, Task}
 use Rattle.op_machine.specs.machine.Wants.{Want, Step, Done}
 use Rattle.op_machine.specs.machine.States.{State, Begun}
 use Rattle.sweep.specs.Kept.{AreKept}
-use Rattle.sweep.specs.Sweeps.{IsSoundSweep, Sweep, wanted, Shows as ShowsSweep}
+use Rattle.sweep.specs.Sweeps.{IsSoundSweep, Sweep, wanted_step, Shows as ShowsSweep}
 
 -- what an operation was asked, the sweep that is under way, and where the operation stands after that
 pub record Op : Type 0 where
@@ -29,7 +29,7 @@ pub record Op : Type 0 where
 -- the step that an operation has asked for
 abbrev pub asked_by : Option Sweep → Option (StepOf Record) → Option (StepOf Record)
 asked_by None after = after
-asked_by (Some sweep) after = Some (wanted sweep)
+asked_by (Some sweep) after = Some (wanted_step sweep)
 
 abbrev pub wanted_of : Op → Hand → Option (StepOf Record)
 wanted_of op hand = asked_by op.sweep (wanted_at hand.spares op.state)

@@ -8,7 +8,7 @@ use Rattle.bw_model.specs.declared.step.Answer.{Answer}
 use Rattle.deltas.specs.declared.record.Record.{Record}
 use Rattle.traces.specs.chain.Chains.{IsChainFrom, covers, level_in}
 use Rattle.traces.specs.discipline.Discipline.{MayReply, WasStanding}
-use Rattle.traces.specs.discipline.Knowledge.{Knowledge, Limbos, finished, learn}
+use Rattle.traces.specs.discipline.Knowledge.{Knowledge, Limbos, after_reply, learn}
 use Rattle.tree_limits.specs.declared.limits.Limits.{Limits}
 use Rattle.traces.specs.discipline.Recalled.{Recalled}
 use Rattle.round_model.specs.ReadRounds as read
@@ -170,15 +170,15 @@ abbrev pub written_out : Option WriteEnd → Option Outcome
 written_out None = None
 written_out (Some end) = Some (Written end)
 
-abbrev pub changed : Option (End × Then) → Option Outcome
-changed None = None
-changed (Some ended) = Some (Changed ended.0 ended.1)
+abbrev pub change_out : Option (End × Then) → Option Outcome
+change_out None = None
+change_out (Some ended) = Some (Changed ended.0 ended.1)
 
 -- The last step was Leave, its actor may reply so with it, and rests after it.
 pub record HasLeft (task : Task) (k : Knowledge) (last : Option (StepOf Record)) (told : Answer Record) (spares : Spares) (reply : ReplyOf) : Type 0 where
   pub is_last : last ≡ Some step.Leave
   pub may : MayReply task.limits task.actor k reply
-  pub rests : IsAtRest task.limits spares (finished (learn k step.Leave told) (Some reply))
+  pub rests : IsAtRest task.limits spares (after_reply (learn k step.Leave told) (Some reply))
 
 -- what comes of an answer: the same state goes on, or the operation faces what comes next
 abbrev pub Comes : Task → Knowledge → Recalled → Option (StepOf Record) → Answer Record → State → Spares → Option Outcome → Type 0

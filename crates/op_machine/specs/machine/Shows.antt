@@ -92,9 +92,9 @@ abbrev pub wanted_at : Spares → State → Option (StepOf Record)
 wanted_at spares Begun = None
 wanted_at spares Epoch = Some step.Epoch
 wanted_at spares (Enter epoch) = Some (step.Enter epoch)
-wanted_at spares (Read round) = Some (read.wanted round)
-wanted_at spares (Write round) = Some (write.wanted round)
-wanted_at spares (Change now then) = Some (change.wanted now spares)
+wanted_at spares (Read round) = Some (read.wanted_step round)
+wanted_at spares (Write round) = Some (write.wanted_step round)
+wanted_at spares (Change now then) = Some (change.wanted_step now spares)
 wanted_at spares (Leave reply lacks) = Some step.Leave
 
 -- the answer fits the step wanted last; before the first step there is none

@@ -16,7 +16,7 @@ use Rattle.round_model.specs.Descents.{WayState, Root, Page}
 use Rattle.round_model.specs.Descents as way
 use Rattle.round_model.specs.ReadGoals.{ReadGoal}
 use Rattle.round_model.specs.ReadLegs.{Leg, Down, Round, Past}
-use Rattle.round_model.specs.ReadRounds.{ReadRound, ShowsState, ShowsVisit, wanted}
+use Rattle.round_model.specs.ReadRounds.{ReadRound, ShowsState, ShowsVisit, wanted_step}
 use Rattle.round_model.specs.ReadRounds as read
 use Rattle.round_model.specs.Visits.{Slot, Row, Visit, VisitState}
 use Rattle.round_model.specs.Visits as seen
@@ -115,5 +115,5 @@ module _ (limits : Limits) (entries : List Entry) (state : IsState limits entrie
       visit_same within r visit (way_of within key goal leg r visit shows) (at_visit leg goal key visit steps has) answer visit.state refl is
 
   pub answer_same : (round : ReadRound) (r : Recalled) (steps : ℕ) → read.Shows round k r → HasLeft w round steps ⊎ SettledLeft w round steps
-      → (answer : Answer Record) → IsAnswer memory (wanted round) answer → IsAnswer w.memory (wanted round) answer
+      → (answer : Answer Record) → IsAnswer memory (wanted_step round) answer → IsAnswer w.memory (wanted_step round) answer
   answer_same round r steps shows has answer is = state_same round.limits round.key round.goal round.leg r steps round.state shows has answer is

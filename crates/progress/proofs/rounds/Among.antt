@@ -23,7 +23,7 @@ use Rattle.round_model.specs.Descents as way
 use Rattle.round_model.specs.ReadEnds.{ReadEnd, Again, Removed, Leaf, Beside}
 use Rattle.round_model.specs.ReadGoals.{ReadGoal}
 use Rattle.round_model.specs.ReadLegs.{Leg}
-use Rattle.round_model.specs.ReadRounds.{ReadRound, at, reading, wanted}
+use Rattle.round_model.specs.ReadRounds.{ReadRound, at, reading, wanted_step}
 use Rattle.round_model.specs.ReadRounds as read
 use Rattle.round_model.specs.Rounds.{Responds}
 use Rattle.round_model.specs.Visits.{Visit, VisitState}
@@ -200,7 +200,7 @@ module _ (limits : Limits) (actor : ℕ) (task : Task) where
     stale_as old new (Some end) steps c = c
 
     reads_on : (old : ReadRound) (visit next : Visit) (steps : ℕ) (told : Answer Record) → StaleState old.leg old.goal (Page visit) steps
-        → IsAnswer (memory_of limits entries) (seen.wanted visit) told → seen.Responds visit told next None → StaleEnds old (at old (Page next)) None steps
+        → IsAnswer (memory_of limits entries) (seen.wanted_step visit) told → seen.Responds visit told next None → StaleEnds old (at old (Page next)) None steps
     reads_on old visit next steps told s answer responds = by_steps steps refl
       where
         o : (m : ℕ) × (m < steps) × StaleVisit now old.leg old.goal next m
@@ -238,7 +238,7 @@ module _ (limits : Limits) (actor : ℕ) (task : Task) where
         )
 
     abbrev KeptStale : ReadRound → Answer Record → ReadRound → Option ReadEnd → Type 0
-    KeptStale old told new result = (steps : ℕ) → StaleState old.leg old.goal old.state steps → IsAnswer (memory_of limits entries) (wanted old) told → StaleEnds old new result steps
+    KeptStale old told new result = (steps : ℕ) → StaleState old.leg old.goal old.state steps → IsAnswer (memory_of limits entries) (wanted_step old) told → StaleEnds old new result steps
 
     stale_responds : (old new : ReadRound) (told : Answer Record) (result : Option ReadEnd) → Responds reading old told new result → KeptStale old told new result
     stale_responds old new told result responds = by_step reading (λ q. refl) KeptStale old new told result responds
@@ -318,14 +318,14 @@ module _ (limits : Limits) (actor : ℕ) (task : Task) where
     own_case : IsOwnMoment actor task round moment → Goal
     own_case own = by_found (own_step entries state round m.r m.shows (Read moment.round) steps here (record { answer = own.answer; told = told; steps = own.steps }))
       where
-        next : IsNext limits entries (Step actor (wanted round) own.answer None)
+        next : IsNext limits entries (Step actor (wanted_step round) own.answer None)
         next = subst (λ (e : Entry). IsNext limits entries e) own.entry_is m.next
 
-        told : IsAnswer (memory_of limits entries) (wanted round) own.answer
+        told : IsAnswer (memory_of limits entries) (wanted_step round) own.answer
         told = next.2
 
         off : changes_tree (memory_of limits entries) moment.entry ≡ false
-        off = ap (changes_tree (memory_of limits entries)) own.entry_is ∙ read_no_change (memory_of limits entries) actor (wanted round) own.answer (is_read round.state)
+        off = ap (changes_tree (memory_of limits entries)) own.entry_is ∙ read_no_change (memory_of limits entries) actor (wanted_step round) own.answer (is_read round.state)
 
         by_found : (is_leaving (Read moment.round) ≡ true) ⊎ ((other : ReadRound) × (left : ℕ) × (Read moment.round ≡ Read other) × (left < steps) × Here entries state other left) → Goal
         by_found (inl leaving) = absurd (cc)

@@ -23,7 +23,7 @@ use Rattle.tree_law.specs.Keys.{Key}
 use Rattle.tree_law.specs.OneMemory.{HasWholeTree}
 use Rattle.tree_law.specs.Owners.{ChainNames, HeadFits, InOrder, IsOut, OrderFits, Reached, SeenFits}
 use Rattle.tree_law.specs.Phase.{Cleared, Keeps, Nobody, PageOwner, Placed, Stage, rank, rank_of}
-use Rattle.tree_law.specs.Shared.{row_in, shared, slot_in}
+use Rattle.tree_law.specs.Shared.{row_in, shared_part, slot_in}
 use Rattle.tree_law.specs.State.{IsState, phase_of}
 use Rattle.tree_law.specs.Tree.{IsOff}
 use Rattle.tree_law.proofs.links.Keeping.{on_or_merged}
@@ -123,11 +123,11 @@ module _ (limits : Limits) (entries : List Entry) (state : IsState limits entrie
     pub fits : IsPageChain chain
     pub reached : Reached 0 (level_in chain) (low_in chain) (state.owners.page pid)
     pub names : is_removed chain ≡ false → ChainNames state.owners chain
-    pub stays : is_removed chain ≡ true → ((shared memory).slots pid ≡ Some head) ⊎ IsOut (state.owners.page pid) ((shared memory).slots pid)
+    pub stays : is_removed chain ≡ true → ((shared_part memory).slots pid ≡ Some head) ⊎ IsOut (state.owners.page pid) ((shared_part memory).slots pid)
 
   was_read : (pid head : ℕ) → k.read.heads pid ≡ Some head → (chain : List Record) × WasRead pid head chain
   was_read pid head e =
-      let h = subst (λ (o : Option ℕ). HeadFits state.owners (shared memory) (state.logs actor) pid o) e ((state.is_tree.sound actor).heads_fit pid) in
+      let h = subst (λ (o : Option ℕ). HeadFits state.owners (shared_part memory) (state.logs actor) pid o) e ((state.is_tree.sound actor).heads_fit pid) in
       (h.2.chain, record { is_chain = h.2.is_chain; fits = state.fitted head h.2.linked h.2.chain h.2.is_chain; reached = h.3; names = h.5; stays = h.4 })
 
   pub read_whole : (version : Version) → HasSeen k version → WasRead version.pid version.head version.chain
@@ -168,11 +168,11 @@ module _ (limits : Limits) (entries : List Entry) (state : IsState limits entrie
       → k.read.before pid removed ≡ Some row → IsChainFrom memory.rows row gone_chain
       → is_removed gone_chain ≡ true → is_removed chain ≡ false → right_in chain ≡ Some removed → IsPageChain gone_chain × ChainNames state.owners gone_chain
   beyond_names pid head removed row chain gone_chain r at_head at_row is_chain gone alive is_right =
-      let order : OrderFits state.owners (shared memory) (state.logs actor) pid removed (k.read.heads pid) (k.read.before pid removed) = (state.is_tree.sound actor).orders_fit pid removed in
-      let head_order : OrderFits state.owners (shared memory) (state.logs actor) pid removed (Some head) (k.read.before pid removed) = subst
-      (λ (o : Option ℕ). OrderFits state.owners (shared memory) (state.logs actor) pid removed o (k.read.before pid removed)) at_head order in
-      let in_order : InOrder state.owners (shared memory) (state.logs actor) pid head removed row = subst
-      (λ (o : Option ℕ). OrderFits state.owners (shared memory) (state.logs actor) pid removed (Some head) o) at_row head_order in
+      let order : OrderFits state.owners (shared_part memory) (state.logs actor) pid removed (k.read.heads pid) (k.read.before pid removed) = (state.is_tree.sound actor).orders_fit pid removed in
+      let head_order : OrderFits state.owners (shared_part memory) (state.logs actor) pid removed (Some head) (k.read.before pid removed) = subst
+      (λ (o : Option ℕ). OrderFits state.owners (shared_part memory) (state.logs actor) pid removed o (k.read.before pid removed)) at_head order in
+      let in_order : InOrder state.owners (shared_part memory) (state.logs actor) pid head removed row = subst
+      (λ (o : Option ℕ). OrderFits state.owners (shared_part memory) (state.logs actor) pid removed (Some head) o) at_row head_order in
       (state.fitted row in_order.above gone_chain is_chain, in_order.beyond gone_chain chain is_chain r.is_chain gone alive is_right)
 
   pub read_beyond : (pid head removed row : ℕ) (chain gone_chain : List Record) → WasRead pid head chain → k.read.heads pid ≡ Some head

@@ -15,7 +15,7 @@ use Rattle.round_model.specs.Descents.{WayState, Root, Page}
 use Rattle.round_model.specs.ReadEnds.{ReadEnd, Again, Removed, Leaf, Beside}
 use Rattle.round_model.specs.ReadGoals.{ReadGoal, Seek, Left}
 use Rattle.round_model.specs.ReadLegs.{Leg, Down}
-use Rattle.round_model.specs.ReadRounds.{ReadRound, at, reading, wanted}
+use Rattle.round_model.specs.ReadRounds.{ReadRound, at, reading, wanted_step}
 use Rattle.round_model.specs.Rounds.{Responds, Sees}
 use Rattle.round_model.specs.Visits.{Sight, Empty, Whole, Visit, VisitState, to_page}
 use Rattle.round_model.specs.Visits as seen
@@ -153,14 +153,14 @@ module _ (w : Standing) where
   numbers_same : (told : Answer Record) (a b : ℕ) → told ≡ Number a → told ≡ Number b → a ≡ b
   numbers_same told a b e f = let both : Number a ≡ Number b = sym e ∙ f in cc
 
-  slot_answer : (visit : Visit) (told : Answer Record) → visit.state ≡ seen.Slot → IsAnswer w.memory (seen.wanted visit) told → told ≡ Number (w.memory.slots visit.pid)
+  slot_answer : (visit : Visit) (told : Answer Record) → visit.state ≡ seen.Slot → IsAnswer w.memory (seen.wanted_step visit) told → told ≡ Number (w.memory.slots visit.pid)
   slot_answer visit told e answer = subst (λ (s : VisitState). IsAnswer w.memory (seen.wanted_at visit.pid s) told) e answer
 
   chain_at : (leg : Leg) (goal : ReadGoal) (visit : Visit) (steps : ℕ) → (v : LooseVisit leg goal visit steps) → IsChainOf w.memory visit.pid v.page.chain
   chain_at leg goal visit steps v = subst (λ (n : ℕ). IsChainOf w.memory n v.page.chain) v.is_pid v.loose.stands.stands
 
   settled_on : (leg : Leg) (goal : ReadGoal) (visit next : Visit) (steps : ℕ) (told : Answer Record) → SettledVisit leg goal visit steps
-      → IsAnswer w.memory (seen.wanted visit) told → seen.Responds visit told next None → (m : ℕ) × (m < steps) × SettledVisit leg goal next m
+      → IsAnswer w.memory (seen.wanted_step visit) told → seen.Responds visit told next None → (m : ℕ) × (m < steps) × SettledVisit leg goal next m
   settled_on leg goal visit next steps told settled answer r = elim settled [
     | inl v ↦
         let g = visits w.memory visit next v.page.chain v.left told (chain_at leg goal visit steps v) v.is_left answer r in
@@ -187,7 +187,7 @@ module _ (w : Standing) where
   ]
 
   pub stale_on : (leg : Leg) (goal : ReadGoal) (visit next : Visit) (steps : ℕ) (told : Answer Record) → StaleVisit leg goal visit steps
-      → IsAnswer w.memory (seen.wanted visit) told → seen.Responds visit told next None → (m : ℕ) × (m < steps) × StaleVisit leg goal next m
+      → IsAnswer w.memory (seen.wanted_step visit) told → seen.Responds visit told next None → (m : ℕ) × (m < steps) × StaleVisit leg goal next m
   stale_on leg goal visit next steps told v answer r = elim r [
     | inl f ↦ not_slot visit.state v.head v.row v.at_row f.asked
     | inr c ↦
@@ -212,7 +212,7 @@ module _ (w : Standing) where
   ]
 
   settled_ends : (old : ReadRound) (visit next : Visit) (sight : Sight) (new : ReadRound) (result : Option ReadEnd) (steps : ℕ) (told : Answer Record)
-      → SettledVisit old.leg old.goal visit steps → IsAnswer w.memory (seen.wanted visit) told
+      → SettledVisit old.leg old.goal visit steps → IsAnswer w.memory (seen.wanted_step visit) told
       → seen.Responds visit told next (Some sight) → Sees reading old sight new result → Comes old new result steps
   settled_ends old visit next Empty new result steps told settled answer r sees = elim settled [
     | inl v ↦ absurd (not_empty w.memory visit next v.page.chain told (chain_at old.leg old.goal visit steps v) answer r)
@@ -229,7 +229,7 @@ module _ (w : Standing) where
   ]
 
   pub stale_ends : (old : ReadRound) (visit next : Visit) (sight : Sight) (new : ReadRound) (result : Option ReadEnd) (steps : ℕ) (told : Answer Record)
-      → StaleVisit old.leg old.goal visit steps → IsAnswer w.memory (seen.wanted visit) told
+      → StaleVisit old.leg old.goal visit steps → IsAnswer w.memory (seen.wanted_step visit) told
       → seen.Responds visit told next (Some sight) → Sees reading old sight new result → Comes old new result steps
   stale_ends old visit next Empty new result steps told v answer r sees = not_slot visit.state v.head v.row v.at_row r.asked
   stale_ends old visit next (Whole version) new result steps told v answer r sees =
@@ -261,7 +261,7 @@ module _ (w : Standing) where
   comes_any old new (Some end) steps c = c
 
   abbrev KeptSettled : ReadRound → Answer Record → ReadRound → Option ReadEnd → Type 0
-  KeptSettled old told new result = (steps : ℕ) → SettledLeft old steps → IsAnswer w.memory (wanted old) told → Comes old new result steps
+  KeptSettled old told new result = (steps : ℕ) → SettledLeft old steps → IsAnswer w.memory (wanted_step old) told → Comes old new result steps
 
   pub settles : (old new : ReadRound) (told : Answer Record) (result : Option ReadEnd) → Responds reading old told new result → KeptSettled old told new result
   settles old new told result responds = by_step reading (λ round. refl) KeptSettled old new told result responds
@@ -270,15 +270,15 @@ module _ (w : Standing) where
       (λ visit next sight r sees steps v answer. settled_ends (at old (Page visit)) visit next sight new result steps told v answer r sees)
 
   abbrev Kept : ReadRound → Answer Record → ReadRound → Option ReadEnd → Type 0
-  Kept old told new result = (steps : ℕ) → AnyLeft old steps → IsAnswer w.memory (wanted old) told → ComesAny old new result steps
+  Kept old told new result = (steps : ℕ) → AnyLeft old steps → IsAnswer w.memory (wanted_step old) told → ComesAny old new result steps
 
   any_on : (leg : Leg) (goal : ReadGoal) (visit next : Visit) (steps : ℕ) (told : Answer Record) → AnyVisit leg goal visit steps
-      → IsAnswer w.memory (seen.wanted visit) told → seen.Responds visit told next None → (m : ℕ) × (m < steps) × AnyVisit leg goal next m
+      → IsAnswer w.memory (seen.wanted_step visit) told → seen.Responds visit told next None → (m : ℕ) × (m < steps) × AnyVisit leg goal next m
   any_on leg goal visit next steps told (inl v) answer r = let s = settled_on leg goal visit next steps told v answer r in (s.0, s.1, inl s.2)
   any_on leg goal visit next steps told (inr v) answer r = let s = stale_on leg goal visit next steps told v answer r in (s.0, s.1, inr s.2)
 
   any_ends : (old : ReadRound) (visit next : Visit) (sight : Sight) (new : ReadRound) (result : Option ReadEnd) (steps : ℕ) (told : Answer Record)
-      → AnyVisit old.leg old.goal visit steps → IsAnswer w.memory (seen.wanted visit) told
+      → AnyVisit old.leg old.goal visit steps → IsAnswer w.memory (seen.wanted_step visit) told
       → seen.Responds visit told next (Some sight) → Sees reading old sight new result → Comes old new result steps
   any_ends old visit next sight new result steps told (inl v) answer r sees = settled_ends old visit next sight new result steps told v answer r sees
   any_ends old visit next sight new result steps told (inr v) answer r sees = stale_ends old visit next sight new result steps told v answer r sees

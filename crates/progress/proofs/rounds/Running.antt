@@ -14,7 +14,7 @@ use Rattle.round_model.specs.Descents.{WayState, Root, Page}
 use Rattle.round_model.specs.ReadEnds.{ReadEnd, Again, Removed, Leaf, Beside}
 use Rattle.round_model.specs.ReadGoals.{ReadGoal, Seek, Left, Beyond}
 use Rattle.round_model.specs.ReadLegs.{Leg, Down, Round, Past}
-use Rattle.round_model.specs.ReadRounds.{ReadRound, at, read_way, reading, wanted}
+use Rattle.round_model.specs.ReadRounds.{ReadRound, at, read_way, reading, wanted_step}
 use Rattle.round_model.specs.Rounds.{Responds, Sees}
 use Rattle.round_model.specs.Visits.{Sight, Empty, Whole, Visit, to_page}
 use Rattle.round_model.specs.Visits as page
@@ -127,7 +127,7 @@ module _ (w : Standing) where
       )
 
   goes_on : (leg : Leg) (goal : ReadGoal) (key : Key) (visit next : Visit) (steps : ℕ) (told : Answer Record) → Visits leg goal key visit steps
-      → IsAnswer w.memory (page.wanted visit) told → page.Responds visit told next None → (m : ℕ) × (m < steps) × Visits leg goal key next m
+      → IsAnswer w.memory (page.wanted_step visit) told → page.Responds visit told next None → (m : ℕ) × (m < steps) × Visits leg goal key next m
   goes_on leg goal key visit next steps told v answer r =
       let g = visits w.memory visit next v.page.chain v.left told (subst (λ (n : ℕ). IsChainOf w.memory n v.page.chain) v.is_pid v.stands.stands) v.is_left answer r in
       by_steps steps v.few g.left g.fewer
@@ -195,7 +195,7 @@ module _ (w : Standing) where
   ends old new (Some (Beside left_page removed)) cost left later steps some more few t = tt
 
   found : (old : ReadRound) (visit next : Visit) (sight : Sight) (new : ReadRound) (result : Option ReadEnd) (steps : ℕ) (told : Answer Record)
-      → Visits old.leg old.goal old.key visit steps → IsAnswer w.memory (page.wanted visit) told
+      → Visits old.leg old.goal old.key visit steps → IsAnswer w.memory (page.wanted_step visit) told
       → page.Responds visit told next (Some sight) → Sees reading old sight new result → Ends old new result steps
   found old visit next Empty new result steps told v answer r sees =
       absurd (not_empty w.memory visit next v.page.chain told (subst (λ (n : ℕ). IsChainOf w.memory n v.page.chain) v.is_pid v.stands.stands) answer r)
@@ -206,7 +206,7 @@ module _ (w : Standing) where
       (treats w old version new v.cost v.later result (subst (λ (p : LivePage). At w old.leg old.goal old.key p v.cost v.later) same v.here) sees)
 
   abbrev Kept : ReadRound → Answer Record → ReadRound → Option ReadEnd → Type 0
-  Kept old told new result = (steps : ℕ) → HasLeft old steps → IsAnswer w.memory (wanted old) told → Ends old new result steps
+  Kept old told new result = (steps : ℕ) → HasLeft old steps → IsAnswer w.memory (wanted_step old) told → Ends old new result steps
 
   pub steps_in : (old new : ReadRound) (told : Answer Record) (result : Option ReadEnd) → Responds reading old told new result → Kept old told new result
   steps_in old new told result responds = by_step reading (λ round. refl) Kept old new told result responds

@@ -26,7 +26,7 @@ use Rattle.op_machine.specs.theorem.Phases.{IsInPhase, MovesPhase, Phase, free, 
 use Rattle.op_machine.specs.theorem.Phases.{takes, splits, becomes_root, terms, under_root, holds, removes, merges, unterms, reuses}
 use Rattle.tree_law.specs.Owners.{Linked, OwnFits, Reached, Spare}
 use Rattle.tree_law.specs.Phase.{Cleared, Fresh, Keeps, Nobody, PageOwner, Placed, Stage}
-use Rattle.tree_law.specs.Shared.{shared}
+use Rattle.tree_law.specs.Shared.{shared_part}
 use Rattle.tree_law.specs.State.{IsInTree, IsState, phase_of}
 use Rattle.tree_law.proofs.links.Keeping.{slot_of}
 use Rattle.tree_law.proofs.shape.Mapping.{slot_some}
@@ -198,8 +198,8 @@ module _ (limits : Limits) (entries : List Entry) (entry : Entry) (off : changes
         by_place : (actor placed : ℕ) (content : Record) (answer : Answer Record) (reply : Option Reply) → entry ≡ Step actor (Place placed content) answer reply → row ≡ placed → ⊥
         by_place actor placed content answer reply is same =
             let owns = later.is_tree.owns actor placed in
-            let fits : OwnFits actor (later.owners.row placed) ((shared (memory_of limits grown)).rows placed) (Written content) = subst
-            (λ (own : OwnRow). OwnFits actor (later.owners.row placed) ((shared (memory_of limits grown)).rows placed) own)
+            let fits : OwnFits actor (later.owners.row placed) ((shared_part (memory_of limits grown)).rows placed) (Written content) = subst
+            (λ (own : OwnRow). OwnFits actor (later.owners.row placed) ((shared_part (memory_of limits grown)).rows placed) own)
             (own_row actor placed content answer reply is) owns in
             let spare : later.owners.row placed ≡ Spare actor = fits.0 in
             let held : later.owners.row placed ≡ Linked = ap later.owners.row (sym same) ∙ linked in

@@ -10,7 +10,7 @@ use Rattle.deltas.specs.declared.record.Record.{Record}
 use Rattle.traces.specs.chain.Chains.{IsChainFrom, IsChainOf}
 use Rattle.traces.specs.trace.Steps.{IsAnswer}
 use Rattle.structure_changes.specs.Versions.{Version}
-use Rattle.round_model.specs.Visits.{Completes, Continues, FindsHead, Responds, Empty, Whole, Visit, VisitState, Slot, Row, wanted}
+use Rattle.round_model.specs.Visits.{Completes, Continues, FindsHead, Responds, Empty, Whole, Visit, VisitState, Slot, Row, wanted_step}
 
 module _ (memory : Memory) where
   -- what is still to be read of the page's chain, and how many steps that takes
@@ -26,7 +26,7 @@ module _ (memory : Memory) where
     pub is_left : IsLeft chain next.part next.state left
 
   head : (limits : Limits) (pid : ℕ) (part chain : List Record) (state : VisitState) (steps : ℕ) (told : Answer Record) (next : Visit) → IsChainOf memory pid chain → IsLeft chain part state steps
-      → IsAnswer memory (wanted (record { limits = limits; pid = pid; part = part; state = state })) told → FindsHead (record { limits = limits; pid = pid; part = part; state = state }) told next
+      → IsAnswer memory (wanted_step (record { limits = limits; pid = pid; part = part; state = state })) told → FindsHead (record { limits = limits; pid = pid; part = part; state = state }) told next
       → GoesOn (record { limits = limits; pid = pid; part = part; state = state }) next chain steps
   head limits pid part chain (Row h r) steps told next is left answer f = let e = f.asked in absurd (cc)
   head limits pid part chain Slot steps told next is left answer f =
@@ -55,7 +55,7 @@ module _ (memory : Memory) where
   content_of row content told (c, there, is) e = let same : c ≡ content = (let both : Content c ≡ Content content = sym is ∙ e in cc) in there ∙ ap Some same
 
   pub goes_on : (limits : Limits) (pid : ℕ) (part chain : List Record) (state : VisitState) (steps : ℕ) (told : Answer Record) (next : Visit) → IsLeft chain part state steps
-      → IsAnswer memory (wanted (record { limits = limits; pid = pid; part = part; state = state })) told → Continues (record { limits = limits; pid = pid; part = part; state = state }) told next
+      → IsAnswer memory (wanted_step (record { limits = limits; pid = pid; part = part; state = state })) told → Continues (record { limits = limits; pid = pid; part = part; state = state }) told next
       → GoesOn (record { limits = limits; pid = pid; part = part; state = state }) next chain steps
   goes_on limits pid part chain Slot steps told next left answer c = let e = c.asked in absurd (cc)
   goes_on limits pid part chain (Row head row) steps told next left answer c =
@@ -68,23 +68,23 @@ module _ (memory : Memory) where
       { is_pid = refl; left = length f.0; fewer = sym (left.1 ∙ ap length f.1); is_left = (f.0, refl, f.2, append_assoc part (c.content ∷ []) f.0 ∙ ap (λ rest. part ++ rest) (sym f.1) ∙ left.3) })
 
   pub visits : (old next : Visit) (chain : List Record) (steps : ℕ) (told : Answer Record) → IsChainOf memory old.pid chain
-      → IsLeft chain old.part old.state steps → IsAnswer memory (wanted old) told → Responds old told next None → GoesOn old next chain steps
+      → IsLeft chain old.part old.state steps → IsAnswer memory (wanted_step old) told → Responds old told next None → GoesOn old next chain steps
   visits old next chain steps told is left answer r = elim r [
     | inl f ↦ head old.limits old.pid old.part chain old.state steps told next is left answer f
     | inr c ↦ goes_on old.limits old.pid old.part chain old.state steps told next left answer c
   ]
 
   -- the slot isn't empty
-  pub not_empty : (old next : Visit) (chain : List Record) (told : Answer Record) → IsChainOf memory old.pid chain → IsAnswer memory (wanted old) told → Responds old told next (Some Empty) → ⊥
+  pub not_empty : (old next : Visit) (chain : List Record) (told : Answer Record) → IsChainOf memory old.pid chain → IsAnswer memory (wanted_step old) told → Responds old told next (Some Empty) → ⊥
   not_empty old next chain told is answer f =
       let at : told ≡ Number (memory.slots old.pid) = subst
-      (λ (s : VisitState). IsAnswer memory (wanted (record { limits = old.limits; pid = old.pid; part = old.part; state = s })) told) f.asked answer in
+      (λ (s : VisitState). IsAnswer memory (wanted_step (record { limits = old.limits; pid = old.pid; part = old.part; state = s })) told) f.asked answer in
       let zeroth : memory.slots old.pid ≡ 0 = (let both : Number (memory.slots old.pid) ≡ Number 0 = sym at ∙ f.is in cc) in
       let linked = is.linked in
       omega (arith, zeroth, linked)
 
   whole : (limits : Limits) (pid : ℕ) (part chain : List Record) (state : VisitState) (steps : ℕ) (told : Answer Record) (version : Version) → IsLeft chain part state steps
-      → IsAnswer memory (wanted (record { limits = limits; pid = pid; part = part; state = state })) told
+      → IsAnswer memory (wanted_step (record { limits = limits; pid = pid; part = part; state = state })) told
       → Completes (record { limits = limits; pid = pid; part = part; state = state }) told version → (version.chain ≡ chain) × (0 < steps)
   whole limits pid part chain Slot steps told version left answer c = let e = c.asked in absurd (cc)
   whole limits pid part chain (Row head row) steps told version left answer c =
@@ -97,7 +97,7 @@ module _ (memory : Memory) where
 
   -- the whole page is found
   pub finds : (old next : Visit) (chain : List Record) (steps : ℕ) (told : Answer Record) (version : Version) → IsLeft chain old.part old.state steps
-      → IsAnswer memory (wanted old) told → Responds old told next (Some (Whole version))
+      → IsAnswer memory (wanted_step old) told → Responds old told next (Some (Whole version))
       → (version.pid ≡ old.pid) × (version.chain ≡ chain) × (0 < steps)
   finds old next chain steps told version left answer c = let f = whole old.limits old.pid old.part chain old.state steps told version left answer c in (c.pid, f.0, f.1)
 
@@ -106,11 +106,11 @@ module _ (memory : Memory) where
   IsAtHead pid Slot = Unit {0}
   IsAtHead pid (Row head row) = head ≡ memory.slots pid
 
-  pub heads : (old next : Visit) (told : Answer Record) → IsAnswer memory (wanted old) told → Responds old told next None → IsAtHead old.pid old.state → IsAtHead next.pid next.state
+  pub heads : (old next : Visit) (told : Answer Record) → IsAnswer memory (wanted_step old) told → Responds old told next None → IsAtHead old.pid old.state → IsAtHead next.pid next.state
   heads old next told answer r at = elim r [
     | inl f ↦
         let is : told ≡ Number (memory.slots old.pid) = subst
-        (λ (s : VisitState). IsAnswer memory (wanted (record { limits = old.limits; pid = old.pid; part = old.part; state = s })) told) f.asked answer
+        (λ (s : VisitState). IsAnswer memory (wanted_step (record { limits = old.limits; pid = old.pid; part = old.part; state = s })) told) f.asked answer
         in
         let row : f.row ≡ memory.slots old.pid = (let both : Number f.row ≡ Number (memory.slots old.pid) = sym f.is ∙ is in cc) in
         subst (λ (v : Visit). IsAtHead v.pid v.state) (sym f.goes) row

@@ -60,7 +60,7 @@ impl<R: Rows, A: Allocator> WriteRound<R, A> {
         deltas >= many_deltas(self.descent.limits()) || chain.level() == 0 && deltas >= self.due
     }
 
-    /// Whether the page has many items.
+    /// Whether the page has many items. Most pages are told by how many items their records have; where those may be many, they are counted.
     pub(super) fn is_wide(&self, rows: &R, pass: &mut R::Pass) -> bool
         requires read { IsReadPage (R.has rows.now pass.old) self.now.page }
         ensures looks { pass.new ≡ pass.old }
@@ -69,6 +69,9 @@ impl<R: Rows, A: Allocator> WriteRound<R, A> {
         let chain = self.page().chain();
         chain.was_read(rows, pass);
         chain.keeps_rules();
+        if chain.most_items() < MANY_ITEMS {
+            return false;
+        }
         chain.item_count(rows, pass) >= MANY_ITEMS
     }
 

@@ -1,5 +1,5 @@
 //! How many items a chain has.
-ghost use Rattle.std.specs.Prelude.{◌≡◌, ◌≤◌, ◌+◌, ◌∷◌, ℕ, List, length, is_some, option_copied};
+ghost use Rattle.std.specs.Prelude.{◌≡◌, ◌<◌, ◌≤◌, ◌+◌, ◌∷◌, ℕ, List, length, is_some, option_copied};
 ghost use Rattle.std.specs.List.{All};
 ghost use Rattle.std.specs.Ordering.{is_eq};
 ghost use Rattle.bw_model.specs.Bytes.{is_under, key_cmp};
@@ -19,6 +19,21 @@ use row_search::{KeyWords, RowAt, Rows};
 use std::alloc::Allocator;
 
 impl<R: Rows, A: Allocator> Chain<R, A> {
+    /// A number that the chain's items don't exceed, by the first words of its records alone: nothing is looked at. Each record adds as
+    /// many items as it has, or one.
+    pub fn most_items(&self) -> usize
+        requires { 0 < length self.now.records }
+        ensures { (items : List Item) → IsItemsOf self.now.records items → length items ≤ result }
+    {
+        self.keeps_rules();
+        let records = self.part.as_slice();
+        let mut most = 0;
+        for place in 0..records.len() {
+            most += records[place].item_count().max(1);
+        }
+        most
+    }
+
     /// How many items the chain has. Its page isn't built: each record, from the newest on, adds items to those under it or takes one
     /// away, and a split leaves only those below its separator.
     pub fn item_count(&self, rows: &R, pass: &mut R::Pass) -> usize
@@ -107,7 +122,7 @@ fn has_item<R: Rows>(older: &[RowAt<R>], rows: &R, pass: &mut R::Pass, key: &Key
     ensures has { result ≡ is_some (content_in (contents older.now) key.now) }
 {
     match newest_of(older, rows, pass, key) {
-        Some(newest) => newest.content_said(rows, pass, key).is_some(),
+        Some(newest) => newest.says_content(rows, pass, key),
         None => false,
     }
 }

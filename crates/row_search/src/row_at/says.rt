@@ -1,5 +1,5 @@
 //! What a record says of a key, looked at where it lies.
-ghost use Rattle.std.specs.Prelude.{◌≡◌, ◌<◌, Some, length, slice_index_or};
+ghost use Rattle.std.specs.Prelude.{◌≡◌, ◌<◌, Some, is_some, length, slice_index_or};
 ghost use Rattle.base_page.specs.declared.item.Item.{Item};
 ghost use Rattle.base_page.specs.declared.item.Content.TheVariants.{Child};
 ghost use Rattle.base_page.specs.Pages.{content_at, value_in};
@@ -37,6 +37,31 @@ impl<R: Rows> RowAt<R> {
         None
     }
 
+    /// Whether it says that a key which it names has content. None is built.
+    pub fn says_content(&self, rows: &R, pass: &mut R::Pass, key: &KeyWords) -> bool
+        requires read { R.has rows.now pass.old self.now.row self.now.content }
+        ensures same { pass.new ≡ pass.old }
+        ensures says { result ≡ is_some (content_said self.now.content key.now) }
+    {
+        let kind = self.kind();
+        if kind == 1 {
+            return self.has_item_at(rows, pass, key);
+        }
+        if kind == 2 {
+            return true;
+        }
+        if kind == 5 {
+            return true;
+        }
+        if kind == 6 {
+            return true;
+        }
+        if kind == 8 {
+            return self.has_item_at(rows, pass, key);
+        }
+        false
+    }
+
     /// The value that it says a key has that it names.
     pub fn value_said(&self, rows: &R, pass: &mut R::Pass, key: &KeyWords) -> Option<Value>
         requires read { R.has rows.now pass.old self.now.row self.now.content }
@@ -58,6 +83,18 @@ impl<R: Rows> RowAt<R> {
         match self.place_of(rows, pass, key) {
             Ok(place) => Some(self.content(rows, pass, place)),
             Err(_) => None,
+        }
+    }
+
+    /// Whether an item stands at the key.
+    fn has_item_at(&self, rows: &R, pass: &mut R::Pass, key: &KeyWords) -> bool
+        requires read { R.has rows.now pass.old self.now.row self.now.content }
+        ensures same { pass.new ≡ pass.old }
+        ensures has { result ≡ is_some (content_at (items_of self.now.content) key.now) }
+    {
+        match self.place_of(rows, pass, key) {
+            Ok(_) => true,
+            Err(_) => false,
         }
     }
 

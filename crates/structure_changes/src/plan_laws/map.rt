@@ -18,7 +18,7 @@ ghost use Rattle.structure_changes.specs.Holds.{IsHoldPlan};
 ghost use Rattle.structure_changes.specs.Removals.{IsRemovePlan};
 ghost use Rattle.structure_changes.specs.Merges.{IsMergePlan};
 ghost use Rattle.structure_changes.specs.Unterms.{IsUntermPlan};
-ghost use Rattle.structure_changes.specs.Linking.{HasLeaves, HasVersion, IsSpareRow, KeepsMap, linked, with_root};
+ghost use Rattle.structure_changes.specs.Linking.{HasLeaves, HasVersion, IsSpareRow, KeepsMap, with_link, with_root};
 
 /// In every memory that has the pages as they were read, and whose leaves are whole: each link of a plan, in spare rows, keeps the
 /// leaves whole and the map. A split's new page, and a root, come into a slot that is empty, before the link itself.
@@ -32,34 +32,34 @@ pub fn links_keep_the_map()
         → IsSpareRow memory row
         → IsSpareRow memory base_row
         → row ≢ base_row
-        → KeepsMap memory (linked right base_row (kind.Base plan.upper) memory)
-        × KeepsMap memory (linked page.pid row (kind.Split (split_to plan right)) (linked right base_row (kind.Base plan.upper) memory)) }
+        → KeepsMap memory (with_link right base_row (kind.Base plan.upper) memory)
+        × KeepsMap memory (with_link page.pid row (kind.Split (split_to plan right)) (with_link right base_row (kind.Base plan.upper) memory)) }
     ensures root { (memory : Memory) (left right : Version) (root : Page) (new row : ℕ)
         → IsRootPlan left right root
         → HasLeaves memory
         → memory.slots new ≡ 0
         → IsSpareRow memory row
-        → KeepsMap memory (linked new row (kind.Base root) memory)
-        × KeepsMap (linked new row (kind.Base root) memory) (with_root new (linked new row (kind.Base root) memory)) }
+        → KeepsMap memory (with_link new row (kind.Base root) memory)
+        × KeepsMap (with_link new row (kind.Base root) memory) (with_root new (with_link new row (kind.Base root) memory)) }
     ensures term { (memory : Memory) (parent page : Version) (term : Term) (row : ℕ)
         → IsTermPlan parent page term
         → HasLeaves memory
         → HasVersion memory parent
         → IsSpareRow memory row
-        → KeepsMap memory (linked parent.pid row (kind.Term term) memory) }
+        → KeepsMap memory (with_link parent.pid row (kind.Term term) memory) }
     ensures hold { (memory : Memory) (parent page : Version) (hold : Hold) (row : ℕ)
         → IsHoldPlan parent page hold
         → IsPageChain parent.chain
         → HasLeaves memory
         → HasVersion memory parent
         → IsSpareRow memory row
-        → KeepsMap memory (linked parent.pid row (kind.Hold hold) memory) }
+        → KeepsMap memory (with_link parent.pid row (kind.Hold hold) memory) }
     ensures remove { (memory : Memory) (parent page : Version) (remove : Remove) (row : ℕ)
         → IsRemovePlan parent page remove
         → HasLeaves memory
         → HasVersion memory page
         → IsSpareRow memory row
-        → KeepsMap memory (linked page.pid row (kind.Remove remove) memory) }
+        → KeepsMap memory (with_link page.pid row (kind.Remove remove) memory) }
     ensures merge { (memory : Memory) (left removed : Version) (merge : Merge) (row : ℕ)
         → IsMergePlan left removed merge
         → IsPageChain left.chain
@@ -68,12 +68,12 @@ pub fn links_keep_the_map()
         → HasVersion memory left
         → HasVersion memory removed
         → IsSpareRow memory row
-        → KeepsMap memory (linked left.pid row (kind.Merge merge) memory) }
+        → KeepsMap memory (with_link left.pid row (kind.Merge merge) memory) }
     ensures unterm { (memory : Memory) (parent left removed : Version) (unterm : Unterm) (row : ℕ)
         → IsUntermPlan parent left removed unterm
         → IsPageChain parent.chain
         → HasLeaves memory
         → HasVersion memory parent
         → IsSpareRow memory row
-        → KeepsMap memory (linked parent.pid row (kind.Unterm unterm) memory) }
+        → KeepsMap memory (with_link parent.pid row (kind.Unterm unterm) memory) }
 {}

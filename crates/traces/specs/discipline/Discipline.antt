@@ -41,8 +41,8 @@ value_of (Some (Value value)) = Some value
 value_of _ = None
 
 -- the value that a leaf's chain decides for the key
-abbrev pub found : List Record → List ℕ → Option (List ℕ)
-found chain key = value_of (content_in chain key)
+abbrev pub chain_value : List Record → List ℕ → Option (List ℕ)
+chain_value chain key = value_of (content_in chain key)
 
 -- the page's slot was read as this row, and the whole chain from there, which is not removed
 pub record HasRead (k : Knowledge) (page row : ℕ) : Type 0 where
@@ -109,7 +109,7 @@ pub record MayUpdate (actor : ℕ) (k : Knowledge) (old : ℕ) (chain : List Rec
   pub unlinked : k.asked.linked ≡ None
   pub covers : IsTrue (covers chain (command_key command))
   pub update : Update
-  pub due : update_of actor command (found chain (command_key command)) ≡ Some update
+  pub due : update_of actor command (chain_value chain (command_key command)) ≡ Some update
   pub is : content ≡ update_record update old
 
 -- A Base: consolidation puts a base in the chain's place that spells what the chain spells.
@@ -299,7 +299,7 @@ WasStanding k row chain = (((page : ℕ) × (k.read.heads page ≡ Some row)) ×
 abbrev pub HasBasis : ℕ → Knowledge → Command → ℕ → List Record → Type 0
 HasBasis actor k command row chain =
     ((k.asked.linked ≡ Some (Some row)) × IsFalse (is_removed chain))
-    ⊎ ((k.asked.linked ≡ None) × WasStanding k row chain × (update_of actor command (found chain (command_key command)) ≡ None))
+    ⊎ ((k.asked.linked ≡ None) × WasStanding k row chain × (update_of actor command (chain_value chain (command_key command)) ≡ None))
 
 -- a reply by the value of the command's key
 pub record MayAnswer (actor : ℕ) (k : Knowledge) (command : Command) (reply : Reply) : Type 0 where
@@ -308,7 +308,7 @@ pub record MayAnswer (actor : ℕ) (k : Knowledge) (command : Command) (reply : 
   pub read : IsChainFrom k.read.seen row chain
   pub leaf : level_in chain ≡ 0
   pub covers : IsTrue (covers chain (command_key command))
-  pub is : reply_of command (found chain (command_key command)) ≡ Some reply
+  pub is : reply_of command (chain_value chain (command_key command)) ≡ Some reply
   pub basis : HasBasis actor k command row chain
 
 -- A cursor page: the pairs of a leaf that stood, from the command's key on, and the leaf's high key.
@@ -321,7 +321,7 @@ pub record MayShowPage (k : Knowledge) (command : Command) (reply : Reply) : Typ
   pub leaf : level_in chain ≡ 0
   pub covers : IsTrue (covers chain from)
   pub pairs : List (List ℕ × List ℕ)
-  pub exact : ArePairsOf (found chain) from (high_in chain) pairs
+  pub exact : ArePairsOf (chain_value chain) from (high_in chain) pairs
   pub is : reply ≡ PageReply pairs (high_in chain)
   pub unlinked : k.asked.linked ≡ None
   pub basis : WasStanding k row chain

@@ -81,8 +81,8 @@ nothing = record {
 }
 
 -- what an actor knows when an operation begins
-abbrev pub begun : Knowledge → Command → Knowledge
-begun k command = record k {
+abbrev pub after_begin : Knowledge → Command → Knowledge
+after_begin k command = record k {
   read = record k.read { heads = λ page. None; before = λ page other. None };
   asked = record { command = Some command; linked = None; no_pids = λ word. false; no_rows = λ word. false };
 }
@@ -127,10 +127,10 @@ abbrev pub taken_out : (ℕ → Option Record) → ℕ → (ℕ → LimboMark) �
 taken_out seen first limbo row = if is_on_walk 13 seen (Some first) row then Unstamped else limbo row
 
 -- after an epoch was read
-abbrev pub stamped : ℕ → LimboMark → LimboMark
-stamped epoch Absent = Absent
-stamped epoch Unstamped = Stamped epoch (λ actor. false)
-stamped epoch (Stamped stamp passed) = Stamped stamp passed
+abbrev pub with_stamp : ℕ → LimboMark → LimboMark
+with_stamp epoch Absent = Absent
+with_stamp epoch Unstamped = Stamped epoch (λ actor. false)
+with_stamp epoch (Stamped stamp passed) = Stamped stamp passed
 
 -- after an actor's announced epoch was read
 abbrev pub passed_by : ℕ → ℕ → LimboMark → LimboMark
@@ -139,8 +139,8 @@ passed_by actor announced Unstamped = Unstamped
 passed_by actor announced (Stamped stamp passed) = Stamped stamp (if (announced == 0) || ltb stamp announced then replaced_at actor true passed else passed)
 
 -- after the numbers of the word's bits were freed
-abbrev pub freed : ℕ → ℕ → (ℕ → LimboMark) → ℕ → LimboMark
-freed word bits limbo n = if is_among word bits n then Absent else limbo n
+abbrev pub after_freeing : ℕ → ℕ → (ℕ → LimboMark) → ℕ → LimboMark
+after_freeing word bits limbo n = if is_among word bits n then Absent else limbo n
 
 -- The operation has left: it no more knows over which row its update was linked.
 abbrev pub forgotten : Option (Option ℕ) → Option (Option ℕ)
@@ -156,8 +156,8 @@ abbrev pub handed_page : ℕ → OwnPage → ℕ → Knowledge → Knowledge
 handed_page page now row k = record k { own = record { rows = replaced_at row Foreign k.own.rows; pages = replaced_at page now k.own.pages } }
 
 -- The row has the update: the operation has linked it over the old row.
-abbrev pub updated : ℕ → ℕ → Knowledge → Knowledge
-updated old row k = record k { own = record k.own { rows = replaced_at row Foreign k.own.rows }; asked = record k.asked { linked = Some (Some old) } }
+abbrev pub after_update : ℕ → ℕ → Knowledge → Knowledge
+after_update old row k = record k { own = record k.own { rows = replaced_at row Foreign k.own.rows }; asked = record k.asked { linked = Some (Some old) } }
 
 -- The row has a base in the old chain's place.
 abbrev pub rebuilt : ℕ → ℕ → Knowledge → Knowledge
@@ -168,8 +168,8 @@ abbrev pub set_page : ℕ → OwnPage → Knowledge → Knowledge
 set_page page now k = record k { own = record k.own { pages = replaced_at page now k.own.pages } }
 
 -- The page is out of the tree, with its chain.
-abbrev pub cleared : ℕ → ℕ → Knowledge → Knowledge
-cleared page old k = record k {
+abbrev pub after_clear : ℕ → ℕ → Knowledge → Knowledge
+after_clear page old k = record k {
   own = record k.own { pages = replaced_at page Other k.own.pages };
   limbo = record k.limbo { rows = taken_out k.read.seen old k.limbo.rows; pids = replaced_at page Unstamped k.limbo.pids };
 }
@@ -182,8 +182,8 @@ split_off _ page row k = k
 -- After a row with this record was linked over an old one.
 abbrev pub linked_over : OwnRow → ℕ → ℕ → Knowledge → Knowledge
 linked_over (Written (Base page)) old row k = rebuilt old row k
-linked_over (Written (Put put)) old row k = updated old row k
-linked_over (Written (Delete delete)) old row k = updated old row k
+linked_over (Written (Put put)) old row k = after_update old row k
+linked_over (Written (Delete delete)) old row k = after_update old row k
 linked_over (Written (Split split)) old row k = split_off (k.own.pages split.page) split.page row k
 linked_over (Written (Unterm unterm)) old row k = handed_page unterm.child Gone row k
 linked_over (Written (Term term)) old row k = handed_over row k
@@ -194,29 +194,29 @@ linked_over Taken old row k = k
 linked_over Foreign old row k = k
 
 -- After an exchange of a page's slot to a row won: the slot of an own page is set; on another page the row is linked.
-abbrev pub filled : OwnPage → ℕ → ℕ → ℕ → Knowledge → Knowledge
-filled Other page old row k = linked_over (k.own.rows row) old row k
-filled Empty page old row k = set_page page (Ready row) k
-filled (Ready base) page old row k = k
-filled Gone page old row k = k
+abbrev pub after_filling : OwnPage → ℕ → ℕ → ℕ → Knowledge → Knowledge
+after_filling Other page old row k = linked_over (k.own.rows row) old row k
+after_filling Empty page old row k = set_page page (Ready row) k
+after_filling (Ready base) page old row k = k
+after_filling Gone page old row k = k
 
 -- After an exchange of a page's slot to 0 won: an own page that was ready is empty again; one whose term the actor took out is
 -- out of the tree, with its chain.
-abbrev pub emptied : OwnPage → ℕ → ℕ → Knowledge → Knowledge
-emptied (Ready base) page old k = set_page page Empty k
-emptied Gone page old k = cleared page old k
-emptied _ page old k = k
+abbrev pub after_emptying : OwnPage → ℕ → ℕ → Knowledge → Knowledge
+after_emptying (Ready base) page old k = set_page page Empty k
+after_emptying Gone page old k = after_clear page old k
+after_emptying _ page old k = k
 
 -- After a new root was linked, its base is linked too.
-abbrev pub rooted : OwnPage → ℕ → Knowledge → Knowledge
-rooted (Ready base) page k = handed_page page Other base k
-rooted _ page k = k
+abbrev pub after_root : OwnPage → ℕ → Knowledge → Knowledge
+after_root (Ready base) page k = handed_page page Other base k
+after_root _ page k = k
 
 -- After an exchange won: slot, the number that was there, the new number.
-abbrev pub exchanged : ℕ → ℕ → ℕ → Knowledge → Knowledge
-exchanged zero old new k = rooted (k.own.pages new) new k
-exchanged (suc page) old zero k = emptied (k.own.pages (suc page)) (suc page) old k
-exchanged (suc page) old (suc row) k = filled (k.own.pages (suc page)) (suc page) old (suc row) k
+abbrev pub after_exchange : ℕ → ℕ → ℕ → Knowledge → Knowledge
+after_exchange zero old new k = after_root (k.own.pages new) new k
+after_exchange (suc page) old zero k = after_emptying (k.own.pages (suc page)) (suc page) old k
+after_exchange (suc page) old (suc row) k = after_filling (k.own.pages (suc page)) (suc page) old (suc row) k
 
 -- After the record in a row was read, it is known, and the name of the row under it.
 abbrev pub learn_record : ℕ → Record → Readings → Readings
@@ -226,13 +226,13 @@ learn_record row content read = record read {
 }
 
 -- It is outside: nothing that was read counts.
-abbrev pub departed : Knowledge → Knowledge
-departed k = record k { inside = false; read = unread; asked = record k.asked { linked = forgotten k.asked.linked } }
+abbrev pub after_leave : Knowledge → Knowledge
+after_leave k = record k { inside = false; read = unread; asked = record k.asked { linked = forgotten k.asked.linked } }
 
 abbrev pub learn : Knowledge → StepOf Record → Answer Record → Knowledge
 learn k (Slot page) (Number n) = learn_slot page n k
 learn k (Row row) (Content content) = record k { read = learn_record row content k.read }
-learn k Epoch (Number epoch) = record k { limbo = record { epoch = Some epoch; rows = λ row. stamped epoch (k.limbo.rows row); pids = λ page. stamped epoch (k.limbo.pids page) } }
+learn k Epoch (Number epoch) = record k { limbo = record { epoch = Some epoch; rows = λ row. with_stamp epoch (k.limbo.rows row); pids = λ page. with_stamp epoch (k.limbo.pids page) } }
 learn k (Announce actor) (Number announced) = record k
     { limbo = record k.limbo { rows = λ row. passed_by actor announced (k.limbo.rows row); pids = λ page. passed_by actor announced (k.limbo.pids page) } }
 learn k (PidBits word) (Number bits) = record k { asked = record k.asked { no_pids = learn_word word bits k.asked.no_pids } }
@@ -240,11 +240,11 @@ learn k (RowBits word) (Number bits) = record k { asked = record k.asked { no_ro
 learn k (TakePid page) (Whether true) = set_page page Empty k
 learn k (TakeRow row) (Whether true) = record k { own = record k.own { rows = replaced_at row Taken k.own.rows } }
 learn k (Place row content) answer = record k { own = record k.own { rows = replaced_at row (Written content) k.own.rows } }
-learn k (Exchange slot old new) (Whether true) = exchanged slot old new k
+learn k (Exchange slot old new) (Whether true) = after_exchange slot old new k
 learn k (Enter epoch) answer = record k { inside = true; read = record k.read { learnt = λ row. false } }
-learn k Leave answer = departed k
-learn k (ReusePids word bits) answer = record k { limbo = record k.limbo { pids = freed word bits k.limbo.pids } }
-learn k (ReuseRows word bits) answer = record k { limbo = record k.limbo { rows = freed word bits k.limbo.rows } }
+learn k Leave answer = after_leave k
+learn k (ReusePids word bits) answer = record k { limbo = record k.limbo { pids = after_freeing word bits k.limbo.pids } }
+learn k (ReuseRows word bits) answer = record k { limbo = record k.limbo { rows = after_freeing word bits k.limbo.rows } }
 learn k step answer = k
 
 abbrev pub going_on : Option Reply → Option Command → Option Command
@@ -252,12 +252,12 @@ going_on None command = command
 going_on (Some reply) command = None
 
 -- what an actor knows after a step with which it replied, or not
-abbrev pub finished : Knowledge → Option Reply → Knowledge
-finished k reply = record k { asked = record k.asked { command = going_on reply k.asked.command } }
+abbrev pub after_reply : Knowledge → Option Reply → Knowledge
+after_reply k reply = record k { asked = record k.asked { command = going_on reply k.asked.command } }
 
 abbrev pub knows_after : (ℕ → Knowledge) → Entry → ℕ → Knowledge
-knows_after ks (Begin actor command) = replaced_at actor (begun (ks actor) command) ks
-knows_after ks (Step actor step answer reply) = replaced_at actor (finished (learn (ks actor) step answer) reply) ks
+knows_after ks (Begin actor command) = replaced_at actor (after_begin (ks actor) command) ks
+knows_after ks (Step actor step answer reply) = replaced_at actor (after_reply (learn (ks actor) step answer) reply) ks
 
 -- what each actor knows after the entries
 abbrev pub knows : List Entry → ℕ → Knowledge

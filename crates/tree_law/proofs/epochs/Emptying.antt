@@ -4,7 +4,7 @@ use Rattle.tree_law.proofs.Words.{Update, Reply, Limits, Exchange, Memory, repla
 use Rattle.tree_law.proofs.Words.{Unstamped, handed_page, is_on_walk, set_page, Key, IsHomed, Linked, Owners, Reached, Spare, PageFits, PageOwner, Cleared, Keeps, put, shared, slot_in, Times}
 use Rattle.tree_law.proofs.Words.{Timed, times_after, LimboFits, Outing, is_linked, is_cleared, IsTree}
 use Rattle.bw_model.specs.declared.step.Answer.TheVariants as answer
-use Rattle.traces.specs.discipline.Knowledge.{cleared}
+use Rattle.traces.specs.discipline.Knowledge.{after_clear}
 use Rattle.tree_law.proofs.shape.{by_equal, eqb_same, eqb_true, eqb_apart, put_other, put_was, put_all, next_linked, own_base}
 use Rattle.tree_law.proofs.links.Stepping.{slot_put, root_apart}
 use Rattle.tree_law.proofs.epochs.Timing.{Turn, limbo_row, limbo_pid, held_later, announced_still, put_timed}
@@ -118,7 +118,7 @@ module _ {limits : Limits} {m : Memory} {log : List Update} {o : Owners} {knows 
 
     -- a page whose term the actor took out is out of the tree, with its chain
     pub cleared_timed : (o' : Owners) (f : Emptying o') → (own : (knows a).own.pages (suc p) ≡ Gone) (r : Option Reply)
-        → Timed limits m2 o' (put knows a (finished (cleared (suc p) x (knows a)) r)) (suc now) t2
+        → Timed limits m2 o' (put knows a (finished (after_clear (suc p) x (knows a)) r)) (suc now) t2
     cleared_timed o' f own r = emptied_timed o' f k' refl refl refl refl refl
         (λ q. by_equal q (suc p) (λ e t. rw t λ i. absurd (cc)) (λ ne t. rw t λ i. rw (T.gone_pages a q i)))
         (λ n j. rows n j (is_on_walk 13 (knows a).read.seen (Some x) j) refl)
@@ -126,7 +126,7 @@ module _ {limits : Limits} {m : Memory} {log : List Update} {o : Owners} {knows 
         (λ q j. put_was (knows a).own.pages (suc p) Other q (λ e. cc))
       where
         k' : Knowledge
-        k' = finished (cleared (suc p) x (knows a)) r
+        k' = finished (after_clear (suc p) x (knows a)) r
 
         was : PageFits a (o.page (suc p)) (slot_in m.slots (suc p)) Gone
         was = rw own at (g.owns_pages a (suc p))

@@ -1,12 +1,12 @@
 -- What an exchange that won makes of what its actor knows.
 use Rattle.tree_law.proofs.Words.{refl, suc, inl, inr, ℕ, ◌≡◌, zero, Page, record_link, Record, Base, Split, Put, Delete, Unterm, SplitOf, UntermOf, Knowledge, Ready, Empty, OwnPage, Other, Gone}
 use Rattle.tree_law.proofs.Words.{Written, filled, rooted, OwnRow, emptied, exchanged, split_off, linked_over, handed_page, handed_over, set_page, rebuilt, updated, IsUpdateLink}
-use Rattle.traces.specs.discipline.Knowledge.{cleared}
+use Rattle.traces.specs.discipline.Knowledge.{after_clear}
 
 pub data Exchanging (k : Knowledge) : ℕ → ℕ → ℕ → Knowledge → Type 0 where
   roots : (x y base : ℕ) → k.own.pages y ≡ Ready base → Exchanging k zero x y (handed_page y Other base k)
   empties : (p x base : ℕ) → k.own.pages (suc p) ≡ Ready base → Exchanging k (suc p) x zero (set_page (suc p) Empty k)
-  clears : (p x : ℕ) → k.own.pages (suc p) ≡ Gone → Exchanging k (suc p) x zero (cleared (suc p) x k)
+  clears : (p x : ℕ) → k.own.pages (suc p) ≡ Gone → Exchanging k (suc p) x zero (after_clear (suc p) x k)
   readies : (p x y : ℕ) → k.own.pages (suc p) ≡ Empty → Exchanging k (suc p) x (suc y) (set_page (suc p) (Ready (suc y)) k)
   rebuilds : (p x y : ℕ) (w : Page) → k.own.pages (suc p) ≡ Other → k.own.rows (suc y) ≡ Written (Base w) → Exchanging k (suc p) x (suc y) (rebuilt x (suc y) k)
   updates : (p x y : ℕ) (w : Record) → k.own.pages (suc p) ≡ Other → k.own.rows (suc y) ≡ Written w → IsUpdateLink (record_link w) → Exchanging k (suc p) x (suc y) (updated x (suc y) k)

@@ -1,7 +1,7 @@
 -- What a step with its answer lets its actor know, by kinds.
 use Rattle.tree_law.proofs.Words.{false, suc, true, ℕ, zero, Answer, Whether, Content, Number, StepOf, ReuseRows, ReusePids, Leave, TakePid, Row, Place, TakeRow, Slot, Enter, Epoch, PidBits, Exchange}
 use Rattle.tree_law.proofs.Words.{RowBits, Announce, Record, Knowledge, learn, Empty, OwnRow, exchanged, set_page, Limbos, learn_head}
-use Rattle.traces.specs.discipline.Knowledge.{learn_slot, learn_record, learn_word, departed}
+use Rattle.traces.specs.discipline.Knowledge.{learn_slot, learn_record, learn_word, after_leave}
 
 -- an actor that goes on is neither entering nor leaving
 abbrev pub Stays : StepOf Record → Type 0
@@ -18,7 +18,7 @@ pub data Learning (k : Knowledge) : StepOf Record → Answer Record → Knowledg
   takes_pid : (p : ℕ) → Learning k (TakePid p) (Whether true) (set_page p Empty k)
   wins : (p x y : ℕ) → Learning k (Exchange p x y) (Whether true) (exchanged p x y k)
   enters : (e : ℕ) (x : Answer Record) → Learning k (Enter e) x (record k { inside = true; read = record k.read { learnt = λ row. false } })
-  leaves : (x : Answer Record) → Learning k Leave x (departed k)
+  leaves : (x : Answer Record) → Learning k Leave x (after_leave k)
   in_rows : {s : StepOf Record} {x : Answer Record} (rows : ℕ → OwnRow) → Stays s → Learning k s x (record k { own = record k.own { rows = rows } })
   in_limbo : {s : StepOf Record} {x : Answer Record} (limbo : Limbos) → Stays s → Learning k s x (record k { limbo = limbo })
   idle : {s : StepOf Record} {x : Answer Record} → Stays s → Learning k s x k

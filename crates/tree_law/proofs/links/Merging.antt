@@ -2,7 +2,7 @@
 use Rattle.tree_law.proofs.Words.{◌⊎◌, ap, refl, Option, None, List, true, inl, ◌≢◌, ◌≤◌, inr, ◌∷◌, subst, sym, ℕ, ◌≡◌, ◌∙◌, arith, Some, same_Some, IsSome, Update, Reply, Record, Merge, right_in}
 use Rattle.tree_law.proofs.Words.{low_in, is_removed, level_in, high_in, HasRead, MayMerge, Knowledge, finished, Foreign, Gone, Written, filled, emptied, handed_over, Key, IsBelow, Covers, Linked}
 use Rattle.tree_law.proofs.Words.{Owners, Spare, IsOut, OwnFits, IsChain, Placed, PageOwner, Cleared, rank, Removed, Merged, Stage, stage_removed, put, Shared, IsTree, spec, IsOff, SidePage, InPlace}
-use Rattle.traces.specs.discipline.Knowledge.{cleared}
+use Rattle.traces.specs.discipline.Knowledge.{after_clear}
 use Rattle.tree_law.proofs.shape.{not_below, upto_same, under_trans, by_range, covers_to, by_equal, put_same, put_other, put_all, chain_unique, chain_kept, in_level_as, one_chain, right_page}
 use Rattle.tree_law.proofs.shape.{tree_kept, tree_merged, placed_level, exact_going, row_own, row_same, page_same, page_stage, page_link, page_gone, Change, kept_change}
 use Rattle.tree_law.proofs.shape.{closed_kept, chain_stands}
@@ -33,7 +33,7 @@ module _ {m : Shared} {log : List Update} {o : Owners} {knows : ℕ → Knowledg
       (mine_at g a o m' kept))
     where
       k : Knowledge
-      k = cleared p x (knows a)
+      k = after_clear p x (knows a)
 
   -- a page that was read removed is as it was read
   pub frozen_as : (p x : ℕ) → (knows a).read.heads p ≡ Some x → (c : List Record) → IsChain (knows a).read.seen c (Some x) → is_removed c ≡ true → (m.slots p ≡ Some x) ⊎ IsOut (o.page p) (m.slots p)

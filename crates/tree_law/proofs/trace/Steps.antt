@@ -12,7 +12,7 @@ use Rattle.bw_model.specs.declared.command.Command.TheVariants.{Get, Delete, Pag
 use Rattle.bw_model.specs.declared.command.Reply.TheVariants as reply
 use Rattle.op_machine.specs.theorem.Answered.{IsTrueReply}
 use Rattle.op_machine.specs.theorem.Points.{updates_by, has_point}
-use Rattle.tree_law.specs.Next.{grown, pointed as pointed'}
+use Rattle.tree_law.specs.Next.{grown, log_at_point as pointed'}
 use Rattle.tree_law.specs.TraceLaws.{StatesAreIndexed, StatesAreLinearized, StatesFreeByRule, StatesKeepPhases, Steps}
 use Rattle.tree_law.proofs.epochs.Freeing.{t1, t2, rows_after, rows_timed, pages_after, pages_timed}
 use Rattle.tree_law.proofs.epochs.Reused.{rows_numbers, rows_held, pages_numbers, pages_held}

@@ -1,6 +1,6 @@
 use Rattle.std.proofs.Common.{[], inl, inr, refl}
 use Rattle.std.proofs.KnownBytes.{Consumes-nil}
-use Rattle.bw_shell.specs.Turns.{seen}
+use Rattle.bw_shell.specs.Turns.{trace_of}
 use Rattle.bw_shell.specs.declared.refusal.Refusal.TheVariants.{NotOpened}
 use Rattle.bw_shell.specs.Text.{lone_refusal_text}
 use Rattle.drawing.proofs.run.show_run.Goals as goal
@@ -17,6 +17,6 @@ returns g c =
       ran.taken,
       told.0,
       ran.reads,
-      inr (seen c.in-Some.woven.core, ran.text, c.in-Some.woven.refused, ran.says, c.linearized.ensures.linearized, rw c.has_failed.ensures at told.1),
+      inr (trace_of c.in-Some.woven.core, ran.text, c.in-Some.woven.refused, ran.says, c.linearized.ensures.linearized, rw c.has_failed.ensures at told.1),
       told.2,
     )

@@ -1,5 +1,5 @@
 use Rattle.std.proofs.Common.{◌≡◌, ◌<◌, ◌≤◌, ◌+◌, ◌-◌, ◌*◌, ◌^◌, ℕ, suc, List, get_or, drop, subst, ◌∙◌, arith}
-use Rattle.record_slots.specs.Spelling.{packed}
+use Rattle.record_slots.specs.Spelling.{big_endian}
 use Rattle.record_slots.proofs.WordLaws.{packed_more, word_room, byte_more}
 use Rattle.record_slots.proofs.write.last_word.Goals as goal
 
@@ -14,14 +14,14 @@ overflow_add-word c =
     omega arith
 
 one_more : (word byte from place whole : ℕ) (bytes : List ℕ) → from ≤ place → place < from + 8 → byte ≡ get_or bytes place 0
-    → word * 256 ^ (from + 8 - place) + packed (from + 8 - place) (drop place bytes) ≡ whole
-    → (word * 256 + byte) * 256 ^ (from + 8 - (place + 1)) + packed (from + 8 - (place + 1)) (drop (place + 1) bytes) ≡ whole
+    → word * 256 ^ (from + 8 - place) + big_endian (from + 8 - place) (drop place bytes) ≡ whole
+    → (word * 256 + byte) * 256 ^ (from + 8 - (place + 1)) + big_endian (from + 8 - (place + 1)) (drop (place + 1) bytes) ≡ whole
 one_more word byte from place whole bytes low high is before =
     let n : ℕ = from + 8 - (place + 1) in
     let left : from + 8 - place ≡ suc n = omega arith in
     let next : suc place ≡ place + 1 = omega arith in
-    let h : word * 256 ^ suc n + packed (suc n) (drop place bytes) ≡ whole = subst (λ k. word * 256 ^ k + packed k (drop place bytes) ≡ whole) left before in
-    subst (λ k. (word * 256 + byte) * 256 ^ n + packed n (drop k bytes) ≡ whole) next (packed_more word byte n place whole bytes is h)
+    let h : word * 256 ^ suc n + big_endian (suc n) (drop place bytes) ≡ whole = subst (λ k. word * 256 ^ k + big_endian k (drop place bytes) ≡ whole) left before in
+    subst (λ k. (word * 256 + byte) * 256 ^ n + big_endian n (drop k bytes) ≡ whole) next (packed_more word byte n place whole bytes is h)
 
 pub loop-place-preserved : goal.loop-place-preserved
 loop-place-preserved c =
@@ -31,7 +31,7 @@ loop-place-preserved c =
     let places : suc (c.loop-place.place - c.args.from) ≡ c.loop-place.place + 1 - c.args.from = omega arith in
     record {
       whole =
-          one_more c.loop-place.word c.from.result c.args.from c.loop-place.place (packed 8 (drop c.args.from c.args.bytes.now)) c.args.bytes.now low
+          one_more c.loop-place.word c.from.result c.args.from c.loop-place.place (big_endian 8 (drop c.args.from c.args.bytes.now)) c.args.bytes.now low
           c.loop-place-test.true is c.loop-place.invariant.whole;
       fits =
           subst (λ k. c.loop-place.word * 256 + c.from.result < 256 ^ k) places

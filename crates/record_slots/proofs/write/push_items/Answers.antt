@@ -13,12 +13,12 @@ loop-item-preserved c =
     let place = c.loop-item.item-index in
     let item = c.item-item.result in
     let within = c.loop-item-test.true in
-    let before = c.loop-item.words.items in
-    let now = c.push_item.new.words.items in
+    let before = c.loop-item.row in
+    let now = c.push_item.new.row in
     let more = c.push_item.ensures.words in
     let one : IsShortItem (get_or items place item) = subst IsShortItem c.item-item.is c.push_item.ensures.short in
     record {
-      written = item_written items place item within c.item-item.is before now more (c.args.words.now.items ++ items_words items) c.loop-item.invariant.written;
+      written = item_written items place item within c.item-item.is before now more (c.args.row.now ++ items_words items) c.loop-item.invariant.written;
       room = room_left items place item within c.item-item.is before now more c.loop-item.invariant.room;
       short = All-more IsShortItem items place item within c.loop-item.invariant.short one;
     }

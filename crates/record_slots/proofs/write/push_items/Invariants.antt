@@ -7,7 +7,7 @@ use Rattle.record_slots.proofs.write.push_items.Given as goal
 
 abbrev pub invariant-loop-item : goal.invariant-loop-item
 invariant-loop-item l = record {
-  written : l.words.items ++ items_words (drop l.item-index l.items) ≡ l.initial.words.items ++ items_words l.items;
-  room : length l.words.items + item_size * length (drop l.item-index l.items) ≤ row_size;
+  written : l.row ++ items_words (drop l.item-index l.items) ≡ l.initial.row ++ items_words l.items;
+  room : length l.row + item_size * length (drop l.item-index l.items) ≤ row_size;
   short : All IsShortItem (take l.item-index l.items);
 }

@@ -3,6 +3,6 @@ use Rattle.record_slots.proofs.write.push_zeros.Given as goal
 
 abbrev pub invariant-loop : goal.invariant-loop
 invariant-loop l = record {
-  written : l.words.items ++ replicate (l.count - l.counter) 0 ≡ l.initial.words.items ++ replicate l.count 0;
-  counts : length l.words.items ≡ length l.initial.words.items + l.counter;
+  written : l.row ++ replicate (l.count - l.counter) 0 ≡ l.initial.row ++ replicate l.count 0;
+  counts : length l.row ≡ length l.initial.row + l.counter;
 }

@@ -1,7 +1,7 @@
 use Rattle.traces.specs.discipline.Recalled.{cause_worth}
 use Rattle.std.proofs.Common.{Some, ap, sym, subst, Option, ◌∙◌}
-use Rattle.bw_model.specs.Lent.{lent}
-use Rattle.traces.specs.discipline.Knowledge.{begun}
+use Rattle.bw_model.specs.Lent.{step_of_loan}
+use Rattle.traces.specs.discipline.Knowledge.{after_begin}
 use Rattle.traces.specs.discipline.Recalled.{blank}
 use Rattle.op_machine.specs.machine.Outcomes.{is_leaving}
 use Rattle.op_machine.specs.machine.Tasks.{Task}
@@ -15,7 +15,7 @@ go_on-requires g c =
     let (k, r, at) = c.requires.shows in
     let idle = idle_at _ _ k r c.self.inside.hand _ (rw (← c.self.view_is) at c.requires.idle) (rw (← c.self.view_is) at at) in
     record {
-      told = told_start (begun k c.args.command) c.self.inside.hand c.begin.new.self c.begin.ensures.sweep c.begin.ensures.state
+      told = told_start (after_begin k c.args.command) c.self.inside.hand c.begin.new.self c.begin.ensures.sweep c.begin.ensures.state
           (c.begin.ensures.shows _ _ idle);
       stays = ap is_leaving c.begin.ensures.state;
     }
@@ -24,15 +24,15 @@ pub wanted-requires-clause-shown : goal.wanted-requires-clause-shown
 wanted-requires-clause-shown g c =
     let (k, r, at) = c.requires.shows in
     let idle = idle_at _ _ k r c.self.inside.hand _ (rw (← c.self.view_is) at c.requires.idle) (rw (← c.self.view_is) at at) in
-    shown_begun (begun k c.args.command) c.self.inside.hand c.begin.new.self c.begin.ensures.sweep c.begin.ensures.state (c.begin.ensures.shows _ _ idle) _ _ c.go_on.ensures
+    shown_begun (after_begin k c.args.command) c.self.inside.hand c.begin.new.self c.begin.ensures.sweep c.begin.ensures.state (c.begin.ensures.shows _ _ idle) _ _ c.go_on.ensures
 
 pub returns-clause-shows : goal.returns-clause-shows
 returns-clause-shows g c = λ k r h.
     let idle = idle_at _ _ k r c.self.inside.hand _ (rw (← c.self.view_is) at c.requires.idle) (rw (← c.self.view_is) at h) in
-    let shown = shown_begun (begun k c.args.command) c.self.inside.hand c.begin.new.self c.begin.ensures.sweep c.begin.ensures.state (c.begin.ensures.shows _ _ idle) _ _ c.go_on.ensures in
+    let shown = shown_begun (after_begin k c.args.command) c.self.inside.hand c.begin.new.self c.begin.ensures.sweep c.begin.ensures.state (c.begin.ensures.shows _ _ idle) _ _ c.go_on.ensures in
     let asks = (c.wanted.ensures shown.0 shown.1 shown.2).wanted in
-    subst (λ (o : Option UnderWay). IsActorWith c.args.limits.now c.args.number (begun k c.args.command) blank c.go_on.new.hand o) (sym (is_asking c.go_on.new.self c.go_on.new.hand _ asks))
-    (begun_left (begun k c.args.command) c.self.inside.hand c.begin.new.self c.begin.ensures.sweep c.begin.ensures.state (c.begin.ensures.shows _ _ idle) _ _ _
+    subst (λ (o : Option UnderWay). IsActorWith c.args.limits.now c.args.number (after_begin k c.args.command) blank c.go_on.new.hand o) (sym (is_asking c.go_on.new.self c.go_on.new.hand _ asks))
+    (begun_left (after_begin k c.args.command) c.self.inside.hand c.begin.new.self c.begin.ensures.sweep c.begin.ensures.state (c.begin.ensures.shows _ _ idle) _ _ _
     _ (ap (λ (t : Task). t.limits) c.begin.ensures.task) (ap (λ (t : Task). t.actor) c.begin.ensures.task) _ (c.go_on.ensures.obeys _ c.wanted.ensures)
     c.go_on.ensures.same)
 
@@ -43,8 +43,8 @@ pub returns-clause-bounded : goal.returns-clause-bounded
 returns-clause-bounded g c =
     let (k, r, at) = c.requires.shows in
     let idle = idle_at _ _ k r c.self.inside.hand _ (rw (← c.self.view_is) at c.requires.idle) (rw (← c.self.view_is) at at) in
-    let shown = shown_begun (begun k c.args.command) c.self.inside.hand c.begin.new.self c.begin.ensures.sweep c.begin.ensures.state (c.begin.ensures.shows _ _ idle) _ _ c.go_on.ensures in
+    let shown = shown_begun (after_begin k c.args.command) c.self.inside.hand c.begin.new.self c.begin.ensures.sweep c.begin.ensures.state (c.begin.ensures.shows _ _ idle) _ _ c.go_on.ensures in
     let asks = (c.wanted.ensures shown.0 shown.1 shown.2).wanted in
-    rw asks (begun_few (begun k c.args.command) c.self.inside.hand c.begin.new.self c.begin.ensures.sweep c.begin.ensures.state (c.begin.ensures.shows _ _ idle)
-    (cause_worth c.args.limits.now) c.go_on.new.self c.go_on.new.hand (lent c.wanted.result) (c.go_on.ensures.spends (lent c.wanted.result))
+    rw asks (begun_few (after_begin k c.args.command) c.self.inside.hand c.begin.new.self c.begin.ensures.sweep c.begin.ensures.state (c.begin.ensures.shows _ _ idle)
+    (cause_worth c.args.limits.now) c.go_on.new.self c.go_on.new.hand (step_of_loan c.wanted.result) (c.go_on.ensures.spends (step_of_loan c.wanted.result))
     c.begin.ensures.few)

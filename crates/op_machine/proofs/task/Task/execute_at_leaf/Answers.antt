@@ -1,7 +1,7 @@
 use Rattle.std.proofs.Common.{◌≡◌, ◌<◌, ◌∙◌, Some, true, false, length, refl, sym, ap, is_some, arith}
 use Rattle.bw_model.specs.Replies.{command_key, reply_of, update_of}
 use Rattle.traces.specs.chain.Chains.{content_in}
-use Rattle.traces.specs.discipline.Discipline.{found}
+use Rattle.traces.specs.discipline.Discipline.{chain_value}
 use Rattle.rounds.specs.WriteRounds.{PlacedWrite}
 use Rattle.structure_changes.specs.Reads.{chain_of}
 use Rattle.structure_changes.proofs.Places.{of_made}
@@ -40,7 +40,7 @@ returns-clause-stands g c parent k r below idle =
     let task = c.args.self.now in
     let leaf = c.args.places.now.writer.page in
     let key = command_key task.command in
-    let old = found leaf.chain key in
+    let old = chain_value leaf.chain key in
     let leaf_is : c.page-leaf.result.now ≡ leaf = c.page-leaf.ensures ∙ ap (λ (w : PlacedWrite). w.page) c.writer.ensures in
     let chain_is : c.chain.result.now ≡ chain_of leaf = c.chain.ensures ∙ ap chain_of leaf_is in
     let key_is : c.of-key.result ≡ key = c.of-key.ensures ∙ c.key.ensures ∙ ap command_key c.command.ensures in
@@ -102,7 +102,7 @@ returns-then-not-changes-clause-stands g c parent k r below idle =
     let task = c.args.self.now in
     let leaf = c.args.places.now.writer.page in
     let key = command_key task.command in
-    let old = found leaf.chain key in
+    let old = chain_value leaf.chain key in
     let leaf_is : c.page-leaf.result.now ≡ leaf = c.page-leaf.ensures ∙ ap (λ (w : PlacedWrite). w.page) c.writer.ensures in
     let chain_is : c.chain.result.now ≡ chain_of leaf = c.chain.ensures ∙ ap chain_of leaf_is in
     let key_is : c.of-key.result ≡ key = c.of-key.ensures ∙ c.key.ensures ∙ ap command_key c.command.ensures in

@@ -19,3 +19,12 @@ returns-clause-wide g c =
       λ many. le-leb 16 count (count_of_many chain count c.item_count.ensures.count many),
     ) in
     subst (λ (chain : List Record). Decides (leb 16 count) (HasManyItems chain)) is decides
+
+pub returns-then-most_items-lt16-clause-wide : goal.returns-then-most_items-lt16-clause-wide
+returns-then-most_items-lt16-clause-wide g c =
+    let chain : List Record = c.chain-chain.result.now.records in
+    let is : chain ≡ c.args.self.now.page.chain = ap (λ (p : PlacedChain). p.records) c.chain-chain.ensures ∙ ap (λ (v : Version). v.chain) c.page.ensures in
+    subst (λ (chain : List Record). Decides false (HasManyItems chain)) is (
+      λ no. cc,
+      λ many. let most = c.most_items.ensures many.0 many.1 in let long = many.2 in absurd (omega arith),
+    )

@@ -1,6 +1,6 @@
 use Rattle.std.proofs.Common.{◌≡◌, ◌≢◌, ℕ, Some, None, ap, sym, ◌∙◌, subst}
 use Rattle.bw_model.specs.Answers.{answer_of}
-use Rattle.bw_model.specs.Lent.{lent}
+use Rattle.bw_model.specs.Lent.{step_of_loan}
 use Rattle.bw_model.specs.declared.step.Answer.TheVariants.{Content, Done}
 use Rattle.bw_model.specs.declared.step.Step.{Step}
 use Rattle.bw_model.specs.declared.step.Step.TheVariants.{Leave, Row}
@@ -26,7 +26,7 @@ not_leave is leaves = cc
 pub leave-requires-clause-told : goal.leave-requires-clause-told
 leave-requires-clause-told g c =
     let leaves : wanted_by c.self.inside.actor.running ≡ Some Leave = c.wanted.ensures ∙ ap Some (subst
-    (λ t. HasTaken c.self.inside.limits c.self.inside.desk.number (seen_of c.self.inside.desk.place.me) (lent c.wanted.result) t (seen_of c.take-taken.new.place.me))
+    (λ t. HasTaken c.self.inside.limits c.self.inside.desk.number (seen_of c.self.inside.desk.place.me) (step_of_loan c.wanted.result) t (seen_of c.take-taken.new.place.me))
     c.in-Leaving.is c.take-taken.ensures.took) in
     leave_told c.laws_of_runs.ensures _ _ _ _ c.self.invariant.seated (busy_of _ _ c.self.view_is c.requires.busy) leaves
 
@@ -37,7 +37,7 @@ take_leave-requires-clause-table g c =
 pub take_leave-requires-clause-may : goal.take_leave-requires-clause-may
 take_leave-requires-clause-may g c =
     let leaves : wanted_by c.self.inside.actor.running ≡ Some Leave = c.wanted.ensures ∙ ap Some (subst
-    (λ t. HasTaken c.self.inside.limits c.self.inside.desk.number (seen_of c.self.inside.desk.place.me) (lent c.wanted.result) t (seen_of c.take-taken.new.place.me))
+    (λ t. HasTaken c.self.inside.limits c.self.inside.desk.number (seen_of c.self.inside.desk.place.me) (step_of_loan c.wanted.result) t (seen_of c.take-taken.new.place.me))
     c.in-Leaving.is c.take-taken.ensures.took) in
     let saw : seen_of c.take-taken.new.place.me ≡ seen_of c.self.inside.desk.place.me = ap seen_of (c.take-taken.ensures.leaving c.in-Leaving.is) in
     subst (λ seen. IsLawfulStep IsLawfulRun c.self.inside.limits c.self.inside.desk.number seen None Leave (Some c.leave.new.reply)) (sym saw)
@@ -46,7 +46,7 @@ take_leave-requires-clause-may g c =
 pub invariant_of-self : goal.invariant_of-self
 invariant_of-self g c =
     let leaves : wanted_by c.self.inside.actor.running ≡ Some Leave = c.wanted.ensures ∙ ap Some (subst
-    (λ t. HasTaken c.self.inside.limits c.self.inside.desk.number (seen_of c.self.inside.desk.place.me) (lent c.wanted.result) t (seen_of c.take-taken.new.place.me))
+    (λ t. HasTaken c.self.inside.limits c.self.inside.desk.number (seen_of c.self.inside.desk.place.me) (step_of_loan c.wanted.result) t (seen_of c.take-taken.new.place.me))
     c.in-Leaving.is c.take-taken.ensures.took) in
     let saw : seen_of c.take-taken.new.place.me ≡ seen_of c.self.inside.desk.place.me = ap seen_of (c.take-taken.ensures.leaving c.in-Leaving.is) in
     let took : Took IsLawfulRun c.self.inside.limits c.self.inside.desk.number (seen_of c.self.inside.desk.place.me) None Leave Done (Some c.leave.new.reply) (seen_of c.take_leave.new.place.me) =
@@ -63,7 +63,7 @@ invariant_of-self g c =
 pub returns-in-Leaving-clause-advances : goal.returns-in-Leaving-clause-advances
 returns-in-Leaving-clause-advances g c =
     let leaves : wanted_by c.self.inside.actor.running ≡ Some Leave = c.wanted.ensures ∙ ap Some (subst
-    (λ t. HasTaken c.self.inside.limits c.self.inside.desk.number (seen_of c.self.inside.desk.place.me) (lent c.wanted.result) t (seen_of c.take-taken.new.place.me))
+    (λ t. HasTaken c.self.inside.limits c.self.inside.desk.number (seen_of c.self.inside.desk.place.me) (step_of_loan c.wanted.result) t (seen_of c.take-taken.new.place.me))
     c.in-Leaving.is c.take-taken.ensures.took) in
     let saw : seen_of c.take-taken.new.place.me ≡ seen_of c.self.inside.desk.place.me = ap seen_of (c.take-taken.ensures.leaving c.in-Leaving.is) in
     let took : Took IsLawfulRun c.self.inside.limits c.self.inside.desk.number (seen_of c.self.inside.desk.place.me) None Leave Done (Some c.leave.new.reply) (seen_of c.take_leave.new.place.me) =
@@ -76,68 +76,68 @@ pub take-taken-requires-clause-table : goal.take-taken-requires-clause-table
 take-taken-requires-clause-table g c = is_own _ _ _ _ _ _ _ _ _ c.tree.invariant c.tree.view_is c.self.view_is c.requires.own
 
 pub take-taken-requires-clause-known : goal.take-taken-requires-clause-known
-take-taken-requires-clause-known g c = known_may c.laws_of_runs.ensures _ _ _ _ c.self.invariant.seated (busy_of _ _ c.self.view_is c.requires.busy) (lent c.wanted.result) c.wanted.ensures
+take-taken-requires-clause-known g c = known_may c.laws_of_runs.ensures _ _ _ _ c.self.invariant.seated (busy_of _ _ c.self.view_is c.requires.busy) (step_of_loan c.wanted.result) c.wanted.ensures
 
 pub take-taken-requires-clause-within : goal.take-taken-requires-clause-within
-take-taken-requires-clause-within g c = within c.laws_of_runs.ensures _ _ _ _ c.self.invariant.seated (busy_of _ _ c.self.view_is c.requires.busy) (lent c.wanted.result) c.wanted.ensures
+take-taken-requires-clause-within g c = within c.laws_of_runs.ensures _ _ _ _ c.self.invariant.seated (busy_of _ _ c.self.view_is c.requires.busy) (step_of_loan c.wanted.result) c.wanted.ensures
 
 pub take-taken-requires-clause-may : goal.take-taken-requires-clause-may
-take-taken-requires-clause-may g c other = may_go c.laws_of_runs.ensures _ _ _ _ c.self.invariant.seated (busy_of _ _ c.self.view_is c.requires.busy) (lent c.wanted.result) c.wanted.ensures other
+take-taken-requires-clause-may g c other = may_go c.laws_of_runs.ensures _ _ _ _ c.self.invariant.seated (busy_of _ _ c.self.view_is c.requires.busy) (step_of_loan c.wanted.result) c.wanted.ensures other
 
 pub of-record-requires-clause-spelt : goal.of-record-requires-clause-spelt
 of-record-requires-clause-spelt g c =
-    let told : (lent c.wanted.result ≡ Row c.in-First.row) × ReadsFirst IsLawfulRun c.self.inside.limits c.self.inside.desk.number
+    let told : (step_of_loan c.wanted.result ≡ Row c.in-First.row) × ReadsFirst IsLawfulRun c.self.inside.limits c.self.inside.desk.number
     (seen_of c.self.inside.desk.place.me) c.in-First.row c.in-First.first (seen_of c.take-taken.new.place.me) =
     subst
-    (λ t. HasTaken c.self.inside.limits c.self.inside.desk.number (seen_of c.self.inside.desk.place.me) (lent c.wanted.result) t (seen_of c.take-taken.new.place.me))
+    (λ t. HasTaken c.self.inside.limits c.self.inside.desk.number (seen_of c.self.inside.desk.place.me) (step_of_loan c.wanted.result) t (seen_of c.take-taken.new.place.me))
     c.in-First.is c.take-taken.ensures.took in
     spelt_there c.laws_of_runs.ensures _ _ _ _ c.take-taken.new.place.me _ told.1
 
 pub of-record-requires-clause-first : goal.of-record-requires-clause-first
 of-record-requires-clause-first g c =
-    let told : (lent c.wanted.result ≡ Row c.in-First.row) × ReadsFirst IsLawfulRun c.self.inside.limits c.self.inside.desk.number
+    let told : (step_of_loan c.wanted.result ≡ Row c.in-First.row) × ReadsFirst IsLawfulRun c.self.inside.limits c.self.inside.desk.number
     (seen_of c.self.inside.desk.place.me) c.in-First.row c.in-First.first (seen_of c.take-taken.new.place.me) =
     subst
-    (λ t. HasTaken c.self.inside.limits c.self.inside.desk.number (seen_of c.self.inside.desk.place.me) (lent c.wanted.result) t (seen_of c.take-taken.new.place.me))
+    (λ t. HasTaken c.self.inside.limits c.self.inside.desk.number (seen_of c.self.inside.desk.place.me) (step_of_loan c.wanted.result) t (seen_of c.take-taken.new.place.me))
     c.in-First.is c.take-taken.ensures.took in
     first_there c.laws_of_runs.ensures _ _ _ _ c.take-taken.new.place.me _ told.1
 
 pub take_record-requires-clause-asked : goal.take_record-requires-clause-asked
 take_record-requires-clause-asked g c =
-    let told : (lent c.wanted.result ≡ Row c.in-First.row) × ReadsFirst IsLawfulRun c.self.inside.limits c.self.inside.desk.number
+    let told : (step_of_loan c.wanted.result ≡ Row c.in-First.row) × ReadsFirst IsLawfulRun c.self.inside.limits c.self.inside.desk.number
     (seen_of c.self.inside.desk.place.me) c.in-First.row c.in-First.first (seen_of c.take-taken.new.place.me) =
     subst
-    (λ t. HasTaken c.self.inside.limits c.self.inside.desk.number (seen_of c.self.inside.desk.place.me) (lent c.wanted.result) t (seen_of c.take-taken.new.place.me))
+    (λ t. HasTaken c.self.inside.limits c.self.inside.desk.number (seen_of c.self.inside.desk.place.me) (step_of_loan c.wanted.result) t (seen_of c.take-taken.new.place.me))
     c.in-First.is c.take-taken.ensures.took in
     c.wanted.ensures ∙ ap Some told.0 ∙ ap (λ (placed : PlacedRecord). Some (Row placed.row))
     (sym {b = record { row = c.in-First.row; content = read_by c.take-taken.new.place.me c.self.inside.desk.number c.in-First.row }} c.of-record.ensures)
 
 pub take_record-requires-clause-told : goal.take_record-requires-clause-told
 take_record-requires-clause-told g c =
-    let told : (lent c.wanted.result ≡ Row c.in-First.row) × ReadsFirst IsLawfulRun c.self.inside.limits c.self.inside.desk.number
+    let told : (step_of_loan c.wanted.result ≡ Row c.in-First.row) × ReadsFirst IsLawfulRun c.self.inside.limits c.self.inside.desk.number
     (seen_of c.self.inside.desk.place.me) c.in-First.row c.in-First.first (seen_of c.take-taken.new.place.me) =
     subst
-    (λ t. HasTaken c.self.inside.limits c.self.inside.desk.number (seen_of c.self.inside.desk.place.me) (lent c.wanted.result) t (seen_of c.take-taken.new.place.me))
+    (λ t. HasTaken c.self.inside.limits c.self.inside.desk.number (seen_of c.self.inside.desk.place.me) (step_of_loan c.wanted.result) t (seen_of c.take-taken.new.place.me))
     c.in-First.is c.take-taken.ensures.took in
-    let took : Took IsLawfulRun c.self.inside.limits c.self.inside.desk.number (seen_of c.self.inside.desk.place.me) None (lent c.wanted.result)
+    let took : Took IsLawfulRun c.self.inside.limits c.self.inside.desk.number (seen_of c.self.inside.desk.place.me) None (step_of_loan c.wanted.result)
     (Content c.of-record.result.content) None (seen_of c.take-taken.new.place.me) =
     subst (λ (step : Step Record). Took IsLawfulRun c.self.inside.limits c.self.inside.desk.number (seen_of c.self.inside.desk.place.me) None step
     (Content c.of-record.result.content) None (seen_of c.take-taken.new.place.me)) (sym told.0)
     (subst (λ (placed : PlacedRecord). Took IsLawfulRun c.self.inside.limits c.self.inside.desk.number (seen_of c.self.inside.desk.place.me) None
     (Row c.in-First.row) (Content placed.content) None (seen_of c.take-taken.new.place.me)) (sym c.of-record.ensures) (took_there c.laws_of_runs.ensures _ _
     _ _ c.take-taken.new.place.me _ told.1)) in
-    told_there c.laws_of_runs.ensures _ _ _ _ c.self.invariant.seated (busy_of _ _ c.self.view_is c.requires.busy) (lent c.wanted.result) c.wanted.ensures _ _
+    told_there c.laws_of_runs.ensures _ _ _ _ c.self.invariant.seated (busy_of _ _ c.self.view_is c.requires.busy) (step_of_loan c.wanted.result) c.wanted.ensures _ _
     took _
     (all_there c.laws_of_runs.ensures _ _ _ _ _ _ _ c.take-taken.new.place.me c.self.view_is c.requires.own c.take-taken.ensures.same took.kept c.take-taken.ensures.seat)
 
 pub invariant_of-self-in-First : goal.invariant_of-self-in-First
 invariant_of-self-in-First g c =
-    let told : (lent c.wanted.result ≡ Row c.in-First.row) × ReadsFirst IsLawfulRun c.self.inside.limits c.self.inside.desk.number
+    let told : (step_of_loan c.wanted.result ≡ Row c.in-First.row) × ReadsFirst IsLawfulRun c.self.inside.limits c.self.inside.desk.number
     (seen_of c.self.inside.desk.place.me) c.in-First.row c.in-First.first (seen_of c.take-taken.new.place.me) =
     subst
-    (λ t. HasTaken c.self.inside.limits c.self.inside.desk.number (seen_of c.self.inside.desk.place.me) (lent c.wanted.result) t (seen_of c.take-taken.new.place.me))
+    (λ t. HasTaken c.self.inside.limits c.self.inside.desk.number (seen_of c.self.inside.desk.place.me) (step_of_loan c.wanted.result) t (seen_of c.take-taken.new.place.me))
     c.in-First.is c.take-taken.ensures.took in
-    let took : Took IsLawfulRun c.self.inside.limits c.self.inside.desk.number (seen_of c.self.inside.desk.place.me) None (lent c.wanted.result)
+    let took : Took IsLawfulRun c.self.inside.limits c.self.inside.desk.number (seen_of c.self.inside.desk.place.me) None (step_of_loan c.wanted.result)
     (Content c.of-record.result.content) None (seen_of c.take-taken.new.place.me) =
     subst (λ (step : Step Record). Took IsLawfulRun c.self.inside.limits c.self.inside.desk.number (seen_of c.self.inside.desk.place.me) None step
     (Content c.of-record.result.content) None (seen_of c.take-taken.new.place.me)) (sym told.0)
@@ -150,32 +150,32 @@ invariant_of-self-in-First g c =
       place = c.take-taken.ensures.seat;
       begins = took.begins;
       seated =
-          seated_on c.laws_of_runs.ensures _ _ _ _ c.self.invariant.seated (busy_of _ _ c.self.view_is c.requires.busy) (lent c.wanted.result) c.wanted.ensures
+          seated_on c.laws_of_runs.ensures _ _ _ _ c.self.invariant.seated (busy_of _ _ c.self.view_is c.requires.busy) (step_of_loan c.wanted.result) c.wanted.ensures
           _ _ took None c.take_record.new.self (not_leave told.0) c.take_record.ensures.goes c.take_record.ensures.command;
     }
 
 pub go_on-requires-clause-told : goal.go_on-requires-clause-told
 go_on-requires-clause-told g c =
-    let told : (lent c.wanted.result ≢ Leave) × Took IsLawfulRun c.self.inside.limits c.self.inside.desk.number (seen_of c.self.inside.desk.place.me) None
-    (lent c.wanted.result) (answer_of c.in-Told.told) None (seen_of c.take-taken.new.place.me) =
+    let told : (step_of_loan c.wanted.result ≢ Leave) × Took IsLawfulRun c.self.inside.limits c.self.inside.desk.number (seen_of c.self.inside.desk.place.me) None
+    (step_of_loan c.wanted.result) (answer_of c.in-Told.told) None (seen_of c.take-taken.new.place.me) =
     subst
-    (λ t. HasTaken c.self.inside.limits c.self.inside.desk.number (seen_of c.self.inside.desk.place.me) (lent c.wanted.result) t (seen_of c.take-taken.new.place.me))
+    (λ t. HasTaken c.self.inside.limits c.self.inside.desk.number (seen_of c.self.inside.desk.place.me) (step_of_loan c.wanted.result) t (seen_of c.take-taken.new.place.me))
     c.in-Told.is c.take-taken.ensures.took in
-    told_on c.laws_of_runs.ensures _ _ _ _ c.self.invariant.seated (busy_of _ _ c.self.view_is c.requires.busy) (lent c.wanted.result) c.wanted.ensures _ _ told.1
+    told_on c.laws_of_runs.ensures _ _ _ _ c.self.invariant.seated (busy_of _ _ c.self.view_is c.requires.busy) (step_of_loan c.wanted.result) c.wanted.ensures _ _ told.1
 
 pub invariant_of-self-in-Told : goal.invariant_of-self-in-Told
 invariant_of-self-in-Told g c =
-    let told : (lent c.wanted.result ≢ Leave) × Took IsLawfulRun c.self.inside.limits c.self.inside.desk.number (seen_of c.self.inside.desk.place.me) None
-    (lent c.wanted.result) (answer_of c.in-Told.told) None (seen_of c.take-taken.new.place.me) =
+    let told : (step_of_loan c.wanted.result ≢ Leave) × Took IsLawfulRun c.self.inside.limits c.self.inside.desk.number (seen_of c.self.inside.desk.place.me) None
+    (step_of_loan c.wanted.result) (answer_of c.in-Told.told) None (seen_of c.take-taken.new.place.me) =
     subst
-    (λ t. HasTaken c.self.inside.limits c.self.inside.desk.number (seen_of c.self.inside.desk.place.me) (lent c.wanted.result) t (seen_of c.take-taken.new.place.me))
+    (λ t. HasTaken c.self.inside.limits c.self.inside.desk.number (seen_of c.self.inside.desk.place.me) (step_of_loan c.wanted.result) t (seen_of c.take-taken.new.place.me))
     c.in-Told.is c.take-taken.ensures.took in
     record {
       there = c.self.invariant.there;
       place = c.take-taken.ensures.seat;
       begins = told.1.begins;
       seated =
-          seated_on c.laws_of_runs.ensures _ _ _ _ c.self.invariant.seated (busy_of _ _ c.self.view_is c.requires.busy) (lent c.wanted.result) c.wanted.ensures
+          seated_on c.laws_of_runs.ensures _ _ _ _ c.self.invariant.seated (busy_of _ _ c.self.view_is c.requires.busy) (step_of_loan c.wanted.result) c.wanted.ensures
           _ _ told.1 None c.go_on.new.self told.0 c.go_on.ensures.goes c.go_on.ensures.command;
     }
 
@@ -186,12 +186,12 @@ returns-in-First-clause-same g c =
 
 pub returns-in-First-clause-advances : goal.returns-in-First-clause-advances
 returns-in-First-clause-advances g c =
-    let told : (lent c.wanted.result ≡ Row c.in-First.row) × ReadsFirst IsLawfulRun c.self.inside.limits c.self.inside.desk.number
+    let told : (step_of_loan c.wanted.result ≡ Row c.in-First.row) × ReadsFirst IsLawfulRun c.self.inside.limits c.self.inside.desk.number
     (seen_of c.self.inside.desk.place.me) c.in-First.row c.in-First.first (seen_of c.take-taken.new.place.me) =
     subst
-    (λ t. HasTaken c.self.inside.limits c.self.inside.desk.number (seen_of c.self.inside.desk.place.me) (lent c.wanted.result) t (seen_of c.take-taken.new.place.me))
+    (λ t. HasTaken c.self.inside.limits c.self.inside.desk.number (seen_of c.self.inside.desk.place.me) (step_of_loan c.wanted.result) t (seen_of c.take-taken.new.place.me))
     c.in-First.is c.take-taken.ensures.took in
-    let took : Took IsLawfulRun c.self.inside.limits c.self.inside.desk.number (seen_of c.self.inside.desk.place.me) None (lent c.wanted.result)
+    let took : Took IsLawfulRun c.self.inside.limits c.self.inside.desk.number (seen_of c.self.inside.desk.place.me) None (step_of_loan c.wanted.result)
     (Content c.of-record.result.content) None (seen_of c.take-taken.new.place.me) =
     subst (λ (step : Step Record). Took IsLawfulRun c.self.inside.limits c.self.inside.desk.number (seen_of c.self.inside.desk.place.me) None step
     (Content c.of-record.result.content) None (seen_of c.take-taken.new.place.me)) (sym told.0)
@@ -200,16 +200,16 @@ returns-in-First-clause-advances g c =
     _ _ c.take-taken.new.place.me _ told.1)) in
     subst (λ (desk : Desk). Advances c.args.self.now None (seat_of desk.place.table_id c.self.inside.limits desk.number (seen_of desk.place.me))) (sym c.take_record.ensures.same)
     (advances_of _ _ _ _ c.self.view_is
-    (advances_on c.laws_of_runs.ensures _ _ _ _ c.self.invariant.seated (busy_of _ _ c.self.view_is c.requires.busy) (lent c.wanted.result) c.wanted.ensures _ _
+    (advances_on c.laws_of_runs.ensures _ _ _ _ c.self.invariant.seated (busy_of _ _ c.self.view_is c.requires.busy) (step_of_loan c.wanted.result) c.wanted.ensures _ _
     took None c.take_record.new.self (not_leave told.0) c.take_record.ensures.goes c.self.inside.desk.place.table_id c.take-taken.new.place.table_id))
 
 pub returns-in-Told-clause-advances : goal.returns-in-Told-clause-advances
 returns-in-Told-clause-advances g c =
-    let told : (lent c.wanted.result ≢ Leave) × Took IsLawfulRun c.self.inside.limits c.self.inside.desk.number (seen_of c.self.inside.desk.place.me) None
-    (lent c.wanted.result) (answer_of c.in-Told.told) None (seen_of c.take-taken.new.place.me) =
+    let told : (step_of_loan c.wanted.result ≢ Leave) × Took IsLawfulRun c.self.inside.limits c.self.inside.desk.number (seen_of c.self.inside.desk.place.me) None
+    (step_of_loan c.wanted.result) (answer_of c.in-Told.told) None (seen_of c.take-taken.new.place.me) =
     subst
-    (λ t. HasTaken c.self.inside.limits c.self.inside.desk.number (seen_of c.self.inside.desk.place.me) (lent c.wanted.result) t (seen_of c.take-taken.new.place.me))
+    (λ t. HasTaken c.self.inside.limits c.self.inside.desk.number (seen_of c.self.inside.desk.place.me) (step_of_loan c.wanted.result) t (seen_of c.take-taken.new.place.me))
     c.in-Told.is c.take-taken.ensures.took in
     advances_of _ _ _ _ c.self.view_is
-    (advances_on c.laws_of_runs.ensures _ _ _ _ c.self.invariant.seated (busy_of _ _ c.self.view_is c.requires.busy) (lent c.wanted.result) c.wanted.ensures _ _
+    (advances_on c.laws_of_runs.ensures _ _ _ _ c.self.invariant.seated (busy_of _ _ c.self.view_is c.requires.busy) (step_of_loan c.wanted.result) c.wanted.ensures _ _
     told.1 None c.go_on.new.self told.0 c.go_on.ensures.goes c.self.inside.desk.place.table_id c.take-taken.new.place.table_id)

@@ -1,7 +1,7 @@
 use Rattle.std.proofs.Common.{Some, None, sym, ◌∙◌, subst}
 use Rattle.std.specs.Prelude.{Option}
 use Rattle.bw_model.specs.Answers.{answer_of}
-use Rattle.bw_model.specs.Lent.{lent}
+use Rattle.bw_model.specs.Lent.{step_of_loan}
 use Rattle.bw_model.specs.declared.command.Command.{Command}
 use Rattle.table_rule.specs.Steps.{IsLawfulStep, Took}
 use Rattle.table_rule.specs.Views.{seen_of}
@@ -22,38 +22,38 @@ act-told-requires-clause-table g c = is_own _ _ _ _ _ _ _ _ _ c.tree.invariant c
 pub act-told-requires-clause-range : goal.act-told-requires-clause-range
 act-told-requires-clause-range g c =
     first_word c.laws_of_runs.ensures _ _ _ _ _ _ c.self.invariant.there c.self.invariant.seated (idle_of _ _ c.self.view_is c.requires.idle)
-    c.begin.ensures.shows c.begin.ensures.command c.begin.ensures.bounded c.begin.ensures.lacks (lent c.wanted.result) c.wanted.ensures
+    c.begin.ensures.shows c.begin.ensures.command c.begin.ensures.bounded c.begin.ensures.lacks (step_of_loan c.wanted.result) c.wanted.ensures
 
 pub act-told-requires-clause-may : goal.act-told-requires-clause-may
 act-told-requires-clause-may g c =
     subst
-    (λ (o : Option Command). IsLawfulStep IsLawfulRun c.self.inside.limits c.self.inside.desk.number (seen_of c.self.inside.desk.place.me) o (lent c.wanted.result) None)
+    (λ (o : Option Command). IsLawfulStep IsLawfulRun c.self.inside.limits c.self.inside.desk.number (seen_of c.self.inside.desk.place.me) o (step_of_loan c.wanted.result) None)
     (sym (c.command.ensures ∙ c.begin.ensures.command))
     (may_begin c.laws_of_runs.ensures _ _ _ _ _ _ c.self.invariant.there c.self.invariant.seated (idle_of _ _ c.self.view_is c.requires.idle)
-    c.begin.ensures.shows c.begin.ensures.command c.begin.ensures.bounded c.begin.ensures.lacks (lent c.wanted.result) c.wanted.ensures)
+    c.begin.ensures.shows c.begin.ensures.command c.begin.ensures.bounded c.begin.ensures.lacks (step_of_loan c.wanted.result) c.wanted.ensures)
 
 pub go_on-requires-clause-told : goal.go_on-requires-clause-told
 go_on-requires-clause-told g c =
     let took : Took IsLawfulRun c.self.inside.limits c.self.inside.desk.number (seen_of c.self.inside.desk.place.me) (Some c.args.command)
-    (lent c.wanted.result) (answer_of c.act-told.result) None (seen_of c.act-told.new.seat.me) =
+    (step_of_loan c.wanted.result) (answer_of c.act-told.result) None (seen_of c.act-told.new.seat.me) =
     subst (λ (o : Option Command). Took IsLawfulRun c.self.inside.limits c.self.inside.desk.number (seen_of c.self.inside.desk.place.me) o
-    (lent c.wanted.result) (answer_of c.act-told.result) None (seen_of c.act-told.new.seat.me)) (c.command.ensures ∙ c.begin.ensures.command)
+    (step_of_loan c.wanted.result) (answer_of c.act-told.result) None (seen_of c.act-told.new.seat.me)) (c.command.ensures ∙ c.begin.ensures.command)
     c.act-told.ensures.took in
     told_first c.laws_of_runs.ensures _ _ _ _ _ _ c.self.invariant.there c.self.invariant.seated (idle_of _ _ c.self.view_is c.requires.idle)
-    c.begin.ensures.shows c.begin.ensures.command c.begin.ensures.bounded c.begin.ensures.lacks (lent c.wanted.result) c.wanted.ensures
+    c.begin.ensures.shows c.begin.ensures.command c.begin.ensures.bounded c.begin.ensures.lacks (step_of_loan c.wanted.result) c.wanted.ensures
     (answer_of c.act-told.result) (seen_of c.act-told.new.seat.me) took
 
 pub go_on-requires-clause-stays : goal.go_on-requires-clause-stays
 go_on-requires-clause-stays g c =
     first_stays c.laws_of_runs.ensures _ _ _ _ _ _ c.self.invariant.there c.self.invariant.seated (idle_of _ _ c.self.view_is c.requires.idle)
-    c.begin.ensures.shows c.begin.ensures.command c.begin.ensures.bounded c.begin.ensures.lacks (lent c.wanted.result) c.wanted.ensures
+    c.begin.ensures.shows c.begin.ensures.command c.begin.ensures.bounded c.begin.ensures.lacks (step_of_loan c.wanted.result) c.wanted.ensures
 
 pub invariant_of-self : goal.invariant_of-self
 invariant_of-self g c =
     let took : Took IsLawfulRun c.self.inside.limits c.self.inside.desk.number (seen_of c.self.inside.desk.place.me) (Some c.args.command)
-    (lent c.wanted.result) (answer_of c.act-told.result) None (seen_of c.act-told.new.seat.me) =
+    (step_of_loan c.wanted.result) (answer_of c.act-told.result) None (seen_of c.act-told.new.seat.me) =
     subst (λ (o : Option Command). Took IsLawfulRun c.self.inside.limits c.self.inside.desk.number (seen_of c.self.inside.desk.place.me) o
-    (lent c.wanted.result) (answer_of c.act-told.result) None (seen_of c.act-told.new.seat.me)) (c.command.ensures ∙ c.begin.ensures.command)
+    (step_of_loan c.wanted.result) (answer_of c.act-told.result) None (seen_of c.act-told.new.seat.me)) (c.command.ensures ∙ c.begin.ensures.command)
     c.act-told.ensures.took in
     record {
       there = c.self.invariant.there;
@@ -61,26 +61,26 @@ invariant_of-self g c =
       begins = took.begins;
       seated =
           seated_first c.laws_of_runs.ensures _ _ _ _ _ _ c.self.invariant.there c.self.invariant.seated (idle_of _ _ c.self.view_is c.requires.idle)
-          c.begin.ensures.shows c.begin.ensures.command c.begin.ensures.bounded c.begin.ensures.lacks (lent c.wanted.result) c.wanted.ensures
+          c.begin.ensures.shows c.begin.ensures.command c.begin.ensures.bounded c.begin.ensures.lacks (step_of_loan c.wanted.result) c.wanted.ensures
           (answer_of c.act-told.result) (seen_of c.act-told.new.seat.me) took None c.go_on.new.self c.go_on.ensures.goes c.go_on.ensures.command;
     }
 
 pub returns-clause-begins : goal.returns-clause-begins
 returns-clause-begins g c =
     let took : Took IsLawfulRun c.self.inside.limits c.self.inside.desk.number (seen_of c.self.inside.desk.place.me) (Some c.args.command)
-    (lent c.wanted.result) (answer_of c.act-told.result) None (seen_of c.act-told.new.seat.me) =
+    (step_of_loan c.wanted.result) (answer_of c.act-told.result) None (seen_of c.act-told.new.seat.me) =
     subst (λ (o : Option Command). Took IsLawfulRun c.self.inside.limits c.self.inside.desk.number (seen_of c.self.inside.desk.place.me) o
-    (lent c.wanted.result) (answer_of c.act-told.result) None (seen_of c.act-told.new.seat.me)) (c.command.ensures ∙ c.begin.ensures.command)
+    (step_of_loan c.wanted.result) (answer_of c.act-told.result) None (seen_of c.act-told.new.seat.me)) (c.command.ensures ∙ c.begin.ensures.command)
     c.act-told.ensures.took in
     let seated : IsSeated c.self.inside.limits c.self.inside.desk.number (seen_of c.act-told.new.seat.me) c.go_on.new.self =
     seated_first c.laws_of_runs.ensures _ _ _ _ _ _ c.self.invariant.there c.self.invariant.seated (idle_of _ _ c.self.view_is c.requires.idle)
-    c.begin.ensures.shows c.begin.ensures.command c.begin.ensures.bounded c.begin.ensures.lacks (lent c.wanted.result) c.wanted.ensures
+    c.begin.ensures.shows c.begin.ensures.command c.begin.ensures.bounded c.begin.ensures.lacks (step_of_loan c.wanted.result) c.wanted.ensures
     (answer_of c.act-told.result) (seen_of c.act-told.new.seat.me) took None c.go_on.new.self c.go_on.ensures.goes c.go_on.ensures.command in
     subst (λ (old : Seat). HasBegun old c.args.command (seat_of c.act-told.new.seat.table_id c.self.inside.limits c.self.inside.desk.number (seen_of c.act-told.new.seat.me))) c.self.view_is
     record {
       run = took.run;
       extends = took.extends;
-      step = lent c.wanted.result;
+      step = step_of_loan c.wanted.result;
       told = answer_of c.act-told.result;
       answered = took.answered;
       grown = took.grown;

@@ -1,7 +1,7 @@
 use Rattle.std.proofs.Common.{◌≡◌, [], List, sym, ap, subst, ◌∙◌}
 use Rattle.traces.specs.declared.trace.Entry.{Entry}
 use Rattle.table_rule.specs.declared.view.Reach.TheVariants.{Noted}
-use Rattle.table_rule.specs.Views.{Mine, alone, noted, seen_of}
+use Rattle.table_rule.specs.Views.{Mine, alone, part_note, seen_of}
 use Rattle.running_tree.specs.Notes.{note_of}
 use Rattle.running_tree.proofs.Owning.{is_of}
 use Rattle.running_tree.proofs.tree.Tree.note.Goals as goal
@@ -9,7 +9,7 @@ use Rattle.running_tree.proofs.tree.Tree.note.Goals as goal
 pub invariant_of-result : goal.invariant_of-result
 invariant_of-result g c =
     let me : Mine = c.seat.inside.desk.place.me in
-    let is : c.note.result.me ≡ (alone c.seat.inside.limits c.seat.inside.desk.number (seen_of me) Noted, []) = c.note.ensures.noted ∙ ap (λ (m : Mine). (noted m.0, [])) c.seat.invariant.place in (
+    let is : c.note.result.me ≡ (alone c.seat.inside.limits c.seat.inside.desk.number (seen_of me) Noted, []) = c.note.ensures.noted ∙ ap (λ (m : Mine). (part_note m.0, [])) c.seat.invariant.place in (
       c.seat.inside.desk.number,
       subst (λ (run : List Entry). c.note.result.me ≡ (alone c.seat.inside.limits c.seat.inside.desk.number run Noted, [])) (sym (ap seen_of is)) is,
     )
@@ -23,5 +23,5 @@ returns-clause-stays g c = rw (c.note.ensures.same, c.note.ensures.stays) c.seat
 pub returns-clause-noted : goal.returns-clause-noted
 returns-clause-noted g c =
     let me : Mine = c.seat.inside.desk.place.me in
-    let is : c.note.result.me ≡ (alone c.seat.inside.limits c.seat.inside.desk.number (seen_of me) Noted, []) = c.note.ensures.noted ∙ ap (λ (m : Mine). (noted m.0, [])) c.seat.invariant.place in
+    let is : c.note.result.me ≡ (alone c.seat.inside.limits c.seat.inside.desk.number (seen_of me) Noted, []) = c.note.ensures.noted ∙ ap (λ (m : Mine). (part_note m.0, [])) c.seat.invariant.place in
     rw (c.note.ensures.table, ap seen_of is) (ap note_of c.seat.view_is)

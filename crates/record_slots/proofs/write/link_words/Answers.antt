@@ -1,6 +1,0 @@
-use Rattle.std.proofs.Common.{Some, [], ◌∙◌}
-use Rattle.record_slots.specs.Spelling.{row_words}
-use Rattle.record_slots.proofs.write.link_words.Goals as goal
-
-pub returns-clause-words : goal.returns-clause-words
-returns-clause-words c = c.row_words.ensures.words ∙ (λ i. row_words c.args.kind c.args.level c.args.next c.args.page c.args.first.now (Some (c.default.ensures i)) [])
